@@ -1,0 +1,7 @@
+//! Caches that are right: a port of the Rust crate `mini_moka`, in which each function is proved to meet its contract.
+#![tactic(auto)]
+
+pub mod common;
+pub mod laws;
+pub mod script;
+pub mod sync;

@@ -1,0 +1,16 @@
+//! The tests of the caches: scripts with their replies, and the calls that no script makes.
+#![tactic(auto)]
+
+#[cfg(test)]
+mod engine;
+#[cfg(test)]
+mod grammar;
+#[cfg(test)]
+mod io_faults;
+#[cfg(test)]
+mod recorded;
+#[cfg(test)]
+mod table;
+pub mod uses;
+#[cfg(test)]
+mod worked;

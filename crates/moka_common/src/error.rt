@@ -1,0 +1,71 @@
+//! The errors of the caches and their parts.
+ghost use Rattle.std.specs.Prelude.{◌≡◌};
+ghost use Rattle.moka_common.specs.declared.error.BuildError.TheVariants as build_error;
+
+use std::alloc::{AllocError, AllocFailed};
+use thiserror::Error;
+
+/// Memory was refused. What was called is as it was before the call.
+#[derive(Clone, Copy, Debug, PartialEq, Eq, Error)]
+#[error("out of memory")]
+pub struct OutOfMemory;
+
+impl From<AllocError> for OutOfMemory {
+    fn from(_error: AllocError) -> OutOfMemory {
+        OutOfMemory
+    }
+}
+
+impl<T: Drop> From<AllocFailed<T>> for OutOfMemory {
+    fn from(_error: AllocFailed<T>) -> OutOfMemory {
+        OutOfMemory
+    }
+}
+
+/// Why a cache isn't built. The variants are tested in this order.
+#[derive(Clone, Copy, Debug, PartialEq, Eq, Error)]
+pub enum BuildError {
+    #[error("time_to_live is longer than 1000 years")]
+    TimeToLiveTooLong,
+    #[error("time_to_idle is longer than 1000 years")]
+    TimeToIdleTooLong,
+    /// Of the shared cache alone: `initial_capacity` and a log's room together pass `usize::MAX`.
+    #[error("initial_capacity is too large")]
+    CapacityTooLarge,
+    #[error("out of memory")]
+    OutOfMemory,
+}
+
+impl From<AllocError> for BuildError {
+    ghost from_gives = { λ _ error. error ≡ build_error.OutOfMemory };
+
+    fn from(_error: AllocError) -> BuildError {
+        BuildError::OutOfMemory
+    }
+}
+
+impl<T: Drop> From<AllocFailed<T>> for BuildError {
+    ghost from_gives = { λ _ error. error ≡ build_error.OutOfMemory };
+
+    fn from(_error: AllocFailed<T>) -> BuildError {
+        BuildError::OutOfMemory
+    }
+}
+
+impl From<OutOfMemory> for BuildError {
+    ghost from_gives = { λ _ error. error ≡ build_error.OutOfMemory };
+
+    fn from(_error: OutOfMemory) -> BuildError {
+        BuildError::OutOfMemory
+    }
+}
+
+/// Why an insert is refused. The cache is as it was before the call.
+#[derive(Clone, Copy, Debug, PartialEq, Eq, Error)]
+pub enum InsertError {
+    #[error("out of memory")]
+    OutOfMemory,
+    /// Of the shared cache alone: the key's shard has given out all its ticket numbers.
+    #[error("tickets used up")]
+    TicketsUsedUp,
+}

@@ -1,0 +1,5 @@
+pub mod CallerLemmas
+pub mod CoreLemmas
+pub mod FindLemmas
+pub mod ShardLemmas
+pub mod ShardsLemmas

@@ -1,0 +1,9 @@
+pub mod Entry
+pub mod CoreState
+pub mod Insert
+pub mod ShardState
+pub mod Step
+pub mod WholeCall
+-- inside
+pub mod Find
+pub mod Shards

@@ -1,0 +1,5 @@
+//! The cache that threads share.
+#![tactic(auto)]
+
+pub mod constants;
+pub mod engine;
