@@ -2,6 +2,10 @@
 #![tactic(auto)]
 
 #[cfg(test)]
+mod common;
+#[cfg(test)]
+mod deque;
+#[cfg(test)]
 mod engine;
 #[cfg(test)]
 mod grammar;
@@ -9,6 +13,8 @@ mod grammar;
 mod io_faults;
 #[cfg(test)]
 mod recorded;
+#[cfg(test)]
+mod sketch;
 #[cfg(test)]
 mod table;
 pub mod uses;

@@ -1,5 +1,42 @@
 //! Weighers, which say how much of a cache's capacity an entry takes.
+ghost use Rattle.std.specs.Prelude.{◌≡◌, ℕ, ⊤};
+
+/// What weighs entries. Any closure of the form `|key: &K, value: &V| -> u32` does, as it stands; so does a type with an impl of its own,
+/// which can promise more of its answers.
+pub trait Weigh<K, V>: Drop {
+    // Whether the weigher may be asked.
+    ghost ready: { Self → Type 0 };
+
+    // What the weigher answers for a key and a value, and what it is then.
+    ghost weighs: { Self → K → V → ℕ → Self → Type 0 };
+
+    /// The weight of an entry. It may be 0.
+    fn weigh(&mut self, key: &K, value: &V) -> u32
+        requires { ready self.old }
+        ensures weight { weighs self.old key.now value.now result self.new }
+        ensures ready { ready self.new };
+}
 
 /// The weigher of a cache that is given none: each entry weighs 1, so that the capacity is a number of entries.
 #[derive(Clone, Copy, Debug, PartialEq, Eq)]
 pub struct UnitWeight;
+
+impl<K, V> Weigh<K, V> for UnitWeight {
+    ghost ready = { λ _. ⊤ };
+
+    ghost weighs = { λ old _ _ weight new. (weight ≡ 1) × (new ≡ old) };
+
+    fn weigh(&mut self, _key: &K, _value: &V) -> u32 {
+        1
+    }
+}
+
+impl<K, V, F: FnMut(&K, &V) -> u32 + Drop> Weigh<K, V> for F {
+    ghost ready = { λ weigher. F.IsAlwaysCallable weigher };
+
+    ghost weighs = { λ old key value weight new. (p : _) × (q : _) × F.step old p q weight new × (p.now ≡ key) × (q.now ≡ value) };
+
+    fn weigh(&mut self, key: &K, value: &V) -> u32 {
+        self(key, value)
+    }
+}
