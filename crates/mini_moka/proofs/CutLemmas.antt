@@ -6,7 +6,7 @@ use Rattle.std.proofs.Math.Numerals.{add-one, one-add}
 use Rattle.std.proofs.Common.{drop-drop}
 use Rattle.std.proofs.lemmas.Bool.Decides.{eqb_tells}
 use Rattle.std.proofs.lemmas.Option.{some_pair_parts, cond_some, none-some}
-use Rattle.mini_moka.specs.Grammar.{line_feed}
+use Rattle.mini_moka.specs.Spelling.{line_feed}
 use Rattle.mini_moka.specs.Reading.{◌>>=◌, cut}
 use Rattle.mini_moka.proofs.WordLemmas.{IsInLine, not_equal}
 

@@ -1,7 +1,13 @@
 pub mod NumberLemmas
 pub mod WordLemmas
 pub mod CutLemmas
+pub mod ReadLemmas
 pub mod LineLemmas
 pub mod LineListLemmas
+pub mod ArgumentLemmas
+pub mod HeaderLemmas
+pub mod RecordedLineLemmas
+pub mod SketchLineLemmas
 pub mod ScriptLemmas
 pub mod RecordLemmas
+pub mod SketchRunLemmas

@@ -1,98 +1,135 @@
--- What one turn of the parser adds, what it says where it stops, and the laws of scripts.
-use Rattle.std.proofs.Common.{◌≡◌, ◌≢◌, ℕ, ◌+◌, ◌<◌, List, [], ◌∷◌, ◌++◌, length, Some, None, refl, sym, ap, ◌∙◌, subst, inl, inr, ◌⊎◌, append_assoc, append-nil}
-use Rattle.std.specs.List.{AllByRecursion, flat_map}
-use Rattle.std.proofs.lemmas.List.Concat.{flat_map-append}
-use Rattle.std.proofs.lemmas.Option.{none-some, some_pair_parts}
+-- The laws of scripts.
+use Rattle.std.proofs.Common.{◌≡◌, ℕ, ◌+◌, List, ◌++◌, Some, None, refl, sym, ap, ◌∙◌, subst, inl, inr, ◌⊎◌}
 use Rattle.mini_moka.specs.declared.script.line.Header.{Header}
-use Rattle.mini_moka.specs.declared.script.line.Line.{Line}
-use Rattle.mini_moka.specs.Grammar.{line_of, header_line, Fits, IsBadAfter, LacksHeader, IsBadAt, IsScript}
-use Rattle.mini_moka.specs.Reading.{AreLines, line_at, header_at}
-use Rattle.mini_moka.proofs.LineListLemmas.{shorter, not_bad, same_count, same_lines, outcome_of}
-use Rattle.mini_moka.proofs.LineLemmas.{line_at-nothing, line_at-found, line_at-line, header_at-header, header_at-found}
+use Rattle.mini_moka.specs.declared.script.line.Header.TheVariants.{Recorded, Sketch}
+use Rattle.mini_moka.specs.Spelling.{line_of}
+use Rattle.mini_moka.specs.RecordedLines.{recorded_words, RecordedFits}
+use Rattle.mini_moka.specs.SketchLines.{sketch_words, SketchFits}
+use Rattle.mini_moka.specs.Grammar.{header_words, HeaderFits, Script, RecordedScript, SketchScript, header_of, IsBody, IsScript, IsBadBehind, IsBadAt}
+use Rattle.mini_moka.specs.Reading.{line_at}
+use Rattle.mini_moka.specs.ReadingLines.{header_from_words, recorded_from_words, sketch_from_words}
+use Rattle.mini_moka.proofs.LineLemmas.{line_at-found}
+use Rattle.mini_moka.proofs.LineListLemmas.{one_line, not_bad, same_count, same_lines, outcome_of, lacks_line}
+use Rattle.mini_moka.proofs.HeaderLemmas.{reads_header}
+use Rattle.mini_moka.proofs.RecordedLineLemmas.{reads_recorded}
+use Rattle.mini_moka.proofs.SketchLineLemmas.{reads_sketch}
 
--- ---- the turns of the parser
-
--- what is behind a line that was read is shorter than the whole
-pub line_shorter : (bytes : List ℕ) (line : Line (List ℕ)) (rest : List ℕ) → line_at bytes ≡ Some (line, rest) → length rest < length bytes
-line_shorter bytes line rest e =
-    let found = line_at-found bytes line rest e in
-    shorter line_of Fits line_at line_at-nothing line_at-found line_at-line bytes line rest found.0 found.1
-
--- one more line that fits
-pub Fits-push : (lines : List (Line (List ℕ))) (line : Line (List ℕ)) → AllByRecursion Fits lines → Fits line → AllByRecursion Fits (lines ++ line ∷ [])
-Fits-push [] line each fits = (fits, tt)
-Fits-push (x ∷ lines) line each fits = (each.0, Fits-push lines line each.1 fits)
-
--- one more line that was read
-pub parts-push : (body : List ℕ) (lines : List (Line (List ℕ))) (rest : List ℕ) (line : Line (List ℕ)) (after : List ℕ)
-    → body ≡ flat_map line_of lines ++ rest → rest ≡ line_of line ++ after → body ≡ flat_map line_of (lines ++ line ∷ []) ++ after
-parts-push body lines rest line after parts front =
-    parts ∙ ap (λ l. flat_map line_of lines ++ l) front ∙ sym (append_assoc (flat_map line_of lines) (line_of line) after)
-    ∙ ap (λ l. l ++ after) (ap (λ l. flat_map line_of lines ++ l) (sym (append-nil (line_of line))) ∙ sym (flat_map-append line_of lines (line ∷ [])))
-
--- where no line is read the next one is bad
-pub bad_after : (body : List ℕ) (lines : List (Line (List ℕ))) (rest : List ℕ) → AllByRecursion Fits lines → body ≡ flat_map line_of lines ++ rest
-    → rest ≢ [] → line_at rest ≡ None → IsBadAfter line_of Fits body (length lines)
-bad_after body lines rest each parts some none = record {
-  good = lines;
-  rest = rest;
-  each = each;
-  parts = parts;
-  number = refl;
-  some = some;
-  bad = λ line more fits e. none-some (line, more) (sym none ∙ ap line_at e ∙ line_at-line line more fits);
-}
-
--- where no header is read none is there
-pub lacks_header : (bytes : List ℕ) → header_at bytes ≡ None → LacksHeader bytes
-lacks_header bytes none header body e = none-some (header, body) (sym none ∙ ap header_at e ∙ header_at-header header body)
-
--- ---- the laws
+-- how a header is spelled
+abbrev header_line : Header → List ℕ
+header_line header = line_of (header_words header)
 
 -- two headers begin the same bytes only where they are one
-one_header : (a b : Header) (x y : List ℕ) → header_line a ++ x ≡ header_line b ++ y → (a ≡ b) × (x ≡ y)
-one_header a b x y e = some_pair_parts a b x y (sym (header_at-header a x) ∙ ap header_at e ∙ header_at-header b y)
+one_header : (a b : Header) (x y : List ℕ) → HeaderFits a → HeaderFits b → header_line a ++ x ≡ header_line b ++ y → (a ≡ b) × (x ≡ y)
+one_header = one_line header_words HeaderFits header_from_words reads_header
 
--- what is behind the header of a script
-body_is : (bytes : List ℕ) (header : Header) (lines : List (Line (List ℕ))) (other : Header) (body : List ℕ) → IsScript bytes header lines → bytes ≡ header_line other ++ body → AreLines line_of Fits body lines
-body_is bytes header lines other body is begins = (is.0, sym (one_header header other (flat_map line_of lines) body (sym is.1 ∙ begins)).1)
+-- ---- no bad line
+
+-- no line of a body is bad
+body_not_bad : (script : Script) (body : List ℕ) (count : ℕ) → IsBody body script → IsBadBehind (header_of script) body count → ⊥
+body_not_bad (RecordedScript lines) body count is bad = not_bad recorded_words RecordedFits recorded_from_words reads_recorded body lines count is bad
+body_not_bad (SketchScript cap lines) body count is bad = not_bad sketch_words SketchFits sketch_from_words reads_sketch body lines count is bad
 
 -- a script has no bad line
-pub script_not_bad : (bytes : List ℕ) (header : Header) (lines : List (Line (List ℕ))) (number : ℕ) → IsScript bytes header lines → IsBadAt bytes number → ⊥
-script_not_bad bytes header lines number is (inl (first, lacks)) = lacks header (flat_map line_of lines) is.1
-script_not_bad bytes header lines number is (inr line) =
-    not_bad line_of Fits line_at line_at-nothing line_at-found line_at-line line.body lines line.count (body_is bytes header lines line.header line.body is line.begins) line.bad
+pub script_not_bad : (bytes : List ℕ) (script : Script) (number : ℕ) → IsScript bytes script → IsBadAt bytes number → ⊥
+script_not_bad bytes script number is (inl (first, lacks)) = lacks (header_of script) is.body is.fits is.begins
+script_not_bad bytes script number is (inr line) =
+    let same = one_header line.header (header_of script) line.body is.body line.fits is.fits (sym line.begins ∙ is.begins) in
+    body_not_bad script is.body line.count is.lines
+    (subst (λ body. IsBadBehind (header_of script) body line.count) same.1 (subst (λ header. IsBadBehind header line.body line.count) same.0 line.bad))
+
+-- ---- one bad line
+
+-- behind a header one line is the first bad one
+one_behind : (header : Header) (body : List ℕ) (m n : ℕ) → IsBadBehind header body m → IsBadBehind header body n → m ≡ n
+one_behind Recorded body m n a b = same_count recorded_words RecordedFits recorded_from_words reads_recorded body m n a b
+one_behind (Sketch cap) body m n a b = same_count sketch_words SketchFits sketch_from_words reads_sketch body m n a b
 
 -- one line is the first bad one
 pub one_bad_line : (bytes : List ℕ) (m n : ℕ) → IsBadAt bytes m → IsBadAt bytes n → m ≡ n
 one_bad_line bytes m n (inl (first, lacks)) (inl (too, lacks_too)) = first ∙ sym too
-one_bad_line bytes m n (inl (first, lacks)) (inr line) = absurd (lacks line.header line.body line.begins)
-one_bad_line bytes m n (inr line) (inl (first, lacks)) = absurd (lacks line.header line.body line.begins)
+one_bad_line bytes m n (inl (first, lacks)) (inr line) = absurd (lacks line.header line.body line.fits line.begins)
+one_bad_line bytes m n (inr line) (inl (first, lacks)) = absurd (lacks line.header line.body line.fits line.begins)
 one_bad_line bytes m n (inr a) (inr b) =
-    let same = one_header a.header b.header a.body b.body (sym a.begins ∙ b.begins) in
-    let counts = same_count line_of Fits line_at line_at-nothing line_at-found line_at-line b.body a.count b.count (subst (λ body. IsBadAfter line_of Fits body a.count) same.1 a.bad) b.bad in
-    a.number_is ∙ ap (λ k. k + 2) counts ∙ sym b.number_is
+    let same = one_header a.header b.header a.body b.body a.fits b.fits (sym a.begins ∙ b.begins) in
+    let moved = subst (λ body. IsBadBehind b.header body a.count) same.1 (subst (λ header. IsBadBehind header a.body a.count) same.0 a.bad) in
+    a.number_is ∙ ap (λ k. k + 2) (one_behind b.header b.body a.count b.count moved b.bad) ∙ sym b.number_is
+
+-- ---- one script
+
+-- a body is the lines of one script with this header at most
+one_body : (a b : Script) (body : List ℕ) → header_of a ≡ header_of b → IsBody body a → IsBody body b → a ≡ b
+one_body (RecordedScript xs) (RecordedScript ys) body same p q =
+    ap (λ lines. RecordedScript lines) (same_lines recorded_words RecordedFits recorded_from_words reads_recorded xs ys p.0 q.0 (sym p.1 ∙ q.1))
+one_body (RecordedScript xs) (SketchScript cap ys) body same p q = absurd cc
+one_body (SketchScript cap xs) (RecordedScript ys) body same p q = absurd cc
+one_body (SketchScript c xs) (SketchScript d ys) body same p q =
+    let caps : c ≡ d = cc in
+    ap (λ cap. SketchScript cap xs) caps ∙ ap (λ lines. SketchScript d lines) (same_lines sketch_words SketchFits sketch_from_words reads_sketch xs ys p.0 q.0 (sym p.1 ∙ q.1))
 
 -- bytes spell one script at most
-pub one_script : (bytes : List ℕ) (a b : Header) (xs ys : List (Line (List ℕ))) → IsScript bytes a xs → IsScript bytes b ys → (a ≡ b) × (xs ≡ ys)
-one_script bytes a b xs ys p q =
-    let same = one_header a b (flat_map line_of xs) (flat_map line_of ys) (sym p.1 ∙ q.1) in
-    (same.0, same_lines line_of Fits line_at line_at-nothing line_at-found line_at-line xs ys p.0 q.0 same.1)
+pub one_script : (bytes : List ℕ) (a b : Script) → IsScript bytes a → IsScript bytes b → a ≡ b
+one_script bytes a b p q =
+    let same = one_header (header_of a) (header_of b) p.body q.body p.fits q.fits (sym p.begins ∙ q.begins) in
+    one_body a b q.body same.0 (subst (λ body. IsBody body a) same.1 p.lines) q.lines
+
+-- ---- a script or a bad line
 
 -- a script, or a first bad line
 abbrev Outcome : List ℕ → Type 0
-Outcome bytes = ((header : Header) × (lines : List (Line (List ℕ))) × IsScript bytes header lines) ⊎ ((number : ℕ) × IsBadAt bytes number)
+Outcome bytes = ((script : Script) × IsScript bytes script) ⊎ ((number : ℕ) × IsBadAt bytes number)
+
+-- a header begins the bytes
+record Begins (bytes : List ℕ) (header : Header) (body : List ℕ) : Type 0 where
+  begins : bytes ≡ header_line header ++ body
+  fits : HeaderFits header
+
+-- the outcome where all behind the header are lines
+all_lines : (bytes : List ℕ) (script : Script) (body : List ℕ) → Begins bytes (header_of script) body → IsBody body script → Outcome bytes
+all_lines bytes script body b lines = inl (script, record { fits = b.fits; body = body; begins = b.begins; lines = lines })
+
+-- the outcome where a line is bad
+bad_line : (bytes : List ℕ) (header : Header) (body : List ℕ) (count : ℕ) → Begins bytes header body → IsBadBehind header body count → Outcome bytes
+bad_line bytes header body count b bad =
+    inr (count + 2, inr (record { header = header; fits = b.fits; body = body; begins = b.begins; count = count; number_is = refl; bad = bad }))
 
 -- the outcome behind a header
-with_body : (bytes : List ℕ) (header : Header) (body : List ℕ) → bytes ≡ header_line header ++ body
-    → ((lines : List (Line (List ℕ))) × AreLines line_of Fits body lines) ⊎ ((count : ℕ) × IsBadAfter line_of Fits body count) → Outcome bytes
-with_body bytes header body begins (inl (lines, are)) = inl (header, lines, (are.0, begins ∙ ap (λ l. header_line header ++ l) are.1))
-with_body bytes header body begins (inr (count, bad)) = inr (count + 2, inr (record { header = header; body = body; begins = begins; count = count; number_is = refl; bad = bad }))
+with_body : (bytes : List ℕ) (header : Header) (body : List ℕ) → Begins bytes header body → Outcome bytes
+with_body bytes Recorded body b =
+    elim (outcome_of recorded_words RecordedFits recorded_from_words reads_recorded body) [
+      | inl all ↦ all_lines bytes (RecordedScript all.0) body b all.1
+      | inr bad ↦ bad_line bytes Recorded body bad.0 b bad.1
+    ]
+with_body bytes (Sketch cap) body b =
+    elim (outcome_of sketch_words SketchFits sketch_from_words reads_sketch body) [
+      | inl all ↦ all_lines bytes (SketchScript cap all.0) body b all.1
+      | inr bad ↦ bad_line bytes (Sketch cap) body bad.0 b bad.1
+    ]
 
 -- one of the two is so
 pub script_or_bad : (bytes : List ℕ) → Outcome bytes
 script_or_bad bytes =
-    elim (header_at bytes) as (λ o. header_at bytes ≡ o → Outcome bytes) [
-      | None ↦ λ none. inr (1, inl (refl, lacks_header bytes none))
-      | Some p ↦ λ is. with_body bytes p.0 p.1 (header_at-found bytes p.0 p.1 is) (outcome_of line_of Fits line_at line_at-nothing line_at-found line_at-line p.1)
+    elim (line_at header_from_words bytes) as (λ o. line_at header_from_words bytes ≡ o → Outcome bytes) [
+      | None ↦ λ none. inr (1, inl (refl, lacks_line header_words HeaderFits header_from_words reads_header bytes none))
+      | Some p ↦ λ is.
+          let found = line_at-found header_words HeaderFits header_from_words reads_header bytes p.0 p.1 is in
+          with_body bytes p.0 p.1 (record { begins = found.0; fits = found.1 })
     ] refl
+
+-- ---- what was parsed
+
+-- a header that was read, and the lines behind it
+pub script_read : (bytes : List ℕ) (header : Header) (body : List ℕ) (script : Script) → line_at header_from_words bytes ≡ Some (header, body) → header ≡ header_of script → IsBody body script → IsScript bytes script
+script_read bytes header body script read same lines =
+    let found = line_at-found header_words HeaderFits header_from_words reads_header bytes (header_of script) body (subst (λ h. line_at header_from_words bytes ≡ Some (h, body)) same read) in
+    record { fits = found.1; body = body; begins = found.0; lines = lines }
+
+-- a header that was read, and a bad line behind it
+pub bad_line_read : (bytes : List ℕ) (header known : Header) (body : List ℕ) (count number : ℕ)
+    → line_at header_from_words bytes ≡ Some (header, body) → header ≡ known → IsBadBehind known body count → number ≡ count + 2 → IsBadAt bytes number
+bad_line_read bytes header known body count number read same bad number_is =
+    let found = line_at-found header_words HeaderFits header_from_words reads_header bytes known body (subst (λ h. line_at header_from_words bytes ≡ Some (h, body)) same read) in
+    inr (record { header = known; fits = found.1; body = body; begins = found.0; count = count; number_is = number_is; bad = bad })
+
+-- where no header is read the first line is bad
+pub first_bad : (bytes : List ℕ) → line_at header_from_words bytes ≡ None → IsBadAt bytes 1
+first_bad bytes none = inl (refl, lacks_line header_words HeaderFits header_from_words reads_header bytes none)

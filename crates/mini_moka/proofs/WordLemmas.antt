@@ -5,7 +5,7 @@ use Rattle.std.specs.Fmt.{decimal}
 use Rattle.std.specs.List.{AllByRecursion, join_with_byte, list_all, slice_split}
 use Rattle.std.proofs.lemmas.Bool.Decides.{nat_tests}
 use Rattle.std.proofs.lemmas.Fmt.{digits_decimal}
-use Rattle.mini_moka.specs.Grammar.{line_feed, space}
+use Rattle.mini_moka.specs.Spelling.{line_feed, space}
 use Rattle.mini_moka.specs.Text.{IsText, is_text_byte}
 use Rattle.mini_moka.proofs.NumberLemmas.{digits_model}
 
@@ -83,3 +83,7 @@ IsWord-decimal n small = IsWord-tested is_ascii_digit digit_above (decimal n) (d
 -- a text is a word
 pub IsWord-text : (text : List ℕ) → IsText text → IsWord text
 IsWord-text text h = IsWord-tested is_text_byte text_byte_above text (and_parts _ _ h).1
+
+-- the name of a call is a word
+pub IsWord-name : (name : List ℕ) → list_all is_text_byte name ≡ true → IsWord name
+IsWord-name name h = IsWord-tested is_text_byte text_byte_above name h

@@ -1,17 +1,11 @@
--- How a script is read, as functions on lists. No public clause cites this module.
-use Rattle.std.specs.Prelude.{◌≡◌, ℕ, Bool, ◌||◌, ◌&&◌, ◌==◌, nat_lt, not, ◌^◌, List, [], ◌∷◌, length, codes, Option, Some, None, Result, Ok, Err, if◌then◌else◌, slice_index}
+-- How words are read and lines are cut, as functions on lists. No public clause cites this module.
+use Rattle.std.specs.Prelude.{◌≡◌, ◌≢◌, ℕ, ◌||◌, ◌&&◌, ◌==◌, Bool, nat_lt, not, ◌^◌, List, [], ◌∷◌, length, Option, Some, None, Result, Ok, Err, if◌then◌else◌, slice_index}
 use Rattle.std.specs.Borrow.{Bor}
 use Rattle.std.specs.Char.{is_ascii_digit}
-use Rattle.std.specs.List.{AllByRecursion, flat_map, list_all, slice_split}
-use Rattle.std.specs.Str.{bytes_eq}
+use Rattle.std.specs.List.{list_all, slice_split}
 use Rattle.std.specs.Str.Parse.{digits_value}
 use Rattle.mini_moka.specs.Text.{is_text}
-use Rattle.mini_moka.specs.Grammar.{line_feed, space}
-use Rattle.mini_moka.specs.declared.script.line.Header.{Header}
-use Rattle.mini_moka.specs.declared.script.line.Header.TheVariants.{Recorded}
-use Rattle.mini_moka.specs.declared.script.line.Line.{Line}
-use Rattle.mini_moka.specs.declared.script.line.Request.{Request}
-use Rattle.mini_moka.specs.declared.script.line.Request.TheVariants.{Insert, Get, Has}
+use Rattle.mini_moka.specs.Spelling.{line_feed, space}
 use Rattle.mini_moka.specs.declared.script.words.LineError.{LineError}
 use Rattle.mini_moka.specs.declared.script.words.LineError.TheVariants.{Bad, OutOfMemory}
 
@@ -50,46 +44,30 @@ number_of word =
 abbrev pub text_of : List ℕ → Option (List ℕ)
 text_of word = if is_text word then Some word else None
 
--- ---- requests
+-- the number that a word spells, where it is below a limit
+unfoldable pub number_below : ℕ → List ℕ → Option ℕ
+number_below limit word = do
+  n ← number_of word
+  if nat_lt n limit then Some n else None
 
--- what an insert is given
-unfoldable pub insert_of : List (List ℕ) → Option (Request (List ℕ))
-insert_of (key ∷ text ∷ []) = do
-  k ← number_of key
-  t ← text_of text
-  Some (Insert k t)
-insert_of _ = None
+-- ---- arguments
 
--- the only argument, a key
+-- no argument
+unfoldable pub no_argument : List (List ℕ) → Option (Unit {0})
+no_argument [] = Some tt
+no_argument (word ∷ words) = None
+
+-- the only argument, a number of 64 bits
 unfoldable pub key_of : List (List ℕ) → Option ℕ
 key_of (key ∷ []) = number_of key
 key_of _ = None
 
--- the request of this name with these arguments
-unfoldable pub request_of : List ℕ → List (List ℕ) → Option (Request (List ℕ))
-request_of call arguments =
-    if bytes_eq call (codes "insert") then insert_of arguments
-    else if bytes_eq call (codes "get") then (do
-      key ← key_of arguments
-      Some (Get key))
-    else if bytes_eq call (codes "has") then (do
-      key ← key_of arguments
-      Some (Has key))
-    else None
+-- the only argument, a number of 32 bits
+unfoldable pub cap_of : List (List ℕ) → Option ℕ
+cap_of (cap ∷ []) = number_below (2 ^ 32) cap
+cap_of _ = None
 
 -- ---- lines
-
--- the line of these words
-unfoldable pub line_from_words : List (List ℕ) → Option (Line (List ℕ))
-line_from_words (now ∷ call ∷ arguments) = do
-  n ← number_of now
-  r ← request_of call arguments
-  Some (record { now = n; request = r })
-line_from_words _ = None
-
--- the line that the bytes spell, without its end
-abbrev pub line_in : List ℕ → Option (Line (List ℕ))
-line_in bytes = line_from_words (slice_split (λ b. b == space) bytes)
 
 -- the bytes before the first line feed, and those behind it
 unfoldable pub cut : List ℕ → Option (List ℕ × List ℕ)
@@ -98,19 +76,28 @@ cut (b ∷ bytes) = if b == line_feed then Some ([], bytes) else (do
   parts ← cut bytes
   Some (b ∷ parts.0, parts.1))
 
--- the header, and the bytes behind its line
-unfoldable pub header_at : List ℕ → Option (Header × List ℕ)
-header_at bytes = do
-  parts ← cut bytes
-  if bytes_eq parts.0 (codes "recorded") then Some (Recorded, parts.1) else None
+module _ {L : Type 0} (from_words : List (List ℕ) → Option L) where
+  -- the line that the bytes spell, without its end
+  abbrev pub line_in : List ℕ → Option L
+  line_in bytes = from_words (slice_split (λ b. b == space) bytes)
 
--- the first line, and the bytes behind it
-unfoldable pub line_at : List ℕ → Option (Line (List ℕ) × List ℕ)
-line_at bytes = do
-  parts ← cut bytes
-  line ← line_in parts.0
-  Some (line, parts.1)
+  -- the first line, and the bytes behind it
+  unfoldable pub line_at : List ℕ → Option (L × List ℕ)
+  line_at bytes = do
+    parts ← cut bytes
+    line ← line_in parts.0
+    Some (line, parts.1)
 
--- the bytes are these lines, one after another, and nothing else
-abbrev pub AreLines : {L : Type 0} → (L → List ℕ) → (L → Type 0) → List ℕ → List L → Type 0
-AreLines spelling Holds bytes lines = AllByRecursion Holds lines × (bytes ≡ flat_map spelling lines)
+  -- from the front of the bytes these lines are read, one after another, and this is the rest
+  abbrev pub Reads : List ℕ → List L → List ℕ → Type 0
+  Reads bytes [] rest = bytes ≡ rest
+  Reads bytes (line ∷ lines) rest = (behind : List ℕ) × (line_at bytes ≡ Some (line, behind)) × Reads behind lines rest
+
+  -- as many lines as this are read, and then no line is
+  pub record StopsAfter (bytes : List ℕ) (count : ℕ) : Type 0 where
+    pub good : List L
+    pub rest : List ℕ
+    pub reads : Reads bytes good rest
+    pub number : count ≡ length good
+    pub some : rest ≢ []
+    pub none : line_at rest ≡ None

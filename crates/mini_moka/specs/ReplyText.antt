@@ -1,4 +1,4 @@
--- What a script's cache is asked on each line, and how the replies are written.
+-- What a recorded script's cache is asked on each line, and how the replies of all modes are written.
 use Rattle.std.specs.Prelude.{ℕ, true, false, List, [], ◌∷◌, ◌++◌, codes, Some, None}
 use Rattle.std.specs.Fmt.{decimal}
 use Rattle.moka_sync.specs.declared.engine.call.Call.{Call}
@@ -7,7 +7,9 @@ use Rattle.moka_sync.specs.declared.engine.call.Reply.{Reply}
 use Rattle.moka_sync.specs.declared.engine.call.Reply.TheVariants.{Done, Found, Bool as BoolReply, OutOfMemory, TicketsUsedUp, NotRecorded}
 use Rattle.mini_moka.specs.declared.script.line.Request.{Request}
 use Rattle.mini_moka.specs.declared.script.line.Request.TheVariants.{Insert, Get, Has}
-use Rattle.mini_moka.specs.Grammar.{line_feed}
+use Rattle.mini_moka.specs.declared.script.reply.SketchReply.{SketchReply}
+use Rattle.mini_moka.specs.declared.script.reply.SketchReply.TheVariants as sketch
+use Rattle.mini_moka.specs.Spelling.{line_feed}
 
 -- the call that a request makes at a moment
 abbrev pub call_at : {A : Type 0} → ℕ → Request (List ℕ) → Call ℕ (List ℕ) A
@@ -25,6 +27,12 @@ reply_words (BoolReply false) = codes "false"
 reply_words OutOfMemory = codes "refused memory"
 reply_words TicketsUsedUp = codes "refused tickets"
 reply_words NotRecorded = codes "refused memory"
+
+-- the words of a sketch's reply
+abbrev pub sketch_reply_words : SketchReply → List ℕ
+sketch_reply_words sketch.Done = codes "ok"
+sketch_reply_words (sketch.Number n) = decimal n
+sketch_reply_words sketch.OutOfMemory = codes "refused memory"
 
 -- a line that is written
 abbrev pub written : List ℕ → List ℕ

@@ -1,20 +1,17 @@
 //! What follows from the definitions alone. The functions do nothing: their contracts are the laws.
 ghost use Rattle.std.specs.Prelude.{◌≡◌, ◌⊎◌, ℕ, List};
-ghost use Rattle.mini_moka.specs.Grammar.{IsScript, IsBadAt};
-ghost use Rattle.mini_moka.specs.declared.script.line.Header.{Header};
-ghost use Rattle.mini_moka.specs.declared.script.line.Line.{Line};
+ghost use Rattle.mini_moka.specs.Grammar.{Script, IsScript, IsBadAt};
 
 /// A script has no bad line.
 pub fn a_script_has_no_bad_line()
-    ensures { (bytes : List ℕ) (header : Header) (lines : List (Line (List ℕ))) (number : ℕ) →
-        IsScript bytes header lines → IsBadAt bytes number → ⊥ }
+    ensures { (bytes : List ℕ) (script : Script) (number : ℕ) →
+        IsScript bytes script → IsBadAt bytes number → ⊥ }
 {}
 
 /// What is no script has a first bad line.
 pub fn what_is_no_script_has_a_bad_line()
     ensures { (bytes : List ℕ) →
-        ((header : Header) × (lines : List (Line (List ℕ))) × IsScript bytes header lines)
-        ⊎ ((number : ℕ) × IsBadAt bytes number) }
+        ((script : Script) × IsScript bytes script) ⊎ ((number : ℕ) × IsBadAt bytes number) }
 {}
 
 /// There is one first bad line at most.
@@ -24,6 +21,5 @@ pub fn one_line_is_the_first_bad_one()
 
 /// Bytes spell one script at most.
 pub fn bytes_spell_one_script()
-    ensures { (bytes : List ℕ) (a b : Header) (xs ys : List (Line (List ℕ))) →
-        IsScript bytes a xs → IsScript bytes b ys → (a ≡ b) × (xs ≡ ys) }
+    ensures { (bytes : List ℕ) (a b : Script) → IsScript bytes a → IsScript bytes b → a ≡ b }
 {}

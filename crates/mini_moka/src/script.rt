@@ -2,13 +2,15 @@
 mod keys;
 mod line;
 mod parser;
+mod recorded;
 mod reply;
 mod runner;
+mod sketch;
 mod streams;
 mod text;
 mod words;
 
-pub use line::{Header, Line, Request, Script};
+pub use line::{Line, Request, Script, SketchLine};
 pub use parser::{ParseError, parse};
 pub use runner::{End, ScriptError, run};
 pub use streams::{Fault, FromRead, FromWrite, ReadError, Sink, Source, read_all, write_all};

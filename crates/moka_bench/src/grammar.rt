@@ -1,6 +1,10 @@
 // What is a script, and which line is the first bad one.
 use crate::table::output_of;
-use mini_moka::script::{End, Header, LONGEST_TEXT, ParseError, Request, Text, is_text, parse};
+use mini_moka::script::{
+    End, LONGEST_TEXT, ParseError, Request, Script, SketchLine, Text, is_text, parse,
+};
+use std::alloc::Global;
+use std::process::Abort;
 use std::test::Fail;
 
 // Worked by hand from the grammar: a script, and its first bad line, if it has one.
@@ -65,15 +69,68 @@ const EDGES: [(&str, Option<u64>); 44] = [
     ("recorded\n0 insert 0 alice\n0 fetch 0\n", Some(3)),
 ];
 
-#[test]
-fn the_first_bad_line_is_named(rt: HostRuntime) -> Result<(), Fail> {
-    for (script, bad) in EDGES {
-        let (end, text) = output_of(rt.alloc(), script)?;
+const SKETCH_HEADERS: [(&str, Option<u64>); 13] = [
+    ("sketch\n", Some(1)),
+    ("sketch \n", Some(1)),
+    ("sketch 0", Some(1)),
+    ("sketch 00\n", Some(1)),
+    ("sketch -1\n", Some(1)),
+    ("sketch  1\n", Some(1)),
+    ("sketch 1 1\n", Some(1)),
+    ("sketch 1 \n", Some(1)),
+    ("Sketch 1\n", Some(1)),
+    ("sketch 4294967296\n", Some(1)),
+    ("recorded 1\n", Some(1)),
+    ("sketch 0\n", None),
+    ("sketch 1\n\n", Some(2)),
+];
+
+const SKETCH_LINES: [(&str, Option<u64>); 22] = [
+    ("sketch 1\ninc 18446744073709551615 65535\n", None),
+    ("sketch 1\ninc 18446744073709551616 1\n", Some(2)),
+    ("sketch 1\ninc 5 65536\n", Some(2)),
+    ("sketch 1\ninc 5 01\n", Some(2)),
+    ("sketch 1\ninc 5\n", Some(2)),
+    ("sketch 1\ninc 5 1 1\n", Some(2)),
+    ("sketch 1\nfreq 0\n", None),
+    ("sketch 1\nfreq\n", Some(2)),
+    ("sketch 1\nfreq 0 0\n", Some(2)),
+    ("sketch 1\nfreq 18446744073709551616\n", Some(2)),
+    ("sketch 1\nindex 5 3\n", None),
+    ("sketch 1\nindex 5 4\n", Some(2)),
+    ("sketch 1\nindex 5\n", Some(2)),
+    ("sketch 1\nlen\n", None),
+    ("sketch 1\nlen", Some(2)),
+    ("sketch 1\nlen \n", Some(2)),
+    ("sketch 1\nlen 0\n", Some(2)),
+    ("sketch 1\nensure 1\n", None),
+    ("sketch 1\nensure\n", Some(2)),
+    ("sketch 1\nensure 1 1\n", Some(2)),
+    ("sketch 1\nensure 4294967296\n", Some(2)),
+    ("sketch 1\nensure 4294967295 \n", Some(2)),
+];
+
+const LINES_OF_ANOTHER_MODE: [(&str, Option<u64>); 9] = [
+    ("sketch 1\n0 len\n", Some(2)),
+    ("sketch 1\n0 get 0\n", Some(2)),
+    ("sketch 1\nget 0\n", Some(2)),
+    ("recorded\nlen\n", Some(2)),
+    ("recorded\n0 len\n", Some(2)),
+    ("recorded\nfreq 0\n", Some(2)),
+    ("recorded\n0 freq 0\n", Some(2)),
+    ("sketch 1\nlen\nsketch 1\n", Some(3)),
+    ("sketch 1\nlen\nfreq 0\n0 has 0\nx\n", Some(4)),
+];
+
+/// Runs each script, and names the one whose first bad line is another.
+fn check_edges(rt: &impl Abort, alloc: Global, edges: &[(&str, Option<u64>)]) -> Result<(), Fail> {
+    for (script, bad) in edges {
+        let (end, text) = output_of(alloc, script)?;
         match bad {
             None => assert_eq!(rt; end, End::Done, "of {script:?}"),
             Some(number) => {
-                let line = format!(in rt.alloc(); "bad line {number}\n")?;
-                assert_eq!(rt; end, End::BadLine(number), "of {script:?}");
+                let line = format!(in alloc; "bad line {number}\n")?;
+                assert_eq!(rt; end, End::BadLine(*number), "of {script:?}");
                 assert_eq!(rt; text.as_slice(), line.as_bytes(), "of {script:?}");
             }
         }
@@ -82,13 +139,32 @@ fn the_first_bad_line_is_named(rt: HostRuntime) -> Result<(), Fail> {
 }
 
 #[test]
+fn the_first_bad_line_is_named(rt: HostRuntime) -> Result<(), Fail> {
+    check_edges(&rt, rt.alloc(), &EDGES)
+}
+
+#[test]
+fn a_bad_header_of_a_sketch_is_named(rt: HostRuntime) -> Result<(), Fail> {
+    check_edges(&rt, rt.alloc(), &SKETCH_HEADERS)
+}
+
+#[test]
+fn a_bad_line_of_a_sketch_is_named(rt: HostRuntime) -> Result<(), Fail> {
+    check_edges(&rt, rt.alloc(), &SKETCH_LINES)
+}
+
+#[test]
+fn a_line_of_another_mode_is_named(rt: HostRuntime) -> Result<(), Fail> {
+    check_edges(&rt, rt.alloc(), &LINES_OF_ANOTHER_MODE)
+}
+
+#[test]
 fn lines_hold_what_they_spell(rt: HostRuntime) -> Result<(), Fail> {
-    let script = parse(
-        rt.alloc(),
-        b"recorded\n5 insert 7 a-Z9\n6 get 8\n18446744073709551615 has 0\n",
-    )?;
-    assert_eq!(rt; script.header, Header::Recorded);
-    let [insert, get, has] = script.lines.as_slice() else {
+    let text = b"recorded\n5 insert 7 a-Z9\n6 get 8\n18446744073709551615 has 0\n".as_slice();
+    let Script::Recorded { lines } = parse(rt.alloc(), text)? else {
+        return Err("a recorded script".into());
+    };
+    let [insert, get, has] = lines.as_slice() else {
         return Err("three lines".into());
     };
     assert_eq!(rt; (insert.now, get.now, has.now), (5, 6, u64::MAX));
@@ -97,6 +173,28 @@ fn lines_hold_what_they_spell(rt: HostRuntime) -> Result<(), Fail> {
     );
     assert!(rt; matches!(&get.request, Request::Get { key: 8 }));
     assert!(rt; matches!(&has.request, Request::Has { key: 0 }));
+    Ok(())
+}
+
+#[test]
+fn sketch_lines_hold_what_they_spell(rt: HostRuntime) -> Result<(), Fail> {
+    let text =
+        b"sketch 4294967295\ninc 18446744073709551615 65535\nfreq 0\nindex 7 3\nlen\nensure 4294967295\n".as_slice();
+    let Script::Sketch { cap, lines } = parse(rt.alloc(), text)? else {
+        return Err("a sketch script".into());
+    };
+    assert_eq!(rt; cap, u32::MAX);
+    let want = [
+        SketchLine::Inc {
+            hash: u64::MAX,
+            times: u16::MAX,
+        },
+        SketchLine::Freq { hash: 0 },
+        SketchLine::Index { hash: 7, depth: 3 },
+        SketchLine::Len,
+        SketchLine::Ensure { cap: u32::MAX },
+    ];
+    assert_eq!(rt; lines.as_slice(), want.as_slice());
     Ok(())
 }
 

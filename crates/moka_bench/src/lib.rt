@@ -16,6 +16,8 @@ mod recorded;
 #[cfg(test)]
 mod sketch;
 #[cfg(test)]
+mod sketch_rows;
+#[cfg(test)]
 mod table;
 pub mod uses;
 #[cfg(test)]

@@ -1,4 +1,4 @@
-// A script as values: its header, and a line for each call.
+// A script as values: its header, and the lines of its mode.
 use crate::script::text::Text;
 use std::alloc::{Allocator, Global};
 
@@ -7,6 +7,8 @@ use std::alloc::{Allocator, Global};
 pub enum Header {
     /// Calls to a cache that keeps a record of them.
     Recorded,
+    /// Calls to a frequency sketch that begins with a table for `cap` entries.
+    Sketch { cap: u32 },
 }
 
 /// What is asked of the cache. `T` is how texts are held, so that a contract sees a request without an allocator.
@@ -24,9 +26,24 @@ pub struct Line<T = Text> {
     pub request: Request<T>,
 }
 
-/// A whole script, its lines in their order.
+/// What is asked of the sketch.
+#[derive(Clone, Copy, Debug, PartialEq, Eq)]
+pub enum SketchLine {
+    /// Counts the hash so many times.
+    Inc { hash: u64, times: u16 },
+    /// How often the hash was counted of late.
+    Freq { hash: u64 },
+    /// Where the hash's counter lies at a depth.
+    Index { hash: u64, depth: u8 },
+    /// How long the table is.
+    Len,
+    /// Sees to a table for so many entries.
+    Ensure { cap: u32 },
+}
+
+/// A whole script of one of the modes, its lines in their order.
 #[derive(Drop)]
-pub struct Script<A: Allocator + Clone + Drop = Global> {
-    pub header: Header,
-    pub lines: Vec<Line<Text<A>>, A>,
+pub enum Script<A: Allocator + Clone + Drop = Global> {
+    Recorded { lines: Vec<Line<Text<A>>, A> },
+    Sketch { cap: u32, lines: Vec<SketchLine, A> },
 }

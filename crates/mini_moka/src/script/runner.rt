@@ -1,26 +1,16 @@
 // A whole run: from the bytes of a script to the bytes of its replies.
-ghost use Rattle.std.specs.Prelude.{◌≡◌, ◌↔◌, ◌++◌, ℕ, true, false, List, IfOk, OnOk, codes};
-ghost use Rattle.mini_moka.specs.Grammar.{IsScript, IsBadAt};
-ghost use Rattle.mini_moka.specs.Record.{Memory, IsApplied};
-ghost use Rattle.mini_moka.specs.ReplyText.{call_at, reply_words, written, bad_line};
-ghost use Rattle.mini_moka.specs.ScriptKeys.{script_keys};
-ghost use Rattle.mini_moka.specs.ScriptRun.{EndsSo, IsRunOf, AreReplyLines, first_record};
-ghost use Rattle.moka_sync.specs.declared.engine.call.Reply.{Reply};
+ghost use Rattle.std.specs.Prelude.{◌≡◌, ◌↔◌, true, false, IfOk};
+ghost use Rattle.mini_moka.specs.ReplyText.{bad_line};
+ghost use Rattle.mini_moka.specs.ScriptRun.{EndsSo, IsRunOf};
 ghost use Rattle.mini_moka.specs.declared.script.runner.ScriptError.TheVariants as script_error;
 
-use crate::script::keys::KeyState;
-use crate::script::line::{Header, Line, Request};
+use crate::script::line::Script;
 use crate::script::parser::{ParseError, parse};
-use crate::script::reply::push_reply;
+use crate::script::recorded::recorded_replies;
+use crate::script::sketch::sketch_replies;
 use crate::script::streams::{Fault, ReadError, Sink, Source, read_all, write_all};
-use crate::script::text::Text;
-use crate::sync::recorded::Record;
 use moka_common::error::OutOfMemory;
-use moka_common::shared::Shared;
-use moka_common::time::Instant;
-use moka_common::weigh::UnitWeight;
-use moka_sync::engine::{Call, Core};
-use std::alloc::{AllocError, AllocFailed, Allocator};
+use std::alloc::{AllocError, Allocator};
 use thiserror::Error;
 
 /// How a run of a script ends where its streams and memory serve.
@@ -83,11 +73,12 @@ impl From<AllocError> for ScriptError {
     }
 }
 
-/// Reads a whole script, makes its calls in turn on a cache of its own, and writes the replies.
+/// Reads a whole script, makes its calls in turn on a cache or a sketch of its own, and writes the replies.
 ///
-/// The first line is answered by `ready`, an accepted insert by `ok`, a get by `some` and the value or by `none`, a `has` by
-/// `true` or `false`, and a call that was refused by `refused memory` or `refused tickets`. Where a line is bad, `bad line`
-/// and its number are all that is written. The time is linear in the bytes, but for the look-ups.
+/// The first line is answered by `ready`. In a recorded script an accepted insert is answered by `ok`, a get by `some` and the
+/// value or by `none`, and a `has` by `true` or `false`; in a sketch script `inc` and `ensure` by `ok`, and the others by a
+/// number. A call that was refused is answered by `refused memory` or `refused tickets`. Where a line is bad, `bad line` and its
+/// number are all that is written. The time is linear in the bytes, but for the look-ups and the counts of an `inc`.
 pub fn run<A: Allocator + Clone + Drop, I: Source, O: Sink>(
     alloc: A,
     source: &mut I,
@@ -114,12 +105,14 @@ fn output_of<A: Allocator + Clone + Drop>(
     ensures { IfOk result (λ output. IsRunOf A bytes.now output.0 output.1.items) }
 {
     match parse(alloc.clone()?, bytes) {
-        Ok(script) => match script.header {
-            Header::Recorded => {
-                let text = replies_to(alloc, script.lines)?;
-                Ok((End::Done, text))
-            }
-        },
+        Ok(Script::Recorded { lines }) => {
+            let text = recorded_replies(alloc, lines)?;
+            Ok((End::Done, text))
+        }
+        Ok(Script::Sketch { cap, lines }) => {
+            let text = sketch_replies(alloc, cap, lines)?;
+            Ok((End::Done, text))
+        }
         Err(ParseError::BadLine(number)) => {
             let text = bad_line(alloc, number)?;
             Ok((End::BadLine(number), text))
@@ -133,73 +126,4 @@ fn bad_line<A: Allocator + Clone + Drop>(alloc: A, number: u64) -> Result<Vec<u8
 {
     let text = format!(in alloc; "bad line {number}\n")?;
     Ok(text.into_bytes())
-}
-
-/// A cache that a script's calls are made on.
-type Cache<A> = Record<u64, Text<A>, KeyState, UnitWeight, A>;
-
-fn replies_to<A: Allocator + Clone + Drop>(
-    alloc: A,
-    lines: Vec<Line<Text<A>>, A>,
-) -> Result<Vec<u8, A>, OutOfMemory>
-    ensures { IfOk result (λ text. AreReplyLines A lines.items text.items) }
-{
-    let mut cache = first_cache(alloc.clone()?)?;
-    let mut text = Vec::from_slice(alloc.clone()?, b"ready\n")?;
-    for line in lines {
-        reply_to(alloc.clone()?, &mut cache, &mut text, line)?;
-    }
-    Ok(text)
-}
-
-/// The cache that a script begins with.
-fn first_cache<A: Allocator + Clone + Drop>(alloc: A) -> Result<Cache<A>, OutOfMemory>
-    ensures { IfOk result (λ cache. cache ≡ first_record A) }
-{
-    match Core::new(alloc.clone()?, KeyState) {
-        Ok(core) => Ok(Record::new(alloc, core)),
-        Err(_) => Err(OutOfMemory),
-    }
-}
-
-/// Makes the call of a line, and adds the line of its reply to the text.
-fn reply_to<A: Allocator + Clone + Drop>(
-    alloc: A,
-    cache: &mut Cache<A>,
-    text: &mut Vec<u8, A>,
-    line: Line<Text<A>>,
-) -> Result<(), OutOfMemory>
-    ensures { OnOk result ((memory : Memory) × (answer : Reply (List ℕ) A) ×
-        IsApplied script_keys cache.old (call_at line.now line.request) memory answer cache.new
-        × (text.new.items ≡ text.old.items ++ written (reply_words answer))) }
-{
-    let call = call_at(alloc, line)?;
-    let answer = cache.apply(call);
-    push_reply(text, &answer)?;
-    Ok(())
-}
-
-/// The call that a line asks for.
-fn call_at<A: Allocator + Clone + Drop>(
-    alloc: A,
-    line: Line<Text<A>>,
-) -> Result<Call<u64, Text<A>, A>, OutOfMemory>
-    ensures { IfOk result (λ call. call ≡ call_at line.now line.request) }
-{
-    let now = Instant::from_nanos(line.now);
-    match line.request {
-        Request::Insert { key, text } => {
-            let key = Shared::new(alloc.clone()?, key)?;
-            let value = Shared::new(alloc, text)?;
-            Ok(Call::Insert { key, value, now })
-        }
-        Request::Get { key } => {
-            let key = Shared::new(alloc, key)?;
-            Ok(Call::Get { key, now })
-        }
-        Request::Has { key } => {
-            let key = Shared::new(alloc, key)?;
-            Ok(Call::Contains { key, now })
-        }
-    }
 }

@@ -1,12 +1,14 @@
 // The words of a line, and what each can be read as.
-ghost use Rattle.std.specs.Prelude.{◌≡◌, ◌==◌, map, IfOk};
+ghost use Rattle.std.specs.Prelude.{◌≡◌, ◌==◌, ◌^◌, map, IfOk};
 ghost use Rattle.std.specs.Char.{is_ascii_digit};
 ghost use Rattle.std.specs.List.{list_all, slice_split};
-ghost use Rattle.mini_moka.specs.Grammar.{space};
-ghost use Rattle.mini_moka.specs.Reading.{Gives, number_of, text_of, has_leading_zero};
+ghost use Rattle.moka_common.specs.declared.constants.TheConstants.{DEPTHS};
+ghost use Rattle.mini_moka.specs.Spelling.{space};
+ghost use Rattle.mini_moka.specs.Reading.{Gives, number_of, number_below, text_of, has_leading_zero, no_argument, key_of, cap_of};
 ghost use Rattle.mini_moka.specs.declared.script.words.LineError.TheVariants as line_error;
 
 use crate::script::text::{Text, is_text};
+use moka_common::constants::DEPTHS;
 use std::alloc::{AllocError, Allocator};
 
 /// Why a line isn't read.
@@ -75,4 +77,65 @@ pub fn text_of<A: Allocator + Clone + Drop>(alloc: A, word: &[u8]) -> Result<Tex
         return Err(LineError::Bad);
     }
     Ok(Text::new(alloc, word)?)
+}
+
+/// The number that a word spells, as how many times a hash is counted.
+#[tactic(auto, unfolding(crate::specs::Reading::number_below))]
+pub fn times_of(word: &[u8]) -> Result<u16, LineError>
+    ensures { Gives result (number_below (2 ^ 16) word.now) }
+{
+    let number = number_of(word)?;
+    let Ok(times) = u16::try_from(number) else {
+        return Err(LineError::Bad);
+    };
+    Ok(times)
+}
+
+/// The number that a word spells, as a depth of the sketch.
+#[tactic(auto, unfolding(crate::specs::Reading::number_below))]
+pub fn depth_of(word: &[u8]) -> Result<u8, LineError>
+    ensures { Gives result (number_below DEPTHS word.now) }
+{
+    let depth = number_of(word)?;
+    if depth < DEPTHS as u64 {
+        return Ok(depth as u8);
+    }
+    Err(LineError::Bad)
+}
+
+/// That a call is given nothing.
+#[tactic(auto, unfolding(crate::specs::Reading::no_argument))]
+pub fn no_argument(arguments: &[&[u8]]) -> Result<(), LineError>
+    ensures { Gives result (no_argument (map (λ word. word.now) arguments.now)) }
+{
+    if arguments.is_empty() {
+        return Ok(());
+    }
+    Err(LineError::Bad)
+}
+
+/// The only argument, a key or a hash.
+#[tactic(auto, unfolding(crate::specs::Reading::key_of))]
+pub fn key_of(arguments: &[&[u8]]) -> Result<u64, LineError>
+    ensures { Gives result (key_of (map (λ word. word.now) arguments.now)) }
+{
+    let [key] = arguments else {
+        return Err(LineError::Bad);
+    };
+    number_of(key)
+}
+
+/// The only argument, how many entries a table is for.
+#[tactic(auto, unfolding(crate::specs::Reading::cap_of, crate::specs::Reading::number_below))]
+pub fn cap_of(arguments: &[&[u8]]) -> Result<u32, LineError>
+    ensures { Gives result (cap_of (map (λ word. word.now) arguments.now)) }
+{
+    let [cap] = arguments else {
+        return Err(LineError::Bad);
+    };
+    let number = number_of(cap)?;
+    let Ok(cap) = u32::try_from(number) else {
+        return Err(LineError::Bad);
+    };
+    Ok(cap)
 }

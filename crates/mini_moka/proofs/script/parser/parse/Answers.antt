@@ -1,29 +1,44 @@
-use Rattle.std.proofs.Common.{◌≡◌, ◌++◌, sym, ap, ◌∙◌, inl, inr, Err}
+use Rattle.std.proofs.Common.{◌≡◌, sym, subst, ap, ◌∙◌, Err}
 use Rattle.std.proofs.lemmas.Result.{err_from_is_err_and}
-use Rattle.mini_moka.specs.Grammar.{header_line}
+use Rattle.mini_moka.specs.RecordedLines.{recorded_words, RecordedFits}
+use Rattle.mini_moka.specs.SketchLines.{sketch_words, SketchFits}
+use Rattle.mini_moka.specs.Grammar.{IsBadAt, RecordedScript, SketchScript}
+use Rattle.mini_moka.specs.ReadingLines.{recorded_from_words, sketch_from_words}
+use Rattle.mini_moka.specs.declared.script.line.Header.TheVariants.{Recorded, Sketch}
 use Rattle.mini_moka.specs.declared.script.parser.ParseError.TheVariants as parse_error
-use Rattle.mini_moka.proofs.ScriptLemmas.{lacks_header}
-use Rattle.mini_moka.proofs.LineLemmas.{header_at-found}
+use Rattle.mini_moka.proofs.LineListLemmas.{all_read, bad_where_stopped}
+use Rattle.mini_moka.proofs.RecordedLineLemmas.{reads_recorded}
+use Rattle.mini_moka.proofs.SketchLineLemmas.{reads_sketch}
+use Rattle.mini_moka.proofs.ScriptLemmas.{script_read, bad_line_read, first_bad}
 use Rattle.mini_moka.proofs.script.parser.parse.Goals as goal
 
-pub returns-in_default-clause-bad : goal.returns-in_default-clause-bad
-returns-in_default-clause-bad g c n e = inl (cc, lacks_header _ (sym c.in_default.ensures))
+pub returns-in-Err-Bad-clause-bad : goal.returns-in-Err-Bad-clause-bad
+returns-in-Err-Bad-clause-bad g c n e =
+    let one : 1 ≡ n = cc in
+    subst (IsBadAt c.args.bytes.now) one (first_bad _ (rw c.in-Err-Bad.field-0-is at c.in-Err-Bad.ensures))
 
-pub returns-in_err-lines-clause-bad : goal.returns-in_err-lines-clause-bad
-returns-in_err-lines-clause-bad g c n e =
-    let p = err_from_is_err_and c.from_residual.result c.from_residual.ensures.1 in
+pub returns-in_err-lines-in-Recorded-clause-bad : goal.returns-in_err-lines-in-Recorded-clause-bad
+returns-in_err-lines-in-Recorded-clause-bad g c n e =
+    let residual = c.from_residual-in_err-lines-in-Recorded in
+    let p = err_from_is_err_and residual.result residual.ensures.1 in
     let same : p.0 ≡ parse_error.BadLine n = cc (p.1, e) in
-    let (count, number, bad) = c.in_err-lines.ensures.bad n (ap Err (sym p.2 ∙ same)) in
-    inr (record {
-      header = c.in-Some.header;
-      body = c.in-Some.body.now;
-      begins = header_at-found _ _ _ (sym c.in-Some.ensures);
-      count = count;
-      number_is = number;
-      bad = bad;
-    })
+    let (count, number, stops) = c.in_err-lines-in-Recorded.ensures.bad n (ap Err (sym p.2 ∙ same)) in
+    bad_line_read _ _ Recorded _ count n c.in-Ok.ensures c.in-Recorded.is (bad_where_stopped recorded_words RecordedFits recorded_from_words reads_recorded _ count stops) number
 
-pub returns-clause-found : goal.returns-clause-found
-returns-clause-found g c =
-    let (each, body_is) = c.in_ok-lines.ensures.found in
-    (each, header_at-found _ _ _ (sym c.in-Some.ensures) ∙ ap (λ l. header_line c.in-Some.header ++ l) body_is)
+pub returns-in_err-lines-in-Sketch-clause-bad : goal.returns-in_err-lines-in-Sketch-clause-bad
+returns-in_err-lines-in-Sketch-clause-bad g c n e =
+    let residual = c.from_residual-in_err-lines-in-Sketch in
+    let p = err_from_is_err_and residual.result residual.ensures.1 in
+    let same : p.0 ≡ parse_error.BadLine n = cc (p.1, e) in
+    let (count, number, stops) = c.in_err-lines-in-Sketch.ensures.bad n (ap Err (sym p.2 ∙ same)) in
+    bad_line_read _ _ (Sketch c.in-Sketch.cap) _ count n c.in-Ok.ensures c.in-Sketch.is (bad_where_stopped sketch_words SketchFits sketch_from_words reads_sketch _ count stops) number
+
+pub returns-in_ok-lines-in-Recorded-clause-found : goal.returns-in_ok-lines-in-Recorded-clause-found
+returns-in_ok-lines-in-Recorded-clause-found g c =
+    script_read _ _ _ (RecordedScript c.in_ok-lines-in-Recorded.lines.items) c.in-Ok.ensures c.in-Recorded.is
+    (all_read recorded_words RecordedFits recorded_from_words reads_recorded _ _ c.in_ok-lines-in-Recorded.ensures.found)
+
+pub returns-in_ok-lines-in-Sketch-clause-found : goal.returns-in_ok-lines-in-Sketch-clause-found
+returns-in_ok-lines-in-Sketch-clause-found g c =
+    script_read _ _ _ (SketchScript c.in-Sketch.cap c.in_ok-lines-in-Sketch.lines.items) c.in-Ok.ensures c.in-Sketch.is
+    (all_read sketch_words SketchFits sketch_from_words reads_sketch _ _ c.in_ok-lines-in-Sketch.ensures.found)

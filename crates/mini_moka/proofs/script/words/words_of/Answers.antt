@@ -1,7 +1,7 @@
 use Rattle.std.proofs.Common.{◌==◌, rules}
 use Rattle.std.proofs.lemmas.Iterator.Consumers.{map_from_collect}
 use Rattle.std.proofs.lemmas.Iterator.Splits.{YieldsList-from_slice_split}
-use Rattle.mini_moka.specs.Grammar.{space}
+use Rattle.mini_moka.specs.Spelling.{space}
 use Rattle.mini_moka.proofs.script.words.words_of.Goals as goal
 
 pub returns : goal.returns

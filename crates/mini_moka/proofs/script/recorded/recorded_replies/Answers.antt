@@ -2,7 +2,7 @@ use Rattle.std.proofs.Common.{◌≡◌, [], ◌++◌, refl, sym, ap, ◌∙◌,
 use Rattle.std.proofs.lemmas.List.{append-nil, nil_from_length}
 use Rattle.std.specs.Vec.Iter.{into_iter_items}
 use Rattle.mini_moka.specs.ReplyText.{reply_words, written}
-use Rattle.mini_moka.proofs.script.runner.replies_to.Goals as goal
+use Rattle.mini_moka.proofs.script.recorded.recorded_replies.Goals as goal
 
 pub loop-line-init : goal.loop-line-init
 loop-line-init g c rest replies =

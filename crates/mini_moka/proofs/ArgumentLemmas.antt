@@ -1,0 +1,51 @@
+-- What a call is given is read as it is spelled.
+use Rattle.std.proofs.Common.{◌≡◌, ℕ, ◌<◌, ◌^◌, List, [], ◌∷◌, Bool, true, false, cond, ltb, Some, None, refl, ap, ◌∙◌, subst, inl, inr, ◌⊎◌}
+use Rattle.std.specs.Fmt.{decimal}
+use Rattle.std.proofs.lemmas.Bool.{lt-ltb, ltb-true}
+use Rattle.std.proofs.lemmas.Option.{cond_some}
+use Rattle.mini_moka.specs.Reading.{number_of, number_below, no_argument, key_of, cap_of}
+use Rattle.mini_moka.proofs.CutLemmas.{bind_some}
+use Rattle.mini_moka.proofs.NumberLemmas.{number_of-decimal, number_of-found}
+
+-- which way a test went
+pub chosen : {A : Type 0} (b : Bool) (x y z : A) → cond b x y ≡ z → ((b ≡ true) × (x ≡ z)) ⊎ ((b ≡ false) × (y ≡ z))
+chosen true x y z e = inl (refl, e)
+chosen false x y z e = inr (refl, e)
+
+-- a number that is read below a limit is spelled so, and is below it
+pub number_below-found : (limit : ℕ) (word : List ℕ) (n : ℕ) → number_below limit word ≡ Some n → (word ≡ decimal n) × (n < limit)
+unfolding number_below
+number_below-found limit word n e =
+    let (m, was, shown) = bind_some (number_of word) (λ m. cond (ltb m limit) (Some m) None) n e in
+    let below = cond_some (ltb m limit) m n shown in
+    let number = number_of-found word m was in
+    (number.0 ∙ ap decimal below.1, subst (λ k. k < limit) below.1 (ltb-true m limit below.0))
+
+-- a number below a limit is read
+pub number_below-decimal : (limit n : ℕ) → n < limit → n < 2 ^ 64 → number_below limit (decimal n) ≡ Some n
+unfolding number_below
+number_below-decimal limit n below small = rw (number_of-decimal n small, lt-ltb n limit below) refl
+
+-- where no argument is read there is none
+pub no_argument-found : (arguments : List (List ℕ)) (nothing : Unit {0}) → no_argument arguments ≡ Some nothing → arguments ≡ []
+unfolding no_argument
+no_argument-found [] nothing e = refl
+no_argument-found (word ∷ words) nothing e = absurd cc
+
+-- what is read as a key is its decimal spelling
+pub key_of-found : (arguments : List (List ℕ)) (k : ℕ) → key_of arguments ≡ Some k → (arguments ≡ decimal k ∷ []) × (k < 2 ^ 64)
+unfolding key_of
+key_of-found [] k e = absurd cc
+key_of-found (key ∷ []) k e =
+    let keys = number_of-found key k e in
+    (ap (λ w. w ∷ []) keys.0, keys.1)
+key_of-found (key ∷ next ∷ more) k e = absurd cc
+
+-- what is read as a capacity is its decimal spelling
+pub cap_of-found : (arguments : List (List ℕ)) (cap : ℕ) → cap_of arguments ≡ Some cap → (arguments ≡ decimal cap ∷ []) × (cap < 2 ^ 32)
+unfolding cap_of
+cap_of-found [] cap e = absurd cc
+cap_of-found (word ∷ []) cap e =
+    let number = number_below-found (2 ^ 32) word cap e in
+    (ap (λ w. w ∷ []) number.0, number.1)
+cap_of-found (word ∷ next ∷ more) cap e = absurd cc

@@ -1,0 +1,16 @@
+// What the words of a line can be read as.
+ghost use Rattle.std.specs.Prelude.{ℕ, List, Option, map};
+ghost use Rattle.mini_moka.specs.Reading.{Gives};
+
+use crate::script::words::LineError;
+use std::alloc::Allocator;
+
+/// One kind of lines: headers, or the lines of a mode.
+pub(crate) trait FromWords<A: Allocator + Clone + Drop>: Drop {
+    // What words are read as.
+    ghost reading: { List (List ℕ) → Option Self };
+
+    /// The line that has these words.
+    fn from_words(alloc: A, words: &[&[u8]]) -> Result<Self, LineError>
+        ensures { Gives result (reading (map (λ word. word.now) words.now)) };
+}

@@ -1,0 +1,70 @@
+// The replies to a sketch script: its calls, made on a frequency sketch that begins with a table.
+ghost use Rattle.std.specs.Prelude.{◌≡◌, ◌<◌, Bool, IfOk};
+ghost use Rattle.std.specs.Fn.{iterate};
+ghost use Rattle.std.specs.List.{AllByRecursion};
+ghost use Rattle.moka_common.specs.Sketch.{after_increment};
+ghost use Rattle.moka_common.specs.SketchCapacity.{table_len};
+ghost use Rattle.mini_moka.specs.SketchLines.{SketchFits};
+ghost use Rattle.mini_moka.specs.SketchRun.{AreSketchReplyLines, after_sketch_line, sketch_reply};
+
+use crate::script::line::SketchLine;
+use crate::script::reply::{SketchReply, push_sketch_reply};
+use moka_common::error::OutOfMemory;
+use moka_common::frequency_sketch::FrequencySketch;
+use std::alloc::Allocator;
+
+/// Makes the calls of the lines in turn on a sketch with a table for so many entries, and writes the replies.
+pub(super) fn sketch_replies<A: Allocator + Clone + Drop>(
+    alloc: A,
+    cap: u32,
+    lines: Vec<SketchLine, A>,
+) -> Result<Vec<u8, A>, OutOfMemory>
+    requires { AllByRecursion SketchFits lines.items }
+    ensures { IfOk result (λ text. AreSketchReplyLines cap lines.items text.items) }
+{
+    let mut sketch = FrequencySketch::default(alloc.clone()?);
+    sketch.ensure_capacity(cap)?;
+    let mut text = Vec::from_slice(alloc, b"ready\n")?;
+    for line in lines {
+        let reply = reply_to(&mut sketch, line);
+        push_sketch_reply(&mut text, reply)?;
+    }
+    Ok(text)
+}
+
+/// Makes the call of a line. There is a table before it and behind it.
+fn reply_to<A: Allocator + Clone + Drop>(
+    sketch: &mut FrequencySketch<A>,
+    line: SketchLine,
+) -> SketchReply
+    requires table { 0 < table_len sketch.old }
+    requires fits { SketchFits line }
+    ensures step { (refused : Bool) × (result ≡ sketch_reply sketch.old line refused)
+        × (sketch.new ≡ after_sketch_line sketch.old line refused) }
+    ensures table { 0 < table_len sketch.new }
+{
+    match line {
+        SketchLine::Inc { hash, times } => {
+            count(sketch, hash, times);
+            SketchReply::Done
+        }
+        SketchLine::Freq { hash } => SketchReply::Number(u64::from(sketch.frequency(hash))),
+        SketchLine::Index { hash, depth } => {
+            SketchReply::Number(sketch.index_of(hash, depth) as u64)
+        }
+        SketchLine::Len => SketchReply::Number(sketch.table_len() as u64),
+        SketchLine::Ensure { cap } => match sketch.ensure_capacity(cap) {
+            Ok(()) => SketchReply::Done,
+            Err(_) => SketchReply::OutOfMemory,
+        },
+    }
+}
+
+/// Counts the hash so many times.
+fn count<A: Allocator + Clone + Drop>(sketch: &mut FrequencySketch<A>, hash: u64, times: u16)
+    ensures { sketch.new ≡ iterate (λ s. after_increment s hash) times sketch.old }
+{
+    for _ in 0..times {
+        sketch.increment(hash);
+    }
+}
