@@ -62,7 +62,8 @@ fn reply_to<A: Allocator + Clone + Drop>(
 
 /// Counts the hash so many times.
 fn count<A: Allocator + Clone + Drop>(sketch: &mut FrequencySketch<A>, hash: u64, times: u16)
-    ensures { sketch.new ≡ iterate (λ s. after_increment s hash) times sketch.old }
+    ensures step { sketch.new ≡ iterate (λ s. after_increment s hash) times sketch.old }
+    ensures table { table_len sketch.new ≡ table_len sketch.old }
 {
     for _ in 0..times {
         sketch.increment(hash);
