@@ -32,6 +32,21 @@ module _ {T : Type 0} (none : ℕ) where
       (λ _. h)
       (λ other. last_apart e.0 r es (absent_head r e es k) (absent_tail r e es k))
 
+  -- no node precedes or follows itself
+  preceder_other : (p id : ℕ) (es : List (ℕ × T)) → nat_eq p id ≡ false → nat_eq (preceder none p es id) id ≡ false
+  preceder_other p id [] h = cond_both (nat_eq none id) p none (λ x. nat_eq x id ≡ false) (λ _. h) (λ other. other)
+  preceder_other p id (e ∷ es) h =
+      cond_both (nat_eq id e.0) p (preceder none e.0 es id) (λ x. nat_eq x id ≡ false)
+      (λ _. h)
+      (λ other. preceder_other e.0 id es (ne_comm id e.0 other))
+
+  follower_other : (p id : ℕ) (es : List (ℕ × T)) → nat_eq none id ≡ false → lookup (nat_eq p) es ≡ None → AreApart es → nat_eq (follower none p es id) id ≡ false
+  follower_other p id [] ne absent apart = ne
+  follower_other p id (e ∷ es) ne absent apart =
+      cond_both (nat_eq p id) e.0 (follower none e.0 es id) (λ x. nat_eq x id ≡ false)
+      (λ same. ap (nat_eq e.0) (sym (eqb-true p id same)) ∙ ne_comm p e.0 (absent_head p e es absent))
+      (λ _. follower_other e.0 id es ne apart.0 apart.1)
+
   -- what follows is past the list or in it
   pub follower_apart : (p r : ℕ) (es : List (ℕ × T)) (id : ℕ) → nat_eq r none ≡ false → lookup (nat_eq r) es ≡ None → nat_eq r (follower none p es id) ≡ false
   follower_apart p r [] id h k = h
@@ -467,36 +482,81 @@ module _ {T A : Type 0} where
   other_kept : (old new : Nodes T A) (id q : ℕ) (slot : Option (Node T)) → Updates old.slab new.slab id slot → nat_eq id q ≡ false → get new.slab q ≡ get old.slab q
   other_kept old new id q slot u other = u.others q (λ same. false≢true (sym other ∙ eq-eqb id q (sym same)))
 
-  -- a node that stood apart is taken out
-  pub IsListed-remove : (old new : Nodes T A) (id : ℕ) (x : T) (es : List (ℕ × T)) → StandsApart old id x es → new.head ≡ old.head → new.tail ≡ old.tail → Updates old.slab new.slab id None → slab_len new.slab + 1 ≡ slab_len old.slab → new.slab.capacity ≡ old.slab.capacity → IsListed new es
-  IsListed-remove old new id x es s head tail u len capacity =
-      let away : nat_eq NONE id ≡ false = ne_comm id NONE s.place in
-      record {
-        elements = λ q. elim (cases_Bool (nat_eq id q)) [
-          | inl same ↦
-              ap (element_at new) (sym (eqb-true id q same)) ∙ ap (option_map (λ node. node.element)) u.changed ∙ sym s.new ∙ ap (λ k. lookup (nat_eq k) es) (eqb-true id q same)
-          | inr other ↦
-              ap (option_map (λ node. node.element)) (other_kept old new id q None u other) ∙ s.elements q ∙ cond-false (nat_eq id q) (Some x) (lookup (nat_eq q) es) other
-        ];
-        next = λ q. elim (cases_Bool (nat_eq id q)) [
-          | inl same ↦
-              ap (next_at new) (sym (eqb-true id q same)) ∙ ap (λ o. link_of (λ node. node.next) new.head o id) u.changed ∙ cond-false (nat_eq NONE id) new.head NONE away
-              ∙ sym (follower_absent NONE NONE id es away s.new) ∙ ap (follower NONE NONE es) (eqb-true id q same)
-          | inr other ↦
-              link_kept (λ node. node.next) old.head new.head (get old.slab q) (get new.slab q) q head (other_kept old new id q None u other) ∙ s.next q other
-        ];
-        prev = λ q. elim (cases_Bool (nat_eq id q)) [
-          | inl same ↦
-              ap (prev_at new) (sym (eqb-true id q same)) ∙ ap (λ o. link_of (λ node. node.prev) new.tail o id) u.changed ∙ cond-false (nat_eq NONE id) new.tail NONE away
-              ∙ sym (preceder_absent NONE NONE id es away s.new) ∙ ap (preceder NONE NONE es) (eqb-true id q same)
-          | inr other ↦
-              link_kept (λ node. node.prev) old.tail new.tail (get old.slab q) (get new.slab q) q tail (other_kept old new id q None u other) ∙ s.prev q other
-        ];
-        apart = s.apart;
-        end = s.end;
-        len = omega (arith, len, s.len);
-        fits = omega (arith, len, capacity, s.fits);
-      }
+  module _ (old mid : Nodes T A) (id : ℕ) (x : T) (es : List (ℕ × T)) (h : IsListed old es) (at : lookup (nat_eq id) es ≡ Some x) (u : Updates old.slab mid.slab id None) where
+    not_end : nat_eq NONE id ≡ false
+    not_end = differs NONE id es h.end (ap is_some at)
+
+    other_place : (y : ℕ) → nat_eq y id ≡ false → IsPlace old y → IsPlace mid y
+    other_place y other (inl found) = inl (ap (λ o. is_some (option_map (λ (node : Node T). node.element) o)) (other_kept old mid id y None u (ne_comm y id other)) ∙ found)
+    other_place y other (inr end) = inr end
+
+    before_other : (before : ℕ) → before ≡ prev_at old id → nat_eq before id ≡ false
+    before_other before is = ap (λ y. nat_eq y id) (is ∙ h.prev id) ∙ preceder_other NONE NONE id es not_end
+
+    after_other : (after : ℕ) → after ≡ next_at old id → nat_eq after id ≡ false
+    after_other after is = ap (λ y. nat_eq y id) (is ∙ h.next id) ∙ follower_other NONE NONE id es not_end h.end h.apart
+
+    -- the neighbours of a node are places still, once it is taken out
+    pub before_stays : (before : ℕ) → before ≡ prev_at old id → IsPlace mid before
+    before_stays before is = other_place before (before_other before is) (before_place old id x es h at before is)
+
+    pub after_stays : (after : ℕ) → after ≡ next_at old id → IsPlace mid after
+    after_stays after is = other_place after (after_other after is) (after_place old id x es h at after is)
+
+    -- the list has lost a node, once it is taken out and its neighbours are linked to one another
+    pub IsListed-unlink : (new : Nodes T A) (before after : ℕ) → before ≡ prev_at old id → after ≡ next_at old id → mid.head ≡ old.head → mid.tail ≡ old.tail
+        → slab_len mid.slab + 1 ≡ slab_len old.slab → mid.slab.capacity ≡ old.slab.capacity → Joins mid new before after → IsListed new (remove_entry (nat_eq id) es)
+    IsListed-unlink new before after before_is after_is head tail len capacity joins =
+        let found : IsSome (lookup (nat_eq id) es) = ap is_some at in
+        let rest = remove_entry (nat_eq id) es in
+        let gone : lookup (nat_eq id) rest ≡ None = lookup-remove_same id es h.apart in
+        let b = before_is ∙ h.prev id in let a = after_is ∙ h.next id in
+        record {
+          elements = λ q. joins.kept.element q ∙ elim (cases_Bool (nat_eq id q)) [
+            | inl same ↦
+                ap (element_at mid) (sym (eqb-true id q same)) ∙ ap (option_map (λ node. node.element)) u.changed ∙ sym gone ∙ ap (λ k. lookup (nat_eq k) rest) (eqb-true id q same)
+            | inr other ↦
+                ap (option_map (λ node. node.element)) (other_kept old mid id q None u other) ∙ h.elements q ∙ sym (lookup-remove_other id q es other)
+          ];
+          next = λ q. joins.next q ∙ elim (cases_Bool (nat_eq id q)) [
+            | inl same ↦
+                ap (λ k. cond (nat_eq before k) after (next_at mid k)) (sym (eqb-true id q same)) ∙ cond-false (nat_eq before id) after (next_at mid id) (before_other before before_is)
+                ∙ ap (λ o. link_of (λ node. node.next) mid.head o id) u.changed ∙ cond-false (nat_eq NONE id) mid.head NONE not_end
+                ∙ sym (follower_absent NONE NONE id rest not_end gone) ∙ ap (follower NONE NONE rest) (eqb-true id q same)
+            | inr other ↦
+                ap (cond (nat_eq before q) after) (link_kept (λ node. node.next) old.head mid.head (get old.slab q) (get mid.slab q) q head (other_kept old mid id q None u other) ∙ h.next q)
+                ∙ (λ i. cond (nat_eq (b i) q) (a i) (follower NONE NONE es q))
+                ∙ sym (follower-remove NONE NONE id q es not_end h.end h.apart found other)
+          ];
+          prev = λ q. joins.prev q ∙ elim (cases_Bool (nat_eq id q)) [
+            | inl same ↦
+                ap (λ k. cond (nat_eq after k) before (prev_at mid k)) (sym (eqb-true id q same)) ∙ cond-false (nat_eq after id) before (prev_at mid id) (after_other after after_is)
+                ∙ ap (λ o. link_of (λ node. node.prev) mid.tail o id) u.changed ∙ cond-false (nat_eq NONE id) mid.tail NONE not_end
+                ∙ sym (preceder_absent NONE NONE id rest not_end gone) ∙ ap (preceder NONE NONE rest) (eqb-true id q same)
+            | inr other ↦
+                ap (cond (nat_eq after q) before) (link_kept (λ node. node.prev) old.tail mid.tail (get old.slab q) (get mid.slab q) q tail (other_kept old mid id q None u other) ∙ h.prev q)
+                ∙ (λ i. cond (nat_eq (a i) q) (b i) (preceder NONE NONE es q))
+                ∙ sym (preceder-remove NONE NONE id q es not_end h.apart h.end found other)
+          ];
+          apart = AreApart-remove id es h.apart;
+          end = absent-remove id NONE es h.end;
+          len = omega (arith, joins.kept.len, len, h.len, length-remove id es found);
+          fits = omega (arith, joins.kept.len, joins.kept.capacity, len, capacity, h.fits);
+        }
+
+  -- the head is the first node
+  pub head_first : (ns : Nodes T A) (es : List (ℕ × T)) (id : ℕ) → IsListed ns es → first_id es ≡ Some id → ns.head ≡ id
+  head_first ns [] id h first = absurd (cc)
+  head_first ns (e ∷ es) id h first =
+      let same : e.0 ≡ id = cc in
+      sym (head_is ns (h.elements NONE ∙ h.end)) ∙ h.next NONE ∙ cond-true (nat_eq NONE NONE) e.0 (follower NONE e.0 es NONE) (nat_eq-same NONE) ∙ same
+
+  -- and nothing comes before it
+  pub head_prev : (ns : Nodes T A) (es : List (ℕ × T)) → IsListed ns es → IsSome (lookup (nat_eq ns.head) es) → NONE ≡ prev_at ns ns.head
+  head_prev ns [] h here = absurd (false≢true here)
+  head_prev ns (e ∷ es) h here =
+      let first : ns.head ≡ e.0 = head_first ns (e ∷ es) e.0 h refl in
+      sym (h.prev ns.head ∙ cond-true (nat_eq ns.head e.0) NONE (preceder NONE e.0 es ns.head) (ap (λ k. nat_eq k e.0) first ∙ nat_eq-same e.0))
 
   -- a node with a key that was vacant stands apart
   pub StandsApart-insert : (old new : Nodes T A) (id : ℕ) (node : Node T) (es : List (ℕ × T)) → IsListed old es → new.head ≡ old.head → new.tail ≡ old.tail → get old.slab id ≡ None → Updates old.slab new.slab id (Some node) → slab_len new.slab ≡ slab_len old.slab + 1 → nat_eq id NONE ≡ false → slab_len new.slab ≤ new.slab.capacity → StandsApart new id node.element es

@@ -100,11 +100,6 @@ module _ {T A : Type 0} where
   abbrev pub Gains : Nodes T A → Nodes T A → ℕ → T → Type 0
   Gains old new id element = (es : List (ℕ × T)) → IsListed old es → StandsApart new id element es
 
-  -- a node that stood apart in old is not in new
-  abbrev pub Loses : Nodes T A → Nodes T A → ℕ → Type 0
-  Loses old new id = (es : List (ℕ × T)) (element : T) → StandsApart old id element es
-      → IsListed new es
-
   -- a node that stood apart in old is at the back in new
   abbrev pub Attaches : Nodes T A → Nodes T A → ℕ → Type 0
   Attaches old new id = (es : List (ℕ × T)) (element : T) → StandsApart old id element es

@@ -12,7 +12,7 @@ mod nodes;
 
 use crate::error::OutOfMemory;
 pub use cursor::Cursor;
-use cursor::{advanced, entered, passed};
+use cursor::{advanced, entered, pass};
 pub use iter::Iter;
 use linked::Linked;
 use std::alloc::{Allocator, Global};
@@ -147,6 +147,7 @@ impl<T, A: Allocator> Deque<T, A> {
     }
 
     /// Puts the element at the back, or hands it back where there is no memory. It allocates only where no room is reserved.
+    #[inline]
     pub fn push_back(&mut self, element: T) -> Result<NodeId, T>
         ensures ok { IfOk result (λ id. self.new.items ≡ self.old.items ++ (id, element) ∷ []) }
         ensures new_id { IfOk result (λ id. lookup (nat_eq id) self.old.items ≡ None) }
@@ -229,8 +230,9 @@ impl<T, A: Allocator> Deque<T, A> {
         ensures step { self.new ≡ record (after_pop_front self.old) { room = self.new.room } }
         ensures room { self.old.room ≤ self.new.room }
     {
-        let id = self.front()?;
-        Some(self.unlink(id))
+        let first = self.list.first()?;
+        pass(&mut self.cursor, &self.list, first);
+        Some(self.list.unlink_first(first))
     }
 
     /// Moves the node to the back, where a cursor at it doesn't follow. The node must be in the list, which `contains` tells.
@@ -241,7 +243,7 @@ impl<T, A: Allocator> Deque<T, A> {
         if self.list.next(id.number).is_none() {
             return;
         }
-        self.cursor = passed(&self.list, self.cursor, id.number);
+        pass(&mut self.cursor, &self.list, id.number);
         self.list.move_to_back(id.number);
     }
 
@@ -261,7 +263,7 @@ impl<T, A: Allocator> Deque<T, A> {
         ensures step { self.new ≡ record (after_unlink id self.old) { room = self.new.room } }
         ensures room { self.old.room ≤ self.new.room }
     {
-        self.cursor = passed(&self.list, self.cursor, id.number);
+        pass(&mut self.cursor, &self.list, id.number);
         self.list.unlink(id.number)
     }
 

@@ -44,13 +44,14 @@ pub(crate) fn advanced<T, A: Allocator>(list: &Linked<T, A>, cursor: Cursor) -> 
     }
 }
 
-// The cursor once the node `id` is about to leave its place.
-pub(crate) fn passed<T, A: Allocator>(list: &Linked<T, A>, cursor: Cursor, id: usize) -> Cursor
-    requires { CursorIsIn list.now.items cursor }
-    ensures { result ≡ passed id list.now.items cursor }
+// Advances a cursor that is at the node `id`, which is about to leave its place.
+pub(crate) fn pass<T, A: Allocator>(cursor: &mut Cursor, list: &Linked<T, A>, id: usize)
+    requires { CursorIsIn list.now.items cursor.old }
+    ensures { cursor.new ≡ passed id list.now.items cursor.old }
 {
-    match cursor {
-        Cursor::At(at) if at == id => advanced(list, cursor),
-        _ => cursor,
+    if let Cursor::At(at) = *cursor {
+        if at == id {
+            *cursor = advanced(list, *cursor);
+        }
     }
 }

@@ -123,6 +123,17 @@ impl<T, A: Allocator> Linked<T, A> {
         self.nodes.unlink(id)
     }
 
+    pub(crate) fn unlink_first(&mut self, id: usize) -> T
+        requires found { IsIn self.old.items id }
+        requires first { first_id self.old.items ≡ Some id }
+        ensures items { self.new.items ≡ remove_entry (nat_eq id) self.old.items }
+        ensures value { lookup (nat_eq id) self.old.items ≡ Some result }
+        ensures room { self.old.room ≤ self.new.room }
+        ensures apart { AreApart self.old.items }
+    {
+        self.nodes.unlink_first(id)
+    }
+
     pub(crate) fn move_to_back(&mut self, id: usize)
         requires { IsIn self.old.items id }
         ensures items { self.new.items ≡ moved_to_back id self.old.items }

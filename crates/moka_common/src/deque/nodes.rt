@@ -6,7 +6,7 @@ ghost use Rattle.std.specs.Prelude.{◌≡◌, ℕ, ◌+◌, ◌≤◌, List, []
 ghost use Rattle.std.specs.Borrow.{sem};
 ghost use Rattle.std.specs.Map.{lookup, remove_entry};
 ghost use Rattle.slab.specs.Slab.{HasRoomFor, ContainsKey, slab_len};
-ghost use Rattle.moka_common.specs.Nodes.{next_at, prev_at, element_at, IsPlace, KeepsElements, RelinksNext, RelinksPrev, Joins, IsListed, Relists, Gains, Loses, Attaches, Detaches, FacesEnd};
+ghost use Rattle.moka_common.specs.Nodes.{next_at, prev_at, element_at, IsPlace, KeepsElements, RelinksNext, RelinksPrev, Joins, IsListed, Relists, Gains, Attaches, Detaches, FacesEnd};
 ghost use Rattle.moka_common.specs.Deque.{moved_to_back};
 ghost use Rattle.moka_common.specs.Lends.{lends_element};
 
@@ -96,8 +96,31 @@ impl<T, A: Allocator> Nodes<T, A> {
         ensures len { slab_len self.new.slab + 1 ≡ slab_len self.old.slab }
         ensures capacity { self.new.slab.capacity ≡ self.old.slab.capacity }
     {
-        self.detach(id);
-        self.remove(id)
+        let Node {
+            element,
+            next,
+            prev,
+        } = self.slab.remove(id);
+        self.join(prev, next);
+        element
+    }
+
+    // `unlink` of the first node, before which there is none.
+    pub(crate) fn unlink_first(&mut self, id: usize) -> T
+        requires found { ContainsKey self.old.slab id }
+        requires first { self.old.head ≡ id }
+        ensures listed { Relists self.old self.new (remove_entry (nat_eq id)) }
+        ensures value { element_at self.old id ≡ Some result }
+        ensures len { slab_len self.new.slab + 1 ≡ slab_len self.old.slab }
+        ensures capacity { self.new.slab.capacity ≡ self.old.slab.capacity }
+    {
+        let Node {
+            element,
+            next,
+            prev: _,
+        } = self.slab.remove(id);
+        self.join(NONE, next);
+        element
     }
 
     pub(crate) fn move_to_back(&mut self, id: usize)
@@ -124,22 +147,6 @@ impl<T, A: Allocator> Nodes<T, A> {
         });
         prove!(id < self.slab.capacity());
         id
-    }
-
-    // Takes out a node to which nothing links.
-    fn remove(&mut self, id: usize) -> T
-        requires { ContainsKey self.old.slab id }
-        ensures listed { Loses self.old self.new id }
-        ensures value { element_at self.old id ≡ Some result }
-        ensures len { slab_len self.new.slab + 1 ≡ slab_len self.old.slab }
-        ensures capacity { self.new.slab.capacity ≡ self.old.slab.capacity }
-    {
-        let Node {
-            element,
-            next: _,
-            prev: _,
-        } = self.slab.remove(id);
-        element
     }
 
     fn attach_back(&mut self, id: usize)

@@ -11,4 +11,4 @@ returns-then-is_none g c =
 pub invariant_of-self : goal.invariant_of-self
 invariant_of-self g c =
     let found = rw (← c.self.view_is, ← c.id.view_is) at c.requires in
-    rw (c.move_to_back.ensures.items, c.passed-self-inside.ensures) (CursorIsIn-moved c.id.inside.number c.self.inside.list.items c.self.inside.cursor c.move_to_back.ensures.apart c.self.invariant found)
+    rw (c.move_to_back.ensures.items, c.pass.ensures) (CursorIsIn-moved c.id.inside.number c.self.inside.list.items c.self.inside.cursor c.move_to_back.ensures.apart c.self.invariant found)
