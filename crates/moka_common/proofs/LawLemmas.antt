@@ -6,9 +6,9 @@ use Rattle.std.proofs.lemmas.Bool.Decides.{nat_tests}
 use Rattle.std.proofs.lemmas.List.{get_or-set_other, get_or-set_same, set_past, get_or_past, length-map, length-replicate, get_or-replicate}
 use Rattle.std.proofs.lemmas.List.Elements.{All-get_or, All-cons, All-contains, All-from_get_or}
 use Rattle.std.proofs.Math.ListN.{get_or-map}
-use Rattle.std.specs.Int.{IsPowerOfTwo, leading_zeros, w32}
+use Rattle.std.specs.Int.{leading_zeros, w32}
 use Rattle.moka_common.specs.declared.constants.TheConstants.{MAX_TABLE_LEN}
-use Rattle.moka_common.specs.Sketch.{IsSketch, IsTable, Table, after_increment, aged, ages, cell, cells, estimate, estimate_in, grown_at, grows, incremented_counters, index_of, odd_count, positions, with_count}
+use Rattle.moka_common.specs.Sketch.{HasShape, IsShaped, IsSketch, IsTable, Table, after_increment, aged, ages, cell, cells, estimate, estimate_in, grown_at, grows, incremented_counters, index_of, odd_count, positions, with_count}
 use Rattle.moka_common.specs.SketchCapacity.{after_ensure_capacity, new_table, table_len, table_len_for}
 use Rattle.moka_common.specs.TrueCount.{one_more, grown_true_count, true_count_after_ensure_capacity, true_count_after_increment}
 use Rattle.moka_common.proofs.SketchLemmas.{power_pos}
@@ -191,7 +191,7 @@ estimate_aged true t hash m h = estimate_halved t.places t.counters hash m h
 estimate_aged false t hash m h = h
 
 -- a count keeps true counts below estimates
-pub counting_keeps : (sketch : Option Table) (hash other count : ℕ) → IsSketch sketch → count ≤ estimate sketch hash →
+pub counting_keeps : (sketch : Option Table) (hash other count : ℕ) → IsShaped sketch → count ≤ estimate sketch hash →
     true_count_after_increment sketch hash other count ≤ estimate (after_increment sketch other) hash
 counting_keeps None hash other count is h = h
 counting_keeps (Some t) hash other count is h =
@@ -232,37 +232,30 @@ length-grown : (counters ats : List ℕ) → length (fold grown_at counters ats)
 length-grown counters [] = refl
 length-grown counters (at ∷ ats) = length-grown (grown_at counters at) ats ∙ length-set counters at _
 
--- a table that may be full: all but the size is as it must be
-record IsFilled (t : Table) : Type 0 where
-  power : IsPowerOfTwo t.places
-  whole : length t.counters ≡ 16 * t.places
-  small : All (λ c. c ≤ 15) t.counters
-
--- a count fills a table at most
-filled_counted : (t : Table) (hash : ℕ) → IsTable t → IsFilled (with_count t hash)
-filled_counted t hash is = record {
+-- a count keeps the shape
+shape_counted : (t : Table) (hash : ℕ) → HasShape t → HasShape (with_count t hash)
+shape_counted t hash is = record {
   power = is.power;
   whole = length-grown t.counters (positions t.places hash) ∙ is.whole;
   small = All-from_get_or (λ c. c ≤ 15) _ 0 (λ k here. small_grown t.counters (positions t.places hash) (small_from_All t.counters is.small) k);
 }
 
--- a filled table ages to one
-table_aged : (t : Table) → IsFilled t → (aged t).size < t.sample → IsTable (aged t)
-table_aged t is below = record {
+-- so does aging
+shape_aged : (t : Table) → HasShape t → HasShape (aged t)
+shape_aged t is = record {
   power = is.power;
   whole = length-map t.counters (λ c. c / 2) ∙ is.whole;
   small = All-from_get_or (λ c. c ≤ 15) (map (λ c. c / 2) t.counters) 0 (λ k here.
       let half : get_or (map (λ c. c / 2) t.counters) k 0 ≡ get_or t.counters k 0 / 2 = get_or-map (λ c. c / 2) t.counters k 0 in
       let most : get_or t.counters k 0 ≤ 15 = small_from_All t.counters is.small k in
       omega arith);
-  sampled = below;
 }
 
 -- a table that ages where it is full
-table_either : (full : Bool) (t : Table) → IsFilled t → (aged t).size < t.sample → (full ≡ false → t.size < t.sample) →
+table_either : (full : Bool) (t : Table) → HasShape t → (aged t).size < t.sample → (full ≡ false → t.size < t.sample) →
     IsSketch (Some (cond full (aged t) t))
-table_either true t is below calm = table_aged t is below
-table_either false t is below calm = record { power = is.power; whole = is.whole; small = is.small; sampled = calm refl }
+table_either true t is below calm = record { shape = shape_aged t is; sampled = below }
+table_either false t is below calm = record { shape = is; sampled = calm refl }
 
 -- where the table does not age, its size is below the sample
 calm_size : (grew : Bool) (size sample : ℕ) → size < sample → (grew && nat_le sample (size + 1)) ≡ false →
@@ -277,11 +270,11 @@ counting_keeps_sketch (Some t) hash is =
     let half : (aged (with_count t hash)).size ≤ t.sample / 2 = aging_halves t hash is in
     let below : t.size < t.sample = is.sampled in
     let after : (aged (with_count t hash)).size < t.sample = omega arith in
-    table_either (ages t hash) (with_count t hash) (filled_counted t hash is) after (λ calm. calm_size (grows t hash) t.size t.sample below calm)
+    table_either (ages t hash) (with_count t hash) (shape_counted t hash is.shape) after (λ calm. calm_size (grows t hash) t.size t.sample below calm)
 
--- a new table is one
-pub table_new : (cap : ℕ) → IsTable (new_table cap)
-table_new cap = record {
+-- a new table has the shape
+shape_new : (cap : ℕ) → HasShape (new_table cap)
+shape_new cap = record {
   power = (32 - leading_zeros w32 (min cap MAX_TABLE_LEN - 1), refl);
   whole = length-replicate (16 * table_len_for cap) 0;
   small = All-from_get_or (λ c. c ≤ 15) (replicate {A = ℕ} (16 * table_len_for cap) 0) 0 (λ k here.
@@ -290,8 +283,11 @@ table_new cap = record {
       let none : get_or (replicate {A = ℕ} (16 * table_len_for cap) 0) k 0 ≡ 0 =
       get_or-replicate (16 * table_len_for cap) k 0 0 (rw (← len) here) in
       omega arith);
-  sampled = omega arith;
 }
+
+-- a new table is one
+pub table_new : (cap : ℕ) → IsTable (new_table cap)
+table_new cap = record { shape = shape_new cap; sampled = omega arith }
 
 -- whether the table is new or not
 growing_keeps_by : (b : Bool) (sketch : Option Table) (t : Table) → IsSketch sketch → IsTable t → IsSketch (cond b sketch (Some t))

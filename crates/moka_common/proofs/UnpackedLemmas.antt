@@ -47,9 +47,11 @@ unpacked_is [] sample size packed = tt
 unpacked_is (word ∷ words) sample size packed =
     let here : IsTablePacked (word ∷ words) sample size = packed (omega arith) in
     record {
-      power = here.power;
-      whole = length-counters_of (word ∷ words);
-      small = All-counters_of (word ∷ words);
+      shape = record {
+        power = here.power;
+        whole = length-counters_of (word ∷ words);
+        small = All-counters_of (word ∷ words);
+      };
       sampled = here.sampled;
     }
 

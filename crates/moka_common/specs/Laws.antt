@@ -1,7 +1,7 @@
 -- What a contract sees of the laws of the sketch, which `src/laws.rt` promises.
 use Rattle.std.specs.Prelude.{◌≢◌, ℕ, ◌/◌, ◌%◌, ◌^◌, ◌<◌, ◌≤◌, Contains, Option}
 use Rattle.std.specs.Int.{IsNextPowerOfTwo}
-use Rattle.moka_common.specs.Sketch.{IsSketch, IsTable, Table, after_increment, aged, cells, estimate, with_count}
+use Rattle.moka_common.specs.Sketch.{IsShaped, IsSketch, IsTable, Table, after_increment, aged, cells, estimate, with_count}
 use Rattle.moka_common.specs.SketchCapacity.{after_ensure_capacity, next_power_of_two}
 use Rattle.moka_common.specs.TrueCount.{true_count_after_ensure_capacity, true_count_after_increment}
 use Rattle.moka_common.specs.declared.constants.TheConstants.{MAX_FREQUENCY}
@@ -21,7 +21,7 @@ GrowingKeepsSketches = (sketch : Option Table) (cap : ℕ) → IsSketch sketch �
 -- a true count that is at most the estimate is so once any hash is counted
 abbrev pub CountingKeepsTrueCounts : Type 0
 CountingKeepsTrueCounts =
-    (sketch : Option Table) (hash counted count : ℕ) → IsSketch sketch → count ≤ estimate sketch hash →
+    (sketch : Option Table) (hash counted count : ℕ) → IsShaped sketch → count ≤ estimate sketch hash →
     true_count_after_increment sketch hash counted count ≤ estimate (after_increment sketch counted) hash
 
 -- a true count that is at most the estimate is so once there is a table for any number of entries

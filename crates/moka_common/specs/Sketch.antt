@@ -86,11 +86,20 @@ abbrev pub after_increment : Option Table → ℕ → Option Table
 after_increment None hash = None
 after_increment (Some t) hash = Some (if ages t hash then aged (with_count t hash) else with_count t hash)
 
--- what holds of every table: a power of two of places, sixteen counters a place, none above the most, and a size below the sample
-pub record IsTable (t : Table) : Type 0 where
+-- the shape of every table: a power of two of places, sixteen counters a place, none above the most
+pub record HasShape (t : Table) : Type 0 where
   pub power : IsPowerOfTwo t.places
   pub whole : length t.counters ≡ COUNTERS_PER_WORD * t.places
   pub small : All (λ c. c ≤ MAX_FREQUENCY) t.counters
+
+-- the sketch is off, or its table has that shape
+abbrev pub IsShaped : Option Table → Type 0
+IsShaped None = Unit {0}
+IsShaped (Some t) = HasShape t
+
+-- what holds of every table: its shape, and a size below the sample
+pub record IsTable (t : Table) : Type 0 where
+  pub shape : HasShape t
   pub sampled : t.size < t.sample
 
 -- what holds of every sketch
