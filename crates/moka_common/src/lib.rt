@@ -1,4 +1,5 @@
-//! What the caches stand on: moments, errors, limits, hash states, weighers, shared pointers, and the sketch that counts uses.
+//! What the caches stand on: moments and expiry, errors, limits and legal durations, hash states, weighers, shared pointers, the sketch that
+//! counts uses, and lists whose nodes have ids.
 #![tactic(auto)]
 
 pub mod constants;
