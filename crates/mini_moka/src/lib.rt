@@ -5,3 +5,4 @@ pub mod common;
 pub mod laws;
 pub mod script;
 pub mod sync;
+pub mod unsync;

@@ -1,0 +1,85 @@
+-- Lemmas on the walk through the entries that would give way to a new one.
+use Rattle.std.proofs.Common.{◌≡◌, ◌<◌, ◌≤◌, ◌+◌, ◌-◌, ℕ, zero, suc, Bool, true, false, nat_lt, cond, List, [], ◌∷◌, ◌++◌, length, take, Option, Some, None, option_map, refl, sym, ap, ◌∙◌, arith, subst, inl, inr}
+use Rattle.std.proofs.lemmas.Bool.{cases_Bool, cond-true, cond-false}
+use Rattle.std.proofs.lemmas.Bool.Decides.{nat_tests}
+use Rattle.std.proofs.lemmas.List.{append-nil, append_assoc, length_push}
+use Rattle.std.proofs.lemmas.List.Sums.{sum_by-append, sum_by_push}
+use Rattle.std.specs.List.{sum_by}
+use Rattle.moka_common.specs.Prefix.{shortest_prefix}
+use Rattle.moka_common.specs.Admission.{outvoted}
+use Rattle.moka_unsync.specs.Turns.{counted}
+
+module _ {X : Type 0} (weight votes_of : X → ℕ) where
+  -- some entries were seen; as much is lacking of the weight, and as many votes are against the candidate
+  pub record IsWalk (enough : ℕ) (all rest : List X) (count lacking votes : ℕ) : Type 0 where
+    pub seen : List X
+    pub parts : all ≡ seen ++ rest
+    pub number : count ≡ length seen
+    pub prefix : shortest_prefix weight enough all ≡ option_map (λ p. seen ++ p) (shortest_prefix weight lacking rest)
+    pub sum : votes ≡ sum_by votes_of seen
+
+  same_option : (o : Option (List X)) → o ≡ option_map (λ p. [] ++ p) o
+  same_option None = refl
+  same_option (Some p) = refl
+
+  pub walk_start : (enough : ℕ) (all : List X) → IsWalk enough all all 0 enough 0
+  walk_start enough all = record { seen = []; parts = refl; number = refl; prefix = same_option (shortest_prefix weight enough all); sum = refl }
+
+  longer : (seen : List X) (x : X) (o : Option (List X)) → option_map (λ p. seen ++ p) (option_map (λ p. x ∷ p) o) ≡ option_map (λ p. (seen ++ x ∷ []) ++ p) o
+  longer seen x None = refl
+  longer seen x (Some p) = ap Some (sym (append_assoc seen (x ∷ []) p))
+
+  length-push : (xs : List X) (x : X) → length (xs ++ x ∷ []) ≡ length xs + 1
+  length-push xs x = length_push xs x
+
+  first_of : (lacking : ℕ) (x : X) (rest : List X) → 0 < lacking → shortest_prefix weight lacking (x ∷ rest) ≡ option_map (λ p. x ∷ p) (shortest_prefix weight (lacking - weight x) rest)
+  first_of zero x rest h = absurd (grind (arith, h))
+  first_of (suc n) x rest h = refl
+
+  pub walk_step : (enough : ℕ) (all : List X) (x : X) (rest : List X) (count lacking votes : ℕ) → IsWalk enough all (x ∷ rest) count lacking votes → 0 < lacking
+      → IsWalk enough all rest (count + 1) (lacking - weight x) (votes + votes_of x)
+  walk_step enough all x rest count lacking votes w h =
+      record {
+        seen = w.seen ++ x ∷ [];
+        parts = w.parts ∙ sym (append_assoc w.seen (x ∷ []) rest);
+        number = ap (λ n. n + 1) w.number ∙ sym (length-push w.seen x);
+        prefix = w.prefix ∙ (ap (option_map (λ p. w.seen ++ p)) (first_of lacking x rest h) ∙ longer w.seen x (shortest_prefix weight (lacking - weight x) rest));
+        sum = ap (λ n. n + votes_of x) w.sum ∙ sym (sum_by_push votes_of w.seen x);
+      }
+
+  take-front : (xs ys : List X) → take (length xs) (xs ++ ys) ≡ xs
+  take-front [] [] = refl
+  take-front [] (y ∷ ys) = refl
+  take-front (x ∷ xs) ys = ap (λ l. x ∷ l) (take-front xs ys)
+
+  -- where nothing is lacking, those that were seen give way
+  pub walk_found : (enough : ℕ) (all rest : List X) (count votes candidate : ℕ) → IsWalk enough all rest count 0 votes → votes < candidate
+      → counted all (Some count) ≡ outvoted weight votes_of candidate (shortest_prefix weight enough all)
+  walk_found enough all rest count votes candidate w h =
+      ap Some (ap (λ n. take n all) w.number ∙ (ap (take (length w.seen)) w.parts ∙ take-front w.seen rest))
+      ∙ sym (ap (outvoted weight votes_of candidate) (w.prefix ∙ ap Some (append-nil w.seen))
+      ∙ cond-true (nat_lt (sum_by votes_of w.seen) candidate) (Some w.seen) None (grind (arith, nat_tests, h, w.sum)))
+
+  -- where no entry is left, too little weighs enough
+  pub walk_ended : (enough : ℕ) (all : List X) (count lacking votes candidate : ℕ) → IsWalk enough all [] count lacking votes → 0 < lacking
+      → counted all None ≡ outvoted weight votes_of candidate (shortest_prefix weight enough all)
+  walk_ended enough all count zero votes candidate w h = absurd (grind (arith, h))
+  walk_ended enough all count (suc n) votes candidate w h = sym (ap (outvoted weight votes_of candidate) w.prefix)
+
+  -- where as many votes are against it, the candidate is rejected
+  pub walk_outvoted : (enough : ℕ) (all rest : List X) (count lacking votes candidate : ℕ) → IsWalk enough all rest count lacking votes → candidate ≤ votes
+      → counted all None ≡ outvoted weight votes_of candidate (shortest_prefix weight enough all)
+  walk_outvoted enough all rest count lacking votes candidate w h = sym (ap (outvoted weight votes_of candidate) w.prefix ∙ by (shortest_prefix weight lacking rest))
+    where
+      by : (o : Option (List X)) → outvoted weight votes_of candidate (option_map (λ p. w.seen ++ p) o) ≡ None
+      by None = refl
+      by (Some p) =
+          cond-false (nat_lt (sum_by votes_of (w.seen ++ p)) candidate) (Some (w.seen ++ p)) None (grind (arith, nat_tests, sum_by-append votes_of w.seen p, w.sum, h))
+
+  -- as many entries as were counted are among all
+  pub walk_counts : (enough : ℕ) (all : List X) (x : X) (rest : List X) (count lacking votes : ℕ) → IsWalk enough all (x ∷ rest) count lacking votes → count < length all
+  walk_counts enough all x rest count lacking votes w = rw (w.number, w.parts) (shorter w.seen)
+    where
+      shorter : (xs : List X) → length xs < length (xs ++ x ∷ rest)
+      shorter [] = grind (arith)
+      shorter (y ∷ xs) = grind (arith, shorter xs)

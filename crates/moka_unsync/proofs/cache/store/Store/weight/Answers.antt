@@ -1,0 +1,6 @@
+use Rattle.std.proofs.Common.{◌<◌, ◌≤◌, ◌*◌, ◌-◌, ◌^◌, arith, length}
+use Rattle.moka_unsync.proofs.StoreLemmas.{total_bound}
+use Rattle.moka_unsync.proofs.cache.store.Store.weight.Goals as goal
+
+pub returns-clause-small : goal.returns-clause-small
+returns-clause-small g c = grind (arith, total_bound c.self.invariant, c.len.ensures, c.len.type_inv)

@@ -1,0 +1,28 @@
+-- What a contract sees of a builder: what was set.
+use Rattle.std.specs.Prelude.{◌≡◌, ℕ, Bool, false, Option, None, unwrap_or}
+use Rattle.moka_common.specs.declared.error.BuildError.{BuildError}
+use Rattle.moka_common.specs.declared.error.BuildError.TheVariants.{OutOfMemory}
+use Rattle.moka_common.specs.Policy.{Policy}
+use Rattle.moka_common.specs.Settings.{duration_fault}
+use Rattle.moka_unsync.specs.CacheState.{CacheState, idle_nanos, live_nanos, new_cache}
+
+-- the limits, for how many entries there is room from the start, and the weigher, if one was given
+pub record Builder (W : Type 0) : Type 0 where
+  pub policy : Policy
+  pub initial_capacity : ℕ
+  pub is_weighed : Bool
+  pub weigher : W
+
+-- a builder as it begins, with this limit or none
+abbrev pub new_builder : {W : Type 0} → Option ℕ → W → Builder W
+new_builder limit weigher =
+    record { policy = record { max_capacity = limit; time_to_live = None; time_to_idle = None }; initial_capacity = 0; is_weighed = false; weigher = weigher }
+
+-- the first fault of what was set; where there is none, only memory can be refused
+abbrev pub refusal_of : {W : Type 0} → Builder W → BuildError
+refusal_of builder = unwrap_or (duration_fault (live_nanos builder.policy) (idle_nanos builder.policy)) OutOfMemory
+
+-- what was set is legal, and it is a new cache of that
+pub record IsBuilt {K V S W : Type 0} (builder : Builder W) (hash_state : S) (cache : CacheState K V S W) : Type 0 where
+  pub legal : duration_fault (live_nanos builder.policy) (idle_nanos builder.policy) ≡ None
+  pub built : cache ≡ new_cache (record { hash_state = hash_state; policy = builder.policy; is_weighed = builder.is_weighed }) builder.weigher

@@ -1,0 +1,158 @@
+//! The builder of caches for one thread.
+ghost use Rattle.std.specs.Prelude.{◌≡◌, true, None, Some, IfErr, IfOk};
+ghost use Rattle.moka_unsync.specs.Builder.{IsBuilt, new_builder, refusal_of};
+
+use crate::cache::{Cache, Parts};
+use moka_common::error::BuildError;
+use moka_common::hash::FixedState;
+use moka_common::policy::Policy;
+use moka_common::settings::duration_fault;
+use moka_common::weigh::{UnitWeight, Weigh};
+use std::alloc::{Allocator, Global};
+use std::hash::{BuildHasher, Hash};
+use std::marker::{Model, PhantomData};
+use std::time::Duration;
+
+/// Makes a cache, with what is set. Nothing is limited that isn't set.
+#[derive(Drop)]
+pub struct CacheBuilder<K, V, W: Drop = UnitWeight, A: Allocator + Clone + Drop = Global> {
+    alloc: A,
+    policy: Policy,
+    initial_capacity: usize,
+    is_weighed: bool,
+    weigher: W,
+    entries: PhantomData<(K, V)>,
+}
+
+impl<K, V, W: Drop, A: Allocator + Clone + Drop> Model for CacheBuilder<K, V, W, A> {
+    ghost use Rattle.moka_unsync.specs.Builder.{Builder};
+
+    ghost Value = { Builder W };
+
+    ghost view = { λ b. record { policy = b.policy; initial_capacity = b.initial_capacity; is_weighed = b.is_weighed; weigher = b.weigher } };
+}
+
+impl<K, V, A: Allocator + Clone + Drop> CacheBuilder<K, V, UnitWeight, A> {
+    /// A builder of caches with a limit: that many entries, or as much weight where a weigher is given.
+    pub fn new(alloc: A, max_capacity: u64) -> Self
+        ensures { result ≡ new_builder (Some max_capacity) result.weigher }
+    {
+        CacheBuilder::default(alloc).max_capacity(max_capacity)
+    }
+
+    /// A builder of caches without limits.
+    pub fn default(alloc: A) -> Self
+        ensures { result ≡ new_builder None result.weigher }
+    {
+        CacheBuilder {
+            alloc,
+            policy: Policy::new(None, None, None),
+            initial_capacity: 0,
+            is_weighed: false,
+            weigher: UnitWeight,
+            entries: PhantomData,
+        }
+    }
+}
+
+impl<K, V, W: Drop, A: Allocator + Clone + Drop> CacheBuilder<K, V, W, A> {
+    /// The most entries, or with a weigher the most weight.
+    pub fn max_capacity(self, max_capacity: u64) -> Self
+        ensures { result ≡ record self { policy = record self.policy { max_capacity = Some max_capacity } } }
+    {
+        let policy = Policy::new(
+            Some(max_capacity),
+            self.policy.time_to_live(),
+            self.policy.time_to_idle(),
+        );
+        CacheBuilder { policy, ..self }
+    }
+
+    /// For how many entries the cache has room from the start. More are found room for as they come.
+    pub fn initial_capacity(self, initial_capacity: usize) -> Self
+        ensures { result ≡ record self { initial_capacity = initial_capacity } }
+    {
+        CacheBuilder {
+            initial_capacity,
+            ..self
+        }
+    }
+
+    /// How long an entry lives after it was last written.
+    pub fn time_to_live(self, time_to_live: Duration) -> Self
+        ensures { result ≡ record self { policy = record self.policy { time_to_live = Some time_to_live } } }
+    {
+        let policy = Policy::new(
+            self.policy.max_capacity(),
+            Some(time_to_live),
+            self.policy.time_to_idle(),
+        );
+        CacheBuilder { policy, ..self }
+    }
+
+    /// How long an entry lives after it was last read or written.
+    pub fn time_to_idle(self, time_to_idle: Duration) -> Self
+        ensures { result ≡ record self { policy = record self.policy { time_to_idle = Some time_to_idle } } }
+    {
+        let policy = Policy::new(
+            self.policy.max_capacity(),
+            self.policy.time_to_live(),
+            Some(time_to_idle),
+        );
+        CacheBuilder { policy, ..self }
+    }
+
+    /// What says how much an entry weighs: a closure, or a type with an impl of `Weigh`. It is asked once for each insert that has its room.
+    pub fn weigher<N: Weigh<K, V> + Drop>(self, weigher: N) -> CacheBuilder<K, V, N, A>
+        ensures { result ≡ record {
+          policy = self.policy;
+          initial_capacity = self.initial_capacity;
+          is_weighed = true;
+          weigher = weigher;
+        } }
+    {
+        CacheBuilder {
+            alloc: self.alloc,
+            policy: self.policy,
+            initial_capacity: self.initial_capacity,
+            is_weighed: true,
+            weigher,
+            entries: PhantomData,
+        }
+    }
+}
+
+impl<K: Eq + Hash + Drop, V: Drop, W: Drop, A: Allocator + Clone + Drop> CacheBuilder<K, V, W, A> {
+    /// The cache, with std's default hash state. It is refused where a duration is longer than 1000 years, or for want of memory. Its key is fixed: where strangers choose the keys, use `build_with_hasher` with a `RandomState`.
+    pub fn build(self) -> Result<Cache<K, V, FixedState, W, A>, BuildError>
+        ensures ok { IfOk result (λ cache. IsBuilt self cache.settings.hash_state cache) }
+        ensures err { IfErr result (λ error. error ≡ refusal_of self) }
+    {
+        self.build_with_hasher(FixedState::default())
+    }
+
+    /// The cache, with a hash state of one's own. It is refused as `build` is.
+    pub fn build_with_hasher<S: BuildHasher + Drop>(
+        self,
+        hash_state: S,
+    ) -> Result<Cache<K, V, S, W, A>, BuildError>
+        ensures ok { IfOk result (λ cache. IsBuilt self hash_state cache) }
+        ensures err { IfErr result (λ error. error ≡ refusal_of self) }
+    {
+        let policy = self.policy;
+        if let Some(fault) = duration_fault(policy.time_to_live(), policy.time_to_idle()) {
+            return Err(fault);
+        }
+        let cache = Cache::with_parts(
+            self.alloc,
+            Parts {
+                hash_state,
+                policy,
+                is_weighed: self.is_weighed,
+                weigher: self.weigher,
+                initial_capacity: self.initial_capacity,
+            },
+        )?;
+        Ok(cache)
+    }
+}

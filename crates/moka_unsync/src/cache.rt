@@ -1,0 +1,306 @@
+//! The cache for one thread.
+ghost use Rattle.std.specs.Prelude.{◌≡◌, ◌-◌, ◌^◌, Bool, false, length, min, None, Some, option_copied, IfErr, IfOk, OnErr, OnOk};
+ghost use Rattle.std.specs.Borrow.{sem};
+ghost use Rattle.moka_common.specs.Keys.{keys_of};
+ghost use Rattle.moka_common.specs.Enabling.{expected_entries};
+ghost use Rattle.moka_unsync.specs.Builder.{new_builder};
+ghost use Rattle.moka_unsync.specs.CacheState.{new_cache};
+ghost use Rattle.moka_unsync.specs.Contents.{total_weight, weighted_size};
+ghost use Rattle.moka_unsync.specs.Expire.{after_upkeep};
+ghost use Rattle.moka_unsync.specs.Lookup.{after_get, after_look, found_by_get, is_contained, is_expired};
+ghost use Rattle.moka_unsync.specs.Insert.{IsInserted, after_asking};
+ghost use Rattle.moka_unsync.specs.Turns.{Continues, contents_of};
+
+mod admit;
+mod entry;
+mod expire;
+mod store;
+mod trim;
+
+use crate::builder::CacheBuilder;
+use admit::admit;
+use entry::Entry;
+use expire::expire;
+use moka_common::error::{BuildError, InsertError, OutOfMemory};
+use moka_common::frequency_sketch::{FrequencySketch, sketch_capacity};
+use moka_common::hash::FixedState;
+use moka_common::policy::Policy;
+use moka_common::time::{Instant, idle_expired, live_expired};
+use moka_common::weigh::{UnitWeight, Weigh};
+use std::alloc::{Allocator, Global};
+use std::hash::{BuildHasher, Hash};
+use std::marker::Model;
+use store::Store;
+use trim::trim;
+
+/// What a cache is built of.
+#[derive(Drop)]
+pub(crate) struct Parts<S: Drop, W: Drop> {
+    pub(crate) hash_state: S,
+    pub(crate) policy: Policy,
+    pub(crate) is_weighed: bool,
+    pub(crate) weigher: W,
+    pub(crate) initial_capacity: usize,
+}
+
+/// A cache for one thread: bounded by a number of entries or by their weight, with expiry by time to live and by time to idle.
+///
+/// A look-up or an insert first removes expired entries, and the least recently used ones while the weight is above the limit, each time a batch
+/// of `EVICTION_BATCH_SIZE` entries at most; no read gives an expired entry that remained. No call reads a clock: moments are handed in, and they
+/// may go back. Where there is no room a new entry is admitted only if its key was looked for more often of late than those of all the entries
+/// together that would give way to it: the size-aware TinyLFU of Caffeine, by Einziger, Friedman and Manes.
+///
+/// A look-up takes time linear in the number of entries, since there is no index yet; all else in a call takes constant time for each entry that
+/// it adds or removes. Nothing but an insert takes memory.
+#[derive(Drop)]
+pub struct Cache<
+    K: Eq + Hash + Drop,
+    V: Drop,
+    S: BuildHasher + Drop = FixedState,
+    W: Drop = UnitWeight,
+    A: Allocator + Clone + Drop = Global,
+> {
+    hash_state: S,
+    policy: Policy,
+    is_weighed: bool,
+    weigher: W,
+    store: Store<K, V, A>,
+    sketch: FrequencySketch<A>,
+}
+
+impl<
+    K: Eq + Hash + Drop,
+    V: Drop,
+    S: BuildHasher + Drop,
+    W: Drop,
+    A: Allocator + Clone + Drop,
+> Model for Cache<K, V, S, W, A> {
+    ghost use Rattle.moka_common.specs.Keys.{keys_of};
+    ghost use Rattle.moka_unsync.specs.CacheState.{CacheState};
+    ghost use Rattle.moka_unsync.specs.Cached.{IsCached};
+    ghost use Rattle.moka_unsync.specs.Turns.{contents_of};
+
+    ghost Value = { CacheState K V S W };
+
+    ghost view = { λ c. record {
+      settings = record { hash_state = c.hash_state; policy = c.policy; is_weighed = c.is_weighed };
+      weigher = c.weigher;
+      contents = contents_of c.store;
+      sketch = c.sketch;
+    } };
+
+    ghost invariant = { λ c. IsCached
+        (keys_of (record { eq = K.eq; hash_input = K.hash_input }) S.BuildHasher S.Hasher.Hasher)
+        c.hash_state c.policy c.store };
+}
+
+impl<K: Eq + Hash + Drop, V: Drop, A: Allocator + Clone + Drop> Cache<
+    K,
+    V,
+    FixedState,
+    UnitWeight,
+    A,
+> {
+    /// A cache with a limit of so many entries, and std's default hash state, whose key is fixed. It is refused only for want of memory.
+    pub fn new(alloc: A, max_capacity: u64) -> Result<Self, BuildError>
+        ensures ok { IfOk result (λ cache. cache ≡ new_cache (record {
+          hash_state = cache.settings.hash_state;
+          policy = record { max_capacity = Some max_capacity; time_to_live = None; time_to_idle = None };
+          is_weighed = false;
+        }) cache.weigher) }
+        ensures err { IfErr result (λ error. error ≡ BuildError.OutOfMemory) }
+    {
+        CacheBuilder::new(alloc, max_capacity).build()
+    }
+
+    /// A builder of caches.
+    pub fn builder(alloc: A) -> CacheBuilder<K, V, UnitWeight, A>
+        ensures { result ≡ new_builder None result.weigher }
+    {
+        CacheBuilder::default(alloc)
+    }
+}
+
+impl<
+    K: Eq + Hash + Drop,
+    V: Drop,
+    S: BuildHasher + Drop,
+    W: Drop,
+    A: Allocator + Clone + Drop,
+> Cache<K, V, S, W, A> {
+    ghost use Rattle.moka_unsync.specs.CacheLends.{ends_as};
+
+    /// A cache of these parts, with no entries.
+    pub(crate) fn with_parts(alloc: A, parts: Parts<S, W>) -> Result<Self, OutOfMemory>
+        ensures { IfOk result (λ cache. cache ≡ new_cache
+            (record { hash_state = parts.hash_state; policy = parts.policy; is_weighed = parts.is_weighed })
+            parts.weigher) }
+    {
+        let mut store = Store::new(alloc.clone()?, parts.policy)?;
+        store.reserve(parts.initial_capacity)?;
+        Ok(Cache {
+            hash_state: parts.hash_state,
+            policy: parts.policy,
+            is_weighed: parts.is_weighed,
+            weigher: parts.weigher,
+            store,
+            sketch: FrequencySketch::default(alloc),
+        })
+    }
+
+    /// The limits of the cache.
+    pub fn policy(&self) -> Policy
+        ensures { result ≡ self.now.settings.policy }
+    {
+        self.policy
+    }
+
+    /// How many entries the cache has, expired ones among them that no call has removed yet. It takes constant time.
+    pub fn entry_count(&self) -> u64
+        ensures { result ≡ length self.now.contents.entries }
+    {
+        self.store.len() as u64
+    }
+
+    /// What the entries weigh together, at most `u64::MAX`. Without a weigher each weighs 1. It takes constant time.
+    pub fn weighted_size(&self) -> u64
+        ensures { result ≡ weighted_size self.now.contents.entries }
+    {
+        u64::try_from(self.store.weight()).unwrap_or(u64::MAX)
+    }
+
+    /// Whether the key has an unexpired entry. It is no use of it: neither its moments nor its place nor the popularity of the key change.
+    pub fn contains_key(&mut self, key: &K, now: Instant) -> bool
+        ensures value { result
+            ≡ is_contained (keys_of K.Hash S.BuildHasher S.Hasher.Hasher) self.old key.now now }
+        ensures step { self.new
+            ≡ after_look (keys_of K.Hash S.BuildHasher S.Hasher.Hasher) self.old now }
+    {
+        keep_up(&mut self.store, self.policy, now);
+        let hash = self.hash_state.hash_one(key);
+        match self.store.find(key, hash) {
+            Some(id) => !is_expired(self.policy, self.store.get(id), now),
+            None => false,
+        }
+    }
+
+    /// The value of the key, if it has an unexpired entry, which becomes the most recently used one. The key is counted, found or not.
+    pub fn get(&mut self, key: &K, now: Instant) -> Option<&V>
+        ensures* step { sem 𝓛 (ends_as K.row V.row S.row W.row A.row S.Hasher.row
+            K.Hash S.BuildHasher S.Hasher.Hasher A.Allocator A.Clone self.entry
+            (after_get (keys_of K.Hash S.BuildHasher S.Hasher.Hasher) self.old key.now now)) }
+        ensures value { option_copied result
+            ≡ found_by_get (keys_of K.Hash S.BuildHasher S.Hasher.Hasher) self.old key.now now }
+    {
+        keep_up(&mut self.store, self.policy, now);
+        let hash = self.hash_state.hash_one(key);
+        self.sketch.increment(hash);
+        let id = self.store.find(key, hash)?;
+        if is_expired(self.policy, self.store.get(id), now) {
+            return None;
+        }
+        self.store.touch(id, now);
+        Some(&self.store.get(id).value)
+    }
+
+    /// Asks for the sketch's table, if the cache is at least half full and has none.
+    fn enable_sketch(&mut self)
+        ensures { (refused : Bool) × (self.new ≡ after_asking K.eq refused self.old) }
+    {
+        let Some(limit) = self.policy.max_capacity() else {
+            return;
+        };
+        if self.sketch.table_len() > 0 || self.store.weight() < u128::from(limit / 2) {
+            return;
+        }
+        let cap = sketch_capacity(self.expected_entries(limit));
+        // Without memory for it the sketch stays off, and is asked for again at the next new entry.
+        let _ = self.sketch.ensure_capacity(cap);
+    }
+
+    /// How many entries there is room for at the present mean weight, as far as 64 bits tell.
+    fn expected_entries(&self, limit: u64) -> u64
+        ensures { result ≡ min (2 ^ 64 - 1) (expected_entries self.now.settings.is_weighed limit
+            (length self.now.contents.entries) (total_weight self.now.contents.entries)) }
+    {
+        if !self.is_weighed {
+            return limit;
+        }
+        if limit == 0 {
+            return 0;
+        }
+        let weight = self.store.weight().min(u128::from(u64::MAX));
+        let entries = self.store.len() as u128 * weight / u128::from(limit);
+        u64::try_from(entries).unwrap_or(u64::MAX)
+    }
+}
+
+impl<
+    K: Eq + Hash + Drop,
+    V: Drop,
+    S: BuildHasher + Drop,
+    W: Weigh<K, V> + Drop,
+    A: Allocator + Clone + Drop,
+> Cache<K, V, S, W, A> {
+    /// Puts the value at the key, as the most recent entry in both orders. Where the key is there already, its entry keeps the first key object.
+    /// A new entry for which there is no room may be rejected by the admission policy, which is `Ok` as well.
+    ///
+    /// Room is made first: where memory is refused for it, nothing was expired, evicted, weighed or stored, and key and value are dropped. The
+    /// weigher is asked once otherwise.
+    pub fn insert(&mut self, key: K, value: V, now: Instant) -> Result<(), InsertError>
+        requires ready { W.ready self.old.weigher }
+        ensures step { OnOk result (IsInserted (keys_of K.Hash S.BuildHasher S.Hasher.Hasher)
+            W.weighs self.old key value now self.new) }
+        ensures err { OnErr result (self.new ≡ self.old) }
+        ensures error { IfErr result (λ error. error ≡ InsertError.OutOfMemory) }
+        ensures ready { W.ready self.new.weigher }
+    {
+        if self.store.reserve(1).is_err() {
+            return Err(InsertError::OutOfMemory);
+        }
+        keep_up(&mut self.store, self.policy, now);
+        let entry = Entry {
+            hash: self.hash_state.hash_one(&key),
+            weight: self.weigher.weigh(&key, &value),
+            key,
+            value,
+            accessed: now,
+            modified: now,
+        };
+        match self.store.find(&entry.key, entry.hash) {
+            Some(id) => self.store.update(id, entry),
+            None => {
+                if admit(
+                    &mut self.store,
+                    self.policy.max_capacity(),
+                    &self.sketch,
+                    entry,
+                ) {
+                    self.enable_sketch();
+                }
+            }
+        }
+        Ok(())
+    }
+}
+
+/// What each call does first: expired entries leave, and entries above the limit.
+fn keep_up<K: Eq + Drop, V: Drop, A: Allocator + Clone + Drop>(
+    store: &mut Store<K, V, A>,
+    policy: Policy,
+    now: Instant,
+)
+    ensures step { contents_of store.new ≡ after_upkeep K.eq policy now (contents_of store.old) }
+    ensures kept { Continues store.old store.new }
+{
+    expire(store, policy, now);
+    trim(store, policy.max_capacity());
+}
+
+/// Whether an entry is expired, for either reason.
+fn is_expired<K: Drop, V: Drop>(policy: Policy, entry: &Entry<K, V>, now: Instant) -> bool
+    ensures { result ≡ is_expired policy now entry.now }
+{
+    live_expired(policy.time_to_live(), entry.modified, now)
+        || idle_expired(policy.time_to_idle(), entry.accessed, now)
+}
