@@ -3,7 +3,8 @@ use Rattle.std.proofs.Common.{◌≡◌, ℕ, ◌<◌, ◌^◌, List, [], ◌∷
 use Rattle.std.specs.Fmt.{decimal}
 use Rattle.std.proofs.lemmas.Bool.{lt-ltb, ltb-true}
 use Rattle.std.proofs.lemmas.Option.{cond_some}
-use Rattle.mini_moka.specs.Reading.{number_of, number_below, no_argument, key_of, cap_of}
+use Rattle.mini_moka.specs.Text.{IsText, is_text}
+use Rattle.mini_moka.specs.Reading.{number_of, number_below, text_of, no_argument, key_of, cap_of}
 use Rattle.mini_moka.proofs.CutLemmas.{bind_some}
 use Rattle.mini_moka.proofs.NumberLemmas.{number_of-decimal, number_of-found}
 
@@ -25,6 +26,16 @@ number_below-found limit word n e =
 pub number_below-decimal : (limit n : ℕ) → n < limit → n < 2 ^ 64 → number_below limit (decimal n) ≡ Some n
 unfolding number_below
 number_below-decimal limit n below small = rw (number_of-decimal n small, lt-ltb n limit below) refl
+
+-- what is read as a text is that text
+pub text_of-found : (word text : List ℕ) → text_of word ≡ Some text → (word ≡ text) × IsText text
+text_of-found word text e =
+    let found = cond_some (is_text word) word text e in
+    (found.1, subst IsText found.1 found.0)
+
+-- a text is read as itself
+pub text_of-text : (text : List ℕ) → IsText text → text_of text ≡ Some text
+text_of-text text h = rw h refl
 
 -- where no argument is read there is none
 pub no_argument-found : (arguments : List (List ℕ)) (nothing : Unit {0}) → no_argument arguments ≡ Some nothing → arguments ≡ []

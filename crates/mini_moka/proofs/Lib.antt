@@ -5,8 +5,10 @@ pub mod ReadLemmas
 pub mod LineLemmas
 pub mod LineListLemmas
 pub mod ArgumentLemmas
+pub mod OptionLemmas
 pub mod HeaderLemmas
 pub mod RecordedLineLemmas
+pub mod CacheLineLemmas
 pub mod SketchLineLemmas
 pub mod ScriptLemmas
 pub mod RecordLemmas

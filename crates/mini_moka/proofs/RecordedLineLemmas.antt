@@ -3,7 +3,7 @@ use Rattle.std.proofs.Common.{◌≡◌, ℕ, ◌<◌, ◌^◌, List, [], ◌∷
 use Rattle.std.specs.Fmt.{decimal}
 use Rattle.std.specs.List.{AllByRecursion}
 use Rattle.std.specs.Str.{bytes_eq}
-use Rattle.std.proofs.lemmas.Option.{cond_some, same_Some}
+use Rattle.std.proofs.lemmas.Option.{same_Some}
 use Rattle.std.proofs.lemmas.Slice.Eq.{bytes_eq-Decides}
 use Rattle.mini_moka.specs.declared.script.line.Line.{Line}
 use Rattle.mini_moka.specs.declared.script.line.Request.{Request}
@@ -11,18 +11,11 @@ use Rattle.mini_moka.specs.declared.script.line.Request.TheVariants.{Insert, Get
 use Rattle.mini_moka.specs.RecordedLines.{request_words, recorded_words, RequestFits, RecordedFits}
 use Rattle.mini_moka.specs.Reading.{◌>>=◌, number_of, text_of, key_of}
 use Rattle.mini_moka.specs.ReadingLines.{insert_of, request_of, recorded_from_words}
-use Rattle.mini_moka.specs.Text.{IsText, is_text}
 use Rattle.mini_moka.proofs.CutLemmas.{bind_some}
 use Rattle.mini_moka.proofs.LineLemmas.{IsReading}
 use Rattle.mini_moka.proofs.NumberLemmas.{number_of-decimal, number_of-found}
-use Rattle.mini_moka.proofs.ArgumentLemmas.{chosen, key_of-found}
+use Rattle.mini_moka.proofs.ArgumentLemmas.{chosen, text_of-found, text_of-text, key_of-found}
 use Rattle.mini_moka.proofs.WordLemmas.{IsWord, IsWord-decimal, IsWord-text, IsWord-name}
-
--- what is read as a text is that text
-text_of-found : (word text : List ℕ) → text_of word ≡ Some text → (word ≡ text) × IsText text
-text_of-found word text e =
-    let found = cond_some (is_text word) word text e in
-    (found.1, subst IsText found.1 found.0)
 
 -- what is read as an insert is spelled so
 insert_of-found : (arguments : List (List ℕ)) (r : Request (List ℕ)) → insert_of arguments ≡ Some r → (codes "insert" ∷ arguments ≡ request_words r) × RequestFits r
@@ -83,10 +76,6 @@ recorded_from_words-found (now ∷ call ∷ arguments) line e =
     (ap (λ w. w ∷ call ∷ arguments) nows.0 ∙ ap (λ l. decimal n ∷ l) requests.0, (nows.1, requests.1))
 
 -- ---- what is spelled is read
-
--- a text is read as itself
-text_of-text : (text : List ℕ) → IsText text → text_of text ≡ Some text
-text_of-text text h = rw h refl
 
 -- the words of a line are read as that line
 read_again : (n : ℕ) (r : Request (List ℕ)) → n < 2 ^ 64 → RequestFits r → recorded_from_words (decimal n ∷ request_words r) ≡ Some (record { now = n; request = r })

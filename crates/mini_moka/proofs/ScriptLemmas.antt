@@ -1,17 +1,20 @@
 -- The laws of scripts.
 use Rattle.std.proofs.Common.{◌≡◌, ℕ, ◌+◌, List, ◌++◌, Some, None, refl, sym, ap, ◌∙◌, subst, inl, inr, ◌⊎◌}
 use Rattle.mini_moka.specs.declared.script.line.Header.{Header}
-use Rattle.mini_moka.specs.declared.script.line.Header.TheVariants.{Recorded, Sketch}
+use Rattle.mini_moka.specs.declared.script.line.Header.TheVariants.{Recorded, Unsync, Sketch}
 use Rattle.mini_moka.specs.Spelling.{line_of}
 use Rattle.mini_moka.specs.RecordedLines.{recorded_words, RecordedFits}
+use Rattle.mini_moka.specs.CacheLines.{cache_words, CacheFits}
 use Rattle.mini_moka.specs.SketchLines.{sketch_words, SketchFits}
-use Rattle.mini_moka.specs.Grammar.{header_words, HeaderFits, Script, RecordedScript, SketchScript, header_of, IsBody, IsScript, IsBadBehind, IsBadAt}
+use Rattle.mini_moka.specs.Grammar.{header_words, HeaderFits, AreLines, Script, RecordedScript, UnsyncScript, SketchScript, header_of, IsBody, IsScript, IsBadBehind, IsBadAt}
 use Rattle.mini_moka.specs.Reading.{line_at}
 use Rattle.mini_moka.specs.ReadingLines.{header_from_words, recorded_from_words, sketch_from_words}
+use Rattle.mini_moka.specs.ReadingCacheLines.{cache_from_words}
 use Rattle.mini_moka.proofs.LineLemmas.{line_at-found}
 use Rattle.mini_moka.proofs.LineListLemmas.{one_line, not_bad, same_count, same_lines, outcome_of, lacks_line}
 use Rattle.mini_moka.proofs.HeaderLemmas.{reads_header}
 use Rattle.mini_moka.proofs.RecordedLineLemmas.{reads_recorded}
+use Rattle.mini_moka.proofs.CacheLineLemmas.{reads_cache}
 use Rattle.mini_moka.proofs.SketchLineLemmas.{reads_sketch}
 
 -- how a header is spelled
@@ -27,6 +30,7 @@ one_header = one_line header_words HeaderFits header_from_words reads_header
 -- no line of a body is bad
 body_not_bad : (script : Script) (body : List ℕ) (count : ℕ) → IsBody body script → IsBadBehind (header_of script) body count → ⊥
 body_not_bad (RecordedScript lines) body count is bad = not_bad recorded_words RecordedFits recorded_from_words reads_recorded body lines count is bad
+body_not_bad (UnsyncScript options lines) body count is bad = not_bad cache_words (CacheFits options) (cache_from_words options) (reads_cache options) body lines count is bad
 body_not_bad (SketchScript cap lines) body count is bad = not_bad sketch_words SketchFits sketch_from_words reads_sketch body lines count is bad
 
 -- a script has no bad line
@@ -42,6 +46,7 @@ script_not_bad bytes script number is (inr line) =
 -- behind a header one line is the first bad one
 one_behind : (header : Header) (body : List ℕ) (m n : ℕ) → IsBadBehind header body m → IsBadBehind header body n → m ≡ n
 one_behind Recorded body m n a b = same_count recorded_words RecordedFits recorded_from_words reads_recorded body m n a b
+one_behind (Unsync options) body m n a b = same_count cache_words (CacheFits options) (cache_from_words options) (reads_cache options) body m n a b
 one_behind (Sketch cap) body m n a b = same_count sketch_words SketchFits sketch_from_words reads_sketch body m n a b
 
 -- one line is the first bad one
@@ -60,8 +65,17 @@ one_bad_line bytes m n (inr a) (inr b) =
 one_body : (a b : Script) (body : List ℕ) → header_of a ≡ header_of b → IsBody body a → IsBody body b → a ≡ b
 one_body (RecordedScript xs) (RecordedScript ys) body same p q =
     ap (λ lines. RecordedScript lines) (same_lines recorded_words RecordedFits recorded_from_words reads_recorded xs ys p.0 q.0 (sym p.1 ∙ q.1))
+one_body (RecordedScript xs) (UnsyncScript options ys) body same p q = absurd cc
 one_body (RecordedScript xs) (SketchScript cap ys) body same p q = absurd cc
+one_body (UnsyncScript options xs) (RecordedScript ys) body same p q = absurd cc
+one_body (UnsyncScript a xs) (UnsyncScript b ys) body same p q =
+    let options : a ≡ b = cc in
+    let others : AreLines cache_words (CacheFits a) body ys = subst (λ o. AreLines cache_words (CacheFits o) body ys) (sym options) q in
+    ap (λ o. UnsyncScript o xs) options
+    ∙ ap (λ lines. UnsyncScript b lines) (same_lines cache_words (CacheFits a) (cache_from_words a) (reads_cache a) xs ys p.0 others.0 (sym p.1 ∙ others.1))
+one_body (UnsyncScript options xs) (SketchScript cap ys) body same p q = absurd cc
 one_body (SketchScript cap xs) (RecordedScript ys) body same p q = absurd cc
+one_body (SketchScript cap xs) (UnsyncScript options ys) body same p q = absurd cc
 one_body (SketchScript c xs) (SketchScript d ys) body same p q =
     let caps : c ≡ d = cc in
     ap (λ cap. SketchScript cap xs) caps ∙ ap (λ lines. SketchScript d lines) (same_lines sketch_words SketchFits sketch_from_words reads_sketch xs ys p.0 q.0 (sym p.1 ∙ q.1))
@@ -98,6 +112,11 @@ with_body bytes Recorded body b =
     elim (outcome_of recorded_words RecordedFits recorded_from_words reads_recorded body) [
       | inl all ↦ all_lines bytes (RecordedScript all.0) body b all.1
       | inr bad ↦ bad_line bytes Recorded body bad.0 b bad.1
+    ]
+with_body bytes (Unsync options) body b =
+    elim (outcome_of cache_words (CacheFits options) (cache_from_words options) (reads_cache options) body) [
+      | inl all ↦ all_lines bytes (UnsyncScript options all.0) body b all.1
+      | inr bad ↦ bad_line bytes (Unsync options) body bad.0 b bad.1
     ]
 with_body bytes (Sketch cap) body b =
     elim (outcome_of sketch_words SketchFits sketch_from_words reads_sketch body) [

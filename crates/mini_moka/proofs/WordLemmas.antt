@@ -57,7 +57,7 @@ IsInLine-join (word ∷ next ∷ words) h = IsInLine-append word (space ∷ join
 -- ---- what is a word
 
 -- both parts hold
-and_parts : (a b : Bool) → (a && b) ≡ true → (a ≡ true) × (b ≡ true)
+pub and_parts : (a b : Bool) → (a && b) ≡ true → (a ≡ true) × (b ≡ true)
 and_parts true b e = (refl, e)
 and_parts false b e = absurd cc
 
@@ -83,6 +83,16 @@ IsWord-decimal n small = IsWord-tested is_ascii_digit digit_above (decimal n) (d
 -- a text is a word
 pub IsWord-text : (text : List ℕ) → IsText text → IsWord text
 IsWord-text text h = IsWord-tested is_text_byte text_byte_above text (and_parts _ _ h).1
+
+-- two words at once behind each other are one
+pub IsWord-append : (xs ys : List ℕ) → IsWord xs → IsWord ys → IsWord (xs ++ ys)
+IsWord-append [] ys p q = q
+IsWord-append (x ∷ xs) ys p q = (p.0, IsWord-append xs ys p.1 q)
+
+-- the words of two lists are those of both together
+pub are_words-append : (xs ys : List (List ℕ)) → AllByRecursion IsWord xs → AllByRecursion IsWord ys → AllByRecursion IsWord (xs ++ ys)
+are_words-append [] ys p q = q
+are_words-append (x ∷ xs) ys p q = (p.0, are_words-append xs ys p.1 q)
 
 -- the name of a call is a word
 pub IsWord-name : (name : List ℕ) → list_all is_text_byte name ≡ true → IsWord name

@@ -4,20 +4,26 @@ use Rattle.std.specs.List.{flat_map, AllByRecursion}
 use Rattle.std.specs.Fmt.{decimal}
 use Rattle.mini_moka.specs.Spelling.{line_of}
 use Rattle.mini_moka.specs.RecordedLines.{recorded_words, RecordedFits}
+use Rattle.mini_moka.specs.Options.{options_words, OptionsFit}
+use Rattle.mini_moka.specs.CacheLines.{cache_words, CacheFits}
 use Rattle.mini_moka.specs.SketchLines.{sketch_words, SketchFits}
 use Rattle.mini_moka.specs.declared.script.line.Header.{Header}
-use Rattle.mini_moka.specs.declared.script.line.Header.TheVariants.{Recorded, Sketch}
+use Rattle.mini_moka.specs.declared.script.line.Header.TheVariants.{Recorded, Unsync, Sketch}
 use Rattle.mini_moka.specs.declared.script.line.Line.{Line}
+use Rattle.mini_moka.specs.declared.script.line.CacheOptions.{CacheOptions}
+use Rattle.mini_moka.specs.declared.script.line.CacheLine.{CacheLine}
 use Rattle.mini_moka.specs.declared.script.line.SketchLine.{SketchLine}
 
 -- the words of a header: the name of the mode, and what it is given
 abbrev pub header_words : Header → List (List ℕ)
 header_words Recorded = codes "recorded" ∷ []
+header_words (Unsync options) = codes "unsync" ∷ options_words options
 header_words (Sketch cap) = codes "sketch" ∷ decimal cap ∷ []
 
 -- the header holds what can be spelled
 abbrev pub HeaderFits : Header → Type 0
 HeaderFits Recorded = Unit {0}
+HeaderFits (Unsync options) = OptionsFit options
 HeaderFits (Sketch cap) = cap < 2 ^ 32
 
 -- ---- lines of one kind
@@ -46,16 +52,19 @@ module _ {L : Type 0} (words : L → List (List ℕ)) (Fits : L → Type 0) wher
 -- a script of one of the modes: what its header gives, and its lines
 pub data Script : Type 0 where
   RecordedScript : List (Line (List ℕ)) → Script
+  UnsyncScript : CacheOptions → List (CacheLine (List ℕ)) → Script
   SketchScript : ℕ → List SketchLine → Script
 
 -- the header of a script
 abbrev pub header_of : Script → Header
 header_of (RecordedScript lines) = Recorded
+header_of (UnsyncScript options lines) = Unsync options
 header_of (SketchScript cap lines) = Sketch cap
 
 -- the bytes are the lines of the script, which are those of its mode
 abbrev pub IsBody : List ℕ → Script → Type 0
 IsBody bytes (RecordedScript lines) = AreLines recorded_words RecordedFits bytes lines
+IsBody bytes (UnsyncScript options lines) = AreLines cache_words (CacheFits options) bytes lines
 IsBody bytes (SketchScript cap lines) = AreLines sketch_words SketchFits bytes lines
 
 -- the bytes are the header of the script and its lines, and nothing else
@@ -70,6 +79,7 @@ pub record IsScript (bytes : List ℕ) (script : Script) : Type 0 where
 -- as many good lines of the header's mode as this begin the bytes, and then comes something that no line of it begins
 abbrev pub IsBadBehind : Header → List ℕ → ℕ → Type 0
 IsBadBehind Recorded bytes count = IsBadAfter recorded_words RecordedFits bytes count
+IsBadBehind (Unsync options) bytes count = IsBadAfter cache_words (CacheFits options) bytes count
 IsBadBehind (Sketch cap) bytes count = IsBadAfter sketch_words SketchFits bytes count
 
 -- a header begins the bytes, and behind it the line of this number is the first bad one

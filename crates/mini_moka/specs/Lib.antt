@@ -1,6 +1,8 @@
 pub mod Text
 pub mod Spelling
 pub mod RecordedLines
+pub mod Options
+pub mod CacheLines
 pub mod SketchLines
 pub mod Grammar
 pub mod Parsed
@@ -14,4 +16,6 @@ pub mod SketchRun
 pub mod ScriptRun
 -- inside
 pub mod Reading
+pub mod ReadingOptions
 pub mod ReadingLines
+pub mod ReadingCacheLines

@@ -1,5 +1,5 @@
 -- How words are read and lines are cut, as functions on lists. No public clause cites this module.
-use Rattle.std.specs.Prelude.{◌≡◌, ◌≢◌, ℕ, ◌||◌, ◌&&◌, ◌==◌, Bool, nat_lt, not, ◌^◌, List, [], ◌∷◌, length, Option, Some, None, Result, Ok, Err, if◌then◌else◌, slice_index}
+use Rattle.std.specs.Prelude.{◌≡◌, ◌≢◌, ℕ, ◌||◌, ◌&&◌, ◌==◌, Bool, nat_lt, not, ◌^◌, List, [], ◌∷◌, length, map, Option, Some, None, Result, Ok, Err, if◌then◌else◌, slice_index}
 use Rattle.std.specs.Borrow.{Bor}
 use Rattle.std.specs.Char.{is_ascii_digit}
 use Rattle.std.specs.List.{list_all, slice_split}
@@ -26,6 +26,12 @@ abbrev pub GivesFirst : {X : Type 0} → Result (X × Bor (List ℕ)) LineError 
 GivesFirst (Ok x) read = read ≡ Some (x.0, x.1.now)
 GivesFirst (Err Bad) read = read ≡ None
 GivesFirst (Err OutOfMemory) read = Unit {0}
+
+-- the same, of a value and the words that are left
+abbrev pub GivesLeft : {X : Type 0} → Result (X × Bor (List (Bor (List ℕ)))) LineError → Option (X × List (List ℕ)) → Type 0
+GivesLeft (Ok x) read = read ≡ Some (x.0, map (λ word. word.now) x.1.now)
+GivesLeft (Err Bad) read = read ≡ None
+GivesLeft (Err OutOfMemory) read = Unit {0}
 
 -- ---- words
 

@@ -3,8 +3,9 @@ use Rattle.std.specs.Prelude.{ℕ, ◌^◌, List, [], ◌∷◌, codes, Option, 
 use Rattle.std.specs.Str.{bytes_eq}
 use Rattle.moka_common.specs.declared.constants.TheConstants.{DEPTHS}
 use Rattle.mini_moka.specs.Reading.{◌>>=◌, number_of, number_below, text_of, no_argument, key_of, cap_of}
+use Rattle.mini_moka.specs.ReadingOptions.{options_of}
 use Rattle.mini_moka.specs.declared.script.line.Header.{Header}
-use Rattle.mini_moka.specs.declared.script.line.Header.TheVariants.{Recorded, Sketch}
+use Rattle.mini_moka.specs.declared.script.line.Header.TheVariants.{Recorded, Unsync, Sketch}
 use Rattle.mini_moka.specs.declared.script.line.Line.{Line}
 use Rattle.mini_moka.specs.declared.script.line.Request.{Request}
 use Rattle.mini_moka.specs.declared.script.line.Request.TheVariants.{Insert, Get, Has}
@@ -17,6 +18,9 @@ header_from_words (name ∷ arguments) =
     if bytes_eq name (codes "recorded") then (do
       nothing ← no_argument arguments
       Some Recorded)
+    else if bytes_eq name (codes "unsync") then (do
+      options ← options_of arguments
+      Some (Unsync options))
     else if bytes_eq name (codes "sketch") then (do
       cap ← cap_of arguments
       Some (Sketch cap))

@@ -5,7 +5,7 @@ use Rattle.mini_moka.specs.declared.script.runner.End.{End}
 use Rattle.mini_moka.specs.declared.script.runner.End.TheVariants.{Done, BadLine}
 use Rattle.mini_moka.specs.declared.script.runner.ScriptError.{ScriptError}
 use Rattle.mini_moka.specs.declared.script.runner.ScriptError.TheVariants.{Read, Write, OutOfMemory}
-use Rattle.mini_moka.specs.Grammar.{Script, RecordedScript, SketchScript, IsScript, IsBadAt}
+use Rattle.mini_moka.specs.Grammar.{Script, RecordedScript, UnsyncScript, SketchScript, IsScript, IsBadAt}
 use Rattle.mini_moka.specs.ReplyText.{bad_line}
 use Rattle.mini_moka.specs.RecordedRun.{AreRecordedReplyLines}
 use Rattle.mini_moka.specs.SketchRun.{AreSketchReplyLines}
@@ -15,6 +15,8 @@ module _ (A : Type 0) where
   -- the reply lines of a script, by its mode
   abbrev pub AreReplyLines : Script → List ℕ → Type 0
   AreReplyLines (RecordedScript lines) text = AreRecordedReplyLines A lines text
+  -- TODO run
+  AreReplyLines (UnsyncScript options lines) text = Unit {0}
   AreReplyLines (SketchScript cap lines) text = AreSketchReplyLines cap lines text
 
   -- a whole run of the bytes ends so, and this is the text that it writes

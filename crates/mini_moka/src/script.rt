@@ -10,7 +10,7 @@ mod streams;
 mod text;
 mod words;
 
-pub use line::{Line, Request, Script, SketchLine};
+pub use line::{CacheLine, CacheOptions, CacheRequest, Line, Request, Script, SketchLine, Span};
 pub use parser::{ParseError, parse};
 pub use runner::{End, ScriptError, run};
 pub use streams::{Fault, FromRead, FromWrite, ReadError, Sink, Source, read_all, write_all};

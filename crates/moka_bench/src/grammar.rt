@@ -26,7 +26,7 @@ const EDGES: [(&str, Option<u64>); 44] = [
     ("recorded recorded\n", Some(1)),
     ("\nrecorded\n", Some(1)),
     ("recorded\r\n", Some(1)),
-    ("unsync\n", Some(1)),
+    ("sync\n", Some(1)),
     ("recorded\n", None),
     ("recorded\n\n", Some(2)),
     // Spaces and line feeds.

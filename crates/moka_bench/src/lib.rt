@@ -19,6 +19,8 @@ mod sketch;
 mod sketch_rows;
 #[cfg(test)]
 mod table;
+#[cfg(test)]
+mod unsync_grammar;
 pub mod uses;
 #[cfg(test)]
 mod worked;

@@ -1,17 +1,56 @@
 // A script as values: its header, and the lines of its mode.
+ghost use Rattle.std.specs.Prelude.{◌≡◌};
+ghost use Rattle.std.specs.Duration.{as_nanos};
+ghost use Rattle.mini_moka.specs.Options.{span_nanos};
+
 use crate::script::text::Text;
 use std::alloc::{Allocator, Global};
+use std::time::Duration;
 
 /// What a whole script is for: its first line.
 #[derive(Clone, Copy, Debug, PartialEq, Eq)]
 pub enum Header {
     /// Calls to a cache that keeps a record of them.
     Recorded,
+    /// Calls to a cache of one thread that is built with these settings.
+    Unsync { options: CacheOptions },
     /// Calls to a frequency sketch that begins with a table for `cap` entries.
     Sketch { cap: u32 },
 }
 
-/// What is asked of the cache. `T` is how texts are held, so that a contract sees a request without an allocator.
+/// A length of time, in the unit that it is given in.
+#[derive(Clone, Copy, Debug, PartialEq, Eq)]
+pub enum Span {
+    Seconds(u64),
+    Nanos(u64),
+}
+
+impl Span {
+    /// The same length of time as a `Duration`.
+    pub fn to_duration(self) -> Duration
+        ensures { as_nanos result ≡ span_nanos self }
+    {
+        match self {
+            Span::Seconds(count) => Duration::from_secs(count),
+            Span::Nanos(count) => Duration::from_nanos(count),
+        }
+    }
+}
+
+/// The settings of a cache, as the first line of its script gives them.
+#[derive(Clone, Copy, Debug, PartialEq, Eq)]
+pub struct CacheOptions {
+    /// The limit.
+    pub max: Option<u64>,
+    /// The time to live.
+    pub live: Option<Span>,
+    /// The time to idle.
+    pub idle: Option<Span>,
+    /// Whether each insert is given the weight of its value.
+    pub weighed: bool,
+}
+
+/// What is asked of the recorded cache. `T` is how texts are held, so that a contract sees a request without an allocator.
 #[derive(Drop)]
 pub enum Request<T = Text> {
     Insert { key: u64, text: T },
@@ -24,6 +63,36 @@ pub enum Request<T = Text> {
 pub struct Line<T = Text> {
     pub now: u64,
     pub request: Request<T>,
+}
+
+/// What is asked of the cache that a script builds. `T` is how texts are held, as in `Request`.
+#[derive(Drop)]
+pub enum CacheRequest<T = Text> {
+    /// Stores the text. The weight is there exactly where the script is weighed.
+    Insert {
+        key: u64,
+        text: T,
+        weight: Option<u32>,
+    },
+    Get {
+        key: u64,
+    },
+    Has {
+        key: u64,
+    },
+    /// How many entries there are.
+    Count,
+    /// How much they weigh.
+    Weight,
+    /// The settings that the cache was built with.
+    Policy,
+}
+
+/// A request to the cache that a script builds and its moment, in nanoseconds.
+#[derive(Drop)]
+pub struct CacheLine<T = Text> {
+    pub now: u64,
+    pub request: CacheRequest<T>,
 }
 
 /// What is asked of the sketch.
@@ -44,6 +113,15 @@ pub enum SketchLine {
 /// A whole script of one of the modes, its lines in their order.
 #[derive(Drop)]
 pub enum Script<A: Allocator + Clone + Drop = Global> {
-    Recorded { lines: Vec<Line<Text<A>>, A> },
-    Sketch { cap: u32, lines: Vec<SketchLine, A> },
+    Recorded {
+        lines: Vec<Line<Text<A>>, A>,
+    },
+    Unsync {
+        options: CacheOptions,
+        lines: Vec<CacheLine<Text<A>>, A>,
+    },
+    Sketch {
+        cap: u32,
+        lines: Vec<SketchLine, A>,
+    },
 }

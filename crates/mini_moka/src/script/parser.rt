@@ -14,8 +14,10 @@ use thiserror::Error;
 
 mod from_words;
 mod header;
+mod options;
 mod recorded;
 mod sketch;
+mod unsync;
 
 /// Why bytes aren't read as a script.
 #[derive(Clone, Copy, Debug, PartialEq, Eq, Error)]
@@ -48,36 +50,41 @@ pub fn parse<A: Allocator + Clone + Drop>(alloc: A, bytes: &[u8]) -> Result<Scri
     ensures found { IfOk result (λ script. IsScript bytes.now (script_of script)) }
     ensures bad { (n : ℕ) → result ≡ Err (ParseError.BadLine n) → IsBadAt bytes.now n }
 {
-    let (header, body) = match line_at(alloc.clone()?, bytes) {
+    let (header, body) = match line_at(alloc.clone()?, (), bytes) {
         Ok(first) => first,
         Err(LineError::Bad) => return Err(ParseError::BadLine(1)),
         Err(LineError::OutOfMemory) => return Err(ParseError::OutOfMemory),
     };
     match header {
         Header::Recorded => {
-            let lines = lines_of(alloc, body)?;
+            let lines = lines_of(alloc, (), body)?;
             Ok(Script::Recorded { lines })
         }
+        Header::Unsync { options } => {
+            let lines = lines_of(alloc, options, body)?;
+            Ok(Script::Unsync { options, lines })
+        }
         Header::Sketch { cap } => {
-            let lines = lines_of(alloc, body)?;
+            let lines = lines_of(alloc, (), body)?;
             Ok(Script::Sketch { cap, lines })
         }
     }
 }
 
 /// The lines of one kind that the bytes spell.
-fn lines_of<A: Allocator + Clone + Drop, L: FromWords<A>>(
+fn lines_of<A: Allocator + Clone + Drop, C: Copy, L: FromWords<A, C>>(
     alloc: A,
+    context: C,
     body: &[u8],
 ) -> Result<Vec<L, A>, ParseError>
-    ensures found { IfOk result (λ lines. Reads L.reading body.now lines.items []) }
+    ensures found { IfOk result (λ lines. Reads (L.reading context) body.now lines.items []) }
     ensures bad { (n : ℕ) → result ≡ Err (ParseError.BadLine n) →
-        (count : ℕ) × (n ≡ count + 2) × StopsAfter L.reading body.now count }
+        (count : ℕ) × (n ≡ count + 2) × StopsAfter (L.reading context) body.now count }
 {
     let mut lines = Vec::new(alloc.clone()?);
     let mut rest = body;
     while !rest.is_empty() {
-        match line_at(alloc.clone()?, rest) {
+        match line_at(alloc.clone()?, context, rest) {
             Ok((line, after)) => {
                 lines.push(line)?;
                 rest = after;
@@ -92,16 +99,17 @@ fn lines_of<A: Allocator + Clone + Drop, L: FromWords<A>>(
 
 /// The first line of the bytes, and what is behind it.
 #[tactic(auto, unfolding(crate::specs::Reading::line_at))]
-fn line_at<A: Allocator + Clone + Drop, L: FromWords<A>>(
+fn line_at<A: Allocator + Clone + Drop, C: Copy, L: FromWords<A, C>>(
     alloc: A,
+    context: C,
     bytes: &[u8],
 ) -> Result<(L, &[u8]), LineError>
-    ensures { GivesFirst result (line_at L.reading bytes.now) }
+    ensures { GivesFirst result (line_at (L.reading context) bytes.now) }
 {
     let Some((line, rest)) = cut(bytes) else {
         return Err(LineError::Bad);
     };
-    let line = line_in(alloc, line)?;
+    let line = line_in(alloc, context, line)?;
     Ok((line, rest))
 }
 
@@ -120,12 +128,13 @@ fn line_end(bytes: &[u8]) -> Option<usize>
     bytes.iter().position(|byte| *byte == b'\n')
 }
 
-fn line_in<A: Allocator + Clone + Drop, L: FromWords<A>>(
+fn line_in<A: Allocator + Clone + Drop, C: Copy, L: FromWords<A, C>>(
     alloc: A,
+    context: C,
     line: &[u8],
 ) -> Result<L, LineError>
-    ensures { Gives result (line_in L.reading line.now) }
+    ensures { Gives result (line_in (L.reading context) line.now) }
 {
     let words = words_of(alloc.clone()?, line)?;
-    L::from_words(alloc, words.as_slice())
+    L::from_words(alloc, context, words.as_slice())
 }

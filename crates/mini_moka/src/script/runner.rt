@@ -109,6 +109,8 @@ fn output_of<A: Allocator + Clone + Drop>(
             let text = recorded_replies(alloc, lines)?;
             Ok((End::Done, text))
         }
+        // TODO run
+        Ok(Script::Unsync { .. }) => Err(OutOfMemory),
         Ok(Script::Sketch { cap, lines }) => {
             let text = sketch_replies(alloc, cap, lines)?;
             Ok((End::Done, text))

@@ -125,7 +125,7 @@ pub fn key_of(arguments: &[&[u8]]) -> Result<u64, LineError>
     number_of(key)
 }
 
-/// The only argument, how many entries a table is for.
+/// The only argument, a weight or how many entries a table is for.
 #[tactic(auto, unfolding(crate::specs::Reading::cap_of, crate::specs::Reading::number_below))]
 pub fn cap_of(arguments: &[&[u8]]) -> Result<u32, LineError>
     ensures { Gives result (cap_of (map (λ word. word.now) arguments.now)) }

@@ -5,12 +5,12 @@ ghost use Rattle.mini_moka.specs.Reading.{Gives};
 use crate::script::words::LineError;
 use std::alloc::Allocator;
 
-/// One kind of lines: headers, or the lines of a mode.
-pub(crate) trait FromWords<A: Allocator + Clone + Drop>: Drop {
+/// One kind of lines: headers, or the lines of a mode. `C` is what the header says of them.
+pub(crate) trait FromWords<A: Allocator + Clone + Drop, C: Copy>: Drop {
     // What words are read as.
-    ghost reading: { List (List ℕ) → Option Self };
+    ghost reading: { C → List (List ℕ) → Option Self };
 
     /// The line that has these words.
-    fn from_words(alloc: A, words: &[&[u8]]) -> Result<Self, LineError>
-        ensures { Gives result (reading (map (λ word. word.now) words.now)) };
+    fn from_words(alloc: A, context: C, words: &[&[u8]]) -> Result<Self, LineError>
+        ensures { Gives result (reading context (map (λ word. word.now) words.now)) };
 }

@@ -9,11 +9,11 @@ use crate::script::text::Text;
 use crate::script::words::{LineError, key_of, number_of, text_of};
 use std::alloc::Allocator;
 
-impl<A: Allocator + Clone + Drop> FromWords<A> for Line<Text<A>> {
-    ghost reading = { recorded_from_words };
+impl<A: Allocator + Clone + Drop> FromWords<A, ()> for Line<Text<A>> {
+    ghost reading = { λ _. recorded_from_words };
 
     #[tactic(auto, unfolding(crate::specs::ReadingLines::recorded_from_words))]
-    fn from_words(alloc: A, words: &[&[u8]]) -> Result<Line<Text<A>>, LineError> {
+    fn from_words(alloc: A, _context: (), words: &[&[u8]]) -> Result<Line<Text<A>>, LineError> {
         let [now, call, arguments @ ..] = words else {
             return Err(LineError::Bad);
         };

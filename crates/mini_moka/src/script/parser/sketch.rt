@@ -8,11 +8,11 @@ use crate::script::parser::from_words::FromWords;
 use crate::script::words::{LineError, cap_of, depth_of, key_of, no_argument, number_of, times_of};
 use std::alloc::Allocator;
 
-impl<A: Allocator + Clone + Drop> FromWords<A> for SketchLine {
-    ghost reading = { sketch_from_words };
+impl<A: Allocator + Clone + Drop> FromWords<A, ()> for SketchLine {
+    ghost reading = { λ _. sketch_from_words };
 
     #[tactic(auto, unfolding(crate::specs::ReadingLines::sketch_from_words))]
-    fn from_words(_alloc: A, words: &[&[u8]]) -> Result<SketchLine, LineError> {
+    fn from_words(_alloc: A, _context: (), words: &[&[u8]]) -> Result<SketchLine, LineError> {
         let [name, arguments @ ..] = words else {
             return Err(LineError::Bad);
         };

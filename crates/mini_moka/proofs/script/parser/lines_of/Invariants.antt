@@ -4,7 +4,7 @@ use Rattle.mini_moka.specs.Reading.{Reads}
 use Rattle.mini_moka.proofs.script.parser.lines_of.Given as goal
 
 abbrev pub invariant-loop-rest : goal.invariant-loop-rest
-invariant-loop-rest g l = Reads g.L.FromWords.reading l.body l.lines.items l.rest
+invariant-loop-rest g l = Reads (g.L.FromWords.reading l.context) l.body l.lines.items l.rest
 
 abbrev pub decreases-loop-rest : goal.decreases-loop-rest
 decreases-loop-rest g l = length l.rest
