@@ -10,11 +10,11 @@ use Rattle.moka_common.specs.Keys.{Keys, keys_of as keys_from}
 use Rattle.moka_common.specs.Policy.{Policy}
 use Rattle.moka_unsync.specs.declared.cache.entry.Entry.{Entry}
 use Rattle.moka_unsync.specs.Contents.{Contents, after_leaving, entry_at, entries_without, keys_of as keys_in, total_weight, without}
-use Rattle.moka_unsync.specs.Expire.{after_eviction, after_expiry, after_idle_expiry, after_live_expiry, after_trim, after_upkeep, has_lived, is_idle, least_recent}
+use Rattle.moka_unsync.specs.Expire.{after_expiry, after_live_expiry, after_trim, after_upkeep, has_lived, is_idle, least_recent}
 use Rattle.moka_unsync.specs.declared.constants.TheConstants.{EVICTION_BATCH_SIZE}
 use Rattle.moka_unsync.specs.CacheState.{keeps_writes}
 use Rattle.moka_unsync.specs.Insert.{after_admission}
-use Rattle.moka_unsync.specs.Store.{Store, HasHash, Touches, Updates, Enters, entries_of}
+use Rattle.moka_unsync.specs.Store.{Store, HasHash, Touches, Updates, entries_of}
 use Rattle.moka_unsync.specs.Turns.{Continues, contents_of}
 use Rattle.moka_unsync.specs.Cached.{IsCached}
 

@@ -1,20 +1,19 @@
 -- What each change of the store's two lists is to a contract.
-use Rattle.std.proofs.Common.{◌≡◌, ◌<◌, ◌≤◌, ◌^◌, ◌+◌, ◌-◌, ◌*◌, ℕ, suc, Bool, true, false, cond, nat_eq, min, List, [], ◌∷◌, ◌++◌, All, length, Option, Some, None, is_some, IsSome, option_map, unwrap_or, refl, sym, ap, ◌∙◌, inl, inr, arith, subst}
+use Rattle.std.proofs.Common.{◌≡◌, ◌<◌, ◌≤◌, ◌^◌, ◌+◌, ◌-◌, ◌*◌, ℕ, Bool, true, false, nat_eq, List, [], ◌∷◌, ◌++◌, length, Option, Some, None, is_some, option_map, unwrap_or, refl, sym, ap, ◌∙◌, inl, inr, arith, subst}
 use Rattle.std.proofs.lemmas.Bool.{cases_Bool, cond-true, cond-false, eqb-true, false≢true}
 use Rattle.std.proofs.lemmas.List.Elements.{recursion_from_All}
 use Rattle.std.specs.Cmp.{IsEquivalence}
 use Rattle.std.specs.List.{IsDistinct, AllByRecursion}
 use Rattle.std.specs.Map.{lookup, remove_entry, set_value, keys_of, values_of}
-use Rattle.moka_common.specs.Deque.{IsIn, moved_to_back}
 use Rattle.moka_unsync.specs.declared.cache.entry.Entry.{Entry}
 use Rattle.moka_unsync.specs.declared.cache.store.Node.{Node}
-use Rattle.moka_unsync.specs.Contents.{Write, total_weight, entry_at, entries_without, writes_without}
+use Rattle.moka_unsync.specs.Contents.{entry_at, writes_without}
 use Rattle.moka_unsync.specs.Insert.{with_write}
-use Rattle.moka_unsync.specs.Store.{Store, write_of, entries_of, Enters, Removes, Touches, Updates}
-use Rattle.moka_unsync.specs.Nodes.{entries_under, written_under, room_for, IsTied, IsStored, with_write_last, without_write}
+use Rattle.moka_unsync.specs.Store.{Store, Enters, Removes, Touches, Updates}
+use Rattle.moka_unsync.specs.Nodes.{entries_under, written_under, IsTied, IsStored, with_write_last, without_write}
 use Rattle.moka_unsync.proofs.NodeLemmas.{nat_eq-same, lookup-pushed, lookup-rewritten, IsDistinct-rewritten}
 use Rattle.moka_unsync.proofs.StoreLemmas.{lookup-entries, weight-remove, others, written-left, written-touch, written-update, written-enter, written-unkept, entries-rewrite, entries-push, no_writes, set-pushed, IsStored-remove, IsStored-rewrite, IsStored-enter, IsStored-unkept, total_bound}
-use Rattle.moka_unsync.proofs.FindLemmas.{moved-found, moved-set}
+use Rattle.moka_unsync.proofs.FindLemmas.{moved-found}
 
 module _ {K V : Type 0} where
   -- what a contract sees of the two lists

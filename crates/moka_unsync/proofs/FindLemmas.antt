@@ -1,5 +1,5 @@
 -- Lemmas on walks through the nodes, from the front on.
-use Rattle.std.proofs.Common.{◌≡◌, ◌<◌, ◌≤◌, ℕ, suc, Bool, true, false, cond, nat_eq, eq-eqb, not, List, [], ◌∷◌, ◌++◌, All, map, filter, length, Option, Some, None, is_some, IsSome, option_map, unwrap_or, refl, sym, ap, ◌∙◌, inl, inr, arith, subst}
+use Rattle.std.proofs.Common.{◌≡◌, ◌<◌, ◌≤◌, ℕ, Bool, true, false, cond, nat_eq, List, [], ◌∷◌, ◌++◌, All, length, Option, Some, None, is_some, option_map, unwrap_or, refl, sym, ap, ◌∙◌, inl, inr, arith, subst}
 use Rattle.std.proofs.lemmas.Bool.{cases_Bool, cond_both, cond-true, cond-false, eqb-true, false≢true}
 use Rattle.std.proofs.lemmas.Map.Keys.{IsDistinct-head, IsDistinct-tail}
 use Rattle.std.proofs.lemmas.Cmp.{nat_eq_equiv}
@@ -10,11 +10,11 @@ use Rattle.std.specs.Map.{lookup, remove_entry, set_value, keys_of, values_of}
 use Rattle.moka_common.specs.Deque.{IsIn, first_id, next_id, moved_to_back}
 use Rattle.moka_unsync.specs.declared.cache.entry.Entry.{Entry}
 use Rattle.moka_unsync.specs.declared.cache.store.Node.{Node}
-use Rattle.moka_unsync.specs.Contents.{Write, entry_at, entries_without, writes_without}
-use Rattle.moka_unsync.specs.Store.{Store, write_of, entries_of, HasHash, IsFront, IsOldest}
-use Rattle.moka_unsync.specs.Nodes.{entries_under, write_under, written_under, IsTied, IsStored, room_for}
-use Rattle.moka_unsync.proofs.NodeLemmas.{nat_eq-same, each_found, remove-set, lookup-removed}
-use Rattle.moka_unsync.proofs.StoreLemmas.{lookup-entries, others, written-elsewhere, written-remove, values-entries}
+use Rattle.moka_unsync.specs.Contents.{entry_at}
+use Rattle.moka_unsync.specs.Store.{write_of, IsFront, IsOldest}
+use Rattle.moka_unsync.specs.Nodes.{entries_under, written_under, IsStored, room_for}
+use Rattle.moka_unsync.proofs.NodeLemmas.{nat_eq-same, remove-set}
+use Rattle.moka_unsync.proofs.StoreLemmas.{lookup-entries, others, written-elsewhere, written-remove}
 
 module _ {X : Type 0} where
   -- the nodes from one on

@@ -1,5 +1,5 @@
 -- Lemmas on a store's two lists: what each change leaves of what holds of them, and what it is by keys.
-use Rattle.std.proofs.Common.{◌≡◌, ◌⊎◌, ◌<◌, ◌≤◌, ◌^◌, ◌+◌, ◌-◌, ◌*◌, ℕ, suc, Bool, true, false, cond, nat_eq, eq-eqb, not, List, [], ◌∷◌, ◌++◌, All, map, filter, length, Contains, Option, Some, None, is_some, IsSome, option_map, unwrap_or, refl, sym, ap, ◌∙◌, inl, inr, arith, subst}
+use Rattle.std.proofs.Common.{◌≡◌, ◌⊎◌, ◌<◌, ◌≤◌, ◌^◌, ◌+◌, ◌-◌, ◌*◌, ℕ, suc, Bool, true, false, cond, nat_eq, eq-eqb, List, [], ◌∷◌, ◌++◌, All, map, length, Option, Some, None, is_some, IsSome, option_map, unwrap_or, refl, sym, ap, ◌∙◌, inl, inr, arith, subst}
 use Rattle.std.proofs.lemmas.Bool.{cases_Bool, cond_both, cond-true, cond-false, eqb-true, false≢true}
 use Rattle.std.proofs.lemmas.List.Elements.{All-push, All-from_recursion, recursion_from_All, filter_map-append}
 use Rattle.std.proofs.lemmas.List.Sums.{sum_by_push, sum_by-le}
@@ -7,7 +7,6 @@ use Rattle.std.proofs.lemmas.Map.Entries.{sum_by-remove_entry}
 use Rattle.std.specs.Cmp.{IsEquivalence}
 use Rattle.std.specs.List.{IsDistinct, AllByRecursion, filter_map}
 use Rattle.std.specs.Map.{lookup, remove_entry, set_value, keys_of, values_of}
-use Rattle.moka_unsync.specs.declared.cache.entry.Entry.{Entry}
 use Rattle.moka_unsync.specs.declared.cache.store.Node.{Node}
 use Rattle.moka_unsync.specs.Contents.{Write, total_weight, entry_at, entries_without, writes_without}
 use Rattle.moka_unsync.specs.Insert.{with_write}

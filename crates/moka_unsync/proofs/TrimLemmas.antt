@@ -1,5 +1,5 @@
 -- Lemmas on the entries that make up a weight.
-use Rattle.std.proofs.Common.{◌≡◌, ◌<◌, ◌≤◌, ◌+◌, ◌-◌, ℕ, zero, suc, Bool, List, [], ◌∷◌, take, map, Option, Some, None, option_map, unwrap_or, refl, sym, ap, ◌∙◌, arith, subst}
+use Rattle.std.proofs.Common.{◌≡◌, ◌<◌, ◌≤◌, ◌+◌, ◌-◌, ℕ, zero, suc, Bool, List, [], ◌∷◌, take, Option, Some, None, option_map, unwrap_or, refl, sym, ap, ◌∙◌, arith, subst}
 use Rattle.std.proofs.lemmas.List.Sums.{sum_by-cons}
 use Rattle.moka_common.specs.Prefix.{shortest_prefix}
 use Rattle.moka_unsync.specs.declared.cache.entry.Entry.{Entry}

@@ -3,7 +3,6 @@ use Rattle.std.specs.Prelude.{◌≡◌, ℕ, Bool, true, false, List, [], ◌�
 use Rattle.moka_common.specs.Admission.{victims}
 use Rattle.moka_common.specs.Enabling.{enables_sketch, capacity_asked}
 use Rattle.moka_common.specs.Keys.{Keys}
-use Rattle.moka_common.specs.Policy.{Policy}
 use Rattle.moka_common.specs.Sketch.{Table, estimate}
 use Rattle.moka_common.specs.SketchCapacity.{after_ensure_capacity}
 use Rattle.moka_unsync.specs.declared.cache.entry.Entry.{Entry}

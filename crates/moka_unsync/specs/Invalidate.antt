@@ -1,8 +1,7 @@
 -- What invalidations leave, and what an iterator gives.
 use Rattle.std.specs.Prelude.{ℕ, Bool, true, false, not, List, [], ◌∷◌, map, filter}
 use Rattle.moka_common.specs.Keys.{Keys}
-use Rattle.moka_unsync.specs.declared.cache.entry.Entry.{Entry}
-use Rattle.moka_unsync.specs.Contents.{Contents, after_leaving, keys_of, no_contents, without}
+use Rattle.moka_unsync.specs.Contents.{after_leaving, keys_of, no_contents, without}
 use Rattle.moka_unsync.specs.CacheState.{CacheState}
 use Rattle.moka_unsync.specs.Lookup.{is_expired, kept_up}
 

@@ -1,5 +1,5 @@
 -- What look-ups answer and leave.
-use Rattle.std.specs.Prelude.{ℕ, Bool, ◌||◌, List, [], ◌∷◌, ◌++◌, is_some, Option, Some, None, option_map, if◌then◌else◌}
+use Rattle.std.specs.Prelude.{ℕ, Bool, ◌||◌, [], ◌∷◌, ◌++◌, is_some, Option, Some, None, option_map, if◌then◌else◌}
 use Rattle.moka_common.specs.Keys.{Keys}
 use Rattle.moka_common.specs.Moment.{idle_expired, live_expired}
 use Rattle.moka_common.specs.Policy.{Policy}

@@ -1,5 +1,5 @@
 -- How the store lays its entries out in two lists. No public clause cites this module.
-use Rattle.std.specs.Prelude.{◌≡◌, ◌<◌, ℕ, ◌^◌, Bool, true, false, min, nat_eq, List, [], ◌∷◌, All, map, Option, Some, None, option_map}
+use Rattle.std.specs.Prelude.{◌≡◌, ◌<◌, ℕ, ◌^◌, Bool, true, false, min, nat_eq, List, All, map, Option, Some, None, option_map}
 use Rattle.std.specs.List.{IsDistinct, filter_map}
 use Rattle.std.specs.Map.{lookup, keys_of, remove_entry, values_of}
 use Rattle.moka_common.specs.Deque.{moved_to_back}

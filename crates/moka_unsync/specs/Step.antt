@@ -1,5 +1,5 @@
 -- The cache as a machine: what each call replies and leaves, and what a list of calls does.
-use Rattle.std.specs.Prelude.{◌≡◌, ℕ, Bool, true, false, List, [], ◌∷◌, length, Option, if◌then◌else◌}
+use Rattle.std.specs.Prelude.{◌≡◌, ℕ, Bool, List, [], ◌∷◌, length, Option, if◌then◌else◌}
 use Rattle.moka_common.specs.Keys.{Keys}
 use Rattle.moka_unsync.specs.Contents.{weighted_size}
 use Rattle.moka_unsync.specs.CacheState.{CacheState}

@@ -1,10 +1,8 @@
 -- How the cache's entries are kept. No public clause cites this module.
-use Rattle.std.specs.Prelude.{◌≡◌, ◌≤◌, ◌<◌, ℕ, ◌^◌, Bool, true, false, nat_eq, List, [], ◌∷◌, ◌++◌, All, map, Option, Some, None, is_some}
-use Rattle.std.specs.List.{IsDistinct}
-use Rattle.std.specs.Map.{lookup, keys_of, values_of}
+use Rattle.std.specs.Prelude.{◌≡◌, ◌≤◌, ℕ, Bool, true, nat_eq, List, [], ◌∷◌, ◌++◌, All, Some}
+use Rattle.std.specs.Map.{lookup, values_of}
 use Rattle.moka_unsync.specs.declared.cache.entry.Entry.{Entry}
-use Rattle.moka_unsync.specs.declared.cache.store.Node.{Node}
-use Rattle.moka_unsync.specs.Contents.{Write, total_weight, entry_at, entries_without, writes_without}
+use Rattle.moka_unsync.specs.Contents.{Write, entry_at, entries_without, writes_without}
 use Rattle.moka_unsync.specs.Insert.{with_write}
 
 -- the entries in order of use, each under the id of its node; the writes in their order, if they are kept; and for how many more entries there is room

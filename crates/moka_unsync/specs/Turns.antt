@@ -1,6 +1,5 @@
 -- How a batch leaves the store, one entry after another. No public clause cites this module.
-use Rattle.std.specs.Prelude.{◌≡◌, ◌≤◌, ℕ, suc, Bool, true, false, List, [], ◌∷◌, take, Option, option_map}
-use Rattle.moka_unsync.specs.declared.cache.entry.Entry.{Entry}
+use Rattle.std.specs.Prelude.{◌≡◌, ◌≤◌, ℕ, suc, Bool, true, false, List, take, Option, option_map}
 use Rattle.moka_unsync.specs.Contents.{Contents, keys_of, after_leaving}
 use Rattle.moka_unsync.specs.Store.{Store, entries_of}
 

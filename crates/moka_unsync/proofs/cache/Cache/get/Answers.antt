@@ -1,4 +1,3 @@
-use Rattle.std.proofs.Common.{◌≡◌, ◌∙◌, ap, sym}
 use Rattle.moka_common.specs.Keys.{Keys, keys_of}
 use Rattle.moka_unsync.proofs.CachedLemmas.{IsCached-touch, IsCached-upkeep, has_hash, hash_respects}
 use Rattle.moka_unsync.proofs.cache.Cache.get.Goals as goal

@@ -1,4 +1,3 @@
-use Rattle.std.proofs.Common.{◌≡◌}
 use Rattle.moka_common.specs.Keys.{Keys, keys_of}
 use Rattle.moka_unsync.specs.Cached.{IsCached}
 use Rattle.moka_unsync.specs.Insert.{victims_of}

@@ -1,4 +1,4 @@
-use Rattle.std.proofs.Common.{◌≡◌, ◌<◌, ◌+◌, ◌-◌, ◌∷◌, ◌∙◌, arith, length, subst, sym}
+use Rattle.std.proofs.Common.{◌<◌, arith, length, subst, sym}
 use Rattle.std.proofs.lemmas.Map.Entries.{length-values_of}
 use Rattle.moka_common.specs.Sketch.{estimate}
 use Rattle.moka_unsync.specs.Store.{entries_of}

@@ -1,4 +1,4 @@
-use Rattle.std.proofs.Common.{◌≤◌, ℕ, length}
+use Rattle.std.proofs.Common.{length}
 use Rattle.moka_common.specs.Sketch.{estimate}
 use Rattle.moka_unsync.specs.Store.{entries_of}
 use Rattle.moka_unsync.proofs.AdmitLemmas.{IsWalk}

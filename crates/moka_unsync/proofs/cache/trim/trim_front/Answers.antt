@@ -1,4 +1,4 @@
-use Rattle.std.proofs.Common.{◌≡◌, ◌<◌, ◌∙◌, subst, sym}
+use Rattle.std.proofs.Common.{◌<◌, subst}
 use Rattle.moka_unsync.proofs.TrimLemmas.{trim_turn}
 use Rattle.moka_unsync.proofs.cache.trim.trim_front.Goals as goal
 

@@ -1,6 +1,6 @@
 use Rattle.std.proofs.Common.{◌≡◌, ◌∙◌}
 use Rattle.moka_unsync.specs.Expire.{after_eviction}
-use Rattle.moka_unsync.specs.Turns.{Continues, contents_of}
+use Rattle.moka_unsync.specs.Turns.{contents_of}
 use Rattle.moka_unsync.proofs.TrimLemmas.{last_turn, next_turn}
 use Rattle.moka_unsync.proofs.cache.trim.trim_to.Goals as goal
 

@@ -1,5 +1,4 @@
-use Rattle.std.proofs.Common.{◌≡◌, ◌∙◌, None, ap, is_some, IsSome, nat_eq, subst, sym}
-use Rattle.std.specs.Map.{lookup}
+use Rattle.std.proofs.Common.{◌≡◌, None, ap, is_some, subst, sym}
 use Rattle.moka_unsync.specs.Contents.{entry_at}
 use Rattle.moka_unsync.specs.Store.{entries_of}
 use Rattle.moka_unsync.proofs.ChangeLemmas.{enter_is, enter_keeps, is_pushed, unkept_is, unkept_keeps}

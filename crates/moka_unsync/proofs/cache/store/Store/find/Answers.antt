@@ -1,5 +1,5 @@
 use Rattle.std.proofs.Common.{◌≡◌, ◌<◌, ◌∙◌, Some, ap, false, length, option_map, subst, sym}
-use Rattle.moka_common.specs.Deque.{first_id, next_id}
+use Rattle.moka_common.specs.Deque.{next_id}
 use Rattle.moka_unsync.specs.Store.{HasHash}
 use Rattle.moka_unsync.proofs.StoreLemmas.{lookup-entries}
 use Rattle.moka_unsync.proofs.FindLemmas.{IsAhead, fewer_ahead, first_is_in_list, from_node, is_ahead_at_first, is_behind, is_here, is_nowhere, next_is_in, other_hash}

@@ -1,4 +1,4 @@
-use Rattle.std.proofs.Common.{◌≡◌, length, nat_eq, IfSome}
+use Rattle.std.proofs.Common.{length, nat_eq, IfSome}
 use Rattle.std.specs.List.{IsDistinct}
 use Rattle.std.specs.Map.{keys_of}
 use Rattle.moka_common.specs.Deque.{IsIn}

@@ -1,4 +1,4 @@
-use Rattle.moka_unsync.proofs.FindLemmas.{front_is, front_absent}
+use Rattle.moka_unsync.proofs.FindLemmas.{front_is}
 use Rattle.moka_unsync.proofs.cache.store.Store.front.Goals as goal
 
 pub returns-clause-found : goal.returns-clause-found

@@ -1,4 +1,4 @@
-use Rattle.std.proofs.Common.{◌≡◌, ◌∙◌, ap, is_some, IsSome, nat_eq, option_map, subst, sym}
+use Rattle.std.proofs.Common.{◌∙◌, ap, is_some, IsSome, nat_eq, option_map, subst, sym}
 use Rattle.std.specs.Map.{lookup}
 use Rattle.moka_unsync.proofs.StoreLemmas.{is_node, lookup-entries}
 use Rattle.moka_unsync.proofs.cache.store.Store.get.Goals as goal

@@ -1,4 +1,4 @@
-use Rattle.std.proofs.Common.{◌≡◌, ◌-◌, ap, is_some, IsSome, nat_eq, subst, sym}
+use Rattle.std.proofs.Common.{◌-◌, ap, is_some, IsSome, nat_eq, subst, sym}
 use Rattle.std.specs.Map.{lookup}
 use Rattle.moka_unsync.proofs.ChangeLemmas.{remove_is, remove_keeps, weight_in_total}
 use Rattle.moka_unsync.proofs.FindLemmas.{room_for-mono}

@@ -1,4 +1,4 @@
-use Rattle.std.proofs.Common.{◌≡◌, ◌∙◌, Some, ap, is_some, IsSome, nat_eq, subst, sym}
+use Rattle.std.proofs.Common.{◌∙◌, ap, is_some, IsSome, nat_eq, subst, sym}
 use Rattle.std.specs.Map.{lookup}
 use Rattle.moka_unsync.proofs.ChangeLemmas.{touch_is, touch_keeps, touched}
 use Rattle.moka_unsync.proofs.FindLemmas.{lookup-set, moved-set}

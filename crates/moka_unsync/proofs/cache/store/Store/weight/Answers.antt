@@ -1,4 +1,4 @@
-use Rattle.std.proofs.Common.{◌<◌, ◌≤◌, ◌*◌, ◌-◌, ◌^◌, arith, length}
+use Rattle.std.proofs.Common.{arith}
 use Rattle.moka_unsync.proofs.StoreLemmas.{total_bound}
 use Rattle.moka_unsync.proofs.cache.store.Store.weight.Goals as goal
 
