@@ -20,6 +20,8 @@ mod sketch_rows;
 #[cfg(test)]
 mod table;
 #[cfg(test)]
+mod unsync;
+#[cfg(test)]
 mod unsync_grammar;
 pub mod uses;
 #[cfg(test)]

@@ -3,7 +3,9 @@ use mini_moka::common::time::Instant;
 use mini_moka::common::{BuildError, FixedState, Shared};
 use mini_moka::sync::engine::{Call, Core, Reply};
 use mini_moka::sync::recorded::Record;
+use mini_moka::unsync::Cache;
 use std::alloc::Global;
+use std::time::Duration;
 
 /// Inserts a pair into a cache that keeps a record, and looks the key up.
 pub fn remember(alloc: Global, key: u64, value: u32) -> Result<Option<u32>, BuildError> {
@@ -26,6 +28,33 @@ pub fn remember(alloc: Global, key: u64, value: u32) -> Result<Option<u32>, Buil
     }
 }
 
+/// Whether a text is found five seconds after it was inserted, and ten.
+pub fn found_within_ten_seconds(alloc: Global) -> Result<(bool, bool), BuildError> {
+    let mut cache: Cache<u64, String> = Cache::builder(alloc)
+        .max_capacity(100)
+        .time_to_live(Duration::from_secs(10))
+        .build()?;
+    let text = String::from_str(alloc, "alice")?;
+    cache
+        .insert(7, text, Instant::from_nanos(0))
+        .map_err(|_| BuildError::OutOfMemory)?;
+    let early = cache.get(&7, Instant::from_nanos(5_000_000_000)).is_some();
+    let late = cache.get(&7, Instant::from_nanos(10_000_000_000)).is_some();
+    Ok((early, late))
+}
+
+/// What the text weighs in a cache that counts the bytes of its texts.
+pub fn weight_in_bytes(alloc: Global, text: String) -> Result<u64, BuildError> {
+    let mut cache = Cache::builder(alloc)
+        .max_capacity(1_000_000)
+        .weigher(|_key: &u64, value: &String| u32::try_from(value.len()).unwrap_or(u32::MAX))
+        .build()?;
+    cache
+        .insert(7, text, Instant::from_nanos(0))
+        .map_err(|_| BuildError::OutOfMemory)?;
+    Ok(cache.weighted_size())
+}
+
 #[cfg(test)]
 mod tests {
     use super::*;
@@ -34,6 +63,19 @@ mod tests {
     #[test]
     fn a_remembered_value_is_found(rt: HostRuntime) -> Result<(), Fail> {
         assert_eq!(rt; remember(rt.alloc(), 7, 1)?, Some(1));
+        Ok(())
+    }
+
+    #[test]
+    fn a_text_is_found_until_its_time_is_over(rt: HostRuntime) -> Result<(), Fail> {
+        assert_eq!(rt; found_within_ten_seconds(rt.alloc())?, (true, false));
+        Ok(())
+    }
+
+    #[test]
+    fn a_text_weighs_its_bytes(rt: HostRuntime) -> Result<(), Fail> {
+        let text = String::from_str(rt.alloc(), "alice")?;
+        assert_eq!(rt; weight_in_bytes(rt.alloc(), text)?, 5);
         Ok(())
     }
 }
