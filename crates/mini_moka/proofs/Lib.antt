@@ -13,3 +13,4 @@ pub mod SketchLineLemmas
 pub mod ScriptLemmas
 pub mod RecordLemmas
 pub mod SketchRunLemmas
+pub mod UnsyncRunLemmas

@@ -13,9 +13,11 @@ pub mod ScriptKeys
 pub mod ReplyText
 pub mod RecordedRun
 pub mod SketchRun
+pub mod UnsyncRun
 pub mod ScriptRun
 -- inside
 pub mod Reading
 pub mod ReadingOptions
 pub mod ReadingLines
 pub mod ReadingCacheLines
+pub mod ScriptWeighers

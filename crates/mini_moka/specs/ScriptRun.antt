@@ -9,14 +9,14 @@ use Rattle.mini_moka.specs.Grammar.{Script, RecordedScript, UnsyncScript, Sketch
 use Rattle.mini_moka.specs.ReplyText.{bad_line}
 use Rattle.mini_moka.specs.RecordedRun.{AreRecordedReplyLines}
 use Rattle.mini_moka.specs.SketchRun.{AreSketchReplyLines}
+use Rattle.mini_moka.specs.UnsyncRun.{AreUnsyncReplyLines}
 use Rattle.mini_moka.specs.Streams.{AppendsBeginning}
 
 module _ (A : Type 0) where
   -- the reply lines of a script, by its mode
   abbrev pub AreReplyLines : Script → List ℕ → Type 0
   AreReplyLines (RecordedScript lines) text = AreRecordedReplyLines A lines text
-  -- TODO run
-  AreReplyLines (UnsyncScript options lines) text = Unit {0}
+  AreReplyLines (UnsyncScript options lines) text = AreUnsyncReplyLines options lines text
   AreReplyLines (SketchScript cap lines) text = AreSketchReplyLines cap lines text
 
   -- a whole run of the bytes ends so, and this is the text that it writes

@@ -6,8 +6,10 @@ mod recorded;
 mod reply;
 mod runner;
 mod sketch;
+mod stored;
 mod streams;
 mod text;
+mod unsync;
 mod words;
 
 pub use line::{CacheLine, CacheOptions, CacheRequest, Line, Request, Script, SketchLine, Span};

@@ -23,6 +23,8 @@ mod table;
 mod unsync;
 #[cfg(test)]
 mod unsync_grammar;
+#[cfg(test)]
+mod unsync_rows;
 pub mod uses;
 #[cfg(test)]
 mod worked;

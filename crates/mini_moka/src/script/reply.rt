@@ -1,11 +1,16 @@
 // How replies are written.
-ghost use Rattle.std.specs.Prelude.{◌≡◌, List, ◌++◌, OnOk, codes};
+ghost use Rattle.std.specs.Prelude.{◌≡◌, List, ◌++◌, OnOk, codes, is_err, option_copied, option_map};
+ghost use Rattle.std.specs.Duration.{as_nanos};
 ghost use Rattle.std.specs.Fmt.{decimal};
-ghost use Rattle.mini_moka.specs.ReplyText.{reply_words, sketch_reply_words, written};
+ghost use Rattle.mini_moka.specs.ReplyText.{found_words, insert_words, limit_words, nanos_words, policy_words, reply_words, sketch_reply_words, truth_words, written};
 
+use crate::script::stored::Stored;
 use crate::script::text::Text;
+use moka_common::error::InsertError;
+use moka_common::policy::Policy;
 use moka_sync::engine::Reply;
 use std::alloc::{AllocError, Allocator};
+use std::time::Duration;
 
 /// The reply to a line of a sketch script.
 #[derive(Clone, Copy, Debug, PartialEq, Eq)]
@@ -58,7 +63,8 @@ pub(super) fn push_sketch_reply<A: Allocator + Clone + Drop>(
     }
 }
 
-fn push_number<A: Allocator + Clone + Drop>(
+/// Adds the line of a number to the text.
+pub(super) fn push_number<A: Allocator + Clone + Drop>(
     text: &mut Vec<u8, A>,
     number: u64,
 ) -> Result<(), AllocError>
@@ -67,4 +73,92 @@ fn push_number<A: Allocator + Clone + Drop>(
     let alloc = text.allocator().clone()?;
     let line = format!(in alloc; "{number}\n")?;
     text.extend_from_slice(line.as_bytes())
+}
+
+/// Adds the line of an insert's reply to the text.
+pub(super) fn push_insert<A: Allocator + Clone + Drop>(
+    text: &mut Vec<u8, A>,
+    inserted: Result<(), InsertError>,
+) -> Result<(), AllocError>
+    ensures { OnOk result (text.new.items ≡ text.old.items ++ written (insert_words (is_err inserted))) }
+{
+    match inserted {
+        Ok(()) => text.extend_from_slice(b"ok\n"),
+        Err(_) => text.extend_from_slice(b"refused memory\n"),
+    }
+}
+
+/// Adds the line of what a get finds to the text.
+pub(super) fn push_found<A: Allocator + Clone + Drop>(
+    text: &mut Vec<u8, A>,
+    found: Option<&Stored<Text<A>>>,
+) -> Result<(), AllocError>
+    ensures { OnOk result (text.new.items ≡ text.old.items ++ written (found_words (option_copied found.entry))) }
+{
+    match found {
+        Some(stored) => push_value(text, &stored.text),
+        None => text.extend_from_slice(b"none\n"),
+    }
+}
+
+/// Adds the line of an answer to a question to the text.
+pub(super) fn push_truth<A: Allocator + Clone + Drop>(
+    text: &mut Vec<u8, A>,
+    truth: bool,
+) -> Result<(), AllocError>
+    ensures { OnOk result (text.new.items ≡ text.old.items ++ written (truth_words truth)) }
+{
+    match truth {
+        true => text.extend_from_slice(b"true\n"),
+        false => text.extend_from_slice(b"false\n"),
+    }
+}
+
+/// Adds the line of a policy to the text.
+pub(super) fn push_policy<A: Allocator + Clone + Drop>(
+    text: &mut Vec<u8, A>,
+    policy: Policy,
+) -> Result<(), AllocError>
+    ensures { OnOk result (text.new.items ≡ text.old.items ++ written (policy_words policy)) }
+{
+    text.extend_from_slice(b"max ")?;
+    push_limit(text, policy.max_capacity())?;
+    text.extend_from_slice(b" live ")?;
+    push_nanos(text, policy.time_to_live())?;
+    text.extend_from_slice(b" idle ")?;
+    push_nanos(text, policy.time_to_idle())?;
+    text.extend_from_slice(b"\n")
+}
+
+fn push_limit<A: Allocator + Clone + Drop>(
+    text: &mut Vec<u8, A>,
+    limit: Option<u64>,
+) -> Result<(), AllocError>
+    ensures { OnOk result (text.new.items ≡ text.old.items ++ limit_words limit) }
+{
+    match limit {
+        Some(limit) => {
+            let alloc = text.allocator().clone()?;
+            let word = format!(in alloc; "{limit}")?;
+            text.extend_from_slice(word.as_bytes())
+        }
+        None => text.extend_from_slice(b"-"),
+    }
+}
+
+fn push_nanos<A: Allocator + Clone + Drop>(
+    text: &mut Vec<u8, A>,
+    duration: Option<Duration>,
+) -> Result<(), AllocError>
+    ensures { OnOk result (text.new.items ≡ text.old.items ++ nanos_words (option_map as_nanos duration)) }
+{
+    match duration {
+        Some(duration) => {
+            let alloc = text.allocator().clone()?;
+            let nanos = duration.as_nanos();
+            let word = format!(in alloc; "{nanos}ns")?;
+            text.extend_from_slice(word.as_bytes())
+        }
+        None => text.extend_from_slice(b"-"),
+    }
 }

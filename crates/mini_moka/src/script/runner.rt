@@ -9,6 +9,7 @@ use crate::script::parser::{ParseError, parse};
 use crate::script::recorded::recorded_replies;
 use crate::script::sketch::sketch_replies;
 use crate::script::streams::{Fault, ReadError, Sink, Source, read_all, write_all};
+use crate::script::unsync::unsync_replies;
 use moka_common::error::OutOfMemory;
 use std::alloc::{AllocError, Allocator};
 use thiserror::Error;
@@ -16,7 +17,7 @@ use thiserror::Error;
 /// How a run of a script ends where its streams and memory serve.
 #[derive(Clone, Copy, Debug, PartialEq, Eq)]
 pub enum End {
-    /// The replies were written, a line for each line of the script.
+    /// The replies were written, a line for each line of the script, or that its cache is refused.
     Done,
     /// The input is no script. Its first bad line, counted from 1, was written, and no call was made.
     BadLine(u64),
@@ -75,10 +76,12 @@ impl From<AllocError> for ScriptError {
 
 /// Reads a whole script, makes its calls in turn on a cache or a sketch of its own, and writes the replies.
 ///
-/// The first line is answered by `ready`. In a recorded script an accepted insert is answered by `ok`, a get by `some` and the
-/// value or by `none`, and a `has` by `true` or `false`; in a sketch script `inc` and `ensure` by `ok`, and the others by a
-/// number. A call that was refused is answered by `refused memory` or `refused tickets`. Where a line is bad, `bad line` and its
-/// number are all that is written. The time is linear in the bytes, but for the look-ups and the counts of an `inc`.
+/// The first line is answered by `ready`. Where it asks for a cache with a duration that is too long, `refused` and the reason are
+/// all that is written, and no call is made. In a script of a cache an accepted insert is answered by `ok`, a get by `some` and
+/// the value or by `none`, a `has` by `true` or `false`, `count` and `weight` by a number, and `policy` by the limits, each with
+/// its name; in a sketch script `inc` and `ensure` by `ok`, and the others by a number. A call that was refused is answered by
+/// `refused memory` or `refused tickets`. Where a line is bad, `bad line` and its number are all that is written. The time is
+/// linear in the bytes, but for what the calls of a cache take and the counts of an `inc`.
 pub fn run<A: Allocator + Clone + Drop, I: Source, O: Sink>(
     alloc: A,
     source: &mut I,
@@ -109,8 +112,10 @@ fn output_of<A: Allocator + Clone + Drop>(
             let text = recorded_replies(alloc, lines)?;
             Ok((End::Done, text))
         }
-        // TODO run
-        Ok(Script::Unsync { .. }) => Err(OutOfMemory),
+        Ok(Script::Unsync { options, lines }) => {
+            let text = unsync_replies(alloc, options, lines)?;
+            Ok((End::Done, text))
+        }
         Ok(Script::Sketch { cap, lines }) => {
             let text = sketch_replies(alloc, cap, lines)?;
             Ok((End::Done, text))

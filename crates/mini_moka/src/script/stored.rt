@@ -1,0 +1,37 @@
+// What the cache of a script stores: texts, each with its weight.
+ghost use Rattle.std.specs.Prelude.{◌≡◌, ⊤};
+ghost use Rattle.mini_moka.specs.UnsyncRun.{stored_text};
+
+use crate::script::text::Text;
+use moka_common::weigh::Weigh;
+
+/// A text, and how much it weighs. `T` is how texts are held, as in `CacheRequest`.
+#[derive(Drop)]
+pub struct Stored<T = Text> {
+    pub text: T,
+    pub weight: u32,
+}
+
+/// What an insert stores: its text, and the weight that its line says. Without one a text weighs 1.
+pub(super) fn stored_text<T>(text: T, weight: Option<u32>) -> Stored<T>
+    ensures { result ≡ stored_text text weight }
+{
+    Stored {
+        text,
+        weight: weight.unwrap_or(1),
+    }
+}
+
+/// The weigher of a weighed script: it answers the weight that is stored.
+#[derive(Clone, Copy, Debug, PartialEq, Eq)]
+pub struct StoredWeight;
+
+impl<T> Weigh<u64, Stored<T>> for StoredWeight {
+    ghost ready = { λ _. ⊤ };
+
+    ghost weighs = { λ old _ value weight new. (weight ≡ value.weight) × (new ≡ old) };
+
+    fn weigh(&mut self, _key: &u64, value: &Stored<T>) -> u32 {
+        value.weight
+    }
+}
