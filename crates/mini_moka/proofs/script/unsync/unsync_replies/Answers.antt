@@ -10,7 +10,7 @@ pub returns-in-Ok : goal.returns-in-Ok
 returns-in-Ok g c =
     let ok = rw c.weigher.ensures at c.in-Ok.ensures.ok in
     built c.args.options c.builder_of-builder.result.policy c.builder_of-builder.ensures.limits c.args.lines.items (λ text. text.items) c.replies_of.result true _ c.in-Ok.cache (sym c.if-options.true)
-    ok.0 ok.1 c.replies_of.ensures
+    ok.legal ok.built c.replies_of.ensures
 
 pub replies_of-requires-in-Ok-build_with_hasher-clause-weighs : goal.replies_of-requires-in-Ok-build_with_hasher-clause-weighs
 replies_of-requires-in-Ok-build_with_hasher-clause-weighs g c =
@@ -20,6 +20,6 @@ pub returns-in-Ok-build_with_hasher : goal.returns-in-Ok-build_with_hasher
 returns-in-Ok-build_with_hasher g c =
     let builder = c.builder_of-builder in
     let ok = c.in-Ok-build_with_hasher.ensures.ok in
-    let new = subst (λ weighed. c.in-Ok-build_with_hasher.cache ≡ new_cache (record { hash_state = record {}; policy = builder.result.policy; is_weighed = weighed }) builder.result.weigher) builder.ensures.weighed ok.1 in
+    let new = subst (λ weighed. c.in-Ok-build_with_hasher.cache ≡ new_cache (record { hash_state = record {}; policy = builder.result.policy; is_weighed = weighed }) builder.result.weigher) builder.ensures.weighed ok.built in
     built c.args.options builder.result.policy builder.ensures.limits c.args.lines.items (λ text. text.items) c.replies_of-in-Ok-build_with_hasher.result false _ c.in-Ok-build_with_hasher.cache (sym c.if-options.false)
-    ok.0 new c.replies_of-in-Ok-build_with_hasher.ensures
+    ok.legal new c.replies_of-in-Ok-build_with_hasher.ensures
