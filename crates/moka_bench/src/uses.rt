@@ -1,4 +1,4 @@
-//! The examples of the README, proved, and run by tests.
+//! The examples of the README, proved to be safe and to return, and run by tests, which compare what they give: they have no contracts.
 use mini_moka::common::time::Instant;
 use mini_moka::common::{BuildError, FixedState, Shared};
 use mini_moka::sync::engine::{Call, Core, Reply};
