@@ -1,6 +1,7 @@
 //! The tests of the caches: scripts with their replies, and the calls that no script makes.
 #![tactic(auto)]
 
+pub mod calling;
 #[cfg(test)]
 mod common;
 #[cfg(test)]
@@ -25,6 +26,8 @@ mod unsync;
 mod unsync_grammar;
 #[cfg(test)]
 mod unsync_rows;
+#[cfg(test)]
+mod unsync_runs;
 pub mod uses;
 #[cfg(test)]
 mod worked;

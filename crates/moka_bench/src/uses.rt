@@ -55,6 +55,23 @@ pub fn weight_in_bytes(alloc: Global, text: String) -> Result<u64, BuildError> {
     Ok(cache.weighted_size())
 }
 
+/// What is found of a key that stays and of one that is invalidated, and how many keys are left of those below 32.
+pub fn left_of_64(alloc: Global) -> Result<(bool, bool, usize), BuildError> {
+    let now = Instant::from_nanos(0);
+    let mut cache: Cache<u64, u32> = Cache::new(alloc, 10_000)?;
+    for key in 0..64 {
+        cache
+            .insert(key, 1, now)
+            .map_err(|_| BuildError::OutOfMemory)?;
+    }
+    cache.invalidate(&7, now);
+    cache.invalidate_entries_if(|key: &u64, _value: &u32| *key >= 32);
+    let found = cache.get(&8, now).is_some();
+    let gone = cache.get(&7, now).is_none();
+    let left = cache.iter(now).count();
+    Ok((found, gone, left))
+}
+
 #[cfg(test)]
 mod tests {
     use super::*;
@@ -69,6 +86,12 @@ mod tests {
     #[test]
     fn a_text_is_found_until_its_time_is_over(rt: HostRuntime) -> Result<(), Fail> {
         assert_eq!(rt; found_within_ten_seconds(rt.alloc())?, (true, false));
+        Ok(())
+    }
+
+    #[test]
+    fn what_is_invalidated_is_gone(rt: HostRuntime) -> Result<(), Fail> {
+        assert_eq!(rt; left_of_64(rt.alloc())?, (true, true, 31));
         Ok(())
     }
 

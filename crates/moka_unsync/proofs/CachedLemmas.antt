@@ -14,7 +14,7 @@ use Rattle.moka_unsync.specs.Expire.{after_expiry, after_live_expiry, after_trim
 use Rattle.moka_unsync.specs.declared.constants.TheConstants.{EVICTION_BATCH_SIZE}
 use Rattle.moka_unsync.specs.CacheState.{keeps_writes}
 use Rattle.moka_unsync.specs.Insert.{after_admission}
-use Rattle.moka_unsync.specs.Store.{Store, HasHash, Touches, Updates, entries_of}
+use Rattle.moka_unsync.specs.Store.{Store, HasHash, Removes, Touches, Updates, entries_of}
 use Rattle.moka_unsync.specs.Turns.{Continues, contents_of}
 use Rattle.moka_unsync.specs.Cached.{IsCached}
 
@@ -98,6 +98,17 @@ module _ {K V S : Type 0} (keys : Keys K S) (state : S) (policy : Policy) where
         hashed = subst (All P) (sym u.entries) (All-push P _ _ (All-filter (λ e. not (keys.eq u.entry.key e.key)) P (entries_of old) is.hashed) (hashed_at id u.entry old.nodes is.hashed u.stood));
         keeps = u.keeps ∙ is.keeps;
       }
+
+  -- where entries leave, the parts stay tied
+  pub IsCached-remove : (id : ℕ) (old new : Store K V) → IsCached keys state policy old → Removes keys.eq old id new → IsCached keys state policy new
+  IsCached-remove id old new is r =
+      let P : Entry K V → Type 0 = λ e. e.hash ≡ keys.hash_of state e.key in
+      record { hashed = subst (All P) (sym r.entries) (All-filter (λ e. not (keys.eq r.entry.key e.key)) P (entries_of old) is.hashed); keeps = r.keeps ∙ is.keeps }
+
+  pub IsCached-leaving : (gone : List K) (old new : Store K V) → IsCached keys state policy old → contents_of new ≡ after_leaving keys.eq gone (contents_of old) → Continues old new → IsCached keys state policy new
+  IsCached-leaving gone old new is step kept =
+      let P : Entry K V → Type 0 = λ e. e.hash ≡ keys.hash_of state e.key in
+      record { hashed = subst (λ c. All P c.entries) (sym step) (All-leaving keys.eq P gone (contents_of old) is.hashed); keeps = kept.keeps ∙ is.keeps }
 
   -- a store without entries is one of a cache
   pub IsCached-new : (store : Store K V) → entries_of store ≡ [] → store.keeps_writes ≡ keeps_writes policy → IsCached keys state policy store

@@ -12,7 +12,7 @@ use Rattle.moka_unsync.specs.Insert.{with_write}
 use Rattle.moka_unsync.specs.Store.{Store, Enters, Removes, Touches, Updates}
 use Rattle.moka_unsync.specs.Nodes.{entries_under, written_under, IsTied, IsStored, with_write_last, without_write}
 use Rattle.moka_unsync.proofs.NodeLemmas.{nat_eq-same, lookup-pushed, lookup-rewritten, IsDistinct-rewritten}
-use Rattle.moka_unsync.proofs.StoreLemmas.{lookup-entries, weight-remove, others, written-left, written-touch, written-update, written-enter, written-unkept, entries-rewrite, entries-push, no_writes, set-pushed, IsStored-remove, IsStored-rewrite, IsStored-enter, IsStored-unkept, total_bound}
+use Rattle.moka_unsync.proofs.StoreLemmas.{lookup-entries, entries-remove, weight-remove, others, written-left, written-touch, written-update, written-enter, written-unkept, entries-rewrite, entries-push, no_writes, set-pushed, IsStored-remove, IsStored-rewrite, IsStored-enter, IsStored-unkept, total_bound}
 use Rattle.moka_unsync.proofs.FindLemmas.{moved-found}
 
 module _ {K V : Type 0} where
@@ -62,6 +62,7 @@ module _ {K V : Type 0} {eq : K → K → Bool} (laws : IsEquivalence eq) {keeps
           written = ap (λ l. written_under l unwritten) left_is ∙ (ap (written_under (remove_entry (nat_eq id) items)) unwritten_is ∙ written-left laws s id n stood);
           keeps = refl;
           room = room;
+          nodes = ap entries_under left_is ∙ entries-remove id items;
         }
 
   module _ (now : ℕ) (moved : List (ℕ × Node K V)) (moved_is : moved ≡ remove_entry (nat_eq id) items ++ (id, touched n now) ∷ []) where

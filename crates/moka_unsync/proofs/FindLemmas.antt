@@ -10,11 +10,11 @@ use Rattle.std.specs.Map.{lookup, remove_entry, set_value, keys_of, values_of}
 use Rattle.moka_common.specs.Deque.{IsIn, first_id, next_id, moved_to_back}
 use Rattle.moka_unsync.specs.declared.cache.entry.Entry.{Entry}
 use Rattle.moka_unsync.specs.declared.cache.store.Node.{Node}
-use Rattle.moka_unsync.specs.Contents.{entry_at}
+use Rattle.moka_unsync.specs.Contents.{entry_at, no_contents}
 use Rattle.moka_unsync.specs.Store.{write_of, IsFront, IsOldest}
 use Rattle.moka_unsync.specs.Nodes.{entries_under, written_under, IsStored, room_for}
 use Rattle.moka_unsync.proofs.NodeLemmas.{nat_eq-same, remove-set}
-use Rattle.moka_unsync.proofs.StoreLemmas.{lookup-entries, others, written-elsewhere, written-remove}
+use Rattle.moka_unsync.proofs.StoreLemmas.{lookup-entries, others, written-elsewhere, written-none, written-remove}
 
 module _ {X : Type 0} where
   -- the nodes from one on
@@ -29,7 +29,7 @@ module _ {X : Type 0} where
   from_first [] = refl
   from_first (e ∷ es) = cond-true (nat_eq e.0 e.0) _ _ (nat_eq-same e.0)
 
-  from_none : (items : List (ℕ × X)) → from_node None items ≡ []
+  pub from_none : (items : List (ℕ × X)) → from_node None items ≡ []
   unfolding from_node
   from_none items = refl
 
@@ -85,6 +85,41 @@ module _ {X : Type 0} where
             ∙ ap (λ l. (id, x) ∷ l) (sym (ap (λ o. from_node o (e ∷ es)) (cond-false (nat_eq id e.0) (first_id es) (next_id id es) other) ∙ past_head e es apart (next_id id es) (next_is_in id es))))
       ]
 
+  -- the node behind one that leaves is still there
+  pub next_stays : (id : ℕ) (items : List (ℕ × X)) → Rattle.std.specs.Prelude.IfSome (next_id id items) (λ j. IsIn (remove_entry (nat_eq id) items) j)
+  next_stays id [] = tt
+  next_stays id (e ∷ es) =
+      elim (cases_Bool (nat_eq id e.0)) [
+        | inl same ↦
+            subst (λ o. Rattle.std.specs.Prelude.IfSome o (λ j. IsIn (remove_entry (nat_eq id) (e ∷ es)) j)) (sym (cond-true (nat_eq id e.0) (first_id es) (next_id id es) same))
+            (subst (λ l. Rattle.std.specs.Prelude.IfSome (first_id es) (λ j. IsIn l j)) (sym (cond-true (nat_eq id e.0) es (e ∷ remove_entry (nat_eq id) es) same)) (first_is_in es))
+        | inr other ↦
+            subst (λ o. Rattle.std.specs.Prelude.IfSome o (λ j. IsIn (remove_entry (nat_eq id) (e ∷ es)) j)) (sym (cond-false (nat_eq id e.0) (first_id es) (next_id id es) other))
+            (subst (λ l. Rattle.std.specs.Prelude.IfSome (next_id id es) (λ j. IsIn l j)) (sym (cond-false (nat_eq id e.0) es (e ∷ remove_entry (nat_eq id) es) other)) (behind_head e (remove_entry (nat_eq id) es) (next_id id es) (next_stays id es)))
+      ]
+
+  -- and so are all behind it
+  pub from_stays : (id : ℕ) (items : List (ℕ × X)) → IsDistinct nat_eq (keys_of items) → from_node (next_id id items) (remove_entry (nat_eq id) items) ≡ from_node (next_id id items) items
+  from_stays id [] d = refl
+  from_stays id (e ∷ es) d =
+      let apart = IsDistinct-head nat_eq e.0 (keys_of es) d in
+      elim (cases_Bool (nat_eq id e.0)) [
+        | inl same ↦
+            (λ i. from_node (cond-true (nat_eq id e.0) (first_id es) (next_id id es) same i) (cond-true (nat_eq id e.0) es (e ∷ remove_entry (nat_eq id) es) same i))
+            ∙ (sym (past_head e es apart (first_id es) (first_is_in es))
+            ∙ ap (λ o. from_node o (e ∷ es)) (sym (cond-true (nat_eq id e.0) (first_id es) (next_id id es) same)))
+        | inr other ↦
+            (λ i. from_node (cond-false (nat_eq id e.0) (first_id es) (next_id id es) other i) (cond-false (nat_eq id e.0) es (e ∷ remove_entry (nat_eq id) es) other i))
+            ∙ (past_head e (remove_entry (nat_eq id) es) (apart-removed es apart) (next_id id es) (next_stays id es)
+            ∙ (from_stays id es (IsDistinct-tail nat_eq e.0 (keys_of es) d)
+            ∙ (sym (past_head e es apart (next_id id es) (next_is_in id es))
+            ∙ ap (λ o. from_node o (e ∷ es)) (sym (cond-false (nat_eq id e.0) (first_id es) (next_id id es) other)))))
+      ]
+    where
+      apart-removed : (fs : List (ℕ × X)) → AllByRecursion (λ k. nat_eq e.0 k ≡ false) (keys_of fs) → AllByRecursion (λ k. nat_eq e.0 k ≡ false) (keys_of (remove_entry (nat_eq id) fs))
+      apart-removed [] a = tt
+      apart-removed (f ∷ fs) a = cond_both (nat_eq id f.0) fs (f ∷ remove_entry (nat_eq id) fs) (λ l. AllByRecursion (λ k. nat_eq e.0 k ≡ false) (keys_of l)) (λ _. a.1) (λ _. (a.0, apart-removed fs a.1))
+
   -- a value set under an id is found there
   pub lookup-set : (id : ℕ) (x : X) (items : List (ℕ × X)) → IsIn items id → lookup (nat_eq id) (set_value (nat_eq id) items x) ≡ Some x
   lookup-set id x [] h = absurd (false≢true h)
@@ -105,10 +140,11 @@ module _ {X : Type 0} where
   pub moved-found : (id : ℕ) (x : X) (items : List (ℕ × X)) → lookup (nat_eq id) items ≡ Some x → moved_to_back id items ≡ remove_entry (nat_eq id) items ++ (id, x) ∷ []
   moved-found id x items h = ap (λ o. Rattle.std.specs.Option.option_map_or (λ element. remove_entry (nat_eq id) items ++ (id, element) ∷ []) o items) h
 
--- where there is no first node, there is no entry
-pub front_absent : {K V : Type 0} → (items : List (ℕ × Node K V)) (o : Option ℕ) → o ≡ first_id items → is_some o ≡ false → values_of (entries_under items) ≡ []
-front_absent [] o h none = refl
-front_absent (p ∷ items) o h none = absurd (false≢true (sym none ∙ ap is_some h))
+-- where there is no first node, there is nothing
+pub front_absent : {K V : Type 0} → (items : List (ℕ × Node K V)) (writes : List (ℕ × ℕ)) (o : Option ℕ) → o ≡ first_id items → is_some o ≡ false
+    → record { entries = values_of (entries_under items); written = written_under items writes } ≡ no_contents
+front_absent {K = K} {V = V} [] writes o h none = λ i. record { entries = []; written = written-none K V writes i }
+front_absent (p ∷ items) writes o h none = absurd (false≢true (sym none ∙ ap is_some h))
 
 module _ {K V : Type 0} {eq : K → K → Bool} (laws : IsEquivalence eq) {keeps : Bool} where
   -- the first node is that of the front

@@ -5,3 +5,8 @@ pub mod ChangeLemmas
 pub mod TrimLemmas
 pub mod CachedLemmas
 pub mod AdmitLemmas
+pub mod InvalidateLemmas
+pub mod RunLemmas
+pub mod RemainLemmas
+pub mod LimitLemmas
+pub mod MapLemmas

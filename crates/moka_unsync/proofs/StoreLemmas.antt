@@ -1,12 +1,13 @@
 -- Lemmas on a store's two lists: what each change leaves of what holds of them, and what it is by keys.
-use Rattle.std.proofs.Common.{◌≡◌, ◌⊎◌, ◌<◌, ◌≤◌, ◌^◌, ◌+◌, ◌-◌, ◌*◌, ℕ, suc, Bool, true, false, cond, nat_eq, eq-eqb, List, [], ◌∷◌, ◌++◌, All, map, length, Option, Some, None, is_some, IsSome, option_map, unwrap_or, refl, sym, ap, ◌∙◌, inl, inr, arith, subst}
+use Rattle.std.proofs.Common.{◌≡◌, ◌⊎◌, ◌<◌, ◌≤◌, ◌^◌, ◌+◌, ◌-◌, ◌*◌, ℕ, suc, Bool, true, false, cond, not, nat_eq, eq-eqb, List, [], ◌∷◌, ◌++◌, All, map, length, Option, Some, None, is_some, IsSome, option_map, unwrap_or, refl, sym, ap, ◌∙◌, inl, inr, arith, subst}
 use Rattle.std.proofs.lemmas.Bool.{cases_Bool, cond_both, cond-true, cond-false, eqb-true, false≢true}
 use Rattle.std.proofs.lemmas.List.Elements.{All-push, All-from_recursion, recursion_from_All, filter_map-append}
 use Rattle.std.proofs.lemmas.List.Sums.{sum_by_push, sum_by-le}
 use Rattle.std.proofs.lemmas.Map.Entries.{sum_by-remove_entry}
 use Rattle.std.specs.Cmp.{IsEquivalence}
-use Rattle.std.specs.List.{IsDistinct, AllByRecursion, filter_map}
+use Rattle.std.specs.List.{IsDistinct, AllByRecursion, cons_option, filter_map}
 use Rattle.std.specs.Map.{lookup, remove_entry, set_value, keys_of, values_of}
+use Rattle.moka_common.specs.Deque.{first_id, next_id}
 use Rattle.moka_unsync.specs.declared.cache.store.Node.{Node}
 use Rattle.moka_unsync.specs.Contents.{Write, total_weight, entry_at, entries_without, writes_without}
 use Rattle.moka_unsync.specs.Insert.{with_write}
@@ -371,6 +372,11 @@ module _ {K V : Type 0} {eq : K → K → Bool} (laws : IsEquivalence eq) {keeps
         each [] a = tt
         each (p ∷ ws) a = (one p.1 (differs p.0 p.1 a.0.0 a.0.1), each ws a.1)
 
+-- without nodes there are no writes
+pub written-none : (K V : Type 0) (writes : List (ℕ × ℕ)) → written_under {K = K} {V = V} [] writes ≡ []
+written-none K V [] = refl
+written-none K V (w ∷ ws) = written-none K V ws
+
 -- ---- a node enters
 
 module _ {K V : Type 0} where
@@ -386,6 +392,31 @@ module _ {K V : Type 0} where
               | inr other ↦ key_absent eq key items (sym (cond-false (eq key p.1.entry.key) _ _ differ) ∙ none) i n (sym (cond-false (nat_eq i p.0) (Some p.1) (lookup (nat_eq i) items) other) ∙ h)
             ]
       ]
+
+  -- nor has a write
+  unwritten : (eq : K → K → Bool) (key : K) (items : List (ℕ × Node K V)) (id : ℕ) (o : Option (Node K V)) (rest : List (Write K)) → entry_at eq key (values_of (entries_under items)) ≡ None
+      → lookup (nat_eq id) items ≡ o → writes_without eq key rest ≡ rest
+      → writes_without eq key (cons_option (option_map (λ n. write_of n.entry) o) rest) ≡ cons_option (option_map (λ n. write_of n.entry) o) rest
+  unwritten eq key items id None rest none e same = same
+  unwritten eq key items id (Some n) rest none e same = cond-true (not (eq key n.entry.key)) _ _ (ap not (key_absent eq key items none id n e)) ∙ ap (λ l. write_of n.entry ∷ l) same
+
+  pub written-absent : (eq : K → K → Bool) (key : K) (items : List (ℕ × Node K V)) (writes : List (ℕ × ℕ)) → entry_at eq key (values_of (entries_under items)) ≡ None
+      → writes_without eq key (written_under items writes) ≡ written_under items writes
+  written-absent eq key items [] none = refl
+  written-absent eq key items (w ∷ ws) none = unwritten eq key items w.1 (lookup (nat_eq w.1) items) (written_under items ws) none refl (written-absent eq key items ws none)
+
+  -- the nodes are the same under entries
+  pub first-entries : (items : List (ℕ × Node K V)) → first_id (entries_under items) ≡ first_id items
+  first-entries [] = refl
+  first-entries (p ∷ items) = refl
+
+  pub next-entries : (id : ℕ) (items : List (ℕ × Node K V)) → next_id id (entries_under items) ≡ next_id id items
+  next-entries id [] = refl
+  next-entries id (p ∷ items) = λ i. cond (nat_eq id p.0) (first-entries items i) (next-entries id items i)
+
+  pub ids-entries : (items : List (ℕ × Node K V)) → keys_of (entries_under items) ≡ keys_of items
+  ids-entries [] = refl
+  ids-entries (p ∷ items) = ap (λ l. p.0 ∷ l) (ids-entries items)
 
   -- a value set at a node that is new
   pub set-pushed : (id : ℕ) (x y : Node K V) (items : List (ℕ × Node K V)) → lookup (nat_eq id) items ≡ None → set_value (nat_eq id) (items ++ (id, x) ∷ []) y ≡ items ++ (id, y) ∷ []

@@ -1,6 +1,9 @@
 -- What invalidations leave, and what an iterator gives.
-use Rattle.std.specs.Prelude.{ℕ, Bool, true, false, not, List, [], ◌∷◌, map, filter}
+use Rattle.std.specs.Prelude.{◌≡◌, ℕ, Bool, true, false, not, List, [], ◌∷◌, map, filter}
+use Rattle.std.specs.Borrow.{Bor}
 use Rattle.moka_common.specs.Keys.{Keys}
+use Rattle.moka_common.specs.Policy.{Policy}
+use Rattle.moka_unsync.specs.declared.cache.entry.Entry.{Entry}
 use Rattle.moka_unsync.specs.Contents.{after_leaving, keys_of, no_contents, without}
 use Rattle.moka_unsync.specs.CacheState.{CacheState}
 use Rattle.moka_unsync.specs.Lookup.{is_expired, kept_up}
@@ -12,19 +15,38 @@ chosen (false ∷ answers) (item ∷ items) = chosen answers items
 chosen [] items = []
 chosen answers [] = []
 
+-- the pairs of the unexpired entries, in their order
+abbrev pub unexpired_pairs : {K V : Type 0} → Policy → ℕ → List (Entry K V) → List (K × V)
+unexpired_pairs policy now entries = map (λ e. (e.key, e.value)) (filter (λ e. not (is_expired policy now e)) entries)
+
+-- the cache once all is invalidated: what was counted stays
+abbrev pub after_invalidate_all : {K V S W : Type 0} → CacheState K V S W → CacheState K V S W
+after_invalidate_all cache = record cache { contents = no_contents }
+
+-- what an iterator gives
+abbrev pub pairs_at : {K V S W : Type 0} → CacheState K V S W → ℕ → List (K × V)
+pairs_at cache now = unexpired_pairs cache.settings.policy now cache.contents.entries
+
+module _ {P K V : Type 0} (calls : P → Bor K → Bor V → Bool → P → Type 0) where
+  -- a predicate, called at an entry, answers so and is another then
+  pub record AnswersAt (predicate : P) (entry : Entry K V) (answer : Bool) (next : P) : Type 0 where
+    pub key : Bor K
+    pub value : Bor V
+    pub shown : (key.now ≡ entry.key) × (value.now ≡ entry.value)
+    pub called : calls predicate key value answer next
+
+  -- a predicate is called once at each entry, in their order, and gives these answers
+  abbrev pub AnswersInTurn : P → List (Entry K V) → List Bool → Type 0
+  AnswersInTurn predicate [] answers = answers ≡ []
+  AnswersInTurn predicate (entry ∷ entries) answers =
+      (answer : Bool) × (next : P) × (rest : List Bool)
+      × (answers ≡ answer ∷ rest) × AnswersAt predicate entry answer next × AnswersInTurn next entries rest
+
 module _ {K V S W : Type 0} (keys : Keys K S) where
   -- the cache once a key is invalidated: upkeep, and then its entry leaves
   abbrev pub after_invalidate : CacheState K V S W → K → ℕ → CacheState K V S W
   after_invalidate cache key now = record cache { contents = without keys.eq (kept_up keys cache now) key }
 
-  -- the cache once all is invalidated: what was counted stays
-  abbrev pub after_invalidate_all : CacheState K V S W → CacheState K V S W
-  after_invalidate_all cache = record cache { contents = no_contents }
-
   -- the cache once a predicate has answered for each entry, in order of use: those that it chose have left
   abbrev pub after_invalidate_if : CacheState K V S W → List Bool → CacheState K V S W
   after_invalidate_if cache answers = record cache { contents = after_leaving keys.eq (keys_of (chosen answers cache.contents.entries)) cache.contents }
-
-  -- the unexpired entries in order of use
-  abbrev pub pairs_at : CacheState K V S W → ℕ → List (K × V)
-  pairs_at cache now = map (λ e. (e.key, e.value)) (filter (λ e. not (is_expired cache.settings.policy now e)) cache.contents.entries)

@@ -6,6 +6,8 @@ pub mod Lookup
 pub mod Insert
 pub mod Invalidate
 pub mod Step
+pub mod Runs
+pub mod Laws
 pub mod CacheLends
 -- inside
 pub mod Store

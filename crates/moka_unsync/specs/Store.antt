@@ -1,6 +1,6 @@
 -- How the cache's entries are kept. No public clause cites this module.
 use Rattle.std.specs.Prelude.{◌≡◌, ◌≤◌, ℕ, Bool, true, nat_eq, List, [], ◌∷◌, ◌++◌, All, Some}
-use Rattle.std.specs.Map.{lookup, values_of}
+use Rattle.std.specs.Map.{lookup, remove_entry, values_of}
 use Rattle.moka_unsync.specs.declared.cache.entry.Entry.{Entry}
 use Rattle.moka_unsync.specs.Contents.{Write, entry_at, entries_without, writes_without}
 use Rattle.moka_unsync.specs.Insert.{with_write}
@@ -54,6 +54,7 @@ module _ {K V : Type 0} where
       pub written : new.written ≡ writes_without eq entry.key old.written
       pub keeps : new.keeps_writes ≡ old.keeps_writes
       pub room : old.room ≤ new.room
+      pub nodes : new.nodes ≡ remove_entry (nat_eq id) old.nodes
 
     -- what it is once the entry was used at a moment
     pub record Touches (old : Store K V) (id now : ℕ) (new : Store K V) : Type 0 where

@@ -14,6 +14,25 @@ use std::marker::{Model, PhantomData};
 use std::time::Duration;
 
 /// Makes a cache, with what is set. Nothing is limited that isn't set.
+///
+/// ```
+/// let mut cache: Cache<u64, String> = Cache::builder(alloc)
+///     .max_capacity(100)
+///     .time_to_live(Duration::from_secs(10))
+///     .build()?;
+/// ```
+///
+/// A weigher makes the capacity a weight, as of the bytes of a text:
+///
+/// ```
+/// let mut cache = Cache::builder(alloc)
+///     .max_capacity(1_000_000)
+///     .weigher(|_key: &u64, value: &String| u32::try_from(value.len()).unwrap_or(u32::MAX))
+///     .build()?;
+/// ```
+///
+/// A builder takes no memory. `build` and `build_with_hasher` refuse a duration of more than 1000 years, the time to live first, and want of memory for the
+/// room of `initial_capacity`.
 #[derive(Drop)]
 pub struct CacheBuilder<K, V, W: Drop = UnitWeight, A: Allocator + Clone + Drop = Global> {
     alloc: A,

@@ -1,5 +1,5 @@
 //! The cache for one thread.
-ghost use Rattle.std.specs.Prelude.{◌≡◌, ◌-◌, ◌^◌, Bool, false, length, min, None, Some, option_copied, IfErr, IfOk, OnErr, OnOk};
+ghost use Rattle.std.specs.Prelude.{◌≡◌, ◌-◌, ◌^◌, Bool, List, false, length, min, None, Some, option_copied, IfErr, IfOk, OnErr, OnOk};
 ghost use Rattle.std.specs.Borrow.{sem};
 ghost use Rattle.moka_common.specs.Keys.{keys_of};
 ghost use Rattle.moka_common.specs.Enabling.{expected_entries};
@@ -9,11 +9,15 @@ ghost use Rattle.moka_unsync.specs.Contents.{total_weight, weighted_size};
 ghost use Rattle.moka_unsync.specs.Expire.{after_upkeep};
 ghost use Rattle.moka_unsync.specs.Lookup.{after_get, after_look, found_by_get, is_contained, is_expired};
 ghost use Rattle.moka_unsync.specs.Insert.{IsInserted, after_asking};
+ghost use Rattle.moka_unsync.specs.Invalidate.{AnswersInTurn, after_invalidate, after_invalidate_all, after_invalidate_if, pairs_at};
 ghost use Rattle.moka_unsync.specs.Turns.{Continues, contents_of};
 
 mod admit;
+mod debug;
 mod entry;
 mod expire;
+mod invalidate;
+mod iter;
 mod store;
 mod trim;
 
@@ -21,6 +25,8 @@ use crate::builder::CacheBuilder;
 use admit::admit;
 use entry::Entry;
 use expire::expire;
+use invalidate::{clear, remove_key, remove_where};
+pub use iter::Iter;
 use moka_common::error::{BuildError, InsertError, OutOfMemory};
 use moka_common::frequency_sketch::{FrequencySketch, sketch_capacity};
 use moka_common::hash::FixedState;
@@ -43,15 +49,54 @@ pub(crate) struct Parts<S: Drop, W: Drop> {
     pub(crate) initial_capacity: usize,
 }
 
-/// A cache for one thread: bounded by a number of entries or by their weight, with expiry by time to live and by time to idle.
+/// A cache for one thread: a map that forgets, bounded by a number of entries or by their weight, with expiry by time to live and by time to idle.
 ///
-/// A look-up or an insert first removes expired entries, and the least recently used ones while the weight is above the limit, each time a batch
-/// of `EVICTION_BATCH_SIZE` entries at most; no read gives an expired entry that remained. No call reads a clock: moments are handed in, and they
-/// may go back. Where there is no room a new entry is admitted only if its key was looked for more often of late than those of all the entries
-/// together that would give way to it: the size-aware TinyLFU of Caffeine, by Einziger, Friedman and Manes.
+/// A look-up, an insert or an invalidation of a key first removes expired entries, and the least recently used ones while the weight is above the
+/// limit, each time a batch of `EVICTION_BATCH_SIZE` entries at most. No read gives an expired entry that remained.
+///
+/// ```
+/// let now = Instant::from_nanos(0);
+/// let mut cache: Cache<u64, u32> = Cache::new(alloc, 10_000)?;
+/// for key in 0..64 {
+///     cache
+///         .insert(key, 1, now)
+///         .map_err(|_| BuildError::OutOfMemory)?;
+/// }
+/// cache.invalidate(&7, now);
+/// cache.invalidate_entries_if(|key: &u64, _value: &u32| *key >= 32);
+/// let found = cache.get(&8, now).is_some();
+/// let gone = cache.get(&7, now).is_none();
+/// let left = cache.iter(now).count();
+/// ```
+///
+/// # Size
+///
+/// A cache with a `max_capacity` is bounded. Without a weigher an entry weighs 1, so the capacity is the most entries that it has at a call's end.
+/// With one it is a weight: the weigher answers a `u32` for key and value at each insert. An update may leave more, which later calls remove.
+/// Where there is no room, a new entry is admitted only if its key was looked for more often of late than those of all the least recently used
+/// entries together that would give way to it: the size-aware TinyLFU of Caffeine, by Einziger, Friedman and Manes. Weights don't say which
+/// entries are looked at to make room: the least recently used ones are.
+///
+/// # Expiry
+///
+/// With a time to live an entry expires that long after its last insert, with a time to idle that long after its last `get` or insert, from the very
+/// end of that time on. No call reads a clock: the moment is handed in, and it may go back. `contains_key` and `iter` are no use of an entry.
+///
+/// # Hashing
+///
+/// The default hash state is std's with a fixed key, so that runs can be repeated. Where strangers choose the keys, hand in a `RandomState` by
+/// `CacheBuilder::build_with_hasher`; any other state that is made for a kind of keys does as well. A call hashes its key once.
+///
+/// # Cost
 ///
 /// A look-up takes time linear in the number of entries, since there is no index yet; all else in a call takes constant time for each entry that
-/// it adds or removes. Nothing but an insert takes memory.
+/// it adds or removes. Nothing but building and inserting takes memory.
+///
+/// # What differs from mini-moka
+///
+/// Moments are handed in. Building and inserting answer a `Result`: want of memory, and a duration of more than 1000 years, are named refusals in
+/// place of an abort or a panic. Counts and weights follow every removal. Keys are looked up by `&K`. `iter` and the predicate of
+/// `invalidate_entries_if` go in order of use, `iter` leaves expired entries out, and `Debug` shows every stored one.
 #[derive(Drop)]
 pub struct Cache<
     K: Eq + Hash + Drop,
@@ -201,6 +246,42 @@ impl<
         }
         self.store.touch(id, now);
         Some(&self.store.get(id).value)
+    }
+
+    /// Removes the entry of the key, if there is one. What was counted of the key stays.
+    pub fn invalidate(&mut self, key: &K, now: Instant)
+        ensures step { self.new
+            ≡ after_invalidate (keys_of K.Hash S.BuildHasher S.Hasher.Hasher) self.old key.now now }
+    {
+        let hash = self.hash_state.hash_one(key);
+        let store = &mut self.store;
+        keep_up(store, self.policy, now);
+        remove_key(store, key, hash);
+    }
+
+    /// Removes all entries. What was counted of their keys stays, and so does the room. It takes time linear in the number of entries.
+    pub fn invalidate_all(&mut self)
+        ensures step { self.new ≡ after_invalidate_all self.old }
+    {
+        clear(&mut self.store);
+    }
+
+    /// Removes the entries at which the predicate answers `true`. It is called once at each entry, expired ones among them, in order of use, least
+    /// recently used first. What was counted of the keys stays. It takes time linear in the number of entries, and no memory.
+    pub fn invalidate_entries_if<F: FnMut(&K, &V) -> bool>(&mut self, predicate: F)
+        requires { F.IsAlwaysCallable predicate }
+        ensures step { (answers : List Bool)
+            × AnswersInTurn F.step predicate self.old.contents.entries answers
+            × (self.new ≡ after_invalidate_if (keys_of K.Hash S.BuildHasher S.Hasher.Hasher) self.old answers) }
+    {
+        remove_where(&mut self.store, predicate);
+    }
+
+    /// The unexpired entries as pairs of key and value, in order of use, least recently used first. It is no use of them, and removes none.
+    pub fn iter(&self, now: Instant) -> Iter<'_, K, V, A>
+        ensures { result ≡ pairs_at self.now now }
+    {
+        Iter::new(self.store.iter(), self.policy, now)
     }
 
     /// Asks for the sketch's table, if the cache is at least half full and has none.

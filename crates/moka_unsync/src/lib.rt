@@ -4,3 +4,5 @@
 pub mod builder;
 pub mod cache;
 pub mod constants;
+pub mod laws;
+pub mod runs;

@@ -1,12 +1,14 @@
 // The entries of a cache in order of use and in order of writing, with the total of their weights. Only here is an entry found, added, changed
 // or removed.
 ghost use Rattle.std.specs.Prelude.{◌≡◌, ◌≤◌, ◌<◌, ◌+◌, ◌-◌, ◌*◌, ◌^◌, ◌++◌, ◌∷◌, ℕ, [], length, nat_eq, IfOk, OnOk, IfSome, IsNone, IsSome, None, Some};
-ghost use Rattle.std.specs.Map.{lookup};
-ghost use Rattle.moka_common.specs.Deque.{IsIn};
+ghost use Rattle.std.specs.List.{IsDistinct};
+ghost use Rattle.std.specs.Map.{keys_of, lookup};
+ghost use Rattle.moka_common.specs.Deque.{IsIn, first_id, next_id};
 ghost use Rattle.moka_unsync.specs.Nodes.{with_write_last, without_write};
 ghost use Rattle.moka_unsync.specs.CacheState.{keeps_writes};
-ghost use Rattle.moka_unsync.specs.Contents.{entry_at, total_weight};
+ghost use Rattle.moka_unsync.specs.Contents.{entry_at, no_contents, total_weight, writes_without};
 ghost use Rattle.moka_unsync.specs.Store.{Enters, HasHash, IsFound, IsFront, IsOldest, Removes, Touches, Updates, entries_of};
+ghost use Rattle.moka_unsync.specs.Turns.{contents_of};
 
 mod entries;
 
@@ -98,6 +100,7 @@ impl<K: Eq + Drop, V: Drop, A: Allocator + Clone + Drop> Store<K, V, A> {
         requires { HasHash K.eq self.now key.now hash }
         ensures found { IfSome result (λ id. IsFound K.eq self.now key.now id) }
         ensures absent { IsNone result → entry_at K.eq key.now (entries_of self.now) ≡ None }
+        ensures unwritten { IsNone result → writes_without K.eq key.now self.now.written ≡ self.now.written }
     {
         let mut here = self.order.front();
         while let Some(id) = here {
@@ -130,9 +133,19 @@ impl<K: Eq + Drop, V: Drop, A: Allocator + Clone + Drop> Store<K, V, A> {
     /// The node of the least recently used entry.
     pub(crate) fn front(&self) -> Option<NodeId>
         ensures found { IfSome result (λ id. IsFront K.eq self.now id) }
-        ensures absent { IsNone result → entries_of self.now ≡ [] }
+        ensures absent { IsNone result → contents_of self.now ≡ no_contents }
+        ensures first { result ≡ first_id self.now.nodes }
     {
         self.order.front()
+    }
+
+    /// The node of the entry that was used next after this one.
+    pub(crate) fn next(&self, id: NodeId) -> Option<NodeId>
+        requires { IsSome (lookup (nat_eq id) self.now.nodes) }
+        ensures value { result ≡ next_id id self.now.nodes }
+        ensures distinct { IsDistinct nat_eq (keys_of self.now.nodes) }
+    {
+        self.order.next(id)
     }
 
     /// The node of the entry that was written the longest ago.

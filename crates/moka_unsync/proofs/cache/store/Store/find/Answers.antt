@@ -1,7 +1,7 @@
 use Rattle.std.proofs.Common.{◌≡◌, ◌<◌, ◌∙◌, Some, ap, false, length, option_map, subst, sym}
 use Rattle.moka_common.specs.Deque.{next_id}
 use Rattle.moka_unsync.specs.Store.{HasHash}
-use Rattle.moka_unsync.proofs.StoreLemmas.{lookup-entries}
+use Rattle.moka_unsync.proofs.StoreLemmas.{lookup-entries, written-absent}
 use Rattle.moka_unsync.proofs.FindLemmas.{IsAhead, fewer_ahead, first_is_in_list, from_node, is_ahead_at_first, is_behind, is_here, is_nowhere, next_is_in, other_hash}
 use Rattle.moka_unsync.proofs.cache.store.Store.find.Goals as goal
 use Rattle.moka_unsync.proofs.cache.store.Store.find.Goals.{else-entry-hash-via-then-entry-hash+else-eq, else-entry-hash-via-else-entry-hash}
@@ -50,3 +50,9 @@ pub returns-clause-absent : goal.returns-clause-absent
 returns-clause-absent g c =
     rw (← c.self.view_is)
     (λ _. is_nowhere g.K.PartialEq.eq c.args.key.now c.self.inside.order.items (subst (λ o. IsAhead g.K.PartialEq.eq c.args.key.now o c.self.inside.order.items) c.in_default.is c.loop-here.invariant.2))
+
+pub returns-clause-unwritten : goal.returns-clause-unwritten
+returns-clause-unwritten g c =
+    rw (← c.self.view_is)
+    (λ _. written-absent g.K.PartialEq.eq c.args.key.now c.self.inside.order.items c.self.inside.writes.items
+    (is_nowhere g.K.PartialEq.eq c.args.key.now c.self.inside.order.items (subst (λ o. IsAhead g.K.PartialEq.eq c.args.key.now o c.self.inside.order.items) c.in_default.is c.loop-here.invariant.2)))

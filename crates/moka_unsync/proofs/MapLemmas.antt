@@ -1,0 +1,304 @@
+-- Lemmas on a cache without limits, which does what a plain map does.
+use Rattle.std.proofs.Common.{◌≡◌, ◌≢◌, ◌||◌, ℕ, Bool, true, false, cond, not, List, [], ◌∷◌, ◌++◌, find, is_some, map, take, take_while, Option, Some, None, option_map, refl, sym, ap, ◌∙◌, subst, inl, inr}
+use Rattle.std.proofs.lemmas.Bool.{cases_Bool, cond-true, cond-false}
+use Rattle.std.proofs.lemmas.List.Folds.{find-append}
+use Rattle.std.proofs.lemmas.List.Sums.{take_while-cons}
+use Rattle.std.proofs.Math.Seq.{take-nil}
+use Rattle.std.specs.Cmp.{IsEquivalence}
+use Rattle.std.specs.Duration.{as_nanos}
+use Rattle.std.specs.List.{AllByRecursion, list_any}
+use Rattle.std.specs.Option.{option_or}
+use Rattle.moka_common.specs.Keys.{Keys}
+use Rattle.moka_common.specs.Moment.{idle_expired, live_expired}
+use Rattle.moka_common.specs.Policy.{Policy}
+use Rattle.moka_unsync.specs.declared.cache.entry.Entry.{Entry}
+use Rattle.moka_unsync.specs.declared.constants.TheConstants.{EVICTION_BATCH_SIZE}
+use Rattle.moka_unsync.specs.Contents.{Contents, after_leaving, entry_at, entries_without, keys_of, without}
+use Rattle.moka_unsync.specs.CacheState.{CacheState, idle_nanos, live_nanos}
+use Rattle.moka_unsync.specs.Expire.{after_expiry, after_idle_expiry, after_trim, after_upkeep, has_lived, is_idle}
+use Rattle.moka_unsync.specs.Lookup.{after_search, after_use, is_expired, kept_up, unexpired, unexpired_at}
+use Rattle.moka_unsync.specs.Insert.{after_put, after_verdict, new_entry, victims_of}
+use Rattle.moka_unsync.specs.Invalidate.{chosen}
+use Rattle.moka_unsync.specs.Step.{Answer, IsStep, Request, Get, ContainsKey, Insert, Invalidate, InvalidateAll, InvalidateEntriesIf, Iterate, EntryCount, WeightedSize, Found, Told, OutOfMemory}
+use Rattle.moka_unsync.specs.Laws.{AnswersAsMap, AsksNoPredicate, IsUnbounded, RunsAsMap, StepsAsMap, value_after, value_after_all, value_at}
+use Rattle.moka_unsync.proofs.InvalidateLemmas.{found_key}
+
+-- ---- upkeep without limits
+
+-- where no item passes, none is taken
+take_while-none : {X : Type 0} (test : X → Bool) (xs : List X) → ((x : X) → test x ≡ false) → take_while test xs ≡ []
+take_while-none test [] fails = refl
+take_while-none test (x ∷ xs) fails = take_while-cons test x xs ∙ cond-false (test x) (x ∷ take_while test xs) [] (fails x)
+
+module _ (policy : Policy) (unbounded : IsUnbounded policy) (now : ℕ) where
+  -- nothing has lived too long
+  lives : (modified : ℕ) → live_expired (live_nanos policy) modified now ≡ false
+  lives modified = ap (λ o. live_expired (option_map as_nanos o) modified now) unbounded.1
+
+  -- nor was idle too long
+  used : (accessed : ℕ) → idle_expired (idle_nanos policy) accessed now ≡ false
+  used accessed = ap (λ o. idle_expired (option_map as_nanos o) accessed now) unbounded.2
+
+  -- no entry is expired
+  unexpired-same : {K V : Type 0} (o : Option (Entry K V)) → unexpired policy now o ≡ o
+  unexpired-same None = refl
+  unexpired-same (Some e) = cond-false (is_expired policy now e) None (Some e) (λ i. lives e.modified i || used e.accessed i)
+
+  -- nothing leaves
+  upkeep-same : {K V : Type 0} (eq : K → K → Bool) (contents : Contents K V) → after_upkeep eq policy now contents ≡ contents
+  upkeep-same eq contents =
+      let none_lived : take EVICTION_BATCH_SIZE (take_while (has_lived policy now) contents.written) ≡ [] =
+      ap (take EVICTION_BATCH_SIZE) (take_while-none (has_lived policy now) contents.written (λ w. lives w.modified)) ∙ take-nil EVICTION_BATCH_SIZE in
+      let none_idle : take EVICTION_BATCH_SIZE (take_while (is_idle policy now) contents.entries) ≡ [] =
+      ap (take EVICTION_BATCH_SIZE) (take_while-none (is_idle policy now) contents.entries (λ e. used e.accessed)) ∙ take-nil EVICTION_BATCH_SIZE in
+      ap (λ limit. after_trim eq limit (after_expiry eq policy now contents)) unbounded.0
+      ∙ (ap (after_idle_expiry eq policy now EVICTION_BATCH_SIZE) (ap (λ l. after_leaving eq (map (λ w. w.key) l) contents) none_lived)
+      ∙ ap (λ l. after_leaving eq (keys_of l) contents) none_idle)
+
+-- ---- what stands at a key
+
+module _ {K V : Type 0} {eq : K → K → Bool} (laws : IsEquivalence eq) where
+  -- equal keys have the same entry
+  entry_at-equal : (key other : K) → eq key other ≡ true → (entries : List (Entry K V)) → entry_at eq key entries ≡ entry_at eq other entries
+  entry_at-equal key other equal entries = λ i. find (λ e. laws.congr key other e.key equal i) entries
+
+  -- a key that has left has none
+  entry_at-gone : (gone key : K) → eq gone key ≡ true → (entries : List (Entry K V)) → entry_at eq key (entries_without eq gone entries) ≡ None
+  entry_at-gone gone key equal [] = refl
+  entry_at-gone gone key equal (e ∷ es) =
+      elim (cases_Bool (eq gone e.key)) [
+        | inl leaves ↦ ap (entry_at eq key) (cond-false (not (eq gone e.key)) (e ∷ entries_without eq gone es) (entries_without eq gone es) (ap not leaves)) ∙ entry_at-gone gone key equal es
+        | inr stays ↦
+            ap (entry_at eq key) (cond-true (not (eq gone e.key)) (e ∷ entries_without eq gone es) (entries_without eq gone es) (ap not stays))
+            ∙ (cond-false (eq key e.key) (Some e) (entry_at eq key (entries_without eq gone es)) (sym (laws.congr gone key e.key equal) ∙ stays)
+            ∙ entry_at-gone gone key equal es)
+      ]
+
+  -- another key has the entry that it had
+  entry_at-other : (gone key : K) → eq gone key ≡ false → (entries : List (Entry K V)) → entry_at eq key (entries_without eq gone entries) ≡ entry_at eq key entries
+  entry_at-other gone key differ [] = refl
+  entry_at-other gone key differ (e ∷ es) =
+      elim (cases_Bool (eq gone e.key)) [
+        | inl leaves ↦
+            ap (entry_at eq key) (cond-false (not (eq gone e.key)) (e ∷ entries_without eq gone es) (entries_without eq gone es) (ap not leaves))
+            ∙ (entry_at-other gone key differ es
+            ∙ sym (cond-false (eq key e.key) (Some e) (entry_at eq key es) (laws.symm key e.key ∙ (sym (laws.congr gone e.key key leaves) ∙ differ))))
+        | inr stays ↦
+            ap (entry_at eq key) (cond-true (not (eq gone e.key)) (e ∷ entries_without eq gone es) (entries_without eq gone es) (ap not stays))
+            ∙ ap (cond (eq key e.key) (Some e)) (entry_at-other gone key differ es)
+      ]
+
+  -- a new entry stands at its key, where none stood
+  entry_at-push : (key : K) (new : Entry K V) (entries : List (Entry K V)) → (eq new.key key ≡ true → entry_at eq key entries ≡ None)
+      → entry_at eq key (entries ++ new ∷ []) ≡ cond (eq new.key key) (Some new) (entry_at eq key entries)
+  entry_at-push key new entries absent =
+      find-append (λ e. eq key e.key) entries (new ∷ [])
+      ∙ elim (cases_Bool (eq new.key key)) [
+        | inl equal ↦
+            (λ i. option_or (absent equal i) (cond-true (eq key new.key) (Some new) None (laws.symm key new.key ∙ equal) i))
+            ∙ sym (cond-true (eq new.key key) (Some new) (entry_at eq key entries) equal)
+        | inr differ ↦
+            ap (option_or (entry_at eq key entries)) (cond-false (eq key new.key) (Some new) None (laws.symm key new.key ∙ differ))
+            ∙ (or_none (entry_at eq key entries)
+            ∙ sym (cond-false (eq new.key key) (Some new) (entry_at eq key entries) differ))
+      ]
+    where
+      or_none : (o : Option (Entry K V)) → option_or o None ≡ o
+      or_none None = refl
+      or_none (Some e) = refl
+
+  -- an entry that takes the place of another stands at its key
+  entry_at-put : (key : K) (new : Entry K V) (entries : List (Entry K V))
+      → entry_at eq key (entries_without eq new.key entries ++ new ∷ []) ≡ cond (eq new.key key) (Some new) (entry_at eq key entries)
+  entry_at-put key new entries =
+      entry_at-push key new (entries_without eq new.key entries) (λ equal. entry_at-gone new.key key equal entries)
+      ∙ elim (cases_Bool (eq new.key key)) [
+        | inl equal ↦ cond-true (eq new.key key) (Some new) _ equal ∙ sym (cond-true (eq new.key key) (Some new) _ equal)
+        | inr differ ↦ ap (cond (eq new.key key) (Some new)) (entry_at-other new.key key differ entries)
+      ]
+
+-- ---- what value it has
+
+-- a choice between values
+value_of : {K V : Type 0} (b : Bool) (x y : Option (Entry K V)) → option_map (λ e. e.value) (cond b x y) ≡ cond b (option_map (λ e. e.value) x) (option_map (λ e. e.value) y)
+value_of true x y = refl
+value_of false x y = refl
+
+-- what two leave
+gone_either : {X : Type 0} (a b : Bool) (x : Option X) → cond b None (cond a None x) ≡ cond (a || b) None x
+gone_either true true x = refl
+gone_either true false x = refl
+gone_either false true x = refl
+gone_either false false x = refl
+
+module _ {K V : Type 0} {eq : K → K → Bool} (laws : IsEquivalence eq) (key : K) where
+  -- the value at the key
+  abbrev value_in : List (Entry K V) → Option V
+  value_in entries = option_map (λ e. e.value) (entry_at eq key entries)
+
+  -- where a key leaves, so does its value
+  value-without : (gone : K) (entries : List (Entry K V)) → value_in (entries_without eq gone entries) ≡ cond (eq gone key) None (value_in entries)
+  value-without gone entries =
+      elim (cases_Bool (eq gone key)) [
+        | inl equal ↦ ap (option_map (λ e. e.value)) (entry_at-gone laws gone key equal entries) ∙ sym (cond-true (eq gone key) None (value_in entries) equal)
+        | inr differ ↦ ap (option_map (λ e. e.value)) (entry_at-other laws gone key differ entries) ∙ sym (cond-false (eq gone key) None (value_in entries) differ)
+      ]
+
+  -- where entries leave, so do the values at their keys
+  value-leaving : (gone : List (Entry K V)) (contents : Contents K V)
+      → value_in (after_leaving eq (keys_of gone) contents).entries ≡ cond (list_any (λ e. eq e.key key) gone) None (value_in contents.entries)
+  value-leaving [] contents = refl
+  value-leaving (g ∷ gs) contents =
+      value-leaving gs (without eq contents g.key)
+      ∙ (ap (cond (list_any (λ e. eq e.key key) gs) None) (value-without g.key contents.entries)
+      ∙ gone_either (eq g.key key) (list_any (λ e. eq e.key key) gs) (value_in contents.entries))
+
+  -- an entry that takes the place of another brings its value
+  value-put : (new : Entry K V) (entries : List (Entry K V)) → value_in (entries_without eq new.key entries ++ new ∷ []) ≡ cond (eq new.key key) (Some new.value) (value_in entries)
+  value-put new entries = ap (option_map (λ e. e.value)) (entry_at-put laws key new entries) ∙ value_of (eq new.key key) (Some new) (entry_at eq key entries)
+
+  -- a use changes no value
+  value-used : (now : ℕ) (other : K) (o : Option (Entry K V)) (contents : Contents K V) → entry_at eq other contents.entries ≡ o
+      → value_in (after_use eq now o contents).entries ≡ value_in contents.entries
+  value-used now other None contents found = refl
+  value-used now other (Some e) contents found =
+      value-put (record e { accessed = now }) contents.entries
+      ∙ elim (cases_Bool (eq e.key key)) [
+        | inl equal ↦
+            cond-true (eq e.key key) (Some e.value) (value_in contents.entries) equal
+            ∙ sym (ap (option_map (λ e. e.value))
+            (sym (entry_at-equal laws e.key key equal contents.entries)
+            ∙ (sym (entry_at-equal laws other e.key (found_key eq other e contents.entries found) contents.entries) ∙ found)))
+        | inr differ ↦ cond-false (eq e.key key) (Some e.value) (value_in contents.entries) differ
+      ]
+
+  module _ {S W : Type 0} where
+    -- an insert brings the value
+    value-inserted : (cache : CacheState K V S W) (o : Option (Entry K V)) (new : Entry K V) (refused : Bool) → cache.settings.policy.max_capacity ≡ None
+        → entry_at eq new.key cache.contents.entries ≡ o
+        → value_in (after_put eq cache o new refused).contents.entries ≡ cond (eq new.key key) (Some new.value) (value_in cache.contents.entries)
+    value-inserted cache None new refused unbounded found =
+        ap (λ limit. value_in (after_verdict eq cache new (victims_of limit cache.sketch new cache.contents) refused).contents.entries) unbounded
+        ∙ (ap (option_map (λ e. e.value)) (entry_at-push laws key new cache.contents.entries (λ equal. sym (entry_at-equal laws new.key key equal cache.contents.entries) ∙ found))
+        ∙ value_of (eq new.key key) (Some new) (entry_at eq key cache.contents.entries))
+    value-inserted cache (Some old) new refused unbounded found =
+        value-put (record new { key = old.key; hash = old.hash }) cache.contents.entries
+        ∙ ap (λ b. cond b (Some new.value) (value_in cache.contents.entries)) (sym (laws.congr new.key old.key key (found_key eq new.key old cache.contents.entries found)))
+
+-- ---- what a step does
+
+-- a value tells as much as its entry
+told_by_value : {K V : Type 0} (o : Option (Entry K V)) → is_some o ≡ is_some (option_map (λ e. e.value) o)
+told_by_value None = refl
+told_by_value (Some e) = refl
+
+module _ {K V S W : Type 0} (eq : K → K → Bool) where
+  -- an insert leaves the settings
+  settings-put : (cache : CacheState K V S W) (o : Option (Entry K V)) (new : Entry K V) (refused : Bool) → (after_put eq cache o new refused).settings ≡ cache.settings
+  settings-put cache None new refused = by (victims_of cache.settings.policy.max_capacity cache.sketch new cache.contents)
+    where
+      by : (gone : Option (List (Entry K V))) → (after_verdict eq cache new gone refused).settings ≡ cache.settings
+      by None = refl
+      by (Some victims) = refl
+  settings-put cache (Some old) new refused = refl
+
+module _ {K V S W : Type 0} (keys : Keys K S) where
+  -- a call finds what stood there
+  kept_up-same : (cache : CacheState K V S W) → IsUnbounded cache.settings.policy → (now : ℕ) → kept_up keys cache now ≡ cache.contents
+  kept_up-same cache unbounded now = upkeep-same cache.settings.policy unbounded now keys.eq cache.contents
+
+module _ {K V S W : Type 0} (keys : Keys K S) (weighs : W → K → V → ℕ → W → Type 0) where
+  -- each call leaves the settings
+  settings-step : (old new : CacheState K V S W) (request : Request K V) (answer : Answer K V) → IsStep keys weighs old request answer new → new.settings ≡ old.settings
+  settings-step old new (Get other now) answer step = ap (λ c. c.settings) step.1
+  settings-step old new (ContainsKey other now) answer step = ap (λ c. c.settings) step.1
+  settings-step old new (Insert other value now) answer (inl (done, inserted)) =
+      let kept = kept_up keys old now in
+      let entry = new_entry keys old.settings.hash_state other value inserted.weight now in
+      ap (λ c. c.settings) inserted.step
+      ∙ settings-put keys.eq (record old { weigher = inserted.weigher; contents = kept }) (entry_at keys.eq other kept.entries) entry inserted.refused
+  settings-step old new (Insert other value now) answer (inr (refused, same)) = ap (λ c. c.settings) same
+  settings-step old new (Invalidate other now) answer step = ap (λ c. c.settings) step.1
+  settings-step old new InvalidateAll answer step = ap (λ c. c.settings) step.1
+  settings-step old new (InvalidateEntriesIf answers) answer step = ap (λ c. c.settings) step.1
+  settings-step old new (Iterate now) answer step = ap (λ c. c.settings) step.1
+  settings-step old new EntryCount answer step = ap (λ c. c.settings) step.1
+  settings-step old new WeightedSize answer step = ap (λ c. c.settings) step.1
+
+  module _ (laws : IsEquivalence keys.eq) where
+    -- each call answers what it would with a plain map
+    answers_as_map : (old new : CacheState K V S W) (request : Request K V) (answer : Answer K V) → IsUnbounded old.settings.policy → IsStep keys weighs old request answer new
+        → AnswersAsMap keys old.contents.entries request answer
+    answers_as_map old new (Get other now) answer unbounded step =
+        step.0
+        ∙ ap Found (ap (λ c. option_map (λ e. e.value) (unexpired_at keys.eq old.settings.policy now other c)) (kept_up-same keys old unbounded now)
+        ∙ ap (option_map (λ e. e.value)) (unexpired-same old.settings.policy unbounded now (entry_at keys.eq other old.contents.entries)))
+    answers_as_map old new (ContainsKey other now) answer unbounded step =
+        step.0
+        ∙ ap Told (ap (λ c. is_some (unexpired_at keys.eq old.settings.policy now other c)) (kept_up-same keys old unbounded now)
+        ∙ (ap is_some (unexpired-same old.settings.policy unbounded now (entry_at keys.eq other old.contents.entries))
+        ∙ told_by_value (entry_at keys.eq other old.contents.entries)))
+    answers_as_map old new (Insert other value now) answer unbounded step = tt
+    answers_as_map old new (Invalidate other now) answer unbounded step = tt
+    answers_as_map old new InvalidateAll answer unbounded step = tt
+    answers_as_map old new (InvalidateEntriesIf answers) answer unbounded step = tt
+    answers_as_map old new (Iterate now) answer unbounded step = tt
+    answers_as_map old new EntryCount answer unbounded step = tt
+    answers_as_map old new WeightedSize answer unbounded step = tt
+
+    -- and does to the values what it would with a plain map
+    values_as_map : (old new : CacheState K V S W) (request : Request K V) (answer : Answer K V) → IsUnbounded old.settings.policy → answer ≢ OutOfMemory
+        → IsStep keys weighs old request answer new
+        → (key : K) → value_at keys key new.contents.entries ≡ value_after keys old.contents.entries key request (value_at keys key old.contents.entries)
+    values_as_map old new (Get other now) answer unbounded known step key =
+        ap (λ c. value_at keys key c.contents.entries) step.1
+        ∙ (ap (λ c. value_at keys key (after_search keys.eq old.settings.policy now other c).entries) (kept_up-same keys old unbounded now)
+        ∙ (ap (λ o. value_at keys key (after_use keys.eq now o old.contents).entries) (unexpired-same old.settings.policy unbounded now (entry_at keys.eq other old.contents.entries))
+        ∙ value-used laws key now other (entry_at keys.eq other old.contents.entries) old.contents refl))
+    values_as_map old new (ContainsKey other now) answer unbounded known step key =
+        ap (λ c. value_at keys key c.contents.entries) step.1
+        ∙ ap (λ c. value_at keys key c.entries) (kept_up-same keys old unbounded now)
+    values_as_map old new (Insert other value now) answer unbounded known (inl (done, inserted)) key =
+        let entry = new_entry keys old.settings.hash_state other value inserted.weight now in
+        let asked : CacheState K V S W = record old { weigher = inserted.weigher } in
+        ap (λ c. value_at keys key c.contents.entries) inserted.step
+        ∙ (ap (λ c. value_at keys key (after_put keys.eq (record asked { contents = c }) (entry_at keys.eq other c.entries) entry inserted.refused).contents.entries)
+        (kept_up-same keys old unbounded now)
+        ∙ value-inserted laws key asked (entry_at keys.eq other old.contents.entries) entry inserted.refused unbounded.0 refl)
+    values_as_map old new (Insert other value now) answer unbounded known (inr (refused, same)) key = absurd (known refused)
+    values_as_map old new (Invalidate other now) answer unbounded known step key =
+        ap (λ c. value_at keys key c.contents.entries) step.1
+        ∙ (ap (λ c. value_at keys key (entries_without keys.eq other c.entries)) (kept_up-same keys old unbounded now)
+        ∙ value-without laws key other old.contents.entries)
+    values_as_map old new InvalidateAll answer unbounded known step key = ap (λ c. value_at keys key c.contents.entries) step.1
+    values_as_map old new (InvalidateEntriesIf answers) answer unbounded known step key =
+        ap (λ c. value_at keys key c.contents.entries) step.1 ∙ value-leaving laws key (chosen answers old.contents.entries) old.contents
+    values_as_map old new (Iterate now) answer unbounded known step key = ap (λ c. value_at keys key c.contents.entries) step.1
+    values_as_map old new EntryCount answer unbounded known step key = ap (λ c. value_at keys key c.contents.entries) step.1
+    values_as_map old new WeightedSize answer unbounded known step key = ap (λ c. value_at keys key c.contents.entries) step.1
+
+    -- both together
+    pub steps_as_map : StepsAsMap keys weighs
+    steps_as_map old new request answer unbounded known step = (answers_as_map old new request answer unbounded step, values_as_map old new request answer unbounded known step)
+
+    -- what a call without a predicate does to a value doesn't depend on the entries
+    same_after : (entries : List (Entry K V)) (key : K) (request : Request K V) (before : Option V) → AsksNoPredicate request
+        → value_after keys entries key request before ≡ value_after keys [] key request before
+    same_after entries key (Get other now) before asks = refl
+    same_after entries key (ContainsKey other now) before asks = refl
+    same_after entries key (Insert other value now) before asks = refl
+    same_after entries key (Invalidate other now) before asks = refl
+    same_after entries key InvalidateAll before asks = refl
+    same_after entries key (InvalidateEntriesIf answers) before asks = absurd asks
+    same_after entries key (Iterate now) before asks = refl
+    same_after entries key EntryCount before asks = refl
+    same_after entries key WeightedSize before asks = refl
+
+    -- and so do all calls of a run
+    pub runs_as_map : RunsAsMap keys weighs
+    runs_as_map old new [] answers unbounded asks known (none, same) key = ap (λ c. value_at keys key c.contents.entries) same
+    runs_as_map old new (request ∷ requests) answers unbounded asks known (answer, rest, next, is, step, runs) key =
+        let known : AllByRecursion (λ answer. answer ≢ OutOfMemory) (answer ∷ rest) = subst (AllByRecursion (λ answer. answer ≢ OutOfMemory)) is known in
+        runs_as_map next new requests rest (subst (λ s. IsUnbounded s.policy) (sym (settings-step old next request answer step)) unbounded) asks.1 known.1 runs key
+        ∙ ap (value_after_all keys key requests)
+        (values_as_map old next request answer unbounded known.0 step key ∙ same_after old.contents.entries key request (value_at keys key old.contents.entries) asks.0)

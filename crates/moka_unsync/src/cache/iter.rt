@@ -1,0 +1,61 @@
+// The iterator over a cache's entries.
+ghost use Rattle.std.specs.Prelude.{◌≡◌, length};
+ghost use Rattle.std.specs.Iterator.{at_most};
+ghost use Rattle.std.specs.Map.Iter.{TakesFirst, deref_pair};
+ghost use Rattle.moka_unsync.specs.Invalidate.{unexpired_pairs};
+
+use crate::cache::is_expired;
+use crate::cache::store::Entries;
+use moka_common::policy::Policy;
+use moka_common::time::Instant;
+use std::alloc::{Allocator, Global};
+use std::marker::Model;
+
+/// An iterator over a cache's unexpired entries, in order of use, least recently used first. A contract sees the pairs that are left.
+///
+/// A step takes constant time for each entry that it passes, and takes no memory.
+#[derive(Drop)]
+pub struct Iter<'a, K: Drop, V: Drop, A: Allocator = Global> {
+    entries: Entries<'a, K, V, A>,
+    policy: Policy,
+    now: Instant,
+}
+
+impl<'a, K: Drop, V: Drop, A: Allocator> Model for Iter<'a, K, V, A> {
+    ghost use Rattle.std.specs.Prelude.{List};
+    ghost use Rattle.moka_unsync.specs.Invalidate.{unexpired_pairs};
+
+    ghost Value = { List (K × V) };
+
+    ghost view = { λ it. unexpired_pairs it.policy it.now it.entries };
+}
+
+impl<'a, K: Drop, V: Drop, A: Allocator> Iter<'a, K, V, A> {
+    /// An iterator over those of the entries that are unexpired at a moment.
+    pub(crate) fn new(entries: Entries<'a, K, V, A>, policy: Policy, now: Instant) -> Self
+        ensures { result ≡ unexpired_pairs policy now entries.entry }
+    {
+        Iter {
+            entries,
+            policy,
+            now,
+        }
+    }
+}
+
+impl<'a, K: Drop, V: Drop, A: Allocator> Iterator for Iter<'a, K, V, A> {
+    type Item = (&'a K, &'a V);
+
+    ghost next_gives = { TakesFirst deref_pair };
+
+    ghost remaining = { λ it. at_most (length it) };
+
+    fn next(&mut self) -> Option<(&'a K, &'a V)> {
+        while let Some(entry) = self.entries.next() {
+            if !is_expired(self.policy, entry, self.now) {
+                return Some((&entry.key, &entry.value));
+            }
+        }
+        None
+    }
+}

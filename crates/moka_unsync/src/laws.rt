@@ -1,0 +1,36 @@
+//! The laws of the cache as a machine, one a function. A law is its function's clause: there is no code to call.
+ghost use Rattle.moka_common.specs.Keys.{keys_of};
+ghost use Rattle.moka_unsync.specs.Laws.{InvalidationsKeepCounts, LooksChangeNothing, OnlyUpdatesOutgrowLimit, RunsAsMap, StaysWithinLimit, StepsAsMap};
+
+use moka_common::weigh::Weigh;
+use std::hash::{BuildHasher, Hash};
+
+/// A cache with a limit and without a weigher never has more entries than that at a call's end, whatever calls are made.
+pub fn entry_count_stays_within_the_limit<K: Eq + Hash, V, S: BuildHasher, W: Weigh<K, V>>()
+    ensures { StaysWithinLimit (keys_of K.Hash S.BuildHasher S.Hasher.Hasher) W.weighs }
+{}
+
+/// With a weigher, only an insert at a key that is there can leave more weight than it found, and more than the limit.
+pub fn only_updates_outgrow_the_limit<K: Eq + Hash, V, S: BuildHasher, W: Weigh<K, V>>()
+    ensures { OnlyUpdatesOutgrowLimit (keys_of K.Hash S.BuildHasher S.Hasher.Hasher) W.weighs }
+{}
+
+/// `contains_key`, `iter` and the counts are no reads: they count nothing, and set no moment and no order of what remains.
+pub fn looks_change_nothing<K: Eq + Hash, V, S: BuildHasher, W: Weigh<K, V>>()
+    ensures { LooksChangeNothing (keys_of K.Hash S.BuildHasher S.Hasher.Hasher) W.weighs }
+{}
+
+/// An invalidation keeps what was counted of all keys, and what remains is as it was.
+pub fn invalidations_keep_counts<K: Eq + Hash, V, S: BuildHasher, W: Weigh<K, V>>()
+    ensures { InvalidationsKeepCounts (keys_of K.Hash S.BuildHasher S.Hasher.Hasher) W.weighs }
+{}
+
+/// Without limit, durations and refusal a call does to the contents what it would to a plain map, and look-ups answer as from one.
+pub fn steps_are_those_of_a_map<K: Eq + Hash, V, S: BuildHasher, W: Weigh<K, V>>()
+    ensures { StepsAsMap (keys_of K.Hash S.BuildHasher S.Hasher.Hasher) W.weighs }
+{}
+
+/// So the contents after calls of which none asks a predicate and none is refused are a plain map's after the same calls.
+pub fn runs_are_those_of_a_map<K: Eq + Hash, V, S: BuildHasher, W: Weigh<K, V>>()
+    ensures { RunsAsMap (keys_of K.Hash S.BuildHasher S.Hasher.Hasher) W.weighs }
+{}

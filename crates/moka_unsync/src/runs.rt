@@ -1,0 +1,124 @@
+//! Calls as data, and lists of them made in turn.
+ghost use Rattle.std.specs.Prelude.{◌≡◌, List, map, option_copied, IfOk, OnErr};
+ghost use Rattle.moka_common.specs.Keys.{keys_of};
+ghost use Rattle.moka_unsync.specs.Runs.{AllTell, Tells, TellsFound, request_of};
+ghost use Rattle.moka_unsync.specs.Step.{Answer, IsStep, Runs};
+
+use crate::cache::Cache;
+use moka_common::error::OutOfMemory;
+use moka_common::time::Instant;
+use moka_common::weigh::Weigh;
+use std::alloc::{Allocator, Global};
+use std::hash::{BuildHasher, Hash};
+use std::rc::Rc;
+
+/// A call of a cache. A value is shared, so that a reply can have it beside the cache.
+#[derive(Drop)]
+pub enum Call<K: Drop, V: Drop, A: Allocator + Drop = Global> {
+    Get {
+        key: K,
+        now: Instant,
+    },
+    Contains {
+        key: K,
+        now: Instant,
+    },
+    Insert {
+        key: K,
+        value: Rc<V, A>,
+        now: Instant,
+    },
+    Invalidate {
+        key: K,
+        now: Instant,
+    },
+    InvalidateAll,
+    EntryCount,
+    WeightedSize,
+}
+
+/// What a call replies.
+#[derive(Drop)]
+pub enum Reply<V: Drop, A: Allocator + Drop = Global> {
+    Found(Option<Rc<V, A>>),
+    Bool(bool),
+    Done,
+    Number(u64),
+    /// Memory was refused: for the room of an insert, which was not made then, or for one more owner of a found value, whose `get` is done.
+    OutOfMemory,
+}
+
+/// Makes the calls in turn, and gives their replies. Where memory for the replies is refused, no call was made.
+///
+/// It takes the time of the calls, and memory for one reply a call.
+pub fn run<
+    K: Eq + Hash + Drop,
+    V: Drop,
+    S: BuildHasher + Drop,
+    W: Weigh<K, Rc<V, A>>,
+    A: Allocator + Clone + Drop,
+>(
+    alloc: A,
+    cache: &mut Cache<K, Rc<V, A>, S, W, A>,
+    calls: Vec<Call<K, V, A>, A>,
+) -> Result<Vec<Reply<V, A>, A>, OutOfMemory>
+    requires ready { W.ready cache.old.weigher }
+    ensures ok { IfOk result (λ replies. (answers : List (Answer K (Rc V A)))
+        × Runs (keys_of K.Hash S.BuildHasher S.Hasher.Hasher) W.weighs cache.old (map request_of calls.items) answers cache.new
+        × AllTell answers replies.items) }
+    ensures err { OnErr result (cache.new ≡ cache.old) }
+    ensures ready { W.ready cache.new.weigher }
+{
+    let mut replies = Vec::with_capacity(alloc, calls.len())?;
+    for call in calls {
+        replies.push_reserved(reply_to(cache, call));
+    }
+    Ok(replies)
+}
+
+/// Makes a call.
+fn reply_to<
+    K: Eq + Hash + Drop,
+    V: Drop,
+    S: BuildHasher + Drop,
+    W: Weigh<K, Rc<V, A>>,
+    A: Allocator + Clone + Drop,
+>(cache: &mut Cache<K, Rc<V, A>, S, W, A>, call: Call<K, V, A>) -> Reply<V, A>
+    requires ready { W.ready cache.old.weigher }
+    ensures step { (answer : Answer K (Rc V A))
+        × IsStep (keys_of K.Hash S.BuildHasher S.Hasher.Hasher) W.weighs cache.old (request_of call) answer cache.new
+        × Tells answer result }
+    ensures ready { W.ready cache.new.weigher }
+{
+    match call {
+        Call::Get { key, now } => again(cache.get(&key, now)),
+        Call::Contains { key, now } => Reply::Bool(cache.contains_key(&key, now)),
+        Call::Insert { key, value, now } => match cache.insert(key, value, now) {
+            Ok(()) => Reply::Done,
+            Err(_) => Reply::OutOfMemory,
+        },
+        Call::Invalidate { key, now } => {
+            cache.invalidate(&key, now);
+            Reply::Done
+        }
+        Call::InvalidateAll => {
+            cache.invalidate_all();
+            Reply::Done
+        }
+        Call::EntryCount => Reply::Number(cache.entry_count()),
+        Call::WeightedSize => Reply::Number(cache.weighted_size()),
+    }
+}
+
+/// One more owner of what was found.
+fn again<V: Drop, A: Allocator + Drop>(found: Option<&Rc<V, A>>) -> Reply<V, A>
+    ensures { TellsFound (option_copied found.entry) result }
+{
+    match found {
+        Some(value) => match Rc::clone(value) {
+            Ok(copy) => Reply::Found(Some(copy)),
+            Err(_) => Reply::OutOfMemory,
+        },
+        None => Reply::Found(None),
+    }
+}
