@@ -8,10 +8,10 @@ use Rattle.std.proofs.lemmas.Slice.Eq.{bytes_eq-Decides}
 use Rattle.mini_moka.specs.declared.script.line.CacheOptions.{CacheOptions}
 use Rattle.mini_moka.specs.declared.script.line.CacheLine.{CacheLine}
 use Rattle.mini_moka.specs.declared.script.line.CacheRequest.{CacheRequest}
-use Rattle.mini_moka.specs.declared.script.line.CacheRequest.TheVariants.{Insert, Get, Has, Count, Weight, Policy}
+use Rattle.mini_moka.specs.declared.script.line.CacheRequest.TheVariants.{Insert, Get, Has, Invalidate, Clear, DropIf, Iter, Count, Weight, Policy}
 use Rattle.mini_moka.specs.CacheLines.{weight_words, cache_request_words, cache_words, WeightFits, CacheRequestFits, CacheFits}
 use Rattle.mini_moka.specs.Reading.{◌>>=◌, number_of, text_of, no_argument, key_of, cap_of}
-use Rattle.mini_moka.specs.ReadingCacheLines.{weight_of, cache_insert_of, cache_request_of, cache_from_words}
+use Rattle.mini_moka.specs.ReadingCacheLines.{weight_of, cache_insert_of, drop_if_of, bare_of, cache_request_of, cache_from_words}
 use Rattle.mini_moka.proofs.CutLemmas.{bind_some}
 use Rattle.mini_moka.proofs.LineLemmas.{IsReading}
 use Rattle.mini_moka.proofs.NumberLemmas.{number_of-decimal, number_of-found}
@@ -86,11 +86,41 @@ module _ (options : CacheOptions) where
       subst (IsRequest call arguments) (same_Some _ _ shown) (ap (λ w. w ∷ arguments) is ∙ ap (λ l. name ∷ l) keys.0 ∙ sym (words k), fits k keys.1)
 
   -- a request with nothing is spelled by its name
-  alone : (call name : List ℕ) (arguments : List (List ℕ)) (made r : CacheRequest (List ℕ)) → cache_request_words made ≡ name ∷ [] → CacheRequestFits options made
-      → call ≡ name → (no_argument arguments >>= λ nothing. Some made) ≡ Some r → IsRequest call arguments r
-  alone call name arguments made r words fits is e =
-      let (nothing, was, shown) = bind_some (no_argument arguments) (λ nothing. Some made) r e in
-      subst (IsRequest call arguments) (same_Some _ _ shown) (ap (λ w. w ∷ arguments) is ∙ ap (λ l. name ∷ l) (no_argument-found arguments nothing was) ∙ sym words, fits)
+  alone : (call name : List ℕ) (made r : CacheRequest (List ℕ)) → cache_request_words made ≡ name ∷ [] → CacheRequestFits options made
+      → call ≡ name → Some made ≡ Some r → IsRequest call [] r
+  alone call name made r words fits is e = subst (IsRequest call []) (same_Some _ _ e) (ap (λ w. w ∷ []) is ∙ sym words, fits)
+
+  -- what is read as a removal by text is spelled so
+  drop_if_of-found : (arguments : List (List ℕ)) (r : CacheRequest (List ℕ)) → drop_if_of arguments ≡ Some r → IsRequest (codes "drop-if") arguments r
+  unfolding drop_if_of
+  drop_if_of-found [] r e = absurd cc
+  drop_if_of-found (text ∷ word ∷ words) r e = absurd cc
+  drop_if_of-found (text ∷ []) r e =
+      let (t, text_is, shown) = bind_some (text_of text) (λ t. Some (DropIf t)) r e in
+      let texts = text_of-found text t text_is in
+      subst (IsRequest (codes "drop-if") (text ∷ [])) (same_Some _ _ shown) (ap (λ l. codes "drop-if" ∷ l ∷ []) texts.0, texts.1)
+
+  -- what is read as a request with nothing is spelled so
+  bare_of-found : (call : List ℕ) (arguments : List (List ℕ)) (r : CacheRequest (List ℕ)) → bare_of call arguments ≡ Some r → IsRequest call arguments r
+  unfolding bare_of no_argument
+  bare_of-found call (word ∷ words) r e = absurd cc
+  bare_of-found call [] r e =
+      elim (chosen (bytes_eq call (codes "clear")) _ _ _ e) [
+        | inl clear ↦ alone call (codes "clear") Clear r refl tt ((bytes_eq-Decides call (codes "clear")).0 clear.0) clear.1
+        | inr not_clear ↦ elim (chosen (bytes_eq call (codes "iter")) _ _ _ not_clear.1) [
+          | inl iter ↦ alone call (codes "iter") Iter r refl tt ((bytes_eq-Decides call (codes "iter")).0 iter.0) iter.1
+          | inr not_iter ↦ elim (chosen (bytes_eq call (codes "count")) _ _ _ not_iter.1) [
+            | inl count ↦ alone call (codes "count") Count r refl tt ((bytes_eq-Decides call (codes "count")).0 count.0) count.1
+            | inr not_count ↦ elim (chosen (bytes_eq call (codes "weight")) _ _ _ not_count.1) [
+              | inl weight ↦ alone call (codes "weight") Weight r refl tt ((bytes_eq-Decides call (codes "weight")).0 weight.0) weight.1
+              | inr not_weight ↦ elim (chosen (bytes_eq call (codes "policy")) _ _ _ not_weight.1) [
+                | inl policy ↦ alone call (codes "policy") Policy r refl tt ((bytes_eq-Decides call (codes "policy")).0 policy.0) policy.1
+                | inr not_policy ↦ absurd (let none = not_policy.1 in cc)
+              ]
+            ]
+          ]
+        ]
+      ]
 
   -- what is read as a request is spelled so
   request_of-found : (call : List ℕ) (arguments : List (List ℕ)) (r : CacheRequest (List ℕ)) → cache_request_of options call arguments ≡ Some r → IsRequest call arguments r
@@ -105,14 +135,14 @@ module _ (options : CacheOptions) where
           | inl get ↦ keyed call (codes "get") arguments (λ k. Get k) r (λ k. refl) (λ k h. h) ((bytes_eq-Decides call (codes "get")).0 get.0) get.1
           | inr not_get ↦ elim (chosen (bytes_eq call (codes "has")) _ _ _ not_get.1) [
             | inl has ↦ keyed call (codes "has") arguments (λ k. Has k) r (λ k. refl) (λ k h. h) ((bytes_eq-Decides call (codes "has")).0 has.0) has.1
-            | inr not_has ↦ elim (chosen (bytes_eq call (codes "count")) _ _ _ not_has.1) [
-              | inl count ↦ alone call (codes "count") arguments Count r refl tt ((bytes_eq-Decides call (codes "count")).0 count.0) count.1
-              | inr not_count ↦ elim (chosen (bytes_eq call (codes "weight")) _ _ _ not_count.1) [
-                | inl weight ↦ alone call (codes "weight") arguments Weight r refl tt ((bytes_eq-Decides call (codes "weight")).0 weight.0) weight.1
-                | inr not_weight ↦ elim (chosen (bytes_eq call (codes "policy")) _ _ _ not_weight.1) [
-                  | inl policy ↦ alone call (codes "policy") arguments Policy r refl tt ((bytes_eq-Decides call (codes "policy")).0 policy.0) policy.1
-                  | inr not_policy ↦ absurd (let none = not_policy.1 in cc)
-                ]
+            | inr not_has ↦ elim (chosen (bytes_eq call (codes "invalidate")) _ _ _ not_has.1) [
+              | inl invalidate ↦ keyed call (codes "invalidate") arguments (λ k. Invalidate k) r (λ k. refl) (λ k h. h) ((bytes_eq-Decides call (codes "invalidate")).0 invalidate.0) invalidate.1
+              | inr not_invalidate ↦ elim (chosen (bytes_eq call (codes "drop-if")) _ _ _ not_invalidate.1) [
+                | inl drop_if ↦
+                    let is = (bytes_eq-Decides call (codes "drop-if")).0 drop_if.0 in
+                    let found = drop_if_of-found arguments r drop_if.1 in
+                    (ap (λ w. w ∷ arguments) is ∙ found.0, found.1)
+                | inr not_drop_if ↦ bare_of-found call arguments r not_drop_if.1
               ]
             ]
           ]
@@ -141,10 +171,14 @@ module _ (options : CacheOptions) where
 
   -- the words of a line are read as that line
   line_again : (n : ℕ) (r : CacheRequest (List ℕ)) → n < 2 ^ 64 → CacheRequestFits options r → cache_from_words options (decimal n ∷ cache_request_words r) ≡ Some (record { now = n; request = r })
-  unfolding cache_from_words cache_request_of cache_insert_of key_of no_argument
+  unfolding cache_from_words cache_request_of cache_insert_of drop_if_of bare_of key_of no_argument
   line_again n (Insert key text weight) small fits = rw (number_of-decimal n small, number_of-decimal key fits.0, weight_of-again weight fits.2, text_of-text text fits.1) refl
   line_again n (Get key) small fits = rw (number_of-decimal n small, number_of-decimal key fits) refl
   line_again n (Has key) small fits = rw (number_of-decimal n small, number_of-decimal key fits) refl
+  line_again n (Invalidate key) small fits = rw (number_of-decimal n small, number_of-decimal key fits) refl
+  line_again n Clear small fits = rw (number_of-decimal n small) refl
+  line_again n (DropIf text) small fits = rw (number_of-decimal n small, text_of-text text fits) refl
+  line_again n Iter small fits = rw (number_of-decimal n small) refl
   line_again n Count small fits = rw (number_of-decimal n small) refl
   line_again n Weight small fits = rw (number_of-decimal n small) refl
   line_again n Policy small fits = rw (number_of-decimal n small) refl
@@ -154,6 +188,10 @@ module _ (options : CacheOptions) where
   request_words_are (Insert key text weight) fits = (IsWord-name (codes "insert") refl, (IsWord-decimal key fits.0, (IsWord-text text fits.1, weight_words_are options.weighed weight fits.2)))
   request_words_are (Get key) fits = (IsWord-name (codes "get") refl, (IsWord-decimal key fits, tt))
   request_words_are (Has key) fits = (IsWord-name (codes "has") refl, (IsWord-decimal key fits, tt))
+  request_words_are (Invalidate key) fits = (IsWord-name (codes "invalidate") refl, (IsWord-decimal key fits, tt))
+  request_words_are Clear fits = (IsWord-name (codes "clear") refl, tt)
+  request_words_are (DropIf text) fits = (IsWord-name (codes "drop-if") refl, (IsWord-text text fits, tt))
+  request_words_are Iter fits = (IsWord-name (codes "iter") refl, tt)
   request_words_are Count fits = (IsWord-name (codes "count") refl, tt)
   request_words_are Weight fits = (IsWord-name (codes "weight") refl, tt)
   request_words_are Policy fits = (IsWord-name (codes "policy") refl, tt)

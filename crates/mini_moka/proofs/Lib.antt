@@ -12,5 +12,6 @@ pub mod CacheLineLemmas
 pub mod SketchLineLemmas
 pub mod ScriptLemmas
 pub mod RecordLemmas
+pub mod ReplyLemmas
 pub mod SketchRunLemmas
 pub mod UnsyncRunLemmas

@@ -1,10 +1,13 @@
 -- Replies of a script's cache come one after another, and its weighers answer what its lines say.
-use Rattle.std.proofs.Common.{◌≡◌, ℕ, Bool, false, List, [], ◌∷◌, ◌++◌, Option, Some, None, Result, Ok, Err, OnOk, IfOk, refl, sym, ap, ◌∙◌, subst}
+use Rattle.std.proofs.Common.{◌≡◌, ℕ, Bool, false, List, [], ◌∷◌, ◌++◌, map, Option, Some, None, Result, Ok, Err, OnOk, IfOk, refl, sym, ap, ◌∙◌, subst}
+use Rattle.std.specs.Borrow.{Bor}
 use Rattle.std.specs.List.{AllByRecursion}
 use Rattle.moka_common.specs.Policy.{Policy as Limits}
 use Rattle.moka_common.specs.Settings.{duration_fault}
 use Rattle.moka_common.specs.declared.error.BuildError.{BuildError}
+use Rattle.moka_unsync.specs.declared.cache.entry.Entry.{Entry}
 use Rattle.moka_unsync.specs.CacheState.{live_nanos, idle_nanos, new_cache}
+use Rattle.moka_unsync.specs.Invalidate.{AnswersInTurn}
 use Rattle.mini_moka.specs.CacheLines.{WeightFits, CacheRequestFits, CacheFits}
 use Rattle.mini_moka.specs.ReplyText.{insert_words, written, ready_line}
 use Rattle.mini_moka.specs.ScriptWeighers.{AnswersLine, AnswersRequest, AnswersStored}
@@ -12,7 +15,7 @@ use Rattle.mini_moka.specs.UnsyncRun.{ScriptCache, Refused, stored_text, unsync_
 use Rattle.mini_moka.specs.declared.script.line.CacheLine.{CacheLine}
 use Rattle.mini_moka.specs.declared.script.line.CacheOptions.{CacheOptions}
 use Rattle.mini_moka.specs.declared.script.line.CacheRequest.{CacheRequest}
-use Rattle.mini_moka.specs.declared.script.line.CacheRequest.TheVariants.{Insert, Get, Has, Count, Weight, Policy}
+use Rattle.mini_moka.specs.declared.script.line.CacheRequest.TheVariants.{Insert, Get, Has, Invalidate, Clear, DropIf, Iter, Count, Weight, Policy}
 use Rattle.mini_moka.specs.declared.script.stored.Stored.{Stored}
 
 module _ {W : Type 0} (cache new : ScriptCache W) (now : ℕ) (request : CacheRequest (List ℕ)) (before after : List ℕ) where
@@ -35,6 +38,16 @@ module _ {W : Type 0} (cache new : ScriptCache W) (now : ℕ) (request : CacheRe
   insert_answered result key text weight room is step written_is =
       answered result (Insert key text weight) (record { room = room; table = step.0 }) (insert_words room) is step.1 refl written_is
 
+module _ {P K V : Type 0} (calls : P → Bor K → Bor V → Bool → P → Type 0) (predicate : P) (says : V → Bool)
+    (same : (key : Bor K) (value : Bor V) (answer : Bool) (next : P) → calls predicate key value answer next → (answer ≡ says value.now) × (next ≡ predicate)) where
+  -- a predicate that always says the same of a value gives these answers
+  pub answers_are : (entries : List (Entry K V)) (answers : List Bool) → AnswersInTurn calls predicate entries answers → answers ≡ map (λ e. says e.value) entries
+  answers_are [] answers told = told
+  answers_are (entry ∷ entries) answers (answer, next, rest, is, at, more) =
+      let (said, stays) = same at.key at.value answer next at.called in
+      is ∙ ap (λ a. a ∷ rest) (said ∙ ap says at.shown.1)
+      ∙ ap (λ l. says entry.value ∷ l) (answers_are entries rest (subst (λ p. AnswersInTurn calls p entries rest) stays more))
+
 -- one line's reply in front of those to the others
 pub AreUnsyncReplies-cons : {W : Type 0} (cache next : ScriptCache W) (line : CacheLine (List ℕ)) (refused : Refused) (lines : List (CacheLine (List ℕ))) (text : List ℕ)
     → next ≡ after_request cache line.now line.request refused → AreUnsyncReplies next lines text
@@ -52,6 +65,10 @@ module _ {W : Type 0} (weighs : W → ℕ → Stored (List ℕ) → ℕ → W �
       | Insert key text weight ↦ answers key (stored_text text weight)
       | Get key ↦ tt
       | Has key ↦ tt
+      | Invalidate key ↦ tt
+      | Clear ↦ tt
+      | DropIf text ↦ tt
+      | Iter ↦ tt
       | Count ↦ tt
       | Weight ↦ tt
       | Policy ↦ tt
@@ -72,6 +89,10 @@ module _ {W : Type 0} (weighs : W → ℕ → Stored (List ℕ) → ℕ → W �
     one_request options unweighed (Insert key text weight) fits = one_stored key text weight (subst (λ b. WeightFits b weight) unweighed fits.2)
     one_request options unweighed (Get key) fits = tt
     one_request options unweighed (Has key) fits = tt
+    one_request options unweighed (Invalidate key) fits = tt
+    one_request options unweighed Clear fits = tt
+    one_request options unweighed (DropIf text) fits = tt
+    one_request options unweighed Iter fits = tt
     one_request options unweighed Count fits = tt
     one_request options unweighed Weight fits = tt
     one_request options unweighed Policy fits = tt

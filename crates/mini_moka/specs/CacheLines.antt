@@ -5,7 +5,7 @@ use Rattle.mini_moka.specs.Text.{IsText}
 use Rattle.mini_moka.specs.declared.script.line.CacheOptions.{CacheOptions}
 use Rattle.mini_moka.specs.declared.script.line.CacheLine.{CacheLine}
 use Rattle.mini_moka.specs.declared.script.line.CacheRequest.{CacheRequest}
-use Rattle.mini_moka.specs.declared.script.line.CacheRequest.TheVariants.{Insert, Get, Has, Count, Weight, Policy}
+use Rattle.mini_moka.specs.declared.script.line.CacheRequest.TheVariants.{Insert, Get, Has, Invalidate, Clear, DropIf, Iter, Count, Weight, Policy}
 
 -- the word of a weight, where there is one
 abbrev pub weight_words : Option ℕ → List (List ℕ)
@@ -17,6 +17,10 @@ abbrev pub cache_request_words : CacheRequest (List ℕ) → List (List ℕ)
 cache_request_words (Insert key text weight) = codes "insert" ∷ decimal key ∷ text ∷ weight_words weight
 cache_request_words (Get key) = codes "get" ∷ decimal key ∷ []
 cache_request_words (Has key) = codes "has" ∷ decimal key ∷ []
+cache_request_words (Invalidate key) = codes "invalidate" ∷ decimal key ∷ []
+cache_request_words Clear = codes "clear" ∷ []
+cache_request_words (DropIf text) = codes "drop-if" ∷ text ∷ []
+cache_request_words Iter = codes "iter" ∷ []
 cache_request_words Count = codes "count" ∷ []
 cache_request_words Weight = codes "weight" ∷ []
 cache_request_words Policy = codes "policy" ∷ []
@@ -37,6 +41,10 @@ abbrev pub CacheRequestFits : CacheOptions → CacheRequest (List ℕ) → Type 
 CacheRequestFits options (Insert key text weight) = (key < 2 ^ 64) × IsText text × WeightFits options.weighed weight
 CacheRequestFits options (Get key) = key < 2 ^ 64
 CacheRequestFits options (Has key) = key < 2 ^ 64
+CacheRequestFits options (Invalidate key) = key < 2 ^ 64
+CacheRequestFits options Clear = Unit {0}
+CacheRequestFits options (DropIf text) = IsText text
+CacheRequestFits options Iter = Unit {0}
 CacheRequestFits options Count = Unit {0}
 CacheRequestFits options Weight = Unit {0}
 CacheRequestFits options Policy = Unit {0}

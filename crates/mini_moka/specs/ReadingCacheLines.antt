@@ -1,11 +1,11 @@
 -- What the words of a line of a script that builds a cache are read as. No public clause cites this module.
-use Rattle.std.specs.Prelude.{ℕ, List, ◌∷◌, codes, Option, Some, None, if◌then◌else◌}
+use Rattle.std.specs.Prelude.{ℕ, List, [], ◌∷◌, codes, Option, Some, None, if◌then◌else◌}
 use Rattle.std.specs.Str.{bytes_eq}
 use Rattle.mini_moka.specs.Reading.{◌>>=◌, number_of, text_of, no_argument, key_of, cap_of}
 use Rattle.mini_moka.specs.declared.script.line.CacheOptions.{CacheOptions}
 use Rattle.mini_moka.specs.declared.script.line.CacheLine.{CacheLine}
 use Rattle.mini_moka.specs.declared.script.line.CacheRequest.{CacheRequest}
-use Rattle.mini_moka.specs.declared.script.line.CacheRequest.TheVariants.{Insert, Get, Has, Count, Weight, Policy}
+use Rattle.mini_moka.specs.declared.script.line.CacheRequest.TheVariants.{Insert, Get, Has, Invalidate, Clear, DropIf, Iter, Count, Weight, Policy}
 
 -- the weight that is left of an insert's arguments, where inserts have one
 unfoldable pub weight_of : CacheOptions → List (List ℕ) → Option (Option ℕ)
@@ -26,6 +26,24 @@ cache_insert_of options (key ∷ text ∷ behind) = do
   Some (Insert k t w)
 cache_insert_of options _ = None
 
+-- the only argument, a text
+unfoldable pub drop_if_of : List (List ℕ) → Option (CacheRequest (List ℕ))
+drop_if_of (text ∷ []) = do
+  t ← text_of text
+  Some (DropIf t)
+drop_if_of _ = None
+
+-- the request of this name, which is given nothing
+unfoldable pub bare_of : List ℕ → List (List ℕ) → Option (CacheRequest (List ℕ))
+bare_of call arguments = do
+  nothing ← no_argument arguments
+  (if bytes_eq call (codes "clear") then Some Clear
+      else if bytes_eq call (codes "iter") then Some Iter
+      else if bytes_eq call (codes "count") then Some Count
+      else if bytes_eq call (codes "weight") then Some Weight
+      else if bytes_eq call (codes "policy") then Some Policy
+      else None)
+
 -- the request of this name with these arguments
 unfoldable pub cache_request_of : CacheOptions → List ℕ → List (List ℕ) → Option (CacheRequest (List ℕ))
 cache_request_of options call arguments =
@@ -36,16 +54,11 @@ cache_request_of options call arguments =
     else if bytes_eq call (codes "has") then (do
       key ← key_of arguments
       Some (Has key))
-    else if bytes_eq call (codes "count") then (do
-      nothing ← no_argument arguments
-      Some Count)
-    else if bytes_eq call (codes "weight") then (do
-      nothing ← no_argument arguments
-      Some Weight)
-    else if bytes_eq call (codes "policy") then (do
-      nothing ← no_argument arguments
-      Some Policy)
-    else None
+    else if bytes_eq call (codes "invalidate") then (do
+      key ← key_of arguments
+      Some (Invalidate key))
+    else if bytes_eq call (codes "drop-if") then drop_if_of arguments
+    else bare_of call arguments
 
 -- the line of these words
 unfoldable pub cache_from_words : CacheOptions → List (List ℕ) → Option (CacheLine (List ℕ))

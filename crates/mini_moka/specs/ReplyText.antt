@@ -1,6 +1,7 @@
 -- What a recorded script's cache is asked on each line, and how the replies of all modes are written.
-use Rattle.std.specs.Prelude.{ℕ, Bool, true, false, List, [], ◌∷◌, ◌++◌, codes, Option, Some, None}
+use Rattle.std.specs.Prelude.{ℕ, Bool, true, false, List, [], ◌∷◌, ◌++◌, map, codes, Option, Some, None}
 use Rattle.std.specs.Fmt.{decimal}
+use Rattle.std.specs.List.{join_with_byte}
 use Rattle.moka_common.specs.declared.error.BuildError.{BuildError}
 use Rattle.moka_common.specs.declared.error.BuildError.TheVariants as build_error
 use Rattle.moka_common.specs.Policy.{Policy}
@@ -13,7 +14,7 @@ use Rattle.mini_moka.specs.declared.script.line.Request.TheVariants.{Insert, Get
 use Rattle.mini_moka.specs.declared.script.reply.SketchReply.{SketchReply}
 use Rattle.mini_moka.specs.declared.script.reply.SketchReply.TheVariants as sketch
 use Rattle.mini_moka.specs.declared.script.stored.Stored.{Stored}
-use Rattle.mini_moka.specs.Spelling.{line_feed}
+use Rattle.mini_moka.specs.Spelling.{line_feed, space}
 use Rattle.moka_unsync.specs.CacheState.{live_nanos, idle_nanos}
 
 -- the call that a request makes at a moment
@@ -39,6 +40,10 @@ sketch_reply_words sketch.Done = codes "ok"
 sketch_reply_words (sketch.Number n) = decimal n
 sketch_reply_words sketch.OutOfMemory = codes "refused memory"
 
+-- the words of the reply to what was done and can't be refused
+abbrev pub done_words : List ℕ
+done_words = codes "ok"
+
 -- the words of the reply to an insert, by whether memory refuses its room
 abbrev pub insert_words : Bool → List ℕ
 insert_words true = codes "refused memory"
@@ -53,6 +58,15 @@ found_words (Some value) = codes "some " ++ value.text
 abbrev pub truth_words : Bool → List ℕ
 truth_words true = codes "true"
 truth_words false = codes "false"
+
+-- a pair as it is written: its key, and its text
+abbrev pub pair_words : ℕ × Stored (List ℕ) → List ℕ
+pair_words pair = decimal pair.0 ++ codes "=" ++ pair.1.text
+
+-- the words of the pairs that an iterator gives, with one space between two, or that there are none
+abbrev pub pairs_words : List (ℕ × Stored (List ℕ)) → List ℕ
+pairs_words [] = codes "empty"
+pairs_words (pair ∷ pairs) = join_with_byte space (map pair_words (pair ∷ pairs))
 
 -- the words of a limit, where there is one
 abbrev pub limit_words : Option ℕ → List ℕ

@@ -2,7 +2,7 @@
 use Rattle.std.specs.Prelude.{◌≡◌, ℕ, List}
 use Rattle.mini_moka.specs.declared.script.line.CacheLine.{CacheLine}
 use Rattle.mini_moka.specs.declared.script.line.CacheRequest.{CacheRequest}
-use Rattle.mini_moka.specs.declared.script.line.CacheRequest.TheVariants.{Insert, Get, Has, Count, Weight, Policy}
+use Rattle.mini_moka.specs.declared.script.line.CacheRequest.TheVariants.{Insert, Get, Has, Invalidate, Clear, DropIf, Iter, Count, Weight, Policy}
 use Rattle.mini_moka.specs.declared.script.stored.Stored.{Stored}
 use Rattle.mini_moka.specs.UnsyncRun.{stored_text}
 
@@ -16,6 +16,10 @@ module _ {W : Type 0} (weighs : W → ℕ → Stored (List ℕ) → ℕ → W �
   AnswersRequest (Insert key text weight) = AnswersStored key (stored_text text weight)
   AnswersRequest (Get key) = Unit {0}
   AnswersRequest (Has key) = Unit {0}
+  AnswersRequest (Invalidate key) = Unit {0}
+  AnswersRequest Clear = Unit {0}
+  AnswersRequest (DropIf text) = Unit {0}
+  AnswersRequest Iter = Unit {0}
   AnswersRequest Count = Unit {0}
   AnswersRequest Weight = Unit {0}
   AnswersRequest Policy = Unit {0}

@@ -1,23 +1,25 @@
 -- What the replies to a script are that builds a cache for one thread.
-use Rattle.std.specs.Prelude.{◌≡◌, ℕ, Bool, true, false, List, [], ◌∷◌, ◌++◌, length, Option, Some, None, option_map, unwrap_or}
+use Rattle.std.specs.Prelude.{◌≡◌, ℕ, Bool, true, false, List, [], ◌∷◌, ◌++◌, length, map, bytes_eq, Option, Some, None, option_map, unwrap_or}
 use Rattle.std.specs.Fmt.{decimal}
 use Rattle.moka_common.specs.Policy.{Policy}
 use Rattle.moka_common.specs.Settings.{duration_fault}
 use Rattle.moka_common.specs.declared.error.BuildError.{BuildError}
 use Rattle.moka_common.specs.declared.weigh.UnitWeight.{UnitWeight}
+use Rattle.moka_unsync.specs.declared.cache.entry.Entry.{Entry}
 use Rattle.moka_unsync.specs.CacheState.{CacheState, new_cache, live_nanos, idle_nanos}
 use Rattle.moka_unsync.specs.Contents.{weighted_size}
 use Rattle.moka_unsync.specs.Insert.{after_insert, new_entry}
+use Rattle.moka_unsync.specs.Invalidate.{after_invalidate, after_invalidate_all, after_invalidate_if, pairs_at}
 use Rattle.moka_unsync.specs.Lookup.{after_get, found_by_get, after_look, is_contained}
 use Rattle.mini_moka.specs.declared.script.keys.KeyState.{KeyState}
 use Rattle.mini_moka.specs.declared.script.line.CacheLine.{CacheLine}
 use Rattle.mini_moka.specs.declared.script.line.CacheOptions.{CacheOptions}
 use Rattle.mini_moka.specs.declared.script.line.CacheRequest.{CacheRequest}
-use Rattle.mini_moka.specs.declared.script.line.CacheRequest.TheVariants.{Insert, Get, Has, Count, Weight, Policy as PolicyRequest}
+use Rattle.mini_moka.specs.declared.script.line.CacheRequest.TheVariants.{Insert, Get, Has, Invalidate, Clear, DropIf, Iter, Count, Weight, Policy as PolicyRequest}
 use Rattle.mini_moka.specs.declared.script.stored.Stored.{Stored}
 use Rattle.mini_moka.specs.declared.script.stored.StoredWeight.{StoredWeight}
 use Rattle.mini_moka.specs.Options.{span_nanos}
-use Rattle.mini_moka.specs.ReplyText.{insert_words, found_words, truth_words, policy_words, written, ready_line, refused_line}
+use Rattle.mini_moka.specs.ReplyText.{done_words, insert_words, found_words, truth_words, pairs_words, policy_words, written, ready_line, refused_line}
 use Rattle.mini_moka.specs.ScriptKeys.{script_keys}
 
 -- ---- a line
@@ -30,6 +32,10 @@ ScriptCache W = CacheState ℕ (Stored (List ℕ)) KeyState W
 abbrev pub stored_text : {T : Type 0} → T → Option ℕ → Stored T
 stored_text text weight = record { text = text; weight = unwrap_or weight 1 }
 
+-- whether the text of each entry is this one, an answer an entry
+abbrev pub have_text : List ℕ → List (Entry ℕ (Stored (List ℕ))) → List Bool
+have_text text entries = map (λ e. bytes_eq e.value.text text) entries
+
 -- what memory refuses on a line: the room that an insert asks for, and the table that its cache then asks for
 pub record Refused : Type 0 where
   pub room : Bool
@@ -41,6 +47,10 @@ module _ {W : Type 0} where
   unsync_reply cache now (Insert key text weight) refused = insert_words refused.room
   unsync_reply cache now (Get key) refused = found_words (found_by_get script_keys cache key now)
   unsync_reply cache now (Has key) refused = truth_words (is_contained script_keys cache key now)
+  unsync_reply cache now (Invalidate key) refused = done_words
+  unsync_reply cache now Clear refused = done_words
+  unsync_reply cache now (DropIf text) refused = done_words
+  unsync_reply cache now Iter refused = pairs_words (pairs_at cache now)
   unsync_reply cache now Count refused = decimal (length cache.contents.entries)
   unsync_reply cache now Weight refused = decimal (weighted_size cache.contents.entries)
   unsync_reply cache now PolicyRequest refused = policy_words cache.settings.policy
@@ -56,6 +66,10 @@ module _ {W : Type 0} where
   after_request cache now (Insert key text weight) refused = after_insert_line cache now key (stored_text text weight) refused.room refused.table
   after_request cache now (Get key) refused = after_get script_keys cache key now
   after_request cache now (Has key) refused = after_look script_keys cache now
+  after_request cache now (Invalidate key) refused = after_invalidate script_keys cache key now
+  after_request cache now Clear refused = after_invalidate_all cache
+  after_request cache now (DropIf text) refused = after_invalidate_if script_keys cache (have_text text cache.contents.entries)
+  after_request cache now Iter refused = cache
   after_request cache now Count refused = cache
   after_request cache now Weight refused = cache
   after_request cache now PolicyRequest refused = cache

@@ -46,7 +46,7 @@ const HEADERS: [(&str, Option<u64>); 37] = [
     ("unsync max 1 tickets 1\n", Some(1)),
 ];
 
-const LINES: [(&str, Option<u64>); 25] = [
+const LINES: [(&str, Option<u64>); 43] = [
     ("unsync\n0 insert 1 a\n", None),
     ("unsync\n0 insert 1 a 1\n", Some(2)),
     ("unsync\n0 insert 1\n", Some(2)),
@@ -62,6 +62,33 @@ const LINES: [(&str, Option<u64>); 25] = [
         "unsync\n0 get 1\n0 has 1\n0 count\n0 weight\n0 policy\n",
         None,
     ),
+    (
+        "unsync\n0 invalidate 1\n0 clear\n0 drop-if a-1\n0 iter\n",
+        None,
+    ),
+    ("unsync\n0 invalidate\n", Some(2)),
+    ("unsync\n0 invalidate 1 1\n", Some(2)),
+    ("unsync\n0 invalidate a\n", Some(2)),
+    ("unsync\n0 invalidate 18446744073709551615\n", None),
+    ("unsync\n0 invalidate 18446744073709551616\n", Some(2)),
+    ("unsync\n0 clear 1\n", Some(2)),
+    ("unsync\n0 clear \n", Some(2)),
+    ("unsync\nclear\n", Some(2)),
+    ("unsync\n0 drop-if\n", Some(2)),
+    ("unsync\n0 drop-if \n", Some(2)),
+    ("unsync\n0 drop-if a a\n", Some(2)),
+    ("unsync\n0 drop-if a_b\n", Some(2)),
+    (
+        "unsync\n0 drop-if 1234567890123456789012345678901234567890123456789012345678901234\n",
+        None,
+    ),
+    (
+        "unsync\n0 drop-if 12345678901234567890123456789012345678901234567890123456789012345\n",
+        Some(2),
+    ),
+    ("unsync weighed\n0 drop-if a 1\n", Some(2)),
+    ("unsync\n0 iter 1\n", Some(2)),
+    ("recorded\n0 iter\n", Some(2)),
     ("unsync\n0 get\n", Some(2)),
     ("unsync\n0 has 1 1\n", Some(2)),
     ("unsync\n0 count 1\n", Some(2)),
@@ -147,5 +174,27 @@ fn lines_of_a_cache_hold_what_they_spell(rt: HostRuntime) -> Result<(), Fail> {
     assert!(rt; matches!(&count.request, CacheRequest::Count));
     assert!(rt; matches!(&weight.request, CacheRequest::Weight));
     assert!(rt; matches!(&policy.request, CacheRequest::Policy));
+    Ok(())
+}
+
+#[test]
+fn lines_that_remove_hold_what_they_spell(rt: HostRuntime) -> Result<(), Fail> {
+    let text = b"unsync\n5 invalidate 7\n6 clear\n7 drop-if a-Z9\n8 iter\n".as_slice();
+    let Script::Unsync { options: _, lines } = parse(rt.alloc(), text)? else {
+        return Err("a script of a cache".into());
+    };
+    let [invalidate, clear, drop_if, iter] = lines.as_slice() else {
+        return Err("four lines".into());
+    };
+    assert_eq!(rt;
+        (invalidate.now, clear.now, drop_if.now, iter.now),
+        (5, 6, 7, 8)
+    );
+    assert!(rt; matches!(&invalidate.request, CacheRequest::Invalidate { key: 7 }));
+    assert!(rt; matches!(&clear.request, CacheRequest::Clear));
+    assert!(rt;
+        matches!(&drop_if.request, CacheRequest::DropIf { text } if text.as_bytes() == b"a-Z9".as_slice())
+    );
+    assert!(rt; matches!(&iter.request, CacheRequest::Iter));
     Ok(())
 }

@@ -20,7 +20,7 @@ use Rattle.moka_unsync.specs.Lookup.{after_search, after_use, is_expired, kept_u
 use Rattle.moka_unsync.specs.Insert.{after_put, after_verdict, new_entry, victims_of}
 use Rattle.moka_unsync.specs.Invalidate.{chosen}
 use Rattle.moka_unsync.specs.Step.{Answer, IsStep, Request, Get, ContainsKey, Insert, Invalidate, InvalidateAll, InvalidateEntriesIf, Iterate, EntryCount, WeightedSize, Found, Told, OutOfMemory}
-use Rattle.moka_unsync.specs.Laws.{AnswersAsMap, AsksNoPredicate, IsUnbounded, RunsAsMap, StepsAsMap, value_after, value_after_all, value_at}
+use Rattle.moka_unsync.specs.PlainMap.{AnswersAsMap, AsksNoPredicate, IsUnbounded, RunsAsMap, StepsAsMap, value_after, value_after_all, value_at}
 use Rattle.moka_unsync.proofs.InvalidateLemmas.{found_key}
 
 -- ---- upkeep without limits

@@ -8,6 +8,7 @@ pub mod Invalidate
 pub mod Step
 pub mod Runs
 pub mod Laws
+pub mod PlainMap
 pub mod CacheLends
 -- inside
 pub mod Store

@@ -31,8 +31,8 @@ use std::time::Duration;
 ///     .build()?;
 /// ```
 ///
-/// A builder takes no memory. `build` and `build_with_hasher` refuse a duration of more than 1000 years, the time to live first, and want of memory for the
-/// room of `initial_capacity`.
+/// A builder takes no memory. `build` and `build_with_hasher` refuse a duration of more than 1000 years, the time to live first, and want of memory for
+/// the room of `initial_capacity`.
 #[derive(Drop)]
 pub struct CacheBuilder<K, V, W: Drop = UnitWeight, A: Allocator + Clone + Drop = Global> {
     alloc: A,
@@ -142,7 +142,8 @@ impl<K, V, W: Drop, A: Allocator + Clone + Drop> CacheBuilder<K, V, W, A> {
 }
 
 impl<K: Eq + Hash + Drop, V: Drop, W: Drop, A: Allocator + Clone + Drop> CacheBuilder<K, V, W, A> {
-    /// The cache, with std's default hash state. It is refused where a duration is longer than 1000 years, or for want of memory. Its key is fixed: where strangers choose the keys, use `build_with_hasher` with a `RandomState`.
+    /// The cache, with std's default hash state. It is refused where a duration is longer than 1000 years, or for want of memory. Its key is fixed:
+    /// where strangers choose the keys, use `build_with_hasher` with a `RandomState`.
     pub fn build(self) -> Result<Cache<K, V, FixedState, W, A>, BuildError>
         ensures ok { IfOk result (λ cache. IsBuilt self cache.settings.hash_state cache) }
         ensures err { IfErr result (λ error. error ≡ refusal_of self) }

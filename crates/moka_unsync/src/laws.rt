@@ -1,6 +1,7 @@
 //! The laws of the cache as a machine, one a function. A law is its function's clause: there is no code to call.
 ghost use Rattle.moka_common.specs.Keys.{keys_of};
-ghost use Rattle.moka_unsync.specs.Laws.{InvalidationsKeepCounts, LooksChangeNothing, OnlyUpdatesOutgrowLimit, RunsAsMap, StaysWithinLimit, StepsAsMap};
+ghost use Rattle.moka_unsync.specs.Laws.{InvalidationsKeepCounts, LooksChangeNothing, OnlyUpdatesOutgrowLimit, StaysWithinLimit};
+ghost use Rattle.moka_unsync.specs.PlainMap.{RunsAsMap, StepsAsMap};
 
 use moka_common::weigh::Weigh;
 use std::hash::{BuildHasher, Hash};

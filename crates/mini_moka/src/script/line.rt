@@ -80,6 +80,18 @@ pub enum CacheRequest<T = Text> {
     Has {
         key: u64,
     },
+    /// Removes the entry of the key.
+    Invalidate {
+        key: u64,
+    },
+    /// Removes all entries.
+    Clear,
+    /// Removes the entries whose text is this one.
+    DropIf {
+        text: T,
+    },
+    /// The unexpired entries, in order of use.
+    Iter,
     /// How many entries there are.
     Count,
     /// How much they weigh.

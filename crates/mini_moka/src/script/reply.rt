@@ -1,14 +1,17 @@
 // How replies are written.
-ghost use Rattle.std.specs.Prelude.{◌≡◌, List, ◌++◌, OnOk, codes, is_err, option_copied, option_map};
+ghost use Rattle.std.specs.Prelude.{◌≡◌, List, ◌∷◌, ◌++◌, OnOk, codes, is_err, option_copied, option_map};
 ghost use Rattle.std.specs.Duration.{as_nanos};
 ghost use Rattle.std.specs.Fmt.{decimal};
-ghost use Rattle.mini_moka.specs.ReplyText.{found_words, insert_words, limit_words, nanos_words, policy_words, reply_words, sketch_reply_words, truth_words, written};
+ghost use Rattle.std.specs.List.{flat_map};
+ghost use Rattle.mini_moka.specs.ReplyText.{done_words, found_words, insert_words, limit_words, nanos_words, pair_words, pairs_words, policy_words, reply_words, sketch_reply_words, truth_words, written};
+ghost use Rattle.mini_moka.specs.Spelling.{space};
 
 use crate::script::stored::Stored;
 use crate::script::text::Text;
 use moka_common::error::InsertError;
 use moka_common::policy::Policy;
 use moka_sync::engine::Reply;
+use moka_unsync::cache::Iter;
 use std::alloc::{AllocError, Allocator};
 use std::time::Duration;
 
@@ -75,6 +78,15 @@ pub(super) fn push_number<A: Allocator + Clone + Drop>(
     text.extend_from_slice(line.as_bytes())
 }
 
+/// Adds the line of a reply that says no more than that the call was made.
+pub(super) fn push_done<A: Allocator + Clone + Drop>(
+    text: &mut Vec<u8, A>,
+) -> Result<(), AllocError>
+    ensures { OnOk result (text.new.items ≡ text.old.items ++ written done_words) }
+{
+    text.extend_from_slice(b"ok\n")
+}
+
 /// Adds the line of an insert's reply to the text.
 pub(super) fn push_insert<A: Allocator + Clone + Drop>(
     text: &mut Vec<u8, A>,
@@ -112,6 +124,48 @@ pub(super) fn push_truth<A: Allocator + Clone + Drop>(
         true => text.extend_from_slice(b"true\n"),
         false => text.extend_from_slice(b"false\n"),
     }
+}
+
+/// Adds the line of the pairs that an iterator gives to the text.
+pub(super) fn push_pairs<A: Allocator + Clone + Drop>(
+    text: &mut Vec<u8, A>,
+    mut pairs: Iter<'_, u64, Stored<Text<A>>, A>,
+) -> Result<(), AllocError>
+    ensures { OnOk result (text.new.items ≡ text.old.items ++ written (pairs_words pairs.entry)) }
+{
+    let Some((key, value)) = pairs.next() else {
+        return text.extend_from_slice(b"empty\n");
+    };
+    push_pair(text, *key, &value.text)?;
+    push_more_pairs(text, pairs)?;
+    text.extend_from_slice(b"\n")
+}
+
+/// Adds the pairs that an iterator still gives, with a space before each.
+fn push_more_pairs<A: Allocator + Clone + Drop>(
+    text: &mut Vec<u8, A>,
+    pairs: Iter<'_, u64, Stored<Text<A>>, A>,
+) -> Result<(), AllocError>
+    ensures { OnOk result (text.new.items ≡ text.old.items ++ flat_map (λ pair. space ∷ pair_words pair) pairs.entry) }
+{
+    for (key, value) in pairs {
+        text.extend_from_slice(b" ")?;
+        push_pair(text, *key, &value.text)?;
+    }
+    Ok(())
+}
+
+fn push_pair<A: Allocator + Clone + Drop>(
+    text: &mut Vec<u8, A>,
+    key: u64,
+    value: &Text<A>,
+) -> Result<(), AllocError>
+    ensures { OnOk result (text.new.items ≡ text.old.items ++ (decimal key ++ codes "=" ++ value.now)) }
+{
+    let alloc = text.allocator().clone()?;
+    let front = format!(in alloc; "{key}=")?;
+    text.extend_from_slice(front.as_bytes())?;
+    text.extend_from_slice(value.as_bytes())
 }
 
 /// Adds the line of a policy to the text.

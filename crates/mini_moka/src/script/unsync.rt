@@ -1,14 +1,18 @@
 // The replies to a script that builds a cache for one thread: its calls, made on that cache.
 ghost use Rattle.std.specs.Prelude.{◌≡◌, ◌≢◌, ◌++◌, ℕ, Bool, List, false, is_err, IfOk, OnOk};
 ghost use Rattle.std.specs.List.{AllByRecursion};
+ghost use Rattle.moka_unsync.specs.Invalidate.{after_invalidate_if};
 ghost use Rattle.mini_moka.specs.CacheLines.{CacheFits};
 ghost use Rattle.mini_moka.specs.ReplyText.{ready_line, refused_line, written};
+ghost use Rattle.mini_moka.specs.ScriptKeys.{script_keys};
 ghost use Rattle.mini_moka.specs.ScriptWeighers.{AnswersLine, AnswersStored};
-ghost use Rattle.mini_moka.specs.UnsyncRun.{AreUnsyncReplies, AreUnsyncReplyLines, HasLimits, Refused, after_insert_line, after_request, unsync_reply};
+ghost use Rattle.mini_moka.specs.UnsyncRun.{AreUnsyncReplies, AreUnsyncReplyLines, HasLimits, Refused, after_insert_line, after_request, have_text, unsync_reply};
 
 use crate::script::keys::KeyState;
 use crate::script::line::{CacheLine, CacheOptions, CacheRequest};
-use crate::script::reply::{push_found, push_insert, push_number, push_policy, push_truth};
+use crate::script::reply::{
+    push_done, push_found, push_insert, push_number, push_pairs, push_policy, push_truth,
+};
 use crate::script::stored::{Stored, StoredWeight, stored_text};
 use crate::script::text::Text;
 use moka_common::error::{BuildError, InsertError, OutOfMemory};
@@ -125,6 +129,19 @@ fn reply_to<A: Allocator + Clone + Drop, W: Weigh<u64, Stored<Text<A>>>>(
         }
         CacheRequest::Get { key } => push_found(text, cache.get(&key, now)),
         CacheRequest::Has { key } => push_truth(text, cache.contains_key(&key, now)),
+        CacheRequest::Invalidate { key } => {
+            cache.invalidate(&key, now);
+            push_done(text)
+        }
+        CacheRequest::Clear => {
+            cache.invalidate_all();
+            push_done(text)
+        }
+        CacheRequest::DropIf { text: dropped } => {
+            drop_if(cache, &dropped);
+            push_done(text)
+        }
+        CacheRequest::Iter => push_pairs(text, cache.iter(now)),
         CacheRequest::Count => push_number(text, cache.entry_count()),
         CacheRequest::Weight => push_number(text, cache.weighted_size()),
         CacheRequest::Policy => push_policy(text, cache.policy()),
@@ -144,4 +161,15 @@ fn insert<A: Allocator + Clone + Drop, W: Weigh<u64, Stored<Text<A>>>>(
     ensures ready { W.ready cache.new.weigher }
 {
     cache.insert(key, value, now)
+}
+
+/// Removes the entries whose text is this one.
+fn drop_if<A: Allocator + Clone + Drop, W: Weigh<u64, Stored<Text<A>>>>(
+    cache: &mut ScriptCache<W, A>,
+    text: &Text<A>,
+)
+    ensures step { cache.new ≡ after_invalidate_if script_keys cache.old (have_text text.now cache.old.contents.entries) }
+{
+    let dropped = text.as_bytes();
+    cache.invalidate_entries_if(|_key, value| value.text.as_bytes() == dropped);
 }

@@ -1,7 +1,7 @@
 // From the words of a line to a request to the cache that a script builds, and its moment.
 ghost use Rattle.std.specs.Prelude.{map};
 ghost use Rattle.mini_moka.specs.Reading.{Gives};
-ghost use Rattle.mini_moka.specs.ReadingCacheLines.{weight_of, cache_insert_of, cache_request_of, cache_from_words};
+ghost use Rattle.mini_moka.specs.ReadingCacheLines.{weight_of, cache_insert_of, drop_if_of, bare_of, cache_request_of, cache_from_words};
 
 use crate::script::line::{CacheLine, CacheOptions, CacheRequest};
 use crate::script::parser::from_words::FromWords;
@@ -47,16 +47,38 @@ fn request_of<A: Allocator + Clone + Drop>(
         let key = key_of(arguments)?;
         return Ok(CacheRequest::Has { key });
     }
+    if call == b"invalidate".as_slice() {
+        let key = key_of(arguments)?;
+        return Ok(CacheRequest::Invalidate { key });
+    }
+    if call == b"drop-if".as_slice() {
+        return drop_if_of(alloc, arguments);
+    }
+    bare_of(call, arguments)
+}
+
+/// The request of this name, which is given nothing.
+#[tactic(auto, unfolding(crate::specs::ReadingCacheLines::bare_of))]
+fn bare_of<A: Allocator + Clone + Drop>(
+    call: &[u8],
+    arguments: &[&[u8]],
+) -> Result<CacheRequest<Text<A>>, LineError>
+    ensures { Gives result (bare_of call.now (map (λ word. word.now) arguments.now)) }
+{
+    no_argument(arguments)?;
+    if call == b"clear".as_slice() {
+        return Ok(CacheRequest::Clear);
+    }
+    if call == b"iter".as_slice() {
+        return Ok(CacheRequest::Iter);
+    }
     if call == b"count".as_slice() {
-        no_argument(arguments)?;
         return Ok(CacheRequest::Count);
     }
     if call == b"weight".as_slice() {
-        no_argument(arguments)?;
         return Ok(CacheRequest::Weight);
     }
     if call == b"policy".as_slice() {
-        no_argument(arguments)?;
         return Ok(CacheRequest::Policy);
     }
     Err(LineError::Bad)
@@ -77,6 +99,20 @@ fn insert_of<A: Allocator + Clone + Drop>(
     let weight = weight_of(options, behind)?;
     let text = text_of(alloc, text)?;
     Ok(CacheRequest::Insert { key, text, weight })
+}
+
+#[tactic(auto, unfolding(crate::specs::ReadingCacheLines::drop_if_of))]
+fn drop_if_of<A: Allocator + Clone + Drop>(
+    alloc: A,
+    arguments: &[&[u8]],
+) -> Result<CacheRequest<Text<A>>, LineError>
+    ensures { Gives result (drop_if_of (map (λ word. word.now) arguments.now)) }
+{
+    let [text] = arguments else {
+        return Err(LineError::Bad);
+    };
+    let text = text_of(alloc, text)?;
+    Ok(CacheRequest::DropIf { text })
 }
 
 /// The weight that is left, where inserts have one. Where they don't, that nothing is left.

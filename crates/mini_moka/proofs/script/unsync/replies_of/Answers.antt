@@ -1,10 +1,19 @@
-use Rattle.std.proofs.Common.{◌≡◌, [], ◌++◌, refl, sym, ◌∙◌, append_assoc}
+use Rattle.std.proofs.Common.{◌≡◌, [], ◌++◌, refl, sym, ap, ◌∙◌, append_assoc}
 use Rattle.std.proofs.lemmas.List.{append-nil, nil_from_length}
 use Rattle.std.specs.Vec.Iter.{into_iter_items}
 use Rattle.mini_moka.specs.ReplyText.{written}
 use Rattle.mini_moka.specs.UnsyncRun.{unsync_reply}
 use Rattle.mini_moka.proofs.UnsyncRunLemmas.{AreUnsyncReplies-cons}
 use Rattle.mini_moka.proofs.script.unsync.replies_of.Goals as goal
+
+pub loop-line-init : goal.loop-line-init
+loop-line-init g c =
+    let all : into_iter_items c.into_iter-line-iterator.result ≡ c.args.lines.items = c.into_iter-line-iterator.ensures.into_iter_gives.0 in
+    record {
+      ready = c.requires.ready;
+      weighs = rw all c.requires.weighs;
+      answered = λ rest replies. (rest, rw all at replies, ap (λ text. text ++ rest) c.in_ok-text.ensures.items);
+    }
 
 pub loop-line-preserved : goal.loop-line-preserved
 loop-line-preserved g c =

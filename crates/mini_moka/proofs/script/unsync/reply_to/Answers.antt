@@ -1,10 +1,11 @@
 use Rattle.std.proofs.Common.{rules, ◌≡◌, false, is_err, refl, sym, ap, ◌∙◌, subst}
 use Rattle.std.specs.Fmt.{decimal}
 use Rattle.moka_unsync.specs.Lookup.{after_get, found_by_get, after_look, is_contained}
-use Rattle.mini_moka.specs.ReplyText.{found_words, truth_words, policy_words}
+use Rattle.moka_unsync.specs.Invalidate.{after_invalidate, after_invalidate_if, pairs_at}
+use Rattle.mini_moka.specs.ReplyText.{found_words, truth_words, pairs_words, policy_words}
 use Rattle.mini_moka.specs.ScriptKeys.{script_keys}
 use Rattle.mini_moka.specs.ScriptWeighers.{AnswersRequest, AnswersStored}
-use Rattle.mini_moka.specs.UnsyncRun.{stored_text, after_insert_line}
+use Rattle.mini_moka.specs.UnsyncRun.{stored_text, after_insert_line, have_text}
 use Rattle.mini_moka.proofs.UnsyncRunLemmas.{answered, insert_answered}
 use Rattle.mini_moka.proofs.script.unsync.reply_to.Goals as goal
 
@@ -31,6 +32,26 @@ returns-in-Has-clause-step g c =
     answered c.args.cache.now c.contains_key.new.self c.args.line.now c.args.line.request _ _ c.push_truth.result _ (record { room = false; table = false }) _ c.in-Has.is
     (c.contains_key.ensures.step ∙ ap (λ now. after_look script_keys c.args.cache.now now) c.from_nanos-now.ensures)
     (ap truth_words (c.contains_key.ensures.value ∙ ap (λ now. is_contained script_keys c.args.cache.now c.in-Has.key now) c.from_nanos-now.ensures)) c.push_truth.ensures
+
+pub returns-in-Invalidate-clause-step : goal.returns-in-Invalidate-clause-step
+returns-in-Invalidate-clause-step g c =
+    answered c.args.cache.now c.invalidate.new.self c.args.line.now c.args.line.request _ _ c.push_done.result _ (record { room = false; table = false }) _ c.in-Invalidate.is
+    (c.invalidate.ensures.step ∙ ap (λ now. after_invalidate script_keys c.args.cache.now c.in-Invalidate.key now) c.from_nanos-now.ensures) refl c.push_done.ensures
+
+pub returns-in-Clear-clause-step : goal.returns-in-Clear-clause-step
+returns-in-Clear-clause-step g c =
+    answered c.args.cache.now c.invalidate_all.new.self c.args.line.now c.args.line.request _ _ c.push_done-in-Clear.result _ (record { room = false; table = false }) _ c.in-Clear.is
+    c.invalidate_all.ensures.step refl c.push_done-in-Clear.ensures
+
+pub returns-in-DropIf-clause-step : goal.returns-in-DropIf-clause-step
+returns-in-DropIf-clause-step g c =
+    answered c.args.cache.now c.drop_if.new.cache c.args.line.now c.args.line.request _ _ c.push_done-in-DropIf.result _ (record { room = false; table = false }) _ c.in-DropIf.is
+    (c.drop_if.ensures.step ∙ ap (λ text. after_invalidate_if script_keys c.args.cache.now (have_text text c.args.cache.now.contents.entries)) (search rules)) refl c.push_done-in-DropIf.ensures
+
+pub returns-in-Iter-clause-step : goal.returns-in-Iter-clause-step
+returns-in-Iter-clause-step g c =
+    answered c.args.cache.now c.args.cache.now c.args.line.now c.args.line.request _ _ c.push_pairs.result _ (record { room = false; table = false }) _ c.in-Iter.is refl
+    (ap pairs_words (c.iter.ensures ∙ ap (λ now. pairs_at c.args.cache.now now) c.from_nanos-now.ensures)) c.push_pairs.ensures
 
 pub returns-in-Count-clause-step : goal.returns-in-Count-clause-step
 returns-in-Count-clause-step g c =
