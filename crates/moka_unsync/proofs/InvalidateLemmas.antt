@@ -1,14 +1,16 @@
 -- Lemmas on what invalidations take out of the store.
-use Rattle.std.proofs.Common.{◌≡◌, ◌<◌, ℕ, Bool, true, false, not, nat_eq, List, [], ◌∷◌, filter, length, Option, Some, None, is_some, IfSome, unwrap_or, refl, sym, ap, ◌∙◌, inl, inr, arith, subst}
+use Rattle.std.proofs.Common.{◌≡◌, ◌<◌, ◌≤◌, ℕ, Bool, true, false, not, nat_eq, List, [], ◌∷◌, filter, length, Option, Some, None, is_some, IfSome, unwrap_or, refl, sym, ap, ◌∙◌, inl, inr, arith, subst}
 use Rattle.std.proofs.lemmas.Bool.{cases_Bool, cond-true, cond-false, false≢true}
 use Rattle.std.specs.Borrow.{Bor}
 use Rattle.std.specs.Cmp.{IsEquivalence}
 use Rattle.std.specs.List.{IsDistinct}
 use Rattle.std.specs.Map.{lookup, remove_entry, keys_of as ids_of, values_of}
 use Rattle.moka_common.specs.Deque.{IsIn, first_id, next_id}
+use Rattle.moka_common.specs.Policy.{Policy}
 use Rattle.moka_unsync.specs.declared.cache.entry.Entry.{Entry}
 use Rattle.moka_unsync.specs.Contents.{Contents, after_leaving, entry_at, entries_without, keys_of, without, writes_without}
-use Rattle.moka_unsync.specs.Invalidate.{AnswersAt, AnswersInTurn, chosen}
+use Rattle.moka_unsync.specs.Invalidate.{AnswersAt, AnswersInTurn, chosen, unexpired_pairs}
+use Rattle.moka_unsync.specs.Lookup.{is_expired}
 use Rattle.moka_unsync.specs.Store.{Store, IsFound, Removes, entries_of}
 use Rattle.moka_unsync.specs.Turns.{contents_of}
 use Rattle.moka_unsync.proofs.FindLemmas.{from_first, from_next, from_node, from_none, from_stays, next_stays}
@@ -56,6 +58,17 @@ module _ {K V : Type 0} (eq : K → K → Bool) where
       let same : r.entry ≡ found.0 = ap (λ o. unwrap_or o r.entry) (sym r.stood ∙ found.1) in
       left old new id r
       ∙ without-equal laws key r.entry.key (subst (λ e. eq key e.key ≡ true) (sym same) (found_key key found.0 (entries_of old) found.2)) (contents_of old)
+
+-- no more pairs than entries
+pub length-unexpired : {K V : Type 0} (policy : Policy) (now : ℕ) (entries : List (Entry K V)) → length (unexpired_pairs policy now entries) ≤ length entries
+length-unexpired policy now [] = grind (arith)
+length-unexpired policy now (e ∷ es) =
+    let fresh = not (is_expired policy now e) in
+    let kept = filter (λ e. not (is_expired policy now e)) es in
+    elim (cases_Bool fresh) [
+      | inl stays ↦ rw (cond-true fresh (e ∷ kept) kept stays) (grind (arith, length-unexpired policy now es))
+      | inr leaves ↦ rw (cond-false fresh (e ∷ kept) kept leaves) (grind (arith, length-unexpired policy now es))
+    ]
 
 -- one node less
 pub fewer_nodes : {X : Type 0} (id : ℕ) (x : X) (es : List (ℕ × X)) → lookup (nat_eq id) es ≡ Some x → length (remove_entry (nat_eq id) es) < length es

@@ -1,5 +1,5 @@
 //! The cache for one thread.
-ghost use Rattle.std.specs.Prelude.{◌≡◌, ◌-◌, ◌^◌, Bool, List, false, length, min, None, Some, option_copied, IfErr, IfOk, OnErr, OnOk};
+ghost use Rattle.std.specs.Prelude.{◌≡◌, ◌<◌, ◌-◌, ◌^◌, Bool, List, false, length, min, None, Some, option_copied, IfErr, IfOk, OnErr, OnOk};
 ghost use Rattle.std.specs.Borrow.{sem};
 ghost use Rattle.moka_common.specs.Keys.{keys_of};
 ghost use Rattle.moka_common.specs.Enabling.{expected_entries};
@@ -279,8 +279,11 @@ impl<
 
     /// The unexpired entries as pairs of key and value, in order of use, least recently used first. It is no use of them, and removes none.
     pub fn iter(&self, now: Instant) -> Iter<'_, K, V, A>
-        ensures { result ≡ pairs_at self.now now }
+        ensures value { result ≡ pairs_at self.now now }
+        ensures fits { length result < 2 ^ 64 }
     {
+        // There are at most `usize::MAX` entries to count.
+        let _ = self.store.len();
         Iter::new(self.store.iter(), self.policy, now)
     }
 

@@ -51,7 +51,7 @@ returns-in-DropIf-clause-step g c =
 pub returns-in-Iter-clause-step : goal.returns-in-Iter-clause-step
 returns-in-Iter-clause-step g c =
     answered c.args.cache.now c.args.cache.now c.args.line.now c.args.line.request _ _ c.push_pairs.result _ (record { room = false; table = false }) _ c.in-Iter.is refl
-    (ap pairs_words (c.iter.ensures ∙ ap (λ now. pairs_at c.args.cache.now now) c.from_nanos-now.ensures)) c.push_pairs.ensures
+    (ap pairs_words (c.iter.ensures.value ∙ ap (λ now. pairs_at c.args.cache.now now) c.from_nanos-now.ensures)) c.push_pairs.ensures
 
 pub returns-in-Count-clause-step : goal.returns-in-Count-clause-step
 returns-in-Count-clause-step g c =
