@@ -167,8 +167,11 @@ fn a_run_without_room_for_its_replies_makes_no_call(rt: HostRuntime) -> Result<(
     }
     // What is left of the heap is taken in small blocks, so that there is no room for replies.
     let mut taken = Vec::new(rt.alloc());
-    while let Ok(block) = Rc::new(&heap, [0u64; 8]) {
-        taken.push(block)?;
+    for _ in 0..1000 {
+        match Rc::new(&heap, [0u64; 8]) {
+            Ok(block) => taken.push(block)?,
+            Err(_) => break,
+        }
     }
     assert_eq!(rt; run(&heap, &mut cache, calls).err(), Some(OutOfMemory));
     assert_eq!(rt; cache.entry_count(), 1);
