@@ -9,4 +9,5 @@ pub mod InvalidateLemmas
 pub mod RunLemmas
 pub mod RemainLemmas
 pub mod LimitLemmas
+pub mod KeyLemmas
 pub mod MapLemmas

@@ -1,12 +1,13 @@
 -- Lemmas on a cache without limits, which does what a plain map does.
-use Rattle.std.proofs.Common.{◌≡◌, ◌≢◌, ◌||◌, ℕ, Bool, true, false, cond, not, List, [], ◌∷◌, ◌++◌, find, is_some, map, take, take_while, Option, Some, None, option_map, refl, sym, ap, ◌∙◌, subst, inl, inr}
+use Rattle.std.proofs.Common.{◌≡◌, ◌≢◌, ◌||◌, ℕ, Bool, true, false, cond, not, List, [], ◌∷◌, ◌++◌, filter, find, is_some, map, take, take_while, Option, Some, None, option_map, refl, sym, ap, ◌∙◌, subst, inl, inr}
 use Rattle.std.proofs.lemmas.Bool.{cases_Bool, cond-true, cond-false}
+use Rattle.std.proofs.lemmas.List.{length-map}
 use Rattle.std.proofs.lemmas.List.Folds.{find-append}
 use Rattle.std.proofs.lemmas.List.Sums.{take_while-cons}
 use Rattle.std.proofs.Math.Seq.{take-nil}
 use Rattle.std.specs.Cmp.{IsEquivalence}
 use Rattle.std.specs.Duration.{as_nanos}
-use Rattle.std.specs.List.{AllByRecursion, list_any}
+use Rattle.std.specs.List.{AllByRecursion, IsDistinct, list_any}
 use Rattle.std.specs.Option.{option_or}
 use Rattle.moka_common.specs.Keys.{Keys}
 use Rattle.moka_common.specs.Moment.{idle_expired, live_expired}
@@ -18,10 +19,11 @@ use Rattle.moka_unsync.specs.CacheState.{CacheState, idle_nanos, live_nanos}
 use Rattle.moka_unsync.specs.Expire.{after_expiry, after_idle_expiry, after_trim, after_upkeep, has_lived, is_idle}
 use Rattle.moka_unsync.specs.Lookup.{after_search, after_use, is_expired, kept_up, unexpired, unexpired_at}
 use Rattle.moka_unsync.specs.Insert.{after_put, after_verdict, new_entry, victims_of}
-use Rattle.moka_unsync.specs.Invalidate.{chosen}
-use Rattle.moka_unsync.specs.Step.{Answer, IsStep, Request, Get, ContainsKey, Insert, Invalidate, InvalidateAll, InvalidateEntriesIf, Iterate, EntryCount, WeightedSize, Found, Told, OutOfMemory}
-use Rattle.moka_unsync.specs.PlainMap.{AnswersAsMap, AsksNoPredicate, IsUnbounded, RunsAsMap, StepsAsMap, value_after, value_after_all, value_at}
+use Rattle.moka_unsync.specs.Invalidate.{chosen, unexpired_pairs}
+use Rattle.moka_unsync.specs.Step.{Answer, IsStep, Request, Get, ContainsKey, Insert, Invalidate, InvalidateAll, InvalidateEntriesIf, Iterate, EntryCount, WeightedSize, Found, Told, OutOfMemory, Pairs, Number}
+use Rattle.moka_unsync.specs.PlainMap.{IsMapAnswer, IsUnbounded, RunsAsMap, StepsAsMap, pairs_of, value_after, value_at}
 use Rattle.moka_unsync.proofs.InvalidateLemmas.{found_key}
+use Rattle.moka_unsync.proofs.KeyLemmas.{entry_at-gone, keys-pairs, once-step}
 
 -- ---- upkeep without limits
 
@@ -62,18 +64,6 @@ module _ {K V : Type 0} {eq : K → K → Bool} (laws : IsEquivalence eq) where
   entry_at-equal : (key other : K) → eq key other ≡ true → (entries : List (Entry K V)) → entry_at eq key entries ≡ entry_at eq other entries
   entry_at-equal key other equal entries = λ i. find (λ e. laws.congr key other e.key equal i) entries
 
-  -- a key that has left has none
-  entry_at-gone : (gone key : K) → eq gone key ≡ true → (entries : List (Entry K V)) → entry_at eq key (entries_without eq gone entries) ≡ None
-  entry_at-gone gone key equal [] = refl
-  entry_at-gone gone key equal (e ∷ es) =
-      elim (cases_Bool (eq gone e.key)) [
-        | inl leaves ↦ ap (entry_at eq key) (cond-false (not (eq gone e.key)) (e ∷ entries_without eq gone es) (entries_without eq gone es) (ap not leaves)) ∙ entry_at-gone gone key equal es
-        | inr stays ↦
-            ap (entry_at eq key) (cond-true (not (eq gone e.key)) (e ∷ entries_without eq gone es) (entries_without eq gone es) (ap not stays))
-            ∙ (cond-false (eq key e.key) (Some e) (entry_at eq key (entries_without eq gone es)) (sym (laws.congr gone key e.key equal) ∙ stays)
-            ∙ entry_at-gone gone key equal es)
-      ]
-
   -- another key has the entry that it had
   entry_at-other : (gone key : K) → eq gone key ≡ false → (entries : List (Entry K V)) → entry_at eq key (entries_without eq gone entries) ≡ entry_at eq key entries
   entry_at-other gone key differ [] = refl
@@ -111,7 +101,7 @@ module _ {K V : Type 0} {eq : K → K → Bool} (laws : IsEquivalence eq) where
   entry_at-put : (key : K) (new : Entry K V) (entries : List (Entry K V))
       → entry_at eq key (entries_without eq new.key entries ++ new ∷ []) ≡ cond (eq new.key key) (Some new) (entry_at eq key entries)
   entry_at-put key new entries =
-      entry_at-push key new (entries_without eq new.key entries) (λ equal. entry_at-gone new.key key equal entries)
+      entry_at-push key new (entries_without eq new.key entries) (λ equal. entry_at-gone eq laws new.key key equal entries)
       ∙ elim (cases_Bool (eq new.key key)) [
         | inl equal ↦ cond-true (eq new.key key) (Some new) _ equal ∙ sym (cond-true (eq new.key key) (Some new) _ equal)
         | inr differ ↦ ap (cond (eq new.key key) (Some new)) (entry_at-other new.key key differ entries)
@@ -140,7 +130,7 @@ module _ {K V : Type 0} {eq : K → K → Bool} (laws : IsEquivalence eq) (key :
   value-without : (gone : K) (entries : List (Entry K V)) → value_in (entries_without eq gone entries) ≡ cond (eq gone key) None (value_in entries)
   value-without gone entries =
       elim (cases_Bool (eq gone key)) [
-        | inl equal ↦ ap (option_map (λ e. e.value)) (entry_at-gone laws gone key equal entries) ∙ sym (cond-true (eq gone key) None (value_in entries) equal)
+        | inl equal ↦ ap (option_map (λ e. e.value)) (entry_at-gone eq laws gone key equal entries) ∙ sym (cond-true (eq gone key) None (value_in entries) equal)
         | inr differ ↦ ap (option_map (λ e. e.value)) (entry_at-other laws gone key differ entries) ∙ sym (cond-false (eq gone key) None (value_in entries) differ)
       ]
 
@@ -185,6 +175,46 @@ module _ {K V : Type 0} {eq : K → K → Bool} (laws : IsEquivalence eq) (key :
         value-put (record new { key = old.key; hash = old.hash }) cache.contents.entries
         ∙ ap (λ b. cond b (Some new.value) (value_in cache.contents.entries)) (sym (laws.congr new.key old.key key (found_key eq new.key old cache.contents.entries found)))
 
+-- ---- pairs
+
+module _ {K V S : Type 0} (keys : Keys K S) (key : K) where
+  -- the pairs have the entries' values
+  value-pairs : (entries : List (Entry K V)) → value_at keys key (pairs_of entries) ≡ option_map (λ e. e.value) (entry_at keys.eq key entries)
+  value-pairs [] = refl
+  value-pairs (e ∷ es) =
+      let found = find (λ p. keys.eq key p.0) (pairs_of es) in
+      elim (cases_Bool (keys.eq key e.key)) [
+        | inl equal ↦
+            ap (option_map (λ p. p.1)) (cond-true (keys.eq key e.key) (Some (e.key, e.value)) found equal)
+            ∙ sym (ap (option_map (λ e. e.value)) (cond-true (keys.eq key e.key) (Some e) (entry_at keys.eq key es) equal))
+        | inr differ ↦
+            ap (option_map (λ p. p.1)) (cond-false (keys.eq key e.key) (Some (e.key, e.value)) found differ)
+            ∙ (value-pairs es
+            ∙ sym (ap (option_map (λ e. e.value)) (cond-false (keys.eq key e.key) (Some e) (entry_at keys.eq key es) differ)))
+      ]
+
+module _ {K V : Type 0} where
+  -- a key is among the pairs as it is among the entries
+  any-pairs : (eq : K → K → Bool) (key : K) (entries : List (Entry K V)) → list_any (λ p. eq p.0 key) (pairs_of entries) ≡ list_any (λ e. eq e.key key) entries
+  any-pairs eq key [] = refl
+  any-pairs eq key (e ∷ es) = ap (λ b. eq e.key key || b) (any-pairs eq key es)
+
+  -- the same answers choose the same pairs
+  chosen-pairs : (answers : List Bool) (entries : List (Entry K V)) → chosen answers (pairs_of entries) ≡ pairs_of (chosen answers entries)
+  chosen-pairs [] entries = refl
+  chosen-pairs (true ∷ answers) [] = refl
+  chosen-pairs (false ∷ answers) [] = refl
+  chosen-pairs (true ∷ answers) (e ∷ es) = ap (λ l. (e.key, e.value) ∷ l) (chosen-pairs answers es)
+  chosen-pairs (false ∷ answers) (e ∷ es) = chosen-pairs answers es
+
+  -- an iterator gives all of them
+  pairs-unexpired : (policy : Policy) → IsUnbounded policy → (now : ℕ) (entries : List (Entry K V)) → unexpired_pairs policy now entries ≡ pairs_of entries
+  pairs-unexpired policy unbounded now [] = refl
+  pairs-unexpired policy unbounded now (e ∷ es) =
+      let fresh = filter (λ e. not (is_expired policy now e)) es in
+      ap pairs_of (cond-true (not (is_expired policy now e)) (e ∷ fresh) fresh (λ i. not (lives policy unbounded now e.modified i || used policy unbounded now e.accessed i)))
+      ∙ ap (λ l. (e.key, e.value) ∷ l) (pairs-unexpired policy unbounded now es)
+
 -- ---- what a step does
 
 -- a value tells as much as its entry
@@ -227,78 +257,98 @@ module _ {K V S W : Type 0} (keys : Keys K S) (weighs : W → K → V → ℕ �
 
   module _ (laws : IsEquivalence keys.eq) where
     -- each call answers what it would with a plain map
-    answers_as_map : (old new : CacheState K V S W) (request : Request K V) (answer : Answer K V) → IsUnbounded old.settings.policy → IsStep keys weighs old request answer new
-        → AnswersAsMap keys old.contents.entries request answer
-    answers_as_map old new (Get other now) answer unbounded step =
+    answers_as_map : (old new : CacheState K V S W) (request : Request K V) (answer : Answer K V) → IsUnbounded old.settings.policy → answer ≢ OutOfMemory
+        → IsStep keys weighs old request answer new → IsMapAnswer keys (pairs_of old.contents.entries) request answer
+    answers_as_map old new (Get other now) answer unbounded known step =
         step.0
         ∙ ap Found (ap (λ c. option_map (λ e. e.value) (unexpired_at keys.eq old.settings.policy now other c)) (kept_up-same keys old unbounded now)
-        ∙ ap (option_map (λ e. e.value)) (unexpired-same old.settings.policy unbounded now (entry_at keys.eq other old.contents.entries)))
-    answers_as_map old new (ContainsKey other now) answer unbounded step =
+        ∙ (ap (option_map (λ e. e.value)) (unexpired-same old.settings.policy unbounded now (entry_at keys.eq other old.contents.entries))
+        ∙ sym (value-pairs keys other old.contents.entries)))
+    answers_as_map old new (ContainsKey other now) answer unbounded known step =
         step.0
         ∙ ap Told (ap (λ c. is_some (unexpired_at keys.eq old.settings.policy now other c)) (kept_up-same keys old unbounded now)
         ∙ (ap is_some (unexpired-same old.settings.policy unbounded now (entry_at keys.eq other old.contents.entries))
-        ∙ told_by_value (entry_at keys.eq other old.contents.entries)))
-    answers_as_map old new (Insert other value now) answer unbounded step = tt
-    answers_as_map old new (Invalidate other now) answer unbounded step = tt
-    answers_as_map old new InvalidateAll answer unbounded step = tt
-    answers_as_map old new (InvalidateEntriesIf answers) answer unbounded step = tt
-    answers_as_map old new (Iterate now) answer unbounded step = tt
-    answers_as_map old new EntryCount answer unbounded step = tt
-    answers_as_map old new WeightedSize answer unbounded step = tt
+        ∙ (told_by_value (entry_at keys.eq other old.contents.entries)
+        ∙ ap is_some (sym (value-pairs keys other old.contents.entries)))))
+    answers_as_map old new (Insert other value now) answer unbounded known (inl (done, inserted)) = done
+    answers_as_map old new (Insert other value now) answer unbounded known (inr (refused, same)) = absurd (known refused)
+    answers_as_map old new (Invalidate other now) answer unbounded known step = step.0
+    answers_as_map old new InvalidateAll answer unbounded known step = step.0
+    answers_as_map old new (InvalidateEntriesIf answers) answer unbounded known step = step.0
+    answers_as_map old new (Iterate now) answer unbounded known step = step.0 ∙ ap Pairs (pairs-unexpired old.settings.policy unbounded now old.contents.entries)
+    answers_as_map old new EntryCount answer unbounded known step = step.0 ∙ ap Number (sym (length-map old.contents.entries (λ e. (e.key, e.value))))
+    answers_as_map old new WeightedSize answer unbounded known step = tt
 
-    -- and does to the values what it would with a plain map
+    -- the value at a key in a cache
+    abbrev cached_value : K → CacheState K V S W → Option V
+    cached_value key cache = value_at keys key (pairs_of cache.contents.entries)
+
+    -- where the entries have the same value at a key, so have their pairs
+    same_value : (key : K) (new old : List (Entry K V)) → value_in laws key new ≡ value_in laws key old → value_at keys key (pairs_of new) ≡ value_at keys key (pairs_of old)
+    same_value key new old same = value-pairs keys key new ∙ (same ∙ sym (value-pairs keys key old))
+
+    -- and so where the entries have another value on a condition
+    other_value : (key : K) (changes : Bool) (value : Option V) (new old : List (Entry K V)) → value_in laws key new ≡ cond changes value (value_in laws key old)
+        → value_at keys key (pairs_of new) ≡ cond changes value (value_at keys key (pairs_of old))
+    other_value key changes value new old other = value-pairs keys key new ∙ (other ∙ ap (cond changes value) (sym (value-pairs keys key old)))
+
+    -- each call does to the values what it would with a plain map
     values_as_map : (old new : CacheState K V S W) (request : Request K V) (answer : Answer K V) → IsUnbounded old.settings.policy → answer ≢ OutOfMemory
         → IsStep keys weighs old request answer new
-        → (key : K) → value_at keys key new.contents.entries ≡ value_after keys old.contents.entries key request (value_at keys key old.contents.entries)
+        → (key : K) → cached_value key new ≡ value_after keys (pairs_of old.contents.entries) request key
     values_as_map old new (Get other now) answer unbounded known step key =
-        ap (λ c. value_at keys key c.contents.entries) step.1
-        ∙ (ap (λ c. value_at keys key (after_search keys.eq old.settings.policy now other c).entries) (kept_up-same keys old unbounded now)
-        ∙ (ap (λ o. value_at keys key (after_use keys.eq now o old.contents).entries) (unexpired-same old.settings.policy unbounded now (entry_at keys.eq other old.contents.entries))
-        ∙ value-used laws key now other (entry_at keys.eq other old.contents.entries) old.contents refl))
+        ap (cached_value key) step.1
+        ∙ (ap (λ c. value_at keys key (pairs_of (after_search keys.eq old.settings.policy now other c).entries)) (kept_up-same keys old unbounded now)
+        ∙ (ap (λ o. value_at keys key (pairs_of (after_use keys.eq now o old.contents).entries)) (unexpired-same old.settings.policy unbounded now (entry_at keys.eq other old.contents.entries))
+        ∙ same_value key (after_use keys.eq now (entry_at keys.eq other old.contents.entries) old.contents).entries old.contents.entries
+        (value-used laws key now other (entry_at keys.eq other old.contents.entries) old.contents refl)))
     values_as_map old new (ContainsKey other now) answer unbounded known step key =
-        ap (λ c. value_at keys key c.contents.entries) step.1
-        ∙ ap (λ c. value_at keys key c.entries) (kept_up-same keys old unbounded now)
+        ap (cached_value key) step.1 ∙ ap (λ c. value_at keys key (pairs_of c.entries)) (kept_up-same keys old unbounded now)
     values_as_map old new (Insert other value now) answer unbounded known (inl (done, inserted)) key =
         let entry = new_entry keys old.settings.hash_state other value inserted.weight now in
         let asked : CacheState K V S W = record old { weigher = inserted.weigher } in
-        ap (λ c. value_at keys key c.contents.entries) inserted.step
-        ∙ (ap (λ c. value_at keys key (after_put keys.eq (record asked { contents = c }) (entry_at keys.eq other c.entries) entry inserted.refused).contents.entries)
-        (kept_up-same keys old unbounded now)
-        ∙ value-inserted laws key asked (entry_at keys.eq other old.contents.entries) entry inserted.refused unbounded.0 refl)
+        let put = after_put keys.eq asked (entry_at keys.eq other old.contents.entries) entry inserted.refused in
+        ap (cached_value key) inserted.step
+        ∙ (ap (λ c. cached_value key (after_put keys.eq (record asked { contents = c }) (entry_at keys.eq other c.entries) entry inserted.refused)) (kept_up-same keys old unbounded now)
+        ∙ other_value key (keys.eq other key) (Some value) put.contents.entries old.contents.entries
+        (value-inserted laws key asked (entry_at keys.eq other old.contents.entries) entry inserted.refused unbounded.0 refl))
     values_as_map old new (Insert other value now) answer unbounded known (inr (refused, same)) key = absurd (known refused)
     values_as_map old new (Invalidate other now) answer unbounded known step key =
-        ap (λ c. value_at keys key c.contents.entries) step.1
-        ∙ (ap (λ c. value_at keys key (entries_without keys.eq other c.entries)) (kept_up-same keys old unbounded now)
-        ∙ value-without laws key other old.contents.entries)
-    values_as_map old new InvalidateAll answer unbounded known step key = ap (λ c. value_at keys key c.contents.entries) step.1
+        ap (cached_value key) step.1
+        ∙ (ap (λ c. value_at keys key (pairs_of (entries_without keys.eq other c.entries))) (kept_up-same keys old unbounded now)
+        ∙ other_value key (keys.eq other key) None (entries_without keys.eq other old.contents.entries) old.contents.entries (value-without laws key other old.contents.entries))
+    values_as_map old new InvalidateAll answer unbounded known step key = ap (cached_value key) step.1
     values_as_map old new (InvalidateEntriesIf answers) answer unbounded known step key =
-        ap (λ c. value_at keys key c.contents.entries) step.1 ∙ value-leaving laws key (chosen answers old.contents.entries) old.contents
-    values_as_map old new (Iterate now) answer unbounded known step key = ap (λ c. value_at keys key c.contents.entries) step.1
-    values_as_map old new EntryCount answer unbounded known step key = ap (λ c. value_at keys key c.contents.entries) step.1
-    values_as_map old new WeightedSize answer unbounded known step key = ap (λ c. value_at keys key c.contents.entries) step.1
+        let gone = chosen answers old.contents.entries in
+        let gone_pairs : list_any (λ p. keys.eq p.0 key) (chosen answers (pairs_of old.contents.entries)) ≡ list_any (λ e. keys.eq e.key key) gone =
+        ap (list_any (λ p. keys.eq p.0 key)) (chosen-pairs answers old.contents.entries) ∙ any-pairs keys.eq key gone in
+        ap (cached_value key) step.1
+        ∙ (other_value key (list_any (λ e. keys.eq e.key key) gone) None (after_leaving keys.eq (keys_of gone) old.contents).entries old.contents.entries (value-leaving laws key gone old.contents)
+        ∙ ap (λ b. cond b None (cached_value key old)) (sym gone_pairs))
+    values_as_map old new (Iterate now) answer unbounded known step key = ap (cached_value key) step.1
+    values_as_map old new EntryCount answer unbounded known step key = ap (cached_value key) step.1
+    values_as_map old new WeightedSize answer unbounded known step key = ap (cached_value key) step.1
 
-    -- both together
+    -- all together
     pub steps_as_map : StepsAsMap keys weighs
-    steps_as_map old new request answer unbounded known step = (answers_as_map old new request answer unbounded step, values_as_map old new request answer unbounded known step)
-
-    -- what a call without a predicate does to a value doesn't depend on the entries
-    same_after : (entries : List (Entry K V)) (key : K) (request : Request K V) (before : Option V) → AsksNoPredicate request
-        → value_after keys entries key request before ≡ value_after keys [] key request before
-    same_after entries key (Get other now) before asks = refl
-    same_after entries key (ContainsKey other now) before asks = refl
-    same_after entries key (Insert other value now) before asks = refl
-    same_after entries key (Invalidate other now) before asks = refl
-    same_after entries key InvalidateAll before asks = refl
-    same_after entries key (InvalidateEntriesIf answers) before asks = absurd asks
-    same_after entries key (Iterate now) before asks = refl
-    same_after entries key EntryCount before asks = refl
-    same_after entries key WeightedSize before asks = refl
+    steps_as_map old new request answer unbounded known step =
+        record {
+          answers = answers_as_map old new request answer unbounded known step;
+          values = values_as_map old new request answer unbounded known step;
+          once = λ once.
+              subst (IsDistinct keys.eq) (sym (keys-pairs new.contents.entries))
+              (once-step keys laws weighs old new request answer step (subst (IsDistinct keys.eq) (keys-pairs old.contents.entries) once));
+        }
 
     -- and so do all calls of a run
     pub runs_as_map : RunsAsMap keys weighs
-    runs_as_map old new [] answers unbounded asks known (none, same) key = ap (λ c. value_at keys key c.contents.entries) same
-    runs_as_map old new (request ∷ requests) answers unbounded asks known (answer, rest, next, is, step, runs) key =
-        let known : AllByRecursion (λ answer. answer ≢ OutOfMemory) (answer ∷ rest) = subst (AllByRecursion (λ answer. answer ≢ OutOfMemory)) is known in
-        runs_as_map next new requests rest (subst (λ s. IsUnbounded s.policy) (sym (settings-step old next request answer step)) unbounded) asks.1 known.1 runs key
-        ∙ ap (value_after_all keys key requests)
-        (values_as_map old next request answer unbounded known.0 step key ∙ same_after old.contents.entries key request (value_at keys key old.contents.entries) asks.0)
+    runs_as_map old new [] answers unbounded known (none, same) = (none, ap (λ c. pairs_of c.contents.entries) same)
+    runs_as_map old new (request ∷ requests) answers unbounded known (answer, rest, next, is, step, runs) =
+        let known : AllByRecursion (λ answer. answer ≢ OutOfMemory) (answer ∷ rest) = subst (AllByRecursion (λ answer. answer ≢ OutOfMemory)) is known in (
+          answer,
+          rest,
+          pairs_of next.contents.entries,
+          is,
+          steps_as_map old next request answer unbounded known.0 step,
+          runs_as_map next new requests rest (subst (λ s. IsUnbounded s.policy) (sym (settings-step old next request answer step)) unbounded) known.1 runs,
+        )

@@ -1,7 +1,8 @@
 -- What a contract sees of the laws of the cache, which `src/laws.rt` promises, but for those of a plain map.
 use Rattle.std.specs.Prelude.{◌≡◌, ◌<◌, ◌≤◌, ℕ, Bool, List, filter, length, Some, IsSome}
+use Rattle.std.specs.List.{IsDistinct}
 use Rattle.moka_common.specs.Keys.{Keys}
-use Rattle.moka_unsync.specs.Contents.{Contents, entry_at, total_weight}
+use Rattle.moka_unsync.specs.Contents.{Contents, entry_at, keys_of, total_weight}
 use Rattle.moka_unsync.specs.CacheState.{CacheState, Settings, new_cache}
 use Rattle.moka_unsync.specs.Lookup.{kept_up}
 use Rattle.moka_unsync.specs.Step.{Answer, IsStep, Request, Runs, Get, ContainsKey, Insert, Invalidate, InvalidateAll, InvalidateEntriesIf, Iterate, EntryCount, WeightedSize}
@@ -27,6 +28,14 @@ module _ {K V S W : Type 0} (keys : Keys K S) (weighs : W → K → V → ℕ �
       (old new : CacheState K V S W) (request : Request K V) (answer : Answer K V) (limit : ℕ) →
       old.settings.policy.max_capacity ≡ Some limit → IsStep keys weighs old request answer new →
       total_weight old.contents.entries < total_weight new.contents.entries → limit < total_weight new.contents.entries → IsUpdate old request
+
+  -- ---- keys
+
+  -- from a new cache no calls lead to a key with two entries
+  abbrev pub KeysStandOnce : Type 0
+  KeysStandOnce =
+      (settings : Settings S) (weigher : W) (requests : List (Request K V)) (answers : List (Answer K V)) (cache : CacheState K V S W) →
+      Runs keys weighs (new_cache settings weigher) requests answers cache → IsDistinct keys.eq (keys_of cache.contents.entries)
 
 -- ---- looks and invalidations
 

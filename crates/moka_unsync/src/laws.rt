@@ -1,6 +1,6 @@
 //! The laws of the cache as a machine, one a function. A law is its function's clause: there is no code to call.
 ghost use Rattle.moka_common.specs.Keys.{keys_of};
-ghost use Rattle.moka_unsync.specs.Laws.{InvalidationsKeepCounts, LooksChangeNothing, OnlyUpdatesOutgrowLimit, StaysWithinLimit};
+ghost use Rattle.moka_unsync.specs.Laws.{InvalidationsKeepCounts, KeysStandOnce, LooksChangeNothing, OnlyUpdatesOutgrowLimit, StaysWithinLimit};
 ghost use Rattle.moka_unsync.specs.PlainMap.{RunsAsMap, StepsAsMap};
 
 use moka_common::weigh::Weigh;
@@ -16,6 +16,11 @@ pub fn only_updates_outgrow_the_limit<K: Eq + Hash, V, S: BuildHasher, W: Weigh<
     ensures { OnlyUpdatesOutgrowLimit (keys_of K.Hash S.BuildHasher S.Hasher.Hasher) W.weighs }
 {}
 
+/// A key never has two entries, whatever calls are made.
+pub fn each_key_stands_once<K: Eq + Hash, V, S: BuildHasher, W: Weigh<K, V>>()
+    ensures { KeysStandOnce (keys_of K.Hash S.BuildHasher S.Hasher.Hasher) W.weighs }
+{}
+
 /// `contains_key`, `iter` and the counts are no reads: they count nothing, and set no moment and no order of what remains.
 pub fn looks_change_nothing<K: Eq + Hash, V, S: BuildHasher, W: Weigh<K, V>>()
     ensures { LooksChangeNothing (keys_of K.Hash S.BuildHasher S.Hasher.Hasher) W.weighs }
@@ -26,12 +31,12 @@ pub fn invalidations_keep_counts<K: Eq + Hash, V, S: BuildHasher, W: Weigh<K, V>
     ensures { InvalidationsKeepCounts (keys_of K.Hash S.BuildHasher S.Hasher.Hasher) W.weighs }
 {}
 
-/// Without limit, durations and refusal a call does to the contents what it would to a plain map, and look-ups answer as from one.
+/// Without limit, durations and refusal a call answers as a plain map of the cache's pairs would, and leaves what that would leave.
 pub fn steps_are_those_of_a_map<K: Eq + Hash, V, S: BuildHasher, W: Weigh<K, V>>()
     ensures { StepsAsMap (keys_of K.Hash S.BuildHasher S.Hasher.Hasher) W.weighs }
 {}
 
-/// So the contents after calls of which none asks a predicate and none is refused are a plain map's after the same calls.
+/// So does any list of calls of which none is refused.
 pub fn runs_are_those_of_a_map<K: Eq + Hash, V, S: BuildHasher, W: Weigh<K, V>>()
     ensures { RunsAsMap (keys_of K.Hash S.BuildHasher S.Hasher.Hasher) W.weighs }
 {}
