@@ -21,7 +21,7 @@ use Rattle.moka_unsync.specs.Laws.{IsUpdate, OnlyUpdatesOutgrowLimit, StaysWithi
 use Rattle.moka_unsync.specs.Lookup.{after_search, after_use, is_expired, unexpired, unexpired_at}
 use Rattle.moka_unsync.specs.Step.{Answer, IsStep, Request, Runs, Get, ContainsKey, Insert, Invalidate, InvalidateAll, InvalidateEntriesIf, Iterate, EntryCount, WeightedSize}
 use Rattle.moka_unsync.proofs.CachedLemmas.{All-leaving, All-upkeep}
-use Rattle.moka_unsync.proofs.RemainLemmas.{filter-both}
+use Rattle.moka_unsync.proofs.RemainLemmas.{filter-all, filter-both}
 
 and-false : (a b : Bool) → b ≡ false → (a && b) ≡ false
 and-false true b h = h
@@ -85,11 +85,7 @@ module _ {K V : Type 0} where
         )
 
     leaving-filter : (keys : List K) (contents : Contents K V) → (after_leaving eq keys contents).entries ≡ filter (λ e. is_unlisted eq keys e.key) contents.entries
-    leaving-filter [] contents = all contents.entries
-      where
-        all : (es : List (Entry K V)) → es ≡ filter (λ e. true) es
-        all [] = refl
-        all (e ∷ es) = ap (λ l. e ∷ l) (all es)
+    leaving-filter [] contents = filter-all contents.entries
     leaving-filter (key ∷ keys) contents = leaving-filter keys (without eq contents key) ∙ filter-both (λ e. not (eq key e.key)) (λ e. is_unlisted eq keys e.key) contents.entries
 
     module _ (laws : IsEquivalence eq) where

@@ -14,10 +14,12 @@ use Rattle.std.specs.Map.{lookup, remove_entry, set_value, keys_of, values_of}
 pub nat_eq-same : (a : ℕ) → nat_eq a a ≡ true
 nat_eq-same a = eq-eqb a a refl
 
-some_parts : {X : Type 0} (x y : X) → Some x ≡ Some y → x ≡ y
+-- equal somethings are of equal parts
+pub some_parts : {X : Type 0} (x y : X) → Some x ≡ Some y → x ≡ y
 some_parts x y e = ap (λ o. unwrap_or o x) e
 
-not_none : {X : Type 0} {P : Type 0} (x : X) → Some x ≡ None → P
+-- something is not nothing
+pub not_none : {X : Type 0} {P : Type 0} (x : X) → Some x ≡ None → P
 not_none x e = absurd (false≢true (sym (ap is_some e)))
 
 module _ {X : Type 0} where

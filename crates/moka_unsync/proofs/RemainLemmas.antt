@@ -26,10 +26,12 @@ module _ {X : Type 0} where
             ∙ (filter-both p q xs ∙ sym (ap (λ b. cond (b && q x) (x ∷ both) both) fails))
       ]
 
-  filter-all : (xs : List X) → xs ≡ filter (λ x. true) xs
+  -- a test that all pass
+  pub filter-all : (xs : List X) → xs ≡ filter (λ x. true) xs
   filter-all [] = refl
   filter-all (x ∷ xs) = ap (λ l. x ∷ l) (filter-all xs)
 
+  -- and one that none passes
   filter-none : (xs : List X) → [] ≡ filter (λ x. false) xs
   filter-none [] = refl
   filter-none (x ∷ xs) = filter-none xs

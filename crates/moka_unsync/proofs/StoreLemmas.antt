@@ -13,13 +13,7 @@ use Rattle.moka_unsync.specs.Contents.{Write, total_weight, entry_at, entries_wi
 use Rattle.moka_unsync.specs.Insert.{with_write}
 use Rattle.moka_unsync.specs.Store.{write_of}
 use Rattle.moka_unsync.specs.Nodes.{entries_under, write_under, written_under, IsTied, IsStored, without_write}
-use Rattle.moka_unsync.proofs.NodeLemmas.{nat_eq-same, each_found, lookup-removed, lookup-behind, lookup-pushed, lookup-rewritten, IsDistinct-removed, IsDistinct-pushed, IsDistinct-rewritten, others_found, filter_map-same, filter_map-without, filter_map-remove, map-remove}
-
-some_parts : {X : Type 0} (x y : X) → Some x ≡ Some y → x ≡ y
-some_parts x y e = ap (λ o. unwrap_or o x) e
-
-not_none : {X : Type 0} {P : Type 0} (x : X) → Some x ≡ None → P
-not_none x e = absurd (false≢true (sym (ap is_some e)))
+use Rattle.moka_unsync.proofs.NodeLemmas.{nat_eq-same, each_found, lookup-removed, lookup-behind, lookup-pushed, lookup-rewritten, IsDistinct-removed, IsDistinct-pushed, IsDistinct-rewritten, others_found, filter_map-same, filter_map-without, filter_map-remove, map-remove, not_none, some_parts}
 
 module _ {K V : Type 0} where
   -- the entries under ids, seen by ids

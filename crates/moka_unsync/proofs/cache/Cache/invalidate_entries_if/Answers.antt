@@ -1,6 +1,5 @@
 use Rattle.std.proofs.Common.{ap}
-use Rattle.moka_common.specs.Keys.{Keys, keys_of}
-use Rattle.moka_unsync.specs.Contents.{keys_of as keys_in}
+use Rattle.moka_unsync.specs.Contents.{keys_of}
 use Rattle.moka_unsync.specs.Invalidate.{chosen}
 use Rattle.moka_unsync.specs.Store.{entries_of}
 use Rattle.moka_unsync.proofs.CachedLemmas.{IsCached-leaving}
@@ -8,9 +7,8 @@ use Rattle.moka_unsync.proofs.cache.Cache.invalidate_entries_if.Goals as goal
 
 pub invariant_of-self : goal.invariant_of-self
 invariant_of-self g c =
-    let keys : Keys g.row.K.Denot g.row.S.Denot = keys_of (record { eq = g.K.PartialEq.eq; hash_input = g.K.Hash.hash_input }) g.S.BuildHasher g.S.Hasher.Hasher in
     let (answers, told, step) = c.remove_where.ensures.step in
-    IsCached-leaving keys c.self.inside.hash_state c.self.inside.policy (keys_in (chosen answers (entries_of c.self.inside.store))) c.self.inside.store c.remove_where.new.store c.self.invariant step c.remove_where.ensures.kept
+    IsCached-leaving (keys_of (chosen answers (entries_of c.self.inside.store))) c.self.invariant step c.remove_where.ensures.kept
 
 pub returns : goal.returns
 returns g c =

@@ -1,12 +1,10 @@
 use Rattle.std.proofs.Common.{◌∙◌, ap}
-use Rattle.moka_common.specs.Keys.{Keys, keys_of}
 use Rattle.moka_unsync.specs.Store.{entries_of}
 use Rattle.moka_unsync.proofs.CachedLemmas.{IsCached-new}
 use Rattle.moka_unsync.proofs.cache.Cache.with_parts.Goals as goal
 
 pub invariant_of-result : goal.invariant_of-result
 invariant_of-result g c =
-    let keys : Keys g.row.K.Denot g.row.S.Denot = keys_of (record { eq = g.K.PartialEq.eq; hash_input = g.K.Hash.hash_input }) g.S.BuildHasher g.S.Hasher.Hasher in
-    IsCached-new keys c.args.parts.hash_state c.args.parts.policy c.reserve.new.self
+    IsCached-new
     (ap entries_of (c.in_ok-reserve.ensures {u = tt}).unchanged ∙ ap entries_of (c.in_ok-store.ensures {u = tt}))
     (ap (λ s. s.keeps_writes) (c.in_ok-reserve.ensures {u = tt}).unchanged ∙ ap (λ s. s.keeps_writes) (c.in_ok-store.ensures {u = tt}))
