@@ -3,8 +3,10 @@ use mini_moka::common::time::Instant;
 use mini_moka::common::{BuildError, FixedState, Shared};
 use mini_moka::sync::engine::{Call, Core, Reply};
 use mini_moka::sync::recorded::Record;
+use mini_moka::unsync;
 use mini_moka::unsync::Cache;
 use std::alloc::Global;
+use std::rc::Rc;
 use std::time::Duration;
 
 /// Inserts a pair into a cache that keeps a record, and looks the key up.
@@ -72,6 +74,38 @@ pub fn left_of_64(alloc: Global) -> Result<(bool, bool, usize), BuildError> {
     Ok((found, gone, left))
 }
 
+/// The key of the least recently used one of three entries, of which the first is looked up.
+pub fn least_recently_used(alloc: Global) -> Result<Option<u64>, BuildError> {
+    let now = Instant::from_nanos(0);
+    let mut cache: Cache<u64, u32> = Cache::new(alloc, 100)?;
+    for key in 0..3 {
+        cache
+            .insert(key, 1, now)
+            .map_err(|_| BuildError::OutOfMemory)?;
+    }
+    let _ = cache.get(&0, now);
+    let mut pairs = cache.iter(now);
+    let first = pairs.next().map(|(key, _value)| *key);
+    Ok(first)
+}
+
+/// How many entries there are after a list of calls, which is what its last call asks.
+pub fn count_after_calls(alloc: Global) -> Result<Option<u64>, BuildError> {
+    let now = Instant::from_nanos(0);
+    let value = Rc::new(alloc, 10)?;
+    let calls = vec![in alloc;
+        unsync::Call::Insert { key: 7, value, now },
+        unsync::Call::Get { key: 7, now },
+        unsync::Call::EntryCount,
+    ]?;
+    let mut cache: Cache<u64, Rc<u32>> = Cache::new(alloc, 100)?;
+    let replies = unsync::run(alloc, &mut cache, calls)?;
+    match replies.last() {
+        Some(unsync::Reply::Number(count)) => Ok(Some(*count)),
+        _ => Ok(None),
+    }
+}
+
 #[cfg(test)]
 mod tests {
     use super::*;
@@ -92,6 +126,18 @@ mod tests {
     #[test]
     fn what_is_invalidated_is_gone(rt: HostRuntime) -> Result<(), Fail> {
         assert_eq!(rt; left_of_64(rt.alloc())?, (true, true, 31));
+        Ok(())
+    }
+
+    #[test]
+    fn the_first_pair_is_of_the_least_recently_used_entry(rt: HostRuntime) -> Result<(), Fail> {
+        assert_eq!(rt; least_recently_used(rt.alloc())?, Some(1));
+        Ok(())
+    }
+
+    #[test]
+    fn a_list_of_calls_is_made_in_turn(rt: HostRuntime) -> Result<(), Fail> {
+        assert_eq!(rt; count_after_calls(rt.alloc())?, Some(1));
         Ok(())
     }
 

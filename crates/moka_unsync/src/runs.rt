@@ -12,7 +12,7 @@ use std::alloc::{Allocator, Global};
 use std::hash::{BuildHasher, Hash};
 use std::rc::Rc;
 
-/// A call of a cache. A value is shared, so that a reply can have it beside the cache.
+/// A call of a cache, which `run` makes. A value is shared, so that a reply can have it beside the cache.
 #[derive(Drop)]
 pub enum Call<K: Drop, V: Drop, A: Allocator + Drop = Global> {
     Get {
@@ -37,7 +37,7 @@ pub enum Call<K: Drop, V: Drop, A: Allocator + Drop = Global> {
     WeightedSize,
 }
 
-/// What a call replies.
+/// What a call replies to `run`.
 #[derive(Drop)]
 pub enum Reply<V: Drop, A: Allocator + Drop = Global> {
     Found(Option<Rc<V, A>>),
@@ -51,6 +51,17 @@ pub enum Reply<V: Drop, A: Allocator + Drop = Global> {
 /// Makes the calls in turn, and gives their replies. Where memory for the replies is refused, no call was made.
 ///
 /// It takes the time of the calls, and memory for one reply a call.
+///
+/// ```
+/// let value = Rc::new(alloc, 10)?;
+/// let calls = vec![in alloc;
+///     unsync::Call::Insert { key: 7, value, now },
+///     unsync::Call::Get { key: 7, now },
+///     unsync::Call::EntryCount,
+/// ]?;
+/// let mut cache: Cache<u64, Rc<u32>> = Cache::new(alloc, 100)?;
+/// let replies = unsync::run(alloc, &mut cache, calls)?;
+/// ```
 pub fn run<
     K: Eq + Hash + Drop,
     V: Drop,

@@ -14,6 +14,12 @@ use std::marker::Model;
 /// An iterator over a cache's unexpired entries, in order of use, least recently used first. A contract sees the pairs that are left.
 ///
 /// A step takes constant time for each entry that it passes, and takes no memory.
+///
+/// ```
+/// let _ = cache.get(&0, now);
+/// let mut pairs = cache.iter(now);
+/// let first = pairs.next().map(|(key, _value)| *key);
+/// ```
 #[derive(Drop)]
 pub struct Iter<'a, K: Drop, V: Drop, A: Allocator = Global> {
     entries: Entries<'a, K, V, A>,
