@@ -7,7 +7,7 @@ use Rattle.moka_unsync.specs.CacheState.{CacheState, Settings, new_cache}
 use Rattle.moka_unsync.specs.Lookup.{kept_up}
 use Rattle.moka_unsync.specs.Step.{Answer, IsStep, Request, Runs, Get, ContainsKey, Insert, Invalidate, InvalidateAll, InvalidateEntriesIf, Iterate, EntryCount, WeightedSize}
 
--- ---- a limit
+-- ---- limits and keys
 
 module _ {K V S W : Type 0} (keys : Keys K S) (weighs : W → K → V → ℕ → W → Type 0) where
   -- from a new cache with a limit, whose weigher weighs each entry 1, no calls lead to more entries than that
@@ -28,8 +28,6 @@ module _ {K V S W : Type 0} (keys : Keys K S) (weighs : W → K → V → ℕ �
       (old new : CacheState K V S W) (request : Request K V) (answer : Answer K V) (limit : ℕ) →
       old.settings.policy.max_capacity ≡ Some limit → IsStep keys weighs old request answer new →
       total_weight old.contents.entries < total_weight new.contents.entries → limit < total_weight new.contents.entries → IsUpdate old request
-
-  -- ---- keys
 
   -- from a new cache no calls lead to a key with two entries
   abbrev pub KeysStandOnce : Type 0
