@@ -1,12 +1,14 @@
 -- What a contract sees of a record, and what it means to apply a call to it.
-use Rattle.std.specs.Prelude.{◌≡◌, ℕ, Bool, true, List, [], ◌∷◌, ◌++◌, slice_index, Some, MatchBool}
+use Rattle.std.specs.Prelude.{◌≡◌, ℕ, Bool, true, List, [], ◌∷◌, ◌++◌, slice_index, Some, Result, Ok, Err, MatchBool}
+use Rattle.moka_common.specs.Weight.{unit_weighs}
 use Rattle.moka_common.specs.Keys.{Keys}
 use Rattle.moka_sync.specs.declared.engine.call.Call.{Call}
 use Rattle.moka_sync.specs.declared.engine.call.Reply.{Reply}
-use Rattle.moka_sync.specs.declared.engine.call.Reply.TheVariants.{Found, OutOfMemory, NotRecorded}
+use Rattle.moka_sync.specs.declared.engine.call.Reply.TheVariants.{Found, OutOfMemory}
 use Rattle.moka_sync.specs.CoreState.{CoreState}
 use Rattle.moka_sync.specs.WholeCall.{IsWholeCall}
 use Rattle.mini_moka.specs.declared.sync.recorded.Made.{Made}
+use Rattle.mini_moka.specs.declared.sync.recorded.NotRecorded.{NotRecorded}
 
 -- the core, the first ticket number of its shards, and the calls that were made on it with their replies
 pub record Record (K V S A : Type 0) : Type 0 where
@@ -18,10 +20,9 @@ pub record Record (K V S A : Type 0) : Type 0 where
 abbrev pub new_record : {K V S A : Type 0} → CoreState K V S → Record K V S A
 new_record core = record { core = core; first_ticket = slice_index core.next_numbers 0; calls = [] }
 
--- what memory refused: the room to write the call down, a growth of a step of the call, the copy of the value that is answered
+-- what memory refused: the room to write the call down, the copy of the value that is answered
 pub record Memory : Type 0 where
   pub recording : Bool
-  pub steps : List Bool
   pub answer : Bool
 
 -- the answer to a call with this reply: where a found value can't be shared once more, that memory was refused
@@ -31,13 +32,13 @@ answer_of reply refused = reply
 
 module _ {K V S A : Type 0} (keys : Keys K S) where
   -- the call was made on the core and written down with its reply
-  pub record Makes (old : Record K V S A) (call : Call K V A) (steps : List Bool) (reply : Reply V A) (new : Record K V S A) : Type 0 where
-    pub made : IsWholeCall keys old.core call 1 steps reply new.core
+  pub record Makes (old : Record K V S A) (call : Call K V A) (reply : Reply V A) (new : Record K V S A) : Type 0 where
+    pub made : IsWholeCall keys unit_weighs old.core call reply new.core
     pub calls : new.calls ≡ old.calls ++ record { call = call; reply = reply } ∷ []
     pub first_ticket : new.first_ticket ≡ old.first_ticket
 
   -- the call is made, written down and answered; or there is no room to write it down, and nothing is done
-  abbrev pub IsApplied : Record K V S A → Call K V A → Memory → Reply V A → Record K V S A → Type 0
+  abbrev pub IsApplied : Record K V S A → Call K V A → Memory → Result (Reply V A) NotRecorded → Record K V S A → Type 0
   IsApplied old call memory answer new = MatchBool memory.recording
-      ((answer ≡ NotRecorded) × (new ≡ old))
-      ((reply : Reply V A) × Makes old call memory.steps reply new × (answer ≡ answer_of reply memory.answer))
+      ((answer ≡ Err (record {})) × (new ≡ old))
+      ((reply : Reply V A) × Makes old call reply new × (answer ≡ Ok (answer_of reply memory.answer)))

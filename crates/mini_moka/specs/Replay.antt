@@ -1,6 +1,7 @@
 -- What it means that a list of calls with their replies replays to a core.
-use Rattle.std.specs.Prelude.{◌≡◌, Bool, List, [], ◌∷◌}
+use Rattle.std.specs.Prelude.{◌≡◌, List, [], ◌∷◌}
 use Rattle.moka_common.specs.Keys.{Keys}
+use Rattle.moka_common.specs.Weight.{unit_weighs}
 use Rattle.moka_sync.specs.CoreState.{CoreState, new_core}
 use Rattle.moka_sync.specs.WholeCall.{IsWholeCall}
 use Rattle.mini_moka.specs.declared.sync.recorded.Made.{Made}
@@ -11,7 +12,7 @@ module _ {K V S A : Type 0} (keys : Keys K S) where
   abbrev pub AreMade : CoreState K V S → List (Made K V A) → CoreState K V S → Type 0
   AreMade old [] new = new ≡ old
   AreMade old (made ∷ calls) new =
-      (mid : CoreState K V S) × (refused : List Bool) × IsWholeCall keys old made.call 1 refused made.reply mid × AreMade mid calls new
+      (mid : CoreState K V S) × IsWholeCall keys unit_weighs old made.call made.reply mid × AreMade mid calls new
 
   -- the record's calls lead from a new core to the record's core
   abbrev pub Replays : Record K V S A → Type 0

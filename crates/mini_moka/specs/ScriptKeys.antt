@@ -2,7 +2,7 @@
 use Rattle.std.specs.Prelude.{◌==◌, ℕ, List, length, nat_eq, if◌then◌else◌}
 use Rattle.std.specs.Int.{w64, from_le_bytes}
 use Rattle.std.specs.Hash.{u64}
-use Rattle.moka_common.specs.Keys.{Keys, keys_of}
+use Rattle.moka_common.specs.Keys.{Keys, keys_by}
 use Rattle.mini_moka.specs.declared.script.keys.KeyHasher.{KeyHasher}
 use Rattle.mini_moka.specs.declared.script.keys.KeyState.{KeyState}
 
@@ -12,4 +12,5 @@ hasher_after hasher bytes = if length bytes == 8 then (record { number = from_le
 
 -- how a script's cache tells its keys apart and hashes them
 abbrev pub script_keys : Keys ℕ KeyState
-script_keys = keys_of (record { eq = nat_eq; hash_input = u64 }) (record { build_hasher = λ _. record { number = 0 } }) (record { write = hasher_after; finish = λ hasher. hasher.number })
+script_keys = keys_by (record { eq = nat_eq; hash_input = u64 }) (record { build_hasher = λ _. record { number = 0 } })
+    (record { write = hasher_after; finish = λ hasher. hasher.number })

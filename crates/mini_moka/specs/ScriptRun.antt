@@ -5,18 +5,26 @@ use Rattle.mini_moka.specs.declared.script.runner.End.{End}
 use Rattle.mini_moka.specs.declared.script.runner.End.TheVariants.{Done, BadLine}
 use Rattle.mini_moka.specs.declared.script.runner.ScriptError.{ScriptError}
 use Rattle.mini_moka.specs.declared.script.runner.ScriptError.TheVariants.{Read, Write, OutOfMemory}
-use Rattle.mini_moka.specs.Grammar.{Script, RecordedScript, UnsyncScript, SketchScript, IsScript, IsBadAt}
-use Rattle.mini_moka.specs.ReplyText.{bad_line}
+use Rattle.moka_grammar.specs.declared.line.CacheHeader.{CacheHeader}
+use Rattle.moka_grammar.specs.declared.line.Line.{Line}
+use Rattle.moka_grammar.specs.declared.line.Mode.{Mode}
+use Rattle.moka_grammar.specs.declared.line.Mode.TheVariants.{Recorded, Unsync}
+use Rattle.moka_grammar.specs.Grammar.{Script, CacheScript, SketchScript, IsScript, IsBadAt}
+use Rattle.moka_streams.specs.Streams.{AppendsBeginning}
+use Rattle.mini_moka.specs.Reply.{bad_line}
 use Rattle.mini_moka.specs.RecordedRun.{AreRecordedReplyLines}
 use Rattle.mini_moka.specs.SketchRun.{AreSketchReplyLines}
 use Rattle.mini_moka.specs.UnsyncRun.{AreUnsyncReplyLines}
-use Rattle.mini_moka.specs.Streams.{AppendsBeginning}
 
 module _ (A : Type 0) where
-  -- the reply lines of a script, by its mode
+  -- the reply lines of a script of calls to a cache, by its mode
+  abbrev pub AreCacheReplyLines : Mode → CacheHeader → List (Line (List ℕ)) → List ℕ → Type 0
+  AreCacheReplyLines Recorded header lines text = AreRecordedReplyLines A lines text
+  AreCacheReplyLines Unsync header lines text = AreUnsyncReplyLines header.options lines text
+
+  -- the reply lines of a script
   abbrev pub AreReplyLines : Script → List ℕ → Type 0
-  AreReplyLines (RecordedScript lines) text = AreRecordedReplyLines A lines text
-  AreReplyLines (UnsyncScript options lines) text = AreUnsyncReplyLines options lines text
+  AreReplyLines (CacheScript header lines) text = AreCacheReplyLines header.mode header lines text
   AreReplyLines (SketchScript cap lines) text = AreSketchReplyLines cap lines text
 
   -- a whole run of the bytes ends so, and this is the text that it writes
@@ -28,6 +36,7 @@ module _ (A : Type 0) where
   -- be read, or memory ran out; and a beginning of its text where it could not be written
   abbrev pub EndsSo : Option (List ℕ) → Result End ScriptError → Option (List ℕ) → Option (List ℕ) → Type 0
   EndsSo input (Ok end) old new = IfSome input (λ bytes. (text : List ℕ) × IsRunOf bytes end text × Appends old new text)
-  EndsSo input (Err Write) old new = IfSome input (λ bytes. (end : End) × (text : List ℕ) × IsRunOf bytes end text × AppendsBeginning old new text)
+  EndsSo input (Err Write) old new =
+      IfSome input (λ bytes. (end : End) × (text : List ℕ) × IsRunOf bytes end text × AppendsBeginning old new text)
   EndsSo input (Err Read) old new = Keeps old new
   EndsSo input (Err OutOfMemory) old new = Keeps old new

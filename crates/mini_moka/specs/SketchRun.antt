@@ -3,18 +3,16 @@ use Rattle.std.specs.Prelude.{◌≡◌, ℕ, ◌&&◌, Bool, nat_lt, List, [], 
 use Rattle.std.specs.Fn.{iterate}
 use Rattle.moka_common.specs.Sketch.{Table, after_increment, estimate, index_of}
 use Rattle.moka_common.specs.SketchCapacity.{after_ensure_capacity, table_len, table_len_for}
-use Rattle.mini_moka.specs.ReplyText.{sketch_reply_words, written, ready_line}
-use Rattle.mini_moka.specs.declared.script.line.SketchLine.{SketchLine}
-use Rattle.mini_moka.specs.declared.script.line.SketchLine.TheVariants.{Inc, Freq, Index, Len, Ensure}
-use Rattle.mini_moka.specs.declared.script.reply.SketchReply.{SketchReply}
-use Rattle.mini_moka.specs.declared.script.reply.SketchReply.TheVariants.{Done, Number, OutOfMemory}
+use Rattle.mini_moka.specs.Reply.{Reply, Ready, Done, Number, OutOfMemory, reply_line}
+use Rattle.moka_grammar.specs.declared.line.SketchLine.{SketchLine}
+use Rattle.moka_grammar.specs.declared.line.SketchLine.TheVariants.{Inc, Freq, Index, Len, Ensure}
 
 -- whether a longer table is asked of memory, and memory refuses
 abbrev pub is_table_refused : Option Table → ℕ → Bool → Bool
 is_table_refused sketch cap refused = nat_lt (table_len sketch) (table_len_for cap) && refused
 
 -- the reply to a line; the last argument says whether memory refuses
-abbrev pub sketch_reply : Option Table → SketchLine → Bool → SketchReply
+abbrev pub sketch_reply : Option Table → SketchLine → Bool → Reply
 sketch_reply sketch (Inc hash times) refused = Done
 sketch_reply sketch (Freq hash) refused = Number (estimate sketch hash)
 sketch_reply sketch (Index hash depth) refused = Number (index_of (table_len sketch) hash depth)
@@ -34,10 +32,10 @@ abbrev pub AreSketchReplies : Option Table → List SketchLine → List ℕ → 
 AreSketchReplies sketch [] text = text ≡ []
 AreSketchReplies sketch (line ∷ lines) text =
     (refused : Bool) × (rest : List ℕ)
-    × (text ≡ written (sketch_reply_words (sketch_reply sketch line refused)) ++ rest)
+    × (text ≡ reply_line (sketch_reply sketch line refused) ++ rest)
     × AreSketchReplies (after_sketch_line sketch line refused) lines rest
 
 -- the reply lines of a sketch script: its sketch begins with a table for so many entries
 abbrev pub AreSketchReplyLines : ℕ → List SketchLine → List ℕ → Type 0
 AreSketchReplyLines cap lines text =
-    (replies : List ℕ) × AreSketchReplies (after_ensure_capacity None cap) lines replies × (text ≡ ready_line ++ replies)
+    (replies : List ℕ) × AreSketchReplies (after_ensure_capacity None cap) lines replies × (text ≡ reply_line Ready ++ replies)

@@ -2,7 +2,8 @@
 #![tactic(auto)]
 
 pub mod common;
-pub mod laws;
 pub mod script;
 pub mod sync;
 pub mod unsync;
+
+pub use moka_grammar::laws;

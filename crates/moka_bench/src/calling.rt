@@ -1,11 +1,29 @@
-//! The caller of the cache for one thread that its page shows, proved and run.
-ghost use Rattle.std.specs.Prelude.{◌≡◌};
-ghost use Rattle.moka_common.specs.Keys.{keys_of};
-ghost use Rattle.moka_unsync.specs.Lookup.{is_contained};
+//! Callers of the public types, each proved to meet a contract of its own, whose words all come from `mini_moka`.
+ghost use Rattle.std.specs.Prelude.{◌≡◌, ◌+◌, Some, Ok, IfOk, IfSome, IsTrue, false, slice_get};
+ghost use Rattle.std.specs.Map.{values_of};
+ghost use Rattle.mini_moka.specs.Common.Keys.{keys_by};
+ghost use Rattle.mini_moka.specs.Common.Weight.{unit_weighs};
+ghost use Rattle.mini_moka.specs.Common.Sketch.{after_increment, estimate};
+ghost use Rattle.mini_moka.specs.Unsync.Lookup.{is_contained};
+ghost use Rattle.mini_moka.specs.Unsync.Iterate.{pairs_at};
+ghost use Rattle.mini_moka.specs.Sync.WholeCall.{IsWholeCall};
+ghost use Rattle.mini_moka.specs.Replay.{Replays};
+ghost use Rattle.mini_moka.specs.Grammar.{IsScript};
+ghost use Rattle.mini_moka.specs.Parsed.{script_of};
+ghost use Rattle.mini_moka.specs.ScriptRun.{EndsSo};
 
-use moka_common::time::Instant;
-use moka_unsync::cache::Cache;
+use mini_moka::common::deque::Deque;
+use mini_moka::common::frequency_sketch::FrequencySketch;
+use mini_moka::common::time::Instant;
+use mini_moka::common::{BuildError, OutOfMemory, Policy, Shared};
+use mini_moka::script;
+use mini_moka::script::{End, Script, Sink, Source, Text};
+use mini_moka::sync::engine::{Call, Core, Reply};
+use mini_moka::sync::recorded::{NotRecorded, Record};
+use mini_moka::unsync::Cache;
+use std::alloc::{Allocator, Global};
 use std::hash::{BuildHasher, Hash};
+use std::time::Duration;
 
 /// Removes the entry of a key, and says whether it was there, unexpired. What was counted stays.
 pub fn take_out<K: Eq + Hash + Drop, V: Drop, S: BuildHasher + Drop, W: Drop>(
@@ -14,13 +32,123 @@ pub fn take_out<K: Eq + Hash + Drop, V: Drop, S: BuildHasher + Drop, W: Drop>(
     now: Instant,
 ) -> bool
     ensures value { result
-        ≡ is_contained (keys_of K.Hash S.BuildHasher S.Hasher.Hasher) cache.old key.now now }
+        ≡ is_contained (keys_by K.Hash S.BuildHasher S.Hasher.Hasher) cache.old key.now now }
     ensures counted { cache.new.sketch ≡ cache.old.sketch }
     ensures settings { cache.new.settings ≡ cache.old.settings }
 {
     let was_there = cache.contains_key(key, now);
     cache.invalidate(key, now);
     was_there
+}
+
+/// A cache whose entries live for a minute.
+pub fn minute_cache(alloc: Global, entries: u64) -> Result<Cache<u64, u32>, BuildError>
+    ensures { IfOk result (λ cache. cache.settings.policy.max_capacity ≡ Some entries) }
+{
+    Cache::builder(alloc)
+        .max_capacity(entries)
+        .time_to_live(Duration::from_secs(60))
+        .build()
+}
+
+/// The limit of a cache, by its policy.
+pub fn limit_of(policy: &Policy) -> Option<u64>
+    ensures { result ≡ policy.now.max_capacity }
+{
+    policy.max_capacity()
+}
+
+/// The moment some nanoseconds later, if there is one.
+pub fn later(now: Instant, nanos: u64) -> Option<Instant>
+    ensures { IfSome result (λ moment. moment ≡ now + nanos) }
+{
+    let nanos = now.nanos().checked_add(nanos)?;
+    Some(Instant::from_nanos(nanos))
+}
+
+/// The least recently used unexpired pair, copied.
+pub fn first_pair(cache: &Cache<u64, u32>, now: Instant) -> Option<(u64, u32)>
+    ensures { result ≡ slice_get (pairs_at cache.now now) 0 }
+{
+    let (key, value) = cache.iter(now).next()?;
+    Some((*key, *value))
+}
+
+/// Counts a use, and estimates how often the hash was used of late.
+pub fn count_use(sketch: &mut FrequencySketch, hash: u64) -> u8
+    ensures value { result ≡ estimate sketch.new hash }
+    ensures step { sketch.new ≡ after_increment sketch.old hash }
+{
+    sketch.increment(hash);
+    sketch.frequency(hash)
+}
+
+/// Takes the first element off a list, and puts another at its end, where memory serves.
+pub fn replace_first<T: Drop>(deque: &mut Deque<T>, element: T) -> Result<Option<T>, T>
+    ensures { IfOk result (λ first. first ≡ slice_get (values_of deque.old.items) 0) }
+{
+    let first = deque.pop_front();
+    match deque.push_back(element) {
+        Ok(_) => Ok(first),
+        Err(element) => Err(element),
+    }
+}
+
+/// A value with two owners.
+pub fn two_owners<T: Drop>(alloc: Global, value: T) -> Result<(Shared<T>, Shared<T>), OutOfMemory>
+    ensures { IfOk result (λ pair. (pair.0 ≡ value) × (pair.1 ≡ value)) }
+{
+    let first = Shared::new(alloc, value)?;
+    let second = first.try_clone()?;
+    Ok((first, second))
+}
+
+/// Makes one call on a core.
+pub fn call_on<K: Eq + Hash + Drop, V: Drop, S: BuildHasher + Drop>(
+    core: &mut Core<K, V, S>,
+    call: Call<K, V>,
+) -> Reply<V>
+    ensures { IsWholeCall (keys_by K.Hash S.BuildHasher S.Hasher.Hasher) unit_weighs
+        core.old call result core.new }
+{
+    core.call(call)
+}
+
+/// Makes one call on a recorded core, whose record still replays.
+pub fn record_more<K: Eq + Hash + Drop, V: Drop, S: BuildHasher + Drop>(
+    recorded: &mut Record<K, V, S>,
+    call: Call<K, V>,
+) -> Result<(), NotRecorded>
+    ensures { Replays (keys_by K.Hash S.BuildHasher S.Hasher.Hasher) recorded.new }
+{
+    let _ = recorded.apply(call)?;
+    Ok(())
+}
+
+/// Reads a script from bytes, or says that they are none.
+pub fn script_of(alloc: Global, bytes: &[u8]) -> Option<Script>
+    ensures { IfSome result (λ script. IsScript bytes.now (script_of script)) }
+{
+    script::parse(alloc, bytes).ok()
+}
+
+/// A text, where the bytes can stand as one and memory serves.
+pub fn text_of(alloc: Global, bytes: &[u8]) -> Option<Text>
+    ensures { IfSome result (λ text. text ≡ bytes.now) }
+{
+    if !script::is_text(bytes) {
+        return None;
+    }
+    Text::new(alloc, bytes).ok()
+}
+
+/// Runs a script, and says whether it ended.
+pub fn has_ended<I: Source, O: Sink>(alloc: Global, source: &mut I, sink: &mut O) -> bool
+    requires source { I.failed source.old ≡ false }
+    requires sink { O.failed sink.old ≡ false }
+    ensures { IsTrue result → (end : End) × EndsSo Global (I.remaining source.old) (Ok end) (O.contents sink.old) (O.contents sink.new) }
+{
+    script::run(alloc, source, sink).is_ok()
 }
 
 #[cfg(test)]
@@ -31,11 +159,10 @@ mod tests {
     #[test]
     fn what_is_taken_out_was_there_once(rt: HostRuntime) -> Result<(), Fail> {
         let now = Instant::from_nanos(0);
-        let mut cache: Cache<u64, u32> = Cache::new(rt.alloc(), 10)?;
+        let mut cache: Cache<u64, u32> = minute_cache(rt.alloc(), 10)?;
         cache.insert(7, 1, now)?;
-        assert!(rt; take_out(&mut cache, &7, now));
-        assert!(rt; !take_out(&mut cache, &7, now));
-        assert_eq!(rt; cache.entry_count(), 0);
+        let answers = (take_out(&mut cache, &7, now), take_out(&mut cache, &7, now));
+        assert_eq!(rt; answers, (true, false));
         Ok(())
     }
 }

@@ -3,31 +3,9 @@
 
 pub mod calling;
 #[cfg(test)]
-mod common;
+mod calls;
 #[cfg(test)]
-mod deque;
+mod faults;
 #[cfg(test)]
-mod engine;
-#[cfg(test)]
-mod grammar;
-#[cfg(test)]
-mod io_faults;
-#[cfg(test)]
-mod recorded;
-#[cfg(test)]
-mod sketch;
-#[cfg(test)]
-mod sketch_rows;
-#[cfg(test)]
-mod table;
-#[cfg(test)]
-mod unsync;
-#[cfg(test)]
-mod unsync_grammar;
-#[cfg(test)]
-mod unsync_rows;
-#[cfg(test)]
-mod unsync_runs;
+mod scripts;
 pub mod uses;
-#[cfg(test)]
-mod worked;

@@ -17,15 +17,15 @@ pub fn remember(alloc: Global, key: u64, value: u32) -> Result<Option<u32>, Buil
     let key = Shared::new(alloc, key)?;
     let value = Shared::new(alloc, value)?;
     let insert = Call::Insert {
-        key: key.again()?,
+        key: key.try_clone()?,
         value,
         now,
     };
-    if !matches!(record.apply(insert), Reply::Done) {
+    if !matches!(record.apply(insert), Ok(Reply::Done)) {
         return Err(BuildError::OutOfMemory);
     }
     match record.apply(Call::Get { key, now }) {
-        Reply::Found(Some(value)) => Ok(Some(*value.get())),
+        Ok(Reply::Found(Some(value))) => Ok(Some(*value.get())),
         _ => Ok(None),
     }
 }

@@ -1,6 +1,2 @@
-pub mod CellLemmas
-pub mod DequeLemmas
-pub mod LawLemmas
-pub mod NodesLemmas
-pub mod SketchLemmas
-pub mod UnpackedLemmas
+pub use Rattle.moka_base.proofs.KeysLemmas
+pub use Rattle.moka_deque.proofs.DequeLemmas

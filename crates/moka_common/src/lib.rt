@@ -3,13 +3,7 @@
 #![tactic(auto)]
 
 pub mod constants;
-pub mod deque;
-pub mod error;
-pub mod frequency_sketch;
-pub mod hash;
-pub mod laws;
-pub mod policy;
-pub mod settings;
-pub mod shared;
-pub mod time;
-pub mod weigh;
+
+pub use moka_base::{error, hash, policy, settings, shared, time, weigh};
+pub use moka_deque::deque;
+pub use moka_sketch::{frequency_sketch, laws};

@@ -1,5 +1,6 @@
 -- The first element that passes a test, in a list that grows or changes at one place.
-use Rattle.std.proofs.Common.{◌≡◌, ℕ, suc, ◌+◌, ◌<◌, Bool, true, false, cond, List, [], ◌∷◌, ◌++◌, length, get_or, take, drop, Option, Some, None, refl, sym, ◌∙◌, ap}
+use Rattle.std.proofs.Common.{◌≡◌, ℕ, suc, ◌+◌, ◌<◌, Bool, true, false, cond, List, [], ◌∷◌, ◌++◌, length, get_or, take, drop, Option, Some}
+use Rattle.std.proofs.Common.{None, refl, sym, ◌∙◌, ap}
 use Rattle.std.proofs.Math.ListN.{set}
 use Rattle.std.proofs.Math.Seq.{drop-cons}
 use Rattle.std.specs.List.{find}
@@ -22,12 +23,14 @@ module _ {X : Type 0} (p : X → Bool) where
   find-behind xs y ys none = rw (find-append, none) refl
 
   -- one more element that fails
-  pub find-take_more : (xs : List X) (i : ℕ) (x : X) → i < length xs → x ≡ get_or xs i x → p x ≡ false → find p (take i xs) ≡ None → find p (take (i + 1) xs) ≡ None
+  pub find-take_more : (xs : List X) (i : ℕ) (x : X) → i < length xs → x ≡ get_or xs i x → p x ≡ false → find p (take i xs) ≡ None
+      → find p (take (i + 1) xs) ≡ None
   find-take_more xs i x below read fails none =
       ap (find p) (take_more xs i x below) ∙ find-behind (take i xs) (get_or xs i x) [] none ∙ (rw (← read, fails) refl)
 
   -- the first that passes, where it stands
-  pub find-at : (xs : List X) (i : ℕ) (x : X) → i < length xs → x ≡ get_or xs i x → p x ≡ true → find p (take i xs) ≡ None → find p xs ≡ Some x
+  pub find-at : (xs : List X) (i : ℕ) (x : X) → i < length xs → x ≡ get_or xs i x → p x ≡ true → find p (take i xs) ≡ None
+      → find p xs ≡ Some x
   find-at xs i x below read passes none =
       ap (find p) (split_at_place xs i x below read) ∙ find-behind (take i xs) x (drop (suc i) xs) none ∙ (rw passes refl)
 
@@ -37,7 +40,8 @@ module _ {X : Type 0} (p : X → Bool) where
       ap (find p) (set_split xs i y below) ∙ find-behind (take i xs) y (drop (suc i) xs) none ∙ (rw passes refl)
 
   -- an element that fails, in the place of one that fails
-  pub find-set_miss : (xs : List X) (i : ℕ) (x y : X) → i < length xs → x ≡ get_or xs i x → p x ≡ false → p y ≡ false → find p (set xs i y) ≡ find p xs
+  pub find-set_miss : (xs : List X) (i : ℕ) (x y : X) → i < length xs → x ≡ get_or xs i x → p x ≡ false → p y ≡ false
+      → find p (set xs i y) ≡ find p xs
   find-set_miss xs i x y below read fails fails' =
       let after : find p (set xs i y) ≡ find p (take i xs ++ y ∷ drop (suc i) xs) = ap (find p) (set_split xs i y below) in
       let before : find p xs ≡ find p (take i xs ++ x ∷ drop (suc i) xs) = ap (find p) (split_at_place xs i x below read) in

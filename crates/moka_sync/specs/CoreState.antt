@@ -1,15 +1,9 @@
 -- What a contract sees of the core: its settings, the map from keys to entries, and the ticket numbers to come.
-use Rattle.std.specs.Prelude.{◌≡◌, ℕ, Bool, cond, ◌%◌, List, [], replicate, Option, None, Some}
+use Rattle.std.specs.Prelude.{◌≡◌, ℕ, Bool, false, cond, ◌%◌, List, [], replicate, Option, None, Some}
 use Rattle.std.specs.List.{find}
+use Rattle.moka_base.specs.Settings.{Settings}
 use Rattle.moka_sync.specs.declared.constants.TheConstants.{SHARDS}
 use Rattle.moka_sync.specs.Entry.{Entry}
-
--- the hash state, and the limits where they are set: a weight, and two durations in nanoseconds
-pub record Settings (S : Type 0) : Type 0 where
-  pub hash_state : S
-  pub max_capacity : Option ℕ
-  pub time_to_live : Option ℕ
-  pub time_to_idle : Option ℕ
 
 -- the map's entries in no particular order, and the number that each shard's next ticket has
 pub record CoreState (K V S : Type 0) : Type 0 where
@@ -17,9 +11,10 @@ pub record CoreState (K V S : Type 0) : Type 0 where
   pub entries : List (Entry K V)
   pub next_numbers : List ℕ
 
--- no limit and no durations
+-- no limit, no durations and no weigher
 abbrev pub unlimited : {S : Type 0} → S → Settings S
-unlimited state = record { hash_state = state; max_capacity = None; time_to_live = None; time_to_idle = None }
+unlimited state =
+    record { hash_state = state; policy = record { max_capacity = None; time_to_live = None; time_to_idle = None }; is_weighed = false }
 
 -- a core as it is built, with this first ticket number in each shard
 abbrev pub new_core : {K V S : Type 0} → Settings S → ℕ → CoreState K V S

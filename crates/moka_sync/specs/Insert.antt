@@ -1,7 +1,7 @@
 -- What an insert does to the entry at its key.
 use Rattle.std.specs.Prelude.{◌==◌, ℕ, ◌+◌, Bool, true, false, cond, Option, None, Some, Result, Ok, Err}
-use Rattle.moka_common.specs.declared.error.InsertError.{InsertError}
-use Rattle.moka_common.specs.declared.error.InsertError.TheVariants.{OutOfMemory, TicketsUsedUp}
+use Rattle.moka_base.specs.declared.error.InsertError.{InsertError}
+use Rattle.moka_base.specs.declared.error.InsertError.TheVariants.{OutOfMemory, TicketsUsedUp}
 use Rattle.moka_sync.specs.declared.constants.TheConstants.{NO_TICKET}
 use Rattle.moka_sync.specs.Entry.{Entry}
 

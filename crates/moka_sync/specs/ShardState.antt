@@ -2,8 +2,8 @@
 use Rattle.std.specs.Prelude.{◌≡◌, ℕ, ◌<◌, Bool, List, map, Result, IsOk, MatchResult}
 use Rattle.std.specs.Prelude.{Err}
 use Rattle.std.specs.List.{All, IsDistinct}
-use Rattle.moka_common.specs.declared.error.InsertError.{InsertError}
-use Rattle.moka_common.specs.Keys.{Keys}
+use Rattle.moka_base.specs.declared.error.InsertError.{InsertError}
+use Rattle.moka_base.specs.Keys.{Keys}
 use Rattle.moka_sync.specs.Entry.{Entry}
 use Rattle.moka_sync.specs.CoreState.{entry_at, shard_of, PutsEntry}
 use Rattle.moka_sync.specs.Insert.{entry_after_insert, number_after_insert}

@@ -1,7 +1,7 @@
 -- How the core lies in shards. No public clause cites this module.
 use Rattle.std.specs.Prelude.{◌≡◌, ℕ, suc, List, [], ◌∷◌, map, length}
 use Rattle.std.specs.List.{flat_map}
-use Rattle.moka_common.specs.Keys.{Keys}
+use Rattle.moka_base.specs.Keys.{Keys}
 use Rattle.moka_sync.specs.declared.constants.TheConstants.{SHARDS}
 use Rattle.moka_sync.specs.Entry.{Entry}
 use Rattle.moka_sync.specs.CoreState.{CoreState, unlimited}

@@ -1,8 +1,8 @@
 -- The steps that calls are made of: what each replies and what it leaves.
 use Rattle.std.specs.Prelude.{◌≡◌, ℕ, Bool, true, false, slice_index, slice_set, Option, None, Some, option_map, is_some, Result, Ok, Err, MatchResult}
-use Rattle.moka_common.specs.declared.error.InsertError.{InsertError}
-use Rattle.moka_common.specs.declared.error.InsertError.TheVariants as refusal
-use Rattle.moka_common.specs.Keys.{Keys}
+use Rattle.moka_base.specs.declared.error.InsertError.{InsertError}
+use Rattle.moka_base.specs.declared.error.InsertError.TheVariants as refusal
+use Rattle.moka_base.specs.Keys.{Keys}
 use Rattle.moka_sync.specs.declared.engine.call.Reply.{Reply}
 use Rattle.moka_sync.specs.declared.engine.call.Reply.TheVariants.{Done, Found, Bool as BoolReply, OutOfMemory, TicketsUsedUp}
 use Rattle.moka_sync.specs.Entry.{Entry, fresh_entry}

@@ -1,6 +1,7 @@
 //! The cache without its locks: a map in shards, and the calls on it.
 ghost use Rattle.std.specs.Prelude.{◌≡◌, ◌↔◌, ℕ, ◌%◌, Bool, false, List, IfOk, IfErr, IsTrue, length, slice_index};
-ghost use Rattle.moka_common.specs.Keys.{keys_of};
+ghost use Rattle.moka_base.specs.Keys.{keys_by};
+ghost use Rattle.moka_base.specs.Weight.{unit_weighs};
 
 mod call;
 mod entry;
@@ -9,11 +10,12 @@ mod shard;
 use crate::constants::SHARDS;
 pub use call::{Call, Reply};
 pub use entry::{Entry, Ticket};
-use moka_common::error::BuildError;
-use moka_common::hash::FixedState;
-use moka_common::shared::Shared;
-use moka_common::time::Instant;
-use moka_common::weigh::UnitWeight;
+use moka_base::constants::UNIT_WEIGHT;
+use moka_base::error::BuildError;
+use moka_base::hash::FixedState;
+use moka_base::shared::Shared;
+use moka_base::time::Instant;
+use moka_base::weigh::UnitWeight;
 pub use shard::Shard;
 use shard::{are_as_built, shards_as_built};
 use std::alloc::{Allocator, Global};
@@ -40,7 +42,7 @@ impl<
     W: Drop,
     A: Allocator + Clone + Drop,
 > Model for Core<K, V, S, W, A> {
-    ghost use Rattle.moka_common.specs.Keys.{keys_of};
+    ghost use Rattle.moka_base.specs.Keys.{keys_by};
     ghost use Rattle.moka_sync.specs.CoreState.{CoreState};
     ghost use Rattle.moka_sync.specs.Shards.{AreShards, core_of};
 
@@ -49,7 +51,7 @@ impl<
     ghost view = { λ c. core_of c.hash_state c.shards.items };
 
     ghost invariant = { λ c. AreShards
-        (keys_of (record { eq = K.eq; hash_input = K.hash_input }) S.BuildHasher S.Hasher.Hasher)
+        (keys_by (record { eq = K.eq; hash_input = K.hash_input }) S.BuildHasher S.Hasher.Hasher)
         c.hash_state c.shards.items };
 }
 
@@ -91,19 +93,19 @@ impl<K: Eq + Hash + Drop, V: Drop, S: BuildHasher + Drop, A: Allocator + Clone +
 
     /// Makes one whole call, and replies to it.
     pub fn call(&mut self, call: Call<K, V, A>) -> Reply<V, A>
-        ensures step { (refused : List Bool) ×
-            IsWholeCall (keys_of K.Hash S.BuildHasher S.Hasher.Hasher) self.old call 1 refused result self.new }
+        ensures step { IsWholeCall (keys_by K.Hash S.BuildHasher S.Hasher.Hasher) unit_weighs
+            self.old call result self.new }
     {
         match call {
             Call::Insert { key, value, now } => self.insert(key, value, now),
             Call::Get { key, now } => self.get(key.get(), now),
-            Call::Contains { key, now } => self.contains(key.get(), now),
+            Call::Contains { key, now } => self.contains_key(key.get(), now),
         }
     }
 
     fn insert(&mut self, key: Shared<K, A>, value: Shared<V, A>, now: Instant) -> Reply<V, A>
-        ensures step { (refused : Bool) × IsStep (keys_of K.Hash S.BuildHasher S.Hasher.Hasher)
-            self.old (Insert key value now) 1 refused result self.new }
+        ensures step { (refused : Bool) × IsStep (keys_by K.Hash S.BuildHasher S.Hasher.Hasher)
+            self.old (Insert key value now) UNIT_WEIGHT refused result self.new }
     {
         let hash = self.hash_state.get().hash_one(key.get());
         let shard = &mut self.shards[(hash % SHARDS as u64) as usize];
@@ -112,8 +114,8 @@ impl<K: Eq + Hash + Drop, V: Drop, S: BuildHasher + Drop, A: Allocator + Clone +
     }
 
     fn get(&self, key: &K, now: Instant) -> Reply<V, A>
-        ensures step { (refused : Bool) × IsStep (keys_of K.Hash S.BuildHasher S.Hasher.Hasher)
-            self.now (Get key.now now) 1 refused result self.now }
+        ensures step { (refused : Bool) × IsStep (keys_by K.Hash S.BuildHasher S.Hasher.Hasher)
+            self.now (Get key.now now) UNIT_WEIGHT refused result self.now }
     {
         match self.shard_of(key).get(key) {
             Ok(found) => Reply::Found(found),
@@ -121,11 +123,11 @@ impl<K: Eq + Hash + Drop, V: Drop, S: BuildHasher + Drop, A: Allocator + Clone +
         }
     }
 
-    fn contains(&self, key: &K, now: Instant) -> Reply<V, A>
-        ensures step { IsStep (keys_of K.Hash S.BuildHasher S.Hasher.Hasher)
-            self.now (Contains key.now now) 1 false result self.now }
+    fn contains_key(&self, key: &K, now: Instant) -> Reply<V, A>
+        ensures step { IsStep (keys_by K.Hash S.BuildHasher S.Hasher.Hasher)
+            self.now (Contains key.now now) UNIT_WEIGHT false result self.now }
     {
-        Reply::Bool(self.shard_of(key).contains(key))
+        Reply::Bool(self.shard_of(key).contains_key(key))
     }
 
     /// The shard that a key belongs to.

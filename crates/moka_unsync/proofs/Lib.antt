@@ -1,13 +1,3 @@
-pub mod NodeLemmas
-pub mod StoreLemmas
-pub mod FindLemmas
-pub mod ChangeLemmas
-pub mod TrimLemmas
 pub mod CachedLemmas
-pub mod AdmitLemmas
-pub mod InvalidateLemmas
+pub mod IterateLemmas
 pub mod RunLemmas
-pub mod RemainLemmas
-pub mod LimitLemmas
-pub mod KeyLemmas
-pub mod MapLemmas

@@ -1,10 +1,10 @@
 -- What a contract sees of a builder: what was set.
 use Rattle.std.specs.Prelude.{◌≡◌, ℕ, Bool, false, Option, None, unwrap_or}
-use Rattle.moka_common.specs.declared.error.BuildError.{BuildError}
-use Rattle.moka_common.specs.declared.error.BuildError.TheVariants.{OutOfMemory}
-use Rattle.moka_common.specs.Policy.{Policy}
-use Rattle.moka_common.specs.Settings.{duration_fault}
-use Rattle.moka_unsync.specs.CacheState.{CacheState, idle_nanos, live_nanos, new_cache}
+use Rattle.moka_base.specs.declared.error.BuildError.{BuildError}
+use Rattle.moka_base.specs.declared.error.BuildError.TheVariants.{OutOfMemory}
+use Rattle.moka_base.specs.Policy.{Policy}
+use Rattle.moka_base.specs.Settings.{duration_fault, idle_nanos, live_nanos}
+use Rattle.moka_machine.specs.CacheState.{CacheState, new_cache}
 
 -- the limits, for how many entries there is room from the start, and the weigher, if one was given
 pub record Builder (W : Type 0) : Type 0 where

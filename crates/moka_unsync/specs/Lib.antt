@@ -1,17 +1,15 @@
-pub mod Contents
-pub mod CacheState
+pub use Rattle.moka_machine.specs.Contents
+pub use Rattle.moka_machine.specs.CacheState
 pub mod Builder
-pub mod Expire
-pub mod Lookup
-pub mod Insert
-pub mod Invalidate
-pub mod Step
+pub use Rattle.moka_machine.specs.Upkeep
+pub use Rattle.moka_machine.specs.Lookup
+pub use Rattle.moka_machine.specs.Insert
+pub use Rattle.moka_machine.specs.Invalidate
+pub use Rattle.moka_machine.specs.Iterate
+pub use Rattle.moka_machine.specs.Step
 pub mod Runs
-pub mod Laws
-pub mod PlainMap
+pub use Rattle.moka_laws.specs.Laws
+pub use Rattle.moka_laws.specs.PlainMap
 pub mod CacheLends
 -- inside
-pub mod Store
-pub mod Nodes
-pub mod Turns
 pub mod Cached

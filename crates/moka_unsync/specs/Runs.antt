@@ -5,7 +5,7 @@ use Rattle.moka_unsync.specs.declared.runs.Call.{Call}
 use Rattle.moka_unsync.specs.declared.runs.Call.TheVariants as call
 use Rattle.moka_unsync.specs.declared.runs.Reply.{Reply}
 use Rattle.moka_unsync.specs.declared.runs.Reply.TheVariants as reply
-use Rattle.moka_unsync.specs.Step.{Answer, Request, Get, ContainsKey, Insert, Invalidate, InvalidateAll, EntryCount, WeightedSize, Found, Told, Done, OutOfMemory, Pairs, Number}
+use Rattle.moka_machine.specs.Step.{Answer, Request, Get, ContainsKey, Insert, Invalidate, InvalidateAll, EntryCount, WeightedSize, Found, Truth, Done, OutOfMemory, Pairs, Number}
 
 -- a reply tells what was found: it has one more owner of it, or that is refused
 abbrev pub TellsFound : {V A : Type 0} → Option (Rc V A) → Reply V A → Type 0
@@ -26,7 +26,7 @@ module _ {K V A : Type 0} where
   -- a reply tells an answer
   abbrev pub Tells : Answer K (Rc V A) → Reply V A → Type 0
   Tells (Found found) told = TellsFound found told
-  Tells (Told answer) told = told ≡ reply.Bool answer
+  Tells (Truth answer) told = told ≡ reply.Bool answer
   Tells Done told = told ≡ reply.Done
   Tells OutOfMemory told = told ≡ reply.OutOfMemory
   Tells (Pairs pairs) told = ⊥

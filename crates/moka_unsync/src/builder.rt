@@ -3,11 +3,11 @@ ghost use Rattle.std.specs.Prelude.{◌≡◌, true, None, Some, IfErr, IfOk};
 ghost use Rattle.moka_unsync.specs.Builder.{IsBuilt, new_builder, refusal_of};
 
 use crate::cache::{Cache, Parts};
-use moka_common::error::BuildError;
-use moka_common::hash::FixedState;
-use moka_common::policy::Policy;
-use moka_common::settings::duration_fault;
-use moka_common::weigh::{UnitWeight, Weigh};
+use moka_base::error::BuildError;
+use moka_base::hash::FixedState;
+use moka_base::policy::Policy;
+use moka_base::settings::duration_fault;
+use moka_base::weigh::{UnitWeight, Weigh};
 use std::alloc::{Allocator, Global};
 use std::hash::{BuildHasher, Hash};
 use std::marker::{Model, PhantomData};

@@ -1,43 +1,35 @@
 //! The cache for one thread.
 ghost use Rattle.std.specs.Prelude.{◌≡◌, ◌<◌, ◌-◌, ◌^◌, Bool, List, false, length, min, None, Some, option_copied, IfErr, IfOk, OnErr, OnOk};
 ghost use Rattle.std.specs.Borrow.{sem};
-ghost use Rattle.moka_common.specs.Keys.{keys_of};
-ghost use Rattle.moka_common.specs.Enabling.{expected_entries};
+ghost use Rattle.moka_base.specs.Keys.{keys_by};
+ghost use Rattle.moka_sketch.specs.Enabling.{expected_entries};
 ghost use Rattle.moka_unsync.specs.Builder.{new_builder};
-ghost use Rattle.moka_unsync.specs.CacheState.{new_cache};
-ghost use Rattle.moka_unsync.specs.Contents.{total_weight, weighted_size};
-ghost use Rattle.moka_unsync.specs.Expire.{after_upkeep};
-ghost use Rattle.moka_unsync.specs.Lookup.{after_get, after_look, found_by_get, is_contained, is_expired};
-ghost use Rattle.moka_unsync.specs.Insert.{IsInserted, after_asking};
-ghost use Rattle.moka_unsync.specs.Invalidate.{AnswersInTurn, after_invalidate, after_invalidate_all, after_invalidate_if, pairs_at};
-ghost use Rattle.moka_unsync.specs.Turns.{Continues, contents_of};
+ghost use Rattle.moka_machine.specs.CacheState.{new_cache};
+ghost use Rattle.moka_machine.specs.Contents.{total_weight, weighted_size};
+ghost use Rattle.moka_machine.specs.Lookup.{after_get, after_look, found_by_get, is_contained};
+ghost use Rattle.moka_machine.specs.Insert.{IsInserted, after_asking};
+ghost use Rattle.moka_machine.specs.Invalidate.{AnswersInTurn, after_invalidate, after_invalidate_all, after_invalidate_if};
+ghost use Rattle.moka_machine.specs.Iterate.{pairs_at};
 
-mod admit;
 mod debug;
-mod entry;
-mod expire;
-mod invalidate;
 mod iter;
-mod store;
-mod trim;
 
 use crate::builder::CacheBuilder;
-use admit::admit;
-use entry::Entry;
-use expire::expire;
-use invalidate::{clear, remove_key, remove_where};
 pub use iter::Iter;
-use moka_common::error::{BuildError, InsertError, OutOfMemory};
-use moka_common::frequency_sketch::{FrequencySketch, sketch_capacity};
-use moka_common::hash::FixedState;
-use moka_common::policy::Policy;
-use moka_common::time::{Instant, idle_expired, live_expired};
-use moka_common::weigh::{UnitWeight, Weigh};
+use moka_base::error::{BuildError, InsertError, OutOfMemory};
+use moka_base::hash::FixedState;
+use moka_base::policy::Policy;
+use moka_base::time::Instant;
+use moka_base::weigh::{UnitWeight, Weigh};
+use moka_machine::entry::Entry;
+use moka_sketch::frequency_sketch::{FrequencySketch, sketch_capacity};
+use moka_store::admit::admit;
+use moka_store::expire::{is_expired, upkeep};
+use moka_store::invalidate::{clear, remove_key, remove_where};
+use moka_store::store::Store;
 use std::alloc::{Allocator, Global};
 use std::hash::{BuildHasher, Hash};
 use std::marker::Model;
-use store::Store;
-use trim::trim;
 
 /// What a cache is built of.
 #[derive(Drop)]
@@ -120,10 +112,10 @@ impl<
     W: Drop,
     A: Allocator + Clone + Drop,
 > Model for Cache<K, V, S, W, A> {
-    ghost use Rattle.moka_common.specs.Keys.{keys_of};
-    ghost use Rattle.moka_unsync.specs.CacheState.{CacheState};
+    ghost use Rattle.moka_base.specs.Keys.{keys_by};
+    ghost use Rattle.moka_machine.specs.CacheState.{CacheState};
     ghost use Rattle.moka_unsync.specs.Cached.{IsCached};
-    ghost use Rattle.moka_unsync.specs.Turns.{contents_of};
+    ghost use Rattle.moka_store.specs.Turns.{contents_of};
 
     ghost Value = { CacheState K V S W };
 
@@ -135,7 +127,7 @@ impl<
     } };
 
     ghost invariant = { λ c. IsCached
-        (keys_of (record { eq = K.eq; hash_input = K.hash_input }) S.BuildHasher S.Hasher.Hasher)
+        (keys_by (record { eq = K.eq; hash_input = K.hash_input }) S.BuildHasher S.Hasher.Hasher)
         c.hash_state c.policy c.store };
 }
 
@@ -217,11 +209,11 @@ impl<
     /// Whether the key has an unexpired entry. It is no use of it: neither its moments nor its place nor the popularity of the key change.
     pub fn contains_key(&mut self, key: &K, now: Instant) -> bool
         ensures value { result
-            ≡ is_contained (keys_of K.Hash S.BuildHasher S.Hasher.Hasher) self.old key.now now }
+            ≡ is_contained (keys_by K.Hash S.BuildHasher S.Hasher.Hasher) self.old key.now now }
         ensures step { self.new
-            ≡ after_look (keys_of K.Hash S.BuildHasher S.Hasher.Hasher) self.old now }
+            ≡ after_look (keys_by K.Hash S.BuildHasher S.Hasher.Hasher) self.old now }
     {
-        keep_up(&mut self.store, self.policy, now);
+        upkeep(&mut self.store, self.policy, now);
         let hash = self.hash_state.hash_one(key);
         match self.store.find(key, hash) {
             Some(id) => !is_expired(self.policy, self.store.get(id), now),
@@ -233,11 +225,11 @@ impl<
     pub fn get(&mut self, key: &K, now: Instant) -> Option<&V>
         ensures* step { sem 𝓛 (ends_as K.row V.row S.row W.row A.row S.Hasher.row
             K.Hash S.BuildHasher S.Hasher.Hasher A.Allocator A.Clone self.entry
-            (after_get (keys_of K.Hash S.BuildHasher S.Hasher.Hasher) self.old key.now now)) }
+            (after_get (keys_by K.Hash S.BuildHasher S.Hasher.Hasher) self.old key.now now)) }
         ensures value { option_copied result
-            ≡ found_by_get (keys_of K.Hash S.BuildHasher S.Hasher.Hasher) self.old key.now now }
+            ≡ found_by_get (keys_by K.Hash S.BuildHasher S.Hasher.Hasher) self.old key.now now }
     {
-        keep_up(&mut self.store, self.policy, now);
+        upkeep(&mut self.store, self.policy, now);
         let hash = self.hash_state.hash_one(key);
         self.sketch.increment(hash);
         let id = self.store.find(key, hash)?;
@@ -251,11 +243,11 @@ impl<
     /// Removes the entry of the key, if there is one. What was counted of the key stays.
     pub fn invalidate(&mut self, key: &K, now: Instant)
         ensures step { self.new
-            ≡ after_invalidate (keys_of K.Hash S.BuildHasher S.Hasher.Hasher) self.old key.now now }
+            ≡ after_invalidate (keys_by K.Hash S.BuildHasher S.Hasher.Hasher) self.old key.now now }
     {
         let hash = self.hash_state.hash_one(key);
         let store = &mut self.store;
-        keep_up(store, self.policy, now);
+        upkeep(store, self.policy, now);
         remove_key(store, key, hash);
     }
 
@@ -272,7 +264,7 @@ impl<
         requires { F.IsAlwaysCallable predicate }
         ensures step { (answers : List Bool)
             × AnswersInTurn F.step predicate self.old.contents.entries answers
-            × (self.new ≡ after_invalidate_if (keys_of K.Hash S.BuildHasher S.Hasher.Hasher) self.old answers) }
+            × (self.new ≡ after_invalidate_if (keys_by K.Hash S.BuildHasher S.Hasher.Hasher) self.old answers) }
     {
         remove_where(&mut self.store, predicate);
     }
@@ -333,7 +325,7 @@ impl<
     /// weigher is asked once otherwise.
     pub fn insert(&mut self, key: K, value: V, now: Instant) -> Result<(), InsertError>
         requires ready { W.ready self.old.weigher }
-        ensures step { OnOk result (IsInserted (keys_of K.Hash S.BuildHasher S.Hasher.Hasher)
+        ensures step { OnOk result (IsInserted (keys_by K.Hash S.BuildHasher S.Hasher.Hasher)
             W.weighs self.old key value now self.new) }
         ensures err { OnErr result (self.new ≡ self.old) }
         ensures error { IfErr result (λ error. error ≡ InsertError.OutOfMemory) }
@@ -342,7 +334,7 @@ impl<
         if self.store.reserve(1).is_err() {
             return Err(InsertError::OutOfMemory);
         }
-        keep_up(&mut self.store, self.policy, now);
+        upkeep(&mut self.store, self.policy, now);
         let entry = Entry {
             hash: self.hash_state.hash_one(&key),
             weight: self.weigher.weigh(&key, &value),
@@ -366,25 +358,4 @@ impl<
         }
         Ok(())
     }
-}
-
-/// What each call does first: expired entries leave, and entries above the limit.
-fn keep_up<K: Eq + Drop, V: Drop, A: Allocator + Clone + Drop>(
-    store: &mut Store<K, V, A>,
-    policy: Policy,
-    now: Instant,
-)
-    ensures step { contents_of store.new ≡ after_upkeep K.eq policy now (contents_of store.old) }
-    ensures kept { Continues store.old store.new }
-{
-    expire(store, policy, now);
-    trim(store, policy.max_capacity());
-}
-
-/// Whether an entry is expired, for either reason.
-fn is_expired<K: Drop, V: Drop>(policy: Policy, entry: &Entry<K, V>, now: Instant) -> bool
-    ensures { result ≡ is_expired policy now entry.now }
-{
-    live_expired(policy.time_to_live(), entry.modified, now)
-        || idle_expired(policy.time_to_idle(), entry.accessed, now)
 }

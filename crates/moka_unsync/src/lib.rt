@@ -3,6 +3,7 @@
 
 pub mod builder;
 pub mod cache;
-pub mod constants;
-pub mod laws;
 pub mod runs;
+
+pub use moka_laws::laws;
+pub use moka_machine::{constants, entry};

@@ -1,13 +1,13 @@
 //! Calls as data, and lists of them made in turn.
 ghost use Rattle.std.specs.Prelude.{◌≡◌, List, map, option_copied, IfOk, OnErr};
-ghost use Rattle.moka_common.specs.Keys.{keys_of};
+ghost use Rattle.moka_base.specs.Keys.{keys_by};
 ghost use Rattle.moka_unsync.specs.Runs.{AllTell, Tells, TellsFound, request_of};
-ghost use Rattle.moka_unsync.specs.Step.{Answer, IsStep, Runs};
+ghost use Rattle.moka_machine.specs.Step.{Answer, IsStep, Runs};
 
 use crate::cache::Cache;
-use moka_common::error::OutOfMemory;
-use moka_common::time::Instant;
-use moka_common::weigh::Weigh;
+use moka_base::error::OutOfMemory;
+use moka_base::time::Instant;
+use moka_base::weigh::Weigh;
 use std::alloc::{Allocator, Global};
 use std::hash::{BuildHasher, Hash};
 use std::rc::Rc;
@@ -75,7 +75,7 @@ pub fn run<
 ) -> Result<Vec<Reply<V, A>, A>, OutOfMemory>
     requires ready { W.ready cache.old.weigher }
     ensures ok { IfOk result (λ replies. (answers : List (Answer K (Rc V A)))
-        × Runs (keys_of K.Hash S.BuildHasher S.Hasher.Hasher) W.weighs cache.old (map request_of calls.items) answers cache.new
+        × Runs (keys_by K.Hash S.BuildHasher S.Hasher.Hasher) W.weighs cache.old (map request_of calls.items) answers cache.new
         × AllTell answers replies.items) }
     ensures err { OnErr result (cache.new ≡ cache.old) }
     ensures ready { W.ready cache.new.weigher }
@@ -97,12 +97,12 @@ fn reply_to<
 >(cache: &mut Cache<K, Rc<V, A>, S, W, A>, call: Call<K, V, A>) -> Reply<V, A>
     requires ready { W.ready cache.old.weigher }
     ensures step { (answer : Answer K (Rc V A))
-        × IsStep (keys_of K.Hash S.BuildHasher S.Hasher.Hasher) W.weighs cache.old (request_of call) answer cache.new
+        × IsStep (keys_by K.Hash S.BuildHasher S.Hasher.Hasher) W.weighs cache.old (request_of call) answer cache.new
         × Tells answer result }
     ensures ready { W.ready cache.new.weigher }
 {
     match call {
-        Call::Get { key, now } => again(cache.get(&key, now)),
+        Call::Get { key, now } => try_clone(cache.get(&key, now)),
         Call::Contains { key, now } => Reply::Bool(cache.contains_key(&key, now)),
         Call::Insert { key, value, now } => match cache.insert(key, value, now) {
             Ok(()) => Reply::Done,
@@ -122,7 +122,7 @@ fn reply_to<
 }
 
 /// One more owner of what was found.
-fn again<V: Drop, A: Allocator + Drop>(found: Option<&Rc<V, A>>) -> Reply<V, A>
+fn try_clone<V: Drop, A: Allocator + Drop>(found: Option<&Rc<V, A>>) -> Reply<V, A>
     ensures { TellsFound (option_copied found.entry) result }
 {
     match found {

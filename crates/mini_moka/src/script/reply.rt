@@ -1,156 +1,128 @@
-// How replies are written.
-ghost use Rattle.std.specs.Prelude.{◌≡◌, List, ◌∷◌, ◌++◌, OnOk, codes, is_err, option_copied, option_map};
+// Replies, and how they are written.
+ghost use Rattle.std.specs.Prelude.{◌≡◌, List, [], ◌∷◌, ◌++◌, OnOk, codes, option_copied, option_map};
 ghost use Rattle.std.specs.Duration.{as_nanos};
 ghost use Rattle.std.specs.Fmt.{decimal};
 ghost use Rattle.std.specs.List.{flat_map};
-ghost use Rattle.mini_moka.specs.ReplyText.{done_words, found_words, insert_words, limit_words, nanos_words, pair_words, pairs_words, policy_words, reply_words, sketch_reply_words, truth_words, written};
-ghost use Rattle.mini_moka.specs.Spelling.{space};
+ghost use Rattle.moka_grammar.specs.Spelling.{line_feed, space};
+ghost use Rattle.mini_moka.specs.Reply.{Found, Refused, limit_words, nanos_words, pair_words, pairs_words, policy_words, reply_line};
+ghost use Rattle.mini_moka.specs.ReplyValue.{pairs_of, reply_of};
 
 use crate::script::stored::Stored;
-use crate::script::text::Text;
-use moka_common::error::InsertError;
+use moka_common::error::BuildError;
 use moka_common::policy::Policy;
-use moka_sync::engine::Reply;
-use moka_unsync::cache::Iter;
+use moka_grammar::text::Text;
 use std::alloc::{AllocError, Allocator};
 use std::time::Duration;
 
-/// The reply to a line of a sketch script.
-#[derive(Clone, Copy, Debug, PartialEq, Eq)]
-pub(super) enum SketchReply {
+/// What is told on a line. Texts and pairs are lent by what has them.
+#[derive(Drop)]
+pub(super) enum ReplyValue<'a> {
+    /// The cache or sketch of a first line is there.
+    Ready,
+    /// The cache of a first line isn't built.
+    Refused(BuildError),
     Done,
+    Found(Option<&'a [u8]>),
+    Truth(bool),
     Number(u64),
+    /// Keys with their texts.
+    Pairs(&'a [(u64, &'a [u8])]),
+    Limits(&'a Policy),
     OutOfMemory,
+    TicketsUsedUp,
+}
+
+/// What a get finds, as a reply.
+pub(super) fn found<A: Allocator + Clone + Drop>(stored: Option<&Stored<Text<A>>>) -> ReplyValue<'_>
+    ensures { reply_of result ≡ Found (option_map (λ s. s.text) (option_copied stored.entry)) }
+{
+    match stored {
+        Some(stored) => ReplyValue::Found(Some(stored.text.as_bytes())),
+        None => ReplyValue::Found(None),
+    }
 }
 
 /// Adds the line of a reply to the text.
 pub(super) fn push_reply<A: Allocator + Clone + Drop>(
     text: &mut Vec<u8, A>,
-    reply: &Reply<Text<A>, A>,
+    reply: ReplyValue<'_>,
 ) -> Result<(), AllocError>
-    ensures { OnOk result (text.new.items ≡ text.old.items ++ written (reply_words reply.now)) }
+    ensures { OnOk result (text.new.items ≡ text.old.items ++ reply_line (reply_of reply.entry)) }
 {
     match reply {
-        Reply::Done => text.extend_from_slice(b"ok\n"),
-        Reply::Found(Some(value)) => push_value(text, value.get()),
-        Reply::Found(None) => text.extend_from_slice(b"none\n"),
-        Reply::Bool(true) => text.extend_from_slice(b"true\n"),
-        Reply::Bool(false) => text.extend_from_slice(b"false\n"),
-        Reply::OutOfMemory | Reply::NotRecorded => text.extend_from_slice(b"refused memory\n"),
-        Reply::TicketsUsedUp => text.extend_from_slice(b"refused tickets\n"),
+        ReplyValue::Ready => text.extend_from_slice(b"ready\n"),
+        ReplyValue::Refused(error) => push_refused(text, error),
+        ReplyValue::Done => text.extend_from_slice(b"ok\n"),
+        ReplyValue::Found(Some(found)) => push_found(text, found),
+        ReplyValue::Found(None) => text.extend_from_slice(b"none\n"),
+        ReplyValue::Truth(true) => text.extend_from_slice(b"true\n"),
+        ReplyValue::Truth(false) => text.extend_from_slice(b"false\n"),
+        ReplyValue::Number(number) => push_number(text, number),
+        ReplyValue::Pairs(pairs) => push_pairs(text, pairs),
+        ReplyValue::Limits(policy) => push_policy(text, *policy),
+        ReplyValue::OutOfMemory => text.extend_from_slice(b"refused memory\n"),
+        ReplyValue::TicketsUsedUp => text.extend_from_slice(b"refused tickets\n"),
     }
 }
 
-fn push_value<A: Allocator + Clone + Drop>(
+fn push_refused<A: Allocator + Clone + Drop>(
     text: &mut Vec<u8, A>,
-    value: &Text<A>,
+    error: BuildError,
 ) -> Result<(), AllocError>
-    ensures { OnOk result (text.new.items ≡ text.old.items ++ written (codes "some " ++ value.now)) }
+    ensures { OnOk result (text.new.items ≡ text.old.items ++ reply_line (Refused error)) }
 {
-    text.extend_from_slice(b"some ")?;
-    text.extend_from_slice(value.as_bytes())?;
+    text.extend_from_slice(b"refused ")?;
+    text.extend_from_slice(error.text().as_bytes())?;
     text.extend_from_slice(b"\n")
 }
 
-/// Adds the line of a sketch's reply to the text.
-pub(super) fn push_sketch_reply<A: Allocator + Clone + Drop>(
+fn push_found<A: Allocator + Clone + Drop>(
     text: &mut Vec<u8, A>,
-    reply: SketchReply,
+    found: &[u8],
 ) -> Result<(), AllocError>
-    ensures { OnOk result (text.new.items ≡ text.old.items ++ written (sketch_reply_words reply)) }
+    ensures { OnOk result (text.new.items ≡ text.old.items ++ (codes "some " ++ found.now ++ line_feed ∷ [])) }
 {
-    match reply {
-        SketchReply::Done => text.extend_from_slice(b"ok\n"),
-        SketchReply::Number(number) => push_number(text, number),
-        SketchReply::OutOfMemory => text.extend_from_slice(b"refused memory\n"),
-    }
+    text.extend_from_slice(b"some ")?;
+    text.extend_from_slice(found)?;
+    text.extend_from_slice(b"\n")
 }
 
-/// Adds the line of a number to the text.
-pub(super) fn push_number<A: Allocator + Clone + Drop>(
+fn push_number<A: Allocator + Clone + Drop>(
     text: &mut Vec<u8, A>,
     number: u64,
 ) -> Result<(), AllocError>
-    ensures { OnOk result (text.new.items ≡ text.old.items ++ written (decimal number)) }
+    ensures { OnOk result (text.new.items ≡ text.old.items ++ (decimal number ++ line_feed ∷ [])) }
 {
     let alloc = text.allocator().clone()?;
     let line = format!(in alloc; "{number}\n")?;
     text.extend_from_slice(line.as_bytes())
 }
 
-/// Adds the line of a reply that says no more than that the call was made.
-pub(super) fn push_done<A: Allocator + Clone + Drop>(
+fn push_pairs<A: Allocator + Clone + Drop>(
     text: &mut Vec<u8, A>,
+    pairs: &[(u64, &[u8])],
 ) -> Result<(), AllocError>
-    ensures { OnOk result (text.new.items ≡ text.old.items ++ written done_words) }
+    ensures { OnOk result (text.new.items ≡ text.old.items ++ (pairs_words (pairs_of pairs.now) ++ line_feed ∷ [])) }
 {
-    text.extend_from_slice(b"ok\n")
-}
-
-/// Adds the line of an insert's reply to the text.
-pub(super) fn push_insert<A: Allocator + Clone + Drop>(
-    text: &mut Vec<u8, A>,
-    inserted: Result<(), InsertError>,
-) -> Result<(), AllocError>
-    ensures { OnOk result (text.new.items ≡ text.old.items ++ written (insert_words (is_err inserted))) }
-{
-    match inserted {
-        Ok(()) => text.extend_from_slice(b"ok\n"),
-        Err(_) => text.extend_from_slice(b"refused memory\n"),
-    }
-}
-
-/// Adds the line of what a get finds to the text.
-pub(super) fn push_found<A: Allocator + Clone + Drop>(
-    text: &mut Vec<u8, A>,
-    found: Option<&Stored<Text<A>>>,
-) -> Result<(), AllocError>
-    ensures { OnOk result (text.new.items ≡ text.old.items ++ written (found_words (option_copied found.entry))) }
-{
-    match found {
-        Some(stored) => push_value(text, &stored.text),
-        None => text.extend_from_slice(b"none\n"),
-    }
-}
-
-/// Adds the line of an answer to a question to the text.
-pub(super) fn push_truth<A: Allocator + Clone + Drop>(
-    text: &mut Vec<u8, A>,
-    truth: bool,
-) -> Result<(), AllocError>
-    ensures { OnOk result (text.new.items ≡ text.old.items ++ written (truth_words truth)) }
-{
-    match truth {
-        true => text.extend_from_slice(b"true\n"),
-        false => text.extend_from_slice(b"false\n"),
-    }
-}
-
-/// Adds the line of the pairs that an iterator gives to the text.
-pub(super) fn push_pairs<A: Allocator + Clone + Drop>(
-    text: &mut Vec<u8, A>,
-    mut pairs: Iter<'_, u64, Stored<Text<A>>, A>,
-) -> Result<(), AllocError>
-    ensures { OnOk result (text.new.items ≡ text.old.items ++ written (pairs_words pairs.entry)) }
-{
-    let Some((key, value)) = pairs.next() else {
+    let Some(((key, value), more)) = pairs.split_first() else {
         return text.extend_from_slice(b"empty\n");
     };
-    push_pair(text, *key, &value.text)?;
-    push_more_pairs(text, pairs)?;
+    push_pair(text, *key, value)?;
+    push_more_pairs(text, more)?;
     text.extend_from_slice(b"\n")
 }
 
-/// Adds the pairs that an iterator still gives, with a space before each.
+/// Adds further pairs, with a space before each.
 fn push_more_pairs<A: Allocator + Clone + Drop>(
     text: &mut Vec<u8, A>,
-    pairs: Iter<'_, u64, Stored<Text<A>>, A>,
+    pairs: &[(u64, &[u8])],
 ) -> Result<(), AllocError>
-    ensures { OnOk result (text.new.items ≡ text.old.items ++ flat_map (λ pair. space ∷ pair_words pair) pairs.entry) }
+    ensures { OnOk result (text.new.items
+        ≡ text.old.items ++ flat_map (λ pair. space ∷ pair_words pair) (pairs_of pairs.now)) }
 {
     for (key, value) in pairs {
         text.extend_from_slice(b" ")?;
-        push_pair(text, *key, &value.text)?;
+        push_pair(text, *key, value)?;
     }
     Ok(())
 }
@@ -158,22 +130,21 @@ fn push_more_pairs<A: Allocator + Clone + Drop>(
 fn push_pair<A: Allocator + Clone + Drop>(
     text: &mut Vec<u8, A>,
     key: u64,
-    value: &Text<A>,
+    value: &[u8],
 ) -> Result<(), AllocError>
     ensures { OnOk result (text.new.items ≡ text.old.items ++ (decimal key ++ codes "=" ++ value.now)) }
 {
     let alloc = text.allocator().clone()?;
     let front = format!(in alloc; "{key}=")?;
     text.extend_from_slice(front.as_bytes())?;
-    text.extend_from_slice(value.as_bytes())
+    text.extend_from_slice(value)
 }
 
-/// Adds the line of a policy to the text.
-pub(super) fn push_policy<A: Allocator + Clone + Drop>(
+fn push_policy<A: Allocator + Clone + Drop>(
     text: &mut Vec<u8, A>,
     policy: Policy,
 ) -> Result<(), AllocError>
-    ensures { OnOk result (text.new.items ≡ text.old.items ++ written (policy_words policy)) }
+    ensures { OnOk result (text.new.items ≡ text.old.items ++ (policy_words policy ++ line_feed ∷ [])) }
 {
     text.extend_from_slice(b"max ")?;
     push_limit(text, policy.max_capacity())?;

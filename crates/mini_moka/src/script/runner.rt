@@ -1,16 +1,19 @@
 // A whole run: from the bytes of a script to the bytes of its replies.
 ghost use Rattle.std.specs.Prelude.{◌≡◌, ◌↔◌, true, false, IfOk};
-ghost use Rattle.mini_moka.specs.ReplyText.{bad_line};
-ghost use Rattle.mini_moka.specs.ScriptRun.{EndsSo, IsRunOf};
+ghost use Rattle.mini_moka.specs.Reply.{bad_line};
+ghost use Rattle.std.specs.List.{AllByRecursion};
+ghost use Rattle.moka_grammar.specs.Lines.{LineFits};
+ghost use Rattle.mini_moka.specs.ScriptRun.{AreCacheReplyLines, EndsSo, IsRunOf};
 ghost use Rattle.mini_moka.specs.declared.script.runner.ScriptError.TheVariants as script_error;
 
-use crate::script::line::Script;
-use crate::script::parser::{ParseError, parse};
 use crate::script::recorded::recorded_replies;
 use crate::script::sketch::sketch_replies;
-use crate::script::streams::{Fault, ReadError, Sink, Source, read_all, write_all};
 use crate::script::unsync::unsync_replies;
 use moka_common::error::OutOfMemory;
+use moka_grammar::line::{CacheHeader, Line, Mode, Script};
+use moka_grammar::parser::{ParseError, parse};
+use moka_grammar::text::Text;
+use moka_streams::streams::{Fault, ReadError, Sink, Source, read_all, write_all};
 use std::alloc::{AllocError, Allocator};
 use thiserror::Error;
 
@@ -40,7 +43,7 @@ pub enum ScriptError {
 impl From<ReadError> for ScriptError {
     ghost from_gives = { λ error given. MatchRead error (given ≡ script_error.Read) (given ≡ script_error.OutOfMemory) };
 
-    ghost use Rattle.mini_moka.specs.Streams.{MatchRead};
+    ghost use Rattle.moka_streams.specs.Streams.{MatchRead};
 
     fn from(error: ReadError) -> ScriptError {
         match error {
@@ -108,12 +111,8 @@ fn output_of<A: Allocator + Clone + Drop>(
     ensures { IfOk result (λ output. IsRunOf A bytes.now output.0 output.1.items) }
 {
     match parse(alloc.clone()?, bytes) {
-        Ok(Script::Recorded { lines }) => {
-            let text = recorded_replies(alloc, lines)?;
-            Ok((End::Done, text))
-        }
-        Ok(Script::Unsync { options, lines }) => {
-            let text = unsync_replies(alloc, options, lines)?;
+        Ok(Script::Cache { header, lines }) => {
+            let text = cache_replies(alloc, header, lines)?;
             Ok((End::Done, text))
         }
         Ok(Script::Sketch { cap, lines }) => {
@@ -125,6 +124,21 @@ fn output_of<A: Allocator + Clone + Drop>(
             Ok((End::BadLine(number), text))
         }
         Err(ParseError::OutOfMemory) => Err(OutOfMemory),
+    }
+}
+
+/// The replies to a script of calls to a cache, by its mode.
+fn cache_replies<A: Allocator + Clone + Drop>(
+    alloc: A,
+    header: CacheHeader,
+    lines: Vec<Line<Text<A>>, A>,
+) -> Result<Vec<u8, A>, OutOfMemory>
+    requires { AllByRecursion (LineFits header) lines.items }
+    ensures { IfOk result (λ text. AreCacheReplyLines A header.mode header lines.items text.items) }
+{
+    match header.mode {
+        Mode::Recorded => recorded_replies(alloc, lines),
+        Mode::Unsync => unsync_replies(alloc, header, lines),
     }
 }
 

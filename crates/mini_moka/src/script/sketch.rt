@@ -4,13 +4,14 @@ ghost use Rattle.std.specs.Fn.{iterate};
 ghost use Rattle.std.specs.List.{AllByRecursion};
 ghost use Rattle.moka_common.specs.Sketch.{after_increment};
 ghost use Rattle.moka_common.specs.SketchCapacity.{table_len};
-ghost use Rattle.mini_moka.specs.SketchLines.{SketchFits};
+ghost use Rattle.moka_grammar.specs.SketchLines.{SketchFits};
+ghost use Rattle.mini_moka.specs.ReplyValue.{reply_of};
 ghost use Rattle.mini_moka.specs.SketchRun.{AreSketchReplyLines, after_sketch_line, sketch_reply};
 
-use crate::script::line::SketchLine;
-use crate::script::reply::{SketchReply, push_sketch_reply};
+use crate::script::reply::{ReplyValue, push_reply};
 use moka_common::error::OutOfMemory;
 use moka_common::frequency_sketch::FrequencySketch;
+use moka_grammar::line::SketchLine;
 use std::alloc::Allocator;
 
 /// Makes the calls of the lines in turn on a sketch with a table for so many entries, and writes the replies.
@@ -24,10 +25,11 @@ pub(super) fn sketch_replies<A: Allocator + Clone + Drop>(
 {
     let mut sketch = FrequencySketch::default(alloc.clone()?);
     sketch.ensure_capacity(cap)?;
-    let mut text = Vec::from_slice(alloc, b"ready\n")?;
+    let mut text = Vec::new(alloc);
+    push_reply(&mut text, ReplyValue::Ready)?;
     for line in lines {
         let reply = reply_to(&mut sketch, line);
-        push_sketch_reply(&mut text, reply)?;
+        push_reply(&mut text, reply)?;
     }
     Ok(text)
 }
@@ -36,26 +38,26 @@ pub(super) fn sketch_replies<A: Allocator + Clone + Drop>(
 fn reply_to<A: Allocator + Clone + Drop>(
     sketch: &mut FrequencySketch<A>,
     line: SketchLine,
-) -> SketchReply
+) -> ReplyValue<'static>
     requires table { 0 < table_len sketch.old }
     requires fits { SketchFits line }
-    ensures step { (refused : Bool) × (result ≡ sketch_reply sketch.old line refused)
+    ensures step { (refused : Bool) × (reply_of result ≡ sketch_reply sketch.old line refused)
         × (sketch.new ≡ after_sketch_line sketch.old line refused) }
     ensures table { 0 < table_len sketch.new }
 {
     match line {
         SketchLine::Inc { hash, times } => {
             count(sketch, hash, times);
-            SketchReply::Done
+            ReplyValue::Done
         }
-        SketchLine::Freq { hash } => SketchReply::Number(u64::from(sketch.frequency(hash))),
+        SketchLine::Freq { hash } => ReplyValue::Number(u64::from(sketch.frequency(hash))),
         SketchLine::Index { hash, depth } => {
-            SketchReply::Number(sketch.index_of(hash, depth) as u64)
+            ReplyValue::Number(sketch.index_of(hash, depth) as u64)
         }
-        SketchLine::Len => SketchReply::Number(sketch.table_len() as u64),
+        SketchLine::Len => ReplyValue::Number(sketch.table_len() as u64),
         SketchLine::Ensure { cap } => match sketch.ensure_capacity(cap) {
-            Ok(()) => SketchReply::Done,
-            Err(_) => SketchReply::OutOfMemory,
+            Ok(()) => ReplyValue::Done,
+            Err(_) => ReplyValue::OutOfMemory,
         },
     }
 }

@@ -1,24 +1,25 @@
 // What the cache of a script stores: texts, each with its weight.
 ghost use Rattle.std.specs.Prelude.{◌≡◌, ⊤};
-ghost use Rattle.mini_moka.specs.UnsyncRun.{stored_text};
+ghost use Rattle.mini_moka.specs.Stored.{stored_text, stored_weighs};
 
-use crate::script::text::Text;
+use moka_common::constants::UNIT_WEIGHT;
 use moka_common::weigh::Weigh;
+use moka_grammar::text::Text;
 
-/// A text, and how much it weighs. `T` is how texts are held, as in `CacheRequest`.
+/// A text, and how much it weighs. `T` is how texts are held, as in `Request`.
 #[derive(Drop)]
 pub struct Stored<T = Text> {
     pub text: T,
     pub weight: u32,
 }
 
-/// What an insert stores: its text, and the weight that its line says. Without one a text weighs 1.
+/// What an insert stores: its text, and the weight that its line says. Without one a text weighs `UNIT_WEIGHT`.
 pub(super) fn stored_text<T>(text: T, weight: Option<u32>) -> Stored<T>
     ensures { result ≡ stored_text text weight }
 {
     Stored {
         text,
-        weight: weight.unwrap_or(1),
+        weight: weight.unwrap_or(UNIT_WEIGHT),
     }
 }
 

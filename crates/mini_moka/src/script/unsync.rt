@@ -1,25 +1,24 @@
 // The replies to a script that builds a cache for one thread: its calls, made on that cache.
-ghost use Rattle.std.specs.Prelude.{◌≡◌, ◌≢◌, ◌++◌, ℕ, Bool, List, false, is_err, IfOk, OnOk};
+ghost use Rattle.std.specs.Prelude.{◌≡◌, ◌≢◌, ◌++◌, ℕ, Bool, List, false, is_err, IfOk, OnOk, IsTrue, map};
 ghost use Rattle.std.specs.List.{AllByRecursion};
 ghost use Rattle.moka_unsync.specs.Invalidate.{after_invalidate_if};
-ghost use Rattle.mini_moka.specs.CacheLines.{CacheFits};
-ghost use Rattle.mini_moka.specs.ReplyText.{ready_line, refused_line, written};
+ghost use Rattle.moka_grammar.specs.Lines.{allows, LineFits};
+ghost use Rattle.mini_moka.specs.Reply.{Ready, Refused, Reply as Told, reply_line};
+ghost use Rattle.mini_moka.specs.ReplyValue.{pairs_of};
 ghost use Rattle.mini_moka.specs.ScriptKeys.{script_keys};
-ghost use Rattle.mini_moka.specs.ScriptWeighers.{AnswersLine, AnswersStored};
-ghost use Rattle.mini_moka.specs.UnsyncRun.{AreUnsyncReplies, AreUnsyncReplyLines, HasLimits, Refused, after_insert_line, after_request, have_text, unsync_reply};
+ghost use Rattle.mini_moka.specs.ScriptWeighers.{AnswersLine};
+ghost use Rattle.mini_moka.specs.UnsyncRun.{AreUnsyncReplies, AreUnsyncReplyLines, HasLimits, IsAnswered, have_text};
 
 use crate::script::keys::KeyState;
-use crate::script::line::{CacheLine, CacheOptions, CacheRequest};
-use crate::script::reply::{
-    push_done, push_found, push_insert, push_number, push_pairs, push_policy, push_truth,
-};
+use crate::script::reply::{ReplyValue, found, push_reply};
 use crate::script::stored::{Stored, StoredWeight, stored_text};
-use crate::script::text::Text;
-use moka_common::error::{BuildError, InsertError, OutOfMemory};
+use moka_common::error::{BuildError, OutOfMemory};
 use moka_common::time::Instant;
 use moka_common::weigh::{UnitWeight, Weigh};
+use moka_grammar::line::{CacheHeader, CacheOptions, Line, Mode, Request};
+use moka_grammar::text::Text;
 use moka_unsync::builder::CacheBuilder;
-use moka_unsync::cache::Cache;
+use moka_unsync::cache::{Cache, Iter};
 use std::alloc::{AllocError, Allocator};
 
 /// A builder of caches that a script's calls are made on.
@@ -32,14 +31,15 @@ type ScriptCache<W, A> = Cache<u64, Stored<Text<A>>, KeyState, W, A>;
 /// refused, that is all that is written.
 pub(super) fn unsync_replies<A: Allocator + Clone + Drop>(
     alloc: A,
-    options: CacheOptions,
-    lines: Vec<CacheLine<Text<A>>, A>,
+    header: CacheHeader,
+    lines: Vec<Line<Text<A>>, A>,
 ) -> Result<Vec<u8, A>, OutOfMemory>
-    requires { AllByRecursion (CacheFits options) lines.items }
-    ensures { IfOk result (λ text. AreUnsyncReplyLines options lines.items text.items) }
+    requires mode { header.mode ≡ Mode.Unsync }
+    requires lines { AllByRecursion (LineFits header) lines.items }
+    ensures { IfOk result (λ text. AreUnsyncReplyLines header.options lines.items text.items) }
 {
-    let builder = builder_of(alloc.clone()?, options);
-    if options.weighed {
+    let builder = builder_of(alloc.clone()?, header.options);
+    if header.options.weighed {
         return match builder.weigher(StoredWeight).build_with_hasher(KeyState) {
             Ok(cache) => replies_of(alloc, cache, lines),
             Err(error) => refusal(alloc, error),
@@ -74,30 +74,30 @@ fn refusal<A: Allocator + Clone + Drop>(
     alloc: A,
     error: BuildError,
 ) -> Result<Vec<u8, A>, OutOfMemory>
-    ensures { IfOk result (λ text. (error ≢ BuildError.OutOfMemory) × (text.items ≡ refused_line error)) }
+    ensures { IfOk result (λ text. (error ≢ BuildError.OutOfMemory) × (text.items ≡ reply_line (Refused error))) }
 {
-    let reason: &str = match error {
-        BuildError::TimeToLiveTooLong => "time_to_live is longer than 1000 years",
-        BuildError::TimeToIdleTooLong => "time_to_idle is longer than 1000 years",
-        BuildError::CapacityTooLarge => "initial_capacity is too large",
-        BuildError::OutOfMemory => return Err(OutOfMemory),
-    };
-    let text = format!(in alloc; "refused {reason}\n")?;
-    Ok(text.into_bytes())
+    if error == BuildError::OutOfMemory {
+        return Err(OutOfMemory);
+    }
+    let mut text = Vec::new(alloc);
+    push_reply(&mut text, ReplyValue::Refused(error))?;
+    Ok(text)
 }
 
 /// Makes the calls of the lines in turn on the cache, and writes the replies.
 fn replies_of<A: Allocator + Clone + Drop, W: Weigh<u64, Stored<Text<A>>>>(
     alloc: A,
     mut cache: ScriptCache<W, A>,
-    lines: Vec<CacheLine<Text<A>>, A>,
+    lines: Vec<Line<Text<A>>, A>,
 ) -> Result<Vec<u8, A>, OutOfMemory>
     requires ready { W.ready cache.weigher }
     requires weighs { AllByRecursion (AnswersLine W.weighs) lines.items }
+    requires allowed { AllByRecursion (λ line. IsTrue (allows Mode.Unsync line.request)) lines.items }
     ensures { IfOk result (λ text. (replies : List ℕ) × AreUnsyncReplies cache lines.items replies
-        × (text.items ≡ ready_line ++ replies)) }
+        × (text.items ≡ reply_line Ready ++ replies)) }
 {
-    let mut text = Vec::from_slice(alloc, b"ready\n")?;
+    let mut text = Vec::new(alloc);
+    push_reply(&mut text, ReplyValue::Ready)?;
     for line in lines {
         reply_to(&mut cache, &mut text, line)?;
     }
@@ -108,68 +108,80 @@ fn replies_of<A: Allocator + Clone + Drop, W: Weigh<u64, Stored<Text<A>>>>(
 fn reply_to<A: Allocator + Clone + Drop, W: Weigh<u64, Stored<Text<A>>>>(
     cache: &mut ScriptCache<W, A>,
     text: &mut Vec<u8, A>,
-    line: CacheLine<Text<A>>,
+    line: Line<Text<A>>,
 ) -> Result<(), AllocError>
     requires ready { W.ready cache.old.weigher }
     requires weighs { AnswersLine W.weighs line }
-    ensures step { OnOk result ((refused : Refused)
-        × (cache.new ≡ after_request cache.old line.now line.request refused)
-        × (text.new.items ≡ text.old.items ++ written (unsync_reply cache.old line.now line.request refused))) }
+    requires allowed { IsTrue (allows Mode.Unsync line.request) }
+    ensures step { OnOk result ((reply : Told) × IsAnswered cache.old line.now line.request reply cache.new
+        × (text.new.items ≡ text.old.items ++ reply_line reply)) }
     ensures ready { W.ready cache.new.weigher }
 {
     let now = Instant::from_nanos(line.now);
     match line.request {
-        CacheRequest::Insert {
+        Request::Insert {
             key,
             text: value,
             weight,
         } => {
-            let result = insert(cache, key, stored_text(value, weight), now);
-            push_insert(text, result)
+            let inserted = cache.insert(key, stored_text(value, weight), now);
+            let reply = match inserted {
+                Ok(()) => ReplyValue::Done,
+                Err(_) => ReplyValue::OutOfMemory,
+            };
+            push_reply(text, reply)
         }
-        CacheRequest::Get { key } => push_found(text, cache.get(&key, now)),
-        CacheRequest::Has { key } => push_truth(text, cache.contains_key(&key, now)),
-        CacheRequest::Invalidate { key } => {
+        Request::Get { key } => push_reply(text, found(cache.get(&key, now))),
+        Request::ContainsKey { key } => {
+            push_reply(text, ReplyValue::Truth(cache.contains_key(&key, now)))
+        }
+        Request::Invalidate { key } => {
             cache.invalidate(&key, now);
-            push_done(text)
+            push_reply(text, ReplyValue::Done)
         }
-        CacheRequest::Clear => {
+        Request::InvalidateAll => {
             cache.invalidate_all();
-            push_done(text)
+            push_reply(text, ReplyValue::Done)
         }
-        CacheRequest::DropIf { text: dropped } => {
-            drop_if(cache, &dropped);
-            push_done(text)
+        Request::InvalidateIf { text: gone } => {
+            invalidate_if(cache, &gone);
+            push_reply(text, ReplyValue::Done)
         }
-        CacheRequest::Iter => push_pairs(text, cache.iter(now)),
-        CacheRequest::Count => push_number(text, cache.entry_count()),
-        CacheRequest::Weight => push_number(text, cache.weighted_size()),
-        CacheRequest::Policy => push_policy(text, cache.policy()),
+        Request::Sync => unreachable!(),
+        Request::Iter => {
+            let pairs = pairs_of(text.allocator().clone()?, cache.iter(now))?;
+            push_reply(text, ReplyValue::Pairs(&pairs))
+        }
+        Request::EntryCount => push_reply(text, ReplyValue::Number(cache.entry_count())),
+        Request::WeightedSize => push_reply(text, ReplyValue::Number(cache.weighted_size())),
+        Request::Policy => {
+            let policy = cache.policy();
+            push_reply(text, ReplyValue::Limits(&policy))
+        }
     }
 }
 
-/// Stores a text with its weight.
-fn insert<A: Allocator + Clone + Drop, W: Weigh<u64, Stored<Text<A>>>>(
-    cache: &mut ScriptCache<W, A>,
-    key: u64,
-    value: Stored<Text<A>>,
-    now: Instant,
-) -> Result<(), InsertError>
-    requires ready { W.ready cache.old.weigher }
-    requires weighs { AnswersStored W.weighs key value }
-    ensures step { (table : Bool) × (cache.new ≡ after_insert_line cache.old now key value (is_err result) table) }
-    ensures ready { W.ready cache.new.weigher }
+/// The pairs that an iterator gives, each a key and its text.
+fn pairs_of<'a, A: Allocator + Clone + Drop>(
+    alloc: A,
+    entries: Iter<'a, u64, Stored<Text<A>>, A>,
+) -> Result<Vec<(u64, &'a [u8]), A>, AllocError>
+    ensures { IfOk result (λ pairs. pairs_of pairs.items ≡ map (λ p. (p.0, p.1.text)) entries.entry) }
 {
-    cache.insert(key, value, now)
+    let mut pairs = Vec::new(alloc);
+    for (key, value) in entries {
+        pairs.push((*key, value.text.as_bytes()))?;
+    }
+    Ok(pairs)
 }
 
 /// Removes the entries whose text is this one.
-fn drop_if<A: Allocator + Clone + Drop, W: Weigh<u64, Stored<Text<A>>>>(
+fn invalidate_if<A: Allocator + Clone + Drop, W: Weigh<u64, Stored<Text<A>>>>(
     cache: &mut ScriptCache<W, A>,
     text: &Text<A>,
 )
     ensures step { cache.new ≡ after_invalidate_if script_keys cache.old (have_text text.now cache.old.contents.entries) }
 {
-    let dropped = text.as_bytes();
-    cache.invalidate_entries_if(|_key, value| value.text.as_bytes() == dropped);
+    let gone = text.as_bytes();
+    cache.invalidate_entries_if(|_key, value| value.text.as_bytes() == gone);
 }

@@ -1,7 +1,7 @@
 //! A cache that keeps a record of its calls. Replayed from a new cache, the record leads to the cache as it is.
 ghost use Rattle.std.specs.Prelude.{◌≡◌, Bool};
 ghost use Rattle.mini_moka.specs.Record.{answer_of};
-ghost use Rattle.moka_common.specs.Keys.{keys_of};
+ghost use Rattle.moka_common.specs.Keys.{keys_by};
 
 use moka_common::hash::FixedState;
 use moka_common::weigh::UnitWeight;
@@ -9,6 +9,12 @@ use moka_sync::engine::{Call, Core, Reply};
 use std::alloc::{Allocator, Global};
 use std::hash::{BuildHasher, Hash};
 use std::marker::Model;
+use thiserror::Error;
+
+/// A recording cache had no memory to write a call down, and didn't make it.
+#[derive(Clone, Copy, Debug, PartialEq, Eq, Error)]
+#[error("not recorded")]
+pub struct NotRecorded;
 
 /// A call that was made, and the reply that it had.
 #[derive(Drop)]
@@ -38,7 +44,7 @@ impl<
     W: Drop,
     A: Allocator + Clone + Drop,
 > Model for Record<K, V, S, W, A> {
-    ghost use Rattle.moka_common.specs.Keys.{keys_of};
+    ghost use Rattle.moka_common.specs.Keys.{keys_by};
     ghost use Rattle.mini_moka.specs.Record.{Record as RecordState};
     ghost use Rattle.mini_moka.specs.Replay.{Replays};
 
@@ -47,7 +53,7 @@ impl<
     ghost view = { λ r. record { core = r.core; first_ticket = r.first_ticket; calls = r.calls.items } };
 
     ghost invariant = { λ r. Replays
-        (keys_of (record { eq = K.eq; hash_input = K.hash_input }) S.BuildHasher S.Hasher.Hasher)
+        (keys_by (record { eq = K.eq; hash_input = K.hash_input }) S.BuildHasher S.Hasher.Hasher)
         (record { core = r.core; first_ticket = r.first_ticket; calls = r.calls.items }) };
 }
 
@@ -76,22 +82,22 @@ impl<K: Eq + Hash + Drop, V: Drop, S: BuildHasher + Drop, A: Allocator + Clone +
         }
     }
 
-    /// Makes one call, writes it down with its reply, and answers the reply.
-    pub fn apply(&mut self, call: Call<K, V, A>) -> Reply<V, A>
+    /// Makes one call, writes it down with its reply, and answers the reply. It is refused before it acts.
+    pub fn apply(&mut self, call: Call<K, V, A>) -> Result<Reply<V, A>, NotRecorded>
         ensures step { (memory : Memory) ×
-            IsApplied (keys_of K.Hash S.BuildHasher S.Hasher.Hasher) self.old call memory result self.new }
-        ensures replays { Replays (keys_of K.Hash S.BuildHasher S.Hasher.Hasher) self.new }
+            IsApplied (keys_by K.Hash S.BuildHasher S.Hasher.Hasher) self.old call memory result self.new }
+        ensures replays { Replays (keys_by K.Hash S.BuildHasher S.Hasher.Hasher) self.new }
     {
         if self.calls.reserve(1).is_err() {
-            return Reply::NotRecorded;
+            return Err(NotRecorded);
         }
-        let Ok(copy) = call.again() else {
-            return Reply::NotRecorded;
+        let Ok(copy) = call.try_clone() else {
+            return Err(NotRecorded);
         };
         let reply = self.core.call(copy);
         let answer = answer_of(&reply);
         self.calls.push_reserved(Made { call, reply });
-        answer
+        Ok(answer)
     }
 
     /// The cache as it is now.
@@ -120,7 +126,7 @@ impl<K: Eq + Hash + Drop, V: Drop, S: BuildHasher + Drop, A: Allocator + Clone +
 fn answer_of<V: Drop, A: Allocator + Drop>(reply: &Reply<V, A>) -> Reply<V, A>
     ensures { (refused : Bool) × (result ≡ answer_of reply.now refused) }
 {
-    match reply.again() {
+    match reply.try_clone() {
         Ok(answer) => answer,
         Err(_) => Reply::OutOfMemory,
     }

@@ -1,7 +1,7 @@
 //! Calls and what they reply.
-use moka_common::error::InsertError;
-use moka_common::shared::Shared;
-use moka_common::time::Instant;
+use moka_base::error::InsertError;
+use moka_base::shared::Shared;
+use moka_base::time::Instant;
 use std::alloc::{AllocError, Allocator, Global};
 
 /// A call on the cache. Keys and values are shared, so that a call can be kept beside the entry that it makes.
@@ -32,21 +32,19 @@ pub enum Reply<V: Drop, A: Allocator + Drop = Global> {
     OutOfMemory,
     /// The key's shard has given out all its ticket numbers.
     TicketsUsedUp,
-    /// A recording cache had no room to write the call down, and didn't make it.
-    NotRecorded,
 }
 
 impl<K: Drop, V: Drop, A: Allocator + Drop> Call<K, V, A> {
     ghost use Rattle.std.specs.Prelude.{◌≡◌, IfOk};
 
     /// The same call once more, with its key and its value shared.
-    pub fn again(&self) -> Result<Call<K, V, A>, AllocError>
+    pub fn try_clone(&self) -> Result<Call<K, V, A>, AllocError>
         ensures { IfOk result (λ call. call ≡ self.now) }
     {
         match self {
             Call::Insert { key, value, now } => {
-                let key = key.again()?;
-                let value = value.again()?;
+                let key = key.try_clone()?;
+                let value = value.try_clone()?;
                 Ok(Call::Insert {
                     key,
                     value,
@@ -54,11 +52,11 @@ impl<K: Drop, V: Drop, A: Allocator + Drop> Call<K, V, A> {
                 })
             }
             Call::Get { key, now } => {
-                let key = key.again()?;
+                let key = key.try_clone()?;
                 Ok(Call::Get { key, now: *now })
             }
             Call::Contains { key, now } => {
-                let key = key.again()?;
+                let key = key.try_clone()?;
                 Ok(Call::Contains { key, now: *now })
             }
         }
@@ -81,7 +79,7 @@ impl<V: Drop, A: Allocator + Drop> Reply<V, A> {
     }
 
     /// The same reply once more, with the value that was found shared. Nothing else can be refused.
-    pub fn again(&self) -> Result<Reply<V, A>, AllocError>
+    pub fn try_clone(&self) -> Result<Reply<V, A>, AllocError>
         ensures ok { IfOk result (λ reply. reply ≡ self.now) }
         ensures refused { IsErr result → HasValue self.now }
     {
@@ -89,13 +87,12 @@ impl<V: Drop, A: Allocator + Drop> Reply<V, A> {
             Reply::Done => Ok(Reply::Done),
             Reply::Found(None) => Ok(Reply::Found(None)),
             Reply::Found(Some(value)) => {
-                let value = value.again()?;
+                let value = value.try_clone()?;
                 Ok(Reply::Found(Some(value)))
             }
             Reply::Bool(answer) => Ok(Reply::Bool(*answer)),
             Reply::OutOfMemory => Ok(Reply::OutOfMemory),
             Reply::TicketsUsedUp => Ok(Reply::TicketsUsedUp),
-            Reply::NotRecorded => Ok(Reply::NotRecorded),
         }
     }
 }

@@ -1,8 +1,8 @@
 //! What a shard keeps of a key.
 ghost use Rattle.std.specs.Prelude.{◌≡◌};
 
-use moka_common::shared::Shared;
-use moka_common::time::Instant;
+use moka_base::shared::Shared;
+use moka_base::time::Instant;
 use std::alloc::{Allocator, Global};
 use std::marker::Model;
 

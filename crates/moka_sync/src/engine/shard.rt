@@ -1,6 +1,6 @@
 //! One shard of the map: the entries whose hashes belong to it.
 ghost use Rattle.std.specs.Prelude.{◌≡◌, ◌↔◌, ℕ, ◌<◌, Bool, IsTrue, All, Option, Some, None, Ok, [], IfSome, IfNone, IfOk, OnErr, IsSome, IsErr, is_some, option_map, option_copied};
-ghost use Rattle.moka_common.specs.Keys.{keys_of};
+ghost use Rattle.moka_base.specs.Keys.{keys_by};
 ghost use Rattle.moka_sync.specs.Entry.{fresh_entry};
 ghost use Rattle.moka_sync.specs.CoreState.{entry_at, shard_of};
 ghost use Rattle.moka_sync.specs.Find.{StandsFirst};
@@ -8,11 +8,12 @@ ghost use Rattle.moka_sync.specs.Shards.{AreShards, IsAsBuilt};
 
 use super::entry::{Entry, Ticket};
 use crate::constants::{NO_TICKET, SHARDS};
-use moka_common::error::{InsertError, OutOfMemory};
-use moka_common::hash::FixedState;
-use moka_common::shared::Shared;
-use moka_common::time::Instant;
-use moka_common::weigh::UnitWeight;
+use moka_base::constants::UNIT_WEIGHT;
+use moka_base::error::{InsertError, OutOfMemory};
+use moka_base::hash::FixedState;
+use moka_base::shared::Shared;
+use moka_base::time::Instant;
+use moka_base::weigh::UnitWeight;
 use std::alloc::{Allocator, Global};
 use std::cmp::Eq;
 use std::hash::{BuildHasher, Hash};
@@ -41,7 +42,7 @@ impl<
     W: Drop,
     A: Allocator + Clone + Drop,
 > Model for Shard<K, V, S, W, A> {
-    ghost use Rattle.moka_common.specs.Keys.{keys_of};
+    ghost use Rattle.moka_base.specs.Keys.{keys_by};
     ghost use Rattle.moka_sync.specs.ShardState.{ShardState, IsValidShard};
 
     ghost Value = { ShardState K V S };
@@ -54,7 +55,7 @@ impl<
     } };
 
     ghost invariant = { λ s. IsValidShard
-        (keys_of (record { eq = K.eq; hash_input = K.hash_input }) S.BuildHasher S.Hasher.Hasher)
+        (keys_by (record { eq = K.eq; hash_input = K.hash_input }) S.BuildHasher S.Hasher.Hasher)
         (record { number = s.number; next_number = s.next_number; entries = s.entries.items; hash_state = s.hash_state }) };
 }
 
@@ -71,7 +72,7 @@ impl<
     pub fn new(alloc: A, number: usize, next_number: u64, hash_state: Shared<S, A>) -> Self
         ensures state { result ≡
             record { number = number; next_number = next_number; entries = []; hash_state = hash_state } }
-        ensures valid { IsValidShard (keys_of K.Hash S.BuildHasher S.Hasher.Hasher) result }
+        ensures valid { IsValidShard (keys_by K.Hash S.BuildHasher S.Hasher.Hasher) result }
     {
         Shard {
             number,
@@ -91,7 +92,7 @@ impl<
     }
 
     /// Whether a key has an entry here.
-    pub fn contains(&self, key: &K) -> bool
+    pub fn contains_key(&self, key: &K) -> bool
         ensures { result ≡ is_some (entry_at K.eq key.now self.now.entries) }
     {
         self.find(key).is_some()
@@ -119,7 +120,7 @@ impl<
     {
         match self.find(key) {
             Some(entry) => {
-                let value = entry.value().again()?;
+                let value = entry.value().try_clone()?;
                 Ok(Some(value))
             }
             None => Ok(None),
@@ -135,49 +136,45 @@ impl<
         now: Instant,
     ) -> Result<(), InsertError>
         requires hashed { hash ≡
-            (keys_of K.Hash S.BuildHasher S.Hasher.Hasher).hash_of self.old.hash_state key }
+            (keys_by K.Hash S.BuildHasher S.Hasher.Hasher).hash_of self.old.hash_state key }
         requires here { shard_of hash ≡ self.old.number }
         ensures step { (refused : Bool) × InsertEndsSo K.eq self.old
-            (fresh_entry key value hash 1 now (record { shard = self.old.number; number = self.old.next_number }))
+            (fresh_entry key value hash UNIT_WEIGHT now (record { shard = self.old.number; number = self.old.next_number }))
             refused result self.new }
-        ensures valid { IsValidShard (keys_of K.Hash S.BuildHasher S.Hasher.Hasher) self.new }
+        ensures valid { IsValidShard (keys_by K.Hash S.BuildHasher S.Hasher.Hasher) self.new }
     {
         let ticket = Ticket {
             shard: self.number,
             number: self.next_number,
         };
         let place = position_of(&self.entries, key.get());
-        let entry = Entry::new(key, value, hash, 1, now, ticket);
-        match place {
-            Some(place) => {
-                self.entries[place].update(entry);
-                return Ok(());
-            }
-            None => return self.add(entry),
-        }
+        let entry = Entry::new(key, value, hash, UNIT_WEIGHT, now, ticket);
+        let Some(place) = place else {
+            return self.add(entry);
+        };
+        self.entries[place].update(entry);
+        Ok(())
     }
 
     /// Adds the entry of a key that isn't here.
     fn add(&mut self, entry: Entry<K, V, A>) -> Result<(), InsertError>
         requires hashed { entry.hash ≡
-            (keys_of K.Hash S.BuildHasher S.Hasher.Hasher).hash_of self.old.hash_state entry.key }
+            (keys_by K.Hash S.BuildHasher S.Hasher.Hasher).hash_of self.old.hash_state entry.key }
         requires here { shard_of entry.hash ≡ self.old.number }
         requires ticket { entry.ticket ≡
             record { shard = self.old.number; number = self.old.next_number } }
         requires absent { entry_at K.eq entry.key self.old.entries ≡ None }
         ensures step { (refused : Bool) × InsertEndsSo K.eq self.old entry refused result self.new }
-        ensures valid { IsValidShard (keys_of K.Hash S.BuildHasher S.Hasher.Hasher) self.new }
+        ensures valid { IsValidShard (keys_by K.Hash S.BuildHasher S.Hasher.Hasher) self.new }
     {
         if self.next_number == NO_TICKET {
             return Err(InsertError::TicketsUsedUp);
         }
-        match self.entries.push(entry) {
-            Ok(()) => {
-                self.next_number += 1;
-                return Ok(());
-            }
-            Err(_) => return Err(InsertError::OutOfMemory),
-        }
+        let Ok(()) = self.entries.push(entry) else {
+            return Err(InsertError::OutOfMemory);
+        };
+        self.next_number += 1;
+        Ok(())
     }
 }
 
@@ -206,12 +203,12 @@ pub(super) fn shards_as_built<
     A: Allocator + Clone + Drop,
 >(alloc: A, hash_state: &Shared<S, A>) -> Result<Vec<Shard<K, V, S, W, A>, A>, OutOfMemory>
     ensures { IfOk result (λ shards.
-        AreShards (keys_of K.Hash S.BuildHasher S.Hasher.Hasher) hash_state.now shards.items
+        AreShards (keys_by K.Hash S.BuildHasher S.Hasher.Hasher) hash_state.now shards.items
         × All (IsAsBuilt 0) shards.items) }
 {
     let mut shards = Vec::with_capacity(alloc.clone()?, SHARDS)?;
     for number in 0..SHARDS {
-        shards.push(Shard::new(alloc.clone()?, number, 0, hash_state.again()?))?;
+        shards.push(Shard::new(alloc.clone()?, number, 0, hash_state.try_clone()?))?;
     }
     Ok(shards)
 }

@@ -2,12 +2,12 @@
 ghost use Rattle.std.specs.Prelude.{◌≡◌, length};
 ghost use Rattle.std.specs.Iterator.{at_most};
 ghost use Rattle.std.specs.Map.Iter.{TakesFirst, deref_pair};
-ghost use Rattle.moka_unsync.specs.Invalidate.{unexpired_pairs};
+ghost use Rattle.moka_machine.specs.Iterate.{unexpired_pairs};
 
-use crate::cache::is_expired;
-use crate::cache::store::Entries;
-use moka_common::policy::Policy;
-use moka_common::time::Instant;
+use moka_base::policy::Policy;
+use moka_base::time::Instant;
+use moka_store::expire::is_expired;
+use moka_store::store::Entries;
 use std::alloc::{Allocator, Global};
 use std::marker::Model;
 
@@ -29,7 +29,7 @@ pub struct Iter<'a, K: Drop, V: Drop, A: Allocator = Global> {
 
 impl<'a, K: Drop, V: Drop, A: Allocator> Model for Iter<'a, K, V, A> {
     ghost use Rattle.std.specs.Prelude.{List};
-    ghost use Rattle.moka_unsync.specs.Invalidate.{unexpired_pairs};
+    ghost use Rattle.moka_machine.specs.Iterate.{unexpired_pairs};
 
     ghost Value = { List (K × V) };
 

@@ -1,8 +1,11 @@
+use Rattle.std.proofs.Common.{ap}
+use Rattle.mini_moka.specs.ReplyValue.{pairs_of}
 use Rattle.mini_moka.proofs.ReplyLemmas.{pairs_written}
 use Rattle.mini_moka.proofs.script.reply.push_pairs.Goals as goal
 
 pub returns : goal.returns
 returns g c =
-    pairs_written c.extend_from_slice-2.result c.args.text.now.items c.push_pair.new.text.items c.push_more_pairs.new.text.items c.extend_from_slice-2.new.self.items
-    (c.in-Some.key.now, c.in-Some.value.now) c.next.new.self c.args.pairs
-    c.in-Some.ensures.steps c.in_ok-push_pair.ensures c.in_ok-push_more_pairs.ensures c.extend_from_slice-2.ensures.items
+    let first = c.in-Some.field-0-0.now in
+    pairs_written c.extend_from_slice-2.result c.args.text.now.items c.push_pair.new.text.items c.push_more_pairs.new.text.items
+    c.extend_from_slice-2.new.self.items (first.0, first.1.now) (pairs_of c.in-Some.more.now) (pairs_of c.args.pairs.now)
+    (ap pairs_of c.in-Some.ensures.cases.0) c.in_ok-push_pair.ensures c.in_ok-push_more_pairs.ensures c.extend_from_slice-2.ensures.items

@@ -1,7 +1,8 @@
 use Rattle.std.proofs.Common.{◌≡◌, [], ◌++◌, refl, sym, ◌∙◌, append_assoc}
 use Rattle.std.proofs.lemmas.List.{append-nil, nil_from_length}
 use Rattle.std.specs.Vec.Iter.{into_iter_items}
-use Rattle.mini_moka.specs.ReplyText.{sketch_reply_words, written}
+use Rattle.mini_moka.specs.Reply.{reply_line}
+use Rattle.mini_moka.specs.ReplyValue.{reply_of}
 use Rattle.mini_moka.proofs.SketchRunLemmas.{AreSketchReplies-cons}
 use Rattle.mini_moka.proofs.script.sketch.sketch_replies.Goals as goal
 
@@ -13,12 +14,13 @@ loop-line-preserved g c =
       table = c.reply_to-reply.ensures.table;
       fit = fit.1;
       answered = λ rest replies.
-          rw (c.in_ok-push_sketch_reply.ensures, append_assoc)
-          (c.loop-line.invariant.answered (written (sketch_reply_words c.reply_to-reply.result) ++ rest)
+          rw (c.in_ok-push_reply-2.ensures, append_assoc)
+          (c.loop-line.invariant.answered (reply_line (reply_of c.reply_to-reply.result) ++ rest)
           (rw c.in-Some.ensures.steps.0 (AreSketchReplies-cons _ _ _ _ refused _ _ reply_is next_is replies)));
     }
 
 pub returns : goal.returns
 returns g c =
-    let none : into_iter_items c.loop-line.line-iterator ≡ [] = nil_from_length (into_iter_items c.loop-line.line-iterator) (sym c.loop-line.line-iterator.rest.ok.0 ∙ c.in-None.ensures.steps.0) in
+    let none : into_iter_items c.loop-line.line-iterator ≡ [] =
+    nil_from_length (into_iter_items c.loop-line.line-iterator) (sym c.loop-line.line-iterator.rest.ok.0 ∙ c.in-None.ensures.steps.0) in
     rw append-nil at (c.loop-line.invariant.answered [] (rw none refl))

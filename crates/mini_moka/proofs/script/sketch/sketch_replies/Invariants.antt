@@ -2,7 +2,7 @@ use Rattle.std.proofs.Common.{ℕ, ◌<◌, List, ◌++◌}
 use Rattle.std.specs.List.{AllByRecursion}
 use Rattle.std.specs.Vec.Iter.{into_iter_items}
 use Rattle.moka_common.specs.SketchCapacity.{table_len}
-use Rattle.mini_moka.specs.SketchLines.{SketchFits}
+use Rattle.moka_grammar.specs.SketchLines.{SketchFits}
 use Rattle.mini_moka.specs.SketchRun.{AreSketchReplies, AreSketchReplyLines}
 use Rattle.mini_moka.proofs.script.sketch.sketch_replies.Given as goal
 
@@ -11,5 +11,6 @@ abbrev pub invariant-loop-line : goal.invariant-loop-line
 invariant-loop-line g l = record {
   table : 0 < table_len l.sketch;
   fit : AllByRecursion SketchFits (into_iter_items l.line-iterator);
-  answered : (rest : List ℕ) → AreSketchReplies l.sketch (into_iter_items l.line-iterator) rest → AreSketchReplyLines l.cap l.fn.lines.items (l.text.items ++ rest);
+  answered : (rest : List ℕ) → AreSketchReplies l.sketch (into_iter_items l.line-iterator) rest
+      → AreSketchReplyLines l.cap l.fn.lines.items (l.text.items ++ rest);
 }

@@ -1,9 +1,7 @@
-use Rattle.std.proofs.Common.{◌≡◌, [], ◌++◌, refl, sym, ap, ◌∙◌, append_assoc}
+use Rattle.std.proofs.Common.{◌≡◌, [], ◌++◌, refl, sym, ◌∙◌, append_assoc}
 use Rattle.std.proofs.lemmas.List.{append-nil, nil_from_length}
 use Rattle.std.specs.Vec.Iter.{into_iter_items}
-use Rattle.mini_moka.specs.ReplyText.{written}
-use Rattle.mini_moka.specs.UnsyncRun.{unsync_reply}
-use Rattle.mini_moka.proofs.UnsyncRunLemmas.{AreUnsyncReplies-cons}
+use Rattle.mini_moka.specs.Reply.{reply_line}
 use Rattle.mini_moka.proofs.script.unsync.replies_of.Goals as goal
 
 pub loop-line-init : goal.loop-line-init
@@ -12,23 +10,27 @@ loop-line-init g c =
     record {
       ready = c.requires.ready;
       weighs = rw all c.requires.weighs;
-      answered = λ rest replies. (rest, rw all at replies, ap (λ text. text ++ rest) c.in_ok-text.ensures.items);
+      allowed = rw all c.requires.allowed;
+      answered = λ rest replies. (rest, rw all at replies, rw (c.in_ok-push_reply.ensures, c.new-text.ensures.items) refl);
     }
 
 pub loop-line-preserved : goal.loop-line-preserved
 loop-line-preserved g c =
-    let (refused, next_is, text_is) = c.in_ok-reply_to.ensures.step in
+    let (reply, answered, text_is) = c.in_ok-reply_to.ensures.step in
     let weighs = rw c.in-Some.ensures.steps.0 at c.loop-line.invariant.weighs in
+    let allowed = rw c.in-Some.ensures.steps.0 at c.loop-line.invariant.allowed in
     record {
       ready = c.in_ok-reply_to.ensures.ready;
       weighs = weighs.1;
+      allowed = allowed.1;
       answered = λ rest replies.
           rw (text_is, append_assoc)
-          (c.loop-line.invariant.answered (written (unsync_reply c.loop-line.cache c.in-Some.line.now c.in-Some.line.request refused) ++ rest)
-          (rw c.in-Some.ensures.steps.0 (AreUnsyncReplies-cons c.loop-line.cache c.reply_to.new.cache c.in-Some.line refused _ _ next_is replies)));
+          (c.loop-line.invariant.answered (reply_line reply ++ rest)
+          (rw c.in-Some.ensures.steps.0 (reply, c.reply_to.new.cache, rest, answered, refl, replies)));
     }
 
 pub returns : goal.returns
 returns g c =
-    let none : into_iter_items c.loop-line.line-iterator ≡ [] = nil_from_length (into_iter_items c.loop-line.line-iterator) (sym c.loop-line.line-iterator.rest.ok.0 ∙ c.in-None.ensures.steps.0) in
+    let none : into_iter_items c.loop-line.line-iterator ≡ [] =
+    nil_from_length (into_iter_items c.loop-line.line-iterator) (sym c.loop-line.line-iterator.rest.ok.0 ∙ c.in-None.ensures.steps.0) in
     rw append-nil at (c.loop-line.invariant.answered [] (rw none refl))

@@ -1,66 +1,74 @@
-use Rattle.std.proofs.Common.{rules, ◌≡◌, false, is_err, refl, sym, ap, ◌∙◌, subst}
-use Rattle.std.specs.Fmt.{decimal}
-use Rattle.moka_unsync.specs.Lookup.{after_get, found_by_get, after_look, is_contained}
-use Rattle.moka_unsync.specs.Invalidate.{after_invalidate, after_invalidate_if, pairs_at}
-use Rattle.mini_moka.specs.ReplyText.{found_words, truth_words, pairs_words, policy_words}
+use Rattle.std.proofs.Common.{rules, ◌≡◌, refl, ap, ◌∙◌, subst, inl, inr}
+use Rattle.moka_unsync.specs.Insert.{IsInserted}
+use Rattle.moka_unsync.specs.Invalidate.{after_invalidate_if}
+use Rattle.moka_unsync.specs.Step as machine
+use Rattle.mini_moka.specs.Reply.{Done, Truth, Number, Pairs, Limits, OutOfMemory}
 use Rattle.mini_moka.specs.ScriptKeys.{script_keys}
-use Rattle.mini_moka.specs.ScriptWeighers.{AnswersRequest, AnswersStored}
-use Rattle.mini_moka.specs.UnsyncRun.{stored_text, after_insert_line, have_text}
-use Rattle.mini_moka.proofs.UnsyncRunLemmas.{answered, insert_answered}
+use Rattle.mini_moka.specs.ScriptWeighers.{AnswersRequest}
+use Rattle.mini_moka.specs.Stored.{stored_text}
+use Rattle.mini_moka.specs.UnsyncRun.{have_text}
+use Rattle.mini_moka.proofs.UnsyncRunLemmas.{replied, stored_insert}
 use Rattle.mini_moka.proofs.script.unsync.reply_to.Goals as goal
+use Rattle.mini_moka.proofs.script.unsync.reply_to.Goals.{in-Ok, in-Err}
 
-pub insert-result-requires-clause-weighs : goal.insert-result-requires-clause-weighs
-insert-result-requires-clause-weighs g c =
-    let is : c.stored_text.result ≡ stored_text c.in-Insert.value c.in-Insert.weight = search rules in
-    subst (AnswersStored g.W.Weigh.weighs c.in-Insert.key) (sym is) (subst (AnswersRequest g.W.Weigh.weighs) c.in-Insert.is c.requires.weighs)
+pub returns-after-inserted-clause-step : goal.returns-after-inserted-clause-step
+returns-after-inserted-clause-step g c =
+    let value : c.stored_text.result ≡ stored_text c.in-Insert.value c.in-Insert.weight = search rules in
+    let answers = subst (AnswersRequest g.W.Weigh.weighs) c.in-Insert.is c.requires.weighs in
+    let weighs = g.W.Weigh.weighs in
+    let cache = c.args.cache.now in
+    elim c.match-inserted.branch [
+      | in-Ok w ↦
+          let step = subst (λ v. IsInserted script_keys weighs cache c.in-Insert.key v c.from_nanos-now.result c.insert-inserted.new.self)
+          value w.in-Ok.ensures.step in
+          replied _ _ _ _ _ _ c.push_reply.result _ _ Done c.from_nanos-now.ensures c.in-Insert.is
+          (machine.Done, inl (refl, stored_insert weighs _ _ _ _ _ answers step), refl) (rw w.reply-is at c.push_reply.ensures)
+      | in-Err w ↦
+          replied _ _ _ _ _ _ c.push_reply.result _ _ OutOfMemory c.from_nanos-now.ensures c.in-Insert.is
+          (machine.OutOfMemory, inr (refl, w.in-Err.ensures.err), refl) (rw w.reply-is at c.push_reply.ensures)
+    ]
 
-pub returns-in-Insert-clause-step : goal.returns-in-Insert-clause-step
-returns-in-Insert-clause-step g c =
-    let is : c.stored_text.result ≡ stored_text c.in-Insert.value c.in-Insert.weight = search rules in
-    insert_answered c.args.cache.now c.insert-result.new.cache c.args.line.now c.args.line.request _ _ c.push_insert.result _ _ _ _ c.in-Insert.is
-    (subst (λ now. (table : _) × (c.insert-result.new.cache ≡ after_insert_line c.args.cache.now now c.in-Insert.key (stored_text c.in-Insert.value c.in-Insert.weight) (is_err c.insert-result.result) table)) c.from_nanos-now.ensures
-    (subst (λ value. (table : _) × (c.insert-result.new.cache ≡ after_insert_line c.args.cache.now c.from_nanos-now.result c.in-Insert.key value (is_err c.insert-result.result) table)) is c.insert-result.ensures.step)) c.push_insert.ensures
-
-pub returns-in-Get-clause-step : goal.returns-in-Get-clause-step
-returns-in-Get-clause-step g c =
-    answered c.args.cache.now c.get.follows.lender-at-none c.args.line.now c.args.line.request _ _ c.push_found.result _ (record { room = false; table = false }) _ c.in-Get.is
-    (c.get.follows.holds-at-none ∙ ap (λ now. after_get script_keys c.args.cache.now c.in-Get.key now) c.from_nanos-now.ensures)
-    (ap found_words (c.get.ensures.value ∙ ap (λ now. found_by_get script_keys c.args.cache.now c.in-Get.key now) c.from_nanos-now.ensures)) c.push_found.ensures
-
-pub returns-in-Has-clause-step : goal.returns-in-Has-clause-step
-returns-in-Has-clause-step g c =
-    answered c.args.cache.now c.contains_key.new.self c.args.line.now c.args.line.request _ _ c.push_truth.result _ (record { room = false; table = false }) _ c.in-Has.is
-    (c.contains_key.ensures.step ∙ ap (λ now. after_look script_keys c.args.cache.now now) c.from_nanos-now.ensures)
-    (ap truth_words (c.contains_key.ensures.value ∙ ap (λ now. is_contained script_keys c.args.cache.now c.in-Has.key now) c.from_nanos-now.ensures)) c.push_truth.ensures
+pub returns-in-ContainsKey-clause-step : goal.returns-in-ContainsKey-clause-step
+returns-in-ContainsKey-clause-step g c =
+    replied _ _ _ _ _ _ c.push_reply-in-ContainsKey.result _ _ (Truth c.contains_key.result) c.from_nanos-now.ensures c.in-ContainsKey.is
+    (machine.Truth c.contains_key.result, (ap machine.Truth c.contains_key.ensures.value, c.contains_key.ensures.step), refl)
+    c.push_reply-in-ContainsKey.ensures
 
 pub returns-in-Invalidate-clause-step : goal.returns-in-Invalidate-clause-step
 returns-in-Invalidate-clause-step g c =
-    answered c.args.cache.now c.invalidate.new.self c.args.line.now c.args.line.request _ _ c.push_done.result _ (record { room = false; table = false }) _ c.in-Invalidate.is
-    (c.invalidate.ensures.step ∙ ap (λ now. after_invalidate script_keys c.args.cache.now c.in-Invalidate.key now) c.from_nanos-now.ensures) refl c.push_done.ensures
+    replied _ _ _ _ _ _ c.push_reply-in-Invalidate.result _ _ Done c.from_nanos-now.ensures c.in-Invalidate.is
+    (machine.Done, (refl, c.invalidate.ensures.step), refl) c.push_reply-in-Invalidate.ensures
 
-pub returns-in-Clear-clause-step : goal.returns-in-Clear-clause-step
-returns-in-Clear-clause-step g c =
-    answered c.args.cache.now c.invalidate_all.new.self c.args.line.now c.args.line.request _ _ c.push_done-in-Clear.result _ (record { room = false; table = false }) _ c.in-Clear.is
-    c.invalidate_all.ensures.step refl c.push_done-in-Clear.ensures
+pub returns-in-InvalidateAll-clause-step : goal.returns-in-InvalidateAll-clause-step
+returns-in-InvalidateAll-clause-step g c =
+    replied _ _ _ _ _ _ c.push_reply-in-InvalidateAll.result _ _ Done c.from_nanos-now.ensures c.in-InvalidateAll.is
+    (machine.Done, (refl, c.invalidate_all.ensures.step), refl) c.push_reply-in-InvalidateAll.ensures
 
-pub returns-in-DropIf-clause-step : goal.returns-in-DropIf-clause-step
-returns-in-DropIf-clause-step g c =
-    answered c.args.cache.now c.drop_if.new.cache c.args.line.now c.args.line.request _ _ c.push_done-in-DropIf.result _ (record { room = false; table = false }) _ c.in-DropIf.is
-    (c.drop_if.ensures.step ∙ ap (λ text. after_invalidate_if script_keys c.args.cache.now (have_text text c.args.cache.now.contents.entries)) (search rules)) refl c.push_done-in-DropIf.ensures
+pub returns-in-InvalidateIf-clause-step : goal.returns-in-InvalidateIf-clause-step
+returns-in-InvalidateIf-clause-step g c =
+    let entries = c.args.cache.now.contents.entries in
+    let step = c.invalidate_if.ensures.step
+    ∙ ap (λ text. after_invalidate_if script_keys c.args.cache.now (have_text text entries)) (search rules) in
+    replied _ _ _ _ _ _ c.push_reply-in-InvalidateIf.result _ _ Done c.from_nanos-now.ensures c.in-InvalidateIf.is
+    (machine.Done, (refl, step), refl) c.push_reply-in-InvalidateIf.ensures
 
-pub returns-in-Iter-clause-step : goal.returns-in-Iter-clause-step
-returns-in-Iter-clause-step g c =
-    answered c.args.cache.now c.args.cache.now c.args.line.now c.args.line.request _ _ c.push_pairs.result _ (record { room = false; table = false }) _ c.in-Iter.is refl
-    (ap pairs_words (c.iter.ensures.value ∙ ap (λ now. pairs_at c.args.cache.now now) c.from_nanos-now.ensures)) c.push_pairs.ensures
+pub returns-in_ok-pairs-in-Iter-clause-step : goal.returns-in_ok-pairs-in-Iter-clause-step
+returns-in_ok-pairs-in-Iter-clause-step g c =
+    replied _ _ _ _ _ _ c.push_reply-in-Iter.result _ _ _ c.from_nanos-now.ensures c.in-Iter.is
+    (machine.Pairs _, (ap machine.Pairs c.iter.ensures.value, refl), ap Pairs (search rules)) c.push_reply-in-Iter.ensures
 
-pub returns-in-Count-clause-step : goal.returns-in-Count-clause-step
-returns-in-Count-clause-step g c =
-    answered c.args.cache.now c.args.cache.now c.args.line.now c.args.line.request _ _ c.push_number.result _ (record { room = false; table = false }) _ c.in-Count.is refl (ap decimal c.entry_count.ensures) c.push_number.ensures
+pub returns-in-EntryCount-clause-step : goal.returns-in-EntryCount-clause-step
+returns-in-EntryCount-clause-step g c =
+    replied _ _ _ _ _ _ c.push_reply-in-EntryCount.result _ _ (Number c.entry_count.result) c.from_nanos-now.ensures c.in-EntryCount.is
+    (machine.Number c.entry_count.result, (ap machine.Number c.entry_count.ensures, refl), refl) c.push_reply-in-EntryCount.ensures
 
-pub returns-in-Weight-clause-step : goal.returns-in-Weight-clause-step
-returns-in-Weight-clause-step g c =
-    answered c.args.cache.now c.args.cache.now c.args.line.now c.args.line.request _ _ c.push_number-in-Weight.result _ (record { room = false; table = false }) _ c.in-Weight.is refl (ap decimal c.weighted_size.ensures) c.push_number-in-Weight.ensures
+pub returns-in-WeightedSize-clause-step : goal.returns-in-WeightedSize-clause-step
+returns-in-WeightedSize-clause-step g c =
+    replied _ _ _ _ _ _ c.push_reply-in-WeightedSize.result _ _
+    (Number c.weighted_size.result) c.from_nanos-now.ensures c.in-WeightedSize.is
+    (machine.Number c.weighted_size.result, (ap machine.Number c.weighted_size.ensures, refl), refl) c.push_reply-in-WeightedSize.ensures
 
 pub returns-in-Policy-clause-step : goal.returns-in-Policy-clause-step
 returns-in-Policy-clause-step g c =
-    answered c.args.cache.now c.args.cache.now c.args.line.now c.args.line.request _ _ c.push_policy.result _ (record { room = false; table = false }) _ c.in-Policy.is refl (ap policy_words c.policy.ensures) c.push_policy.ensures
+    replied _ _ _ _ _ _ c.push_reply-in-Policy.result _ _ (Limits c.policy-policy.result) c.from_nanos-now.ensures c.in-Policy.is
+    (ap Limits c.policy-policy.ensures, refl) c.push_reply-in-Policy.ensures

@@ -1,11 +1,13 @@
 use Rattle.std.proofs.Common.{[], ◌∷◌}
-use Rattle.moka_unsync.proofs.CachedLemmas.{IsCached-leaving, IsCached-upkeep, has_hash, hash_respects}
+use Rattle.moka_unsync.proofs.CachedLemmas.{IsCached-leaving, IsCached-upkeep, has_hash}
 use Rattle.moka_unsync.proofs.cache.Cache.invalidate.Goals as goal
 
 pub remove_key-requires : goal.remove_key-requires
 remove_key-requires g c =
-    let respects = hash_respects (record { eq = g.K.PartialEq.eq; hash_input = g.K.Hash.hash_input }) g.S.BuildHasher g.S.Hasher.Hasher g.met.K.Hash.respects_eq c.self.inside.hash_state in
-    has_hash respects (IsCached-upkeep c.args.now c.self.invariant c.keep_up.ensures.step c.keep_up.ensures.kept) c.hash_one-hash.ensures
+    has_hash g.K.PartialEq.eq g.K.Hash.hash_input g.S.BuildHasher g.S.Hasher.Hasher g.met.K.Hash.respects_eq
+    (IsCached-upkeep c.args.now c.self.invariant c.upkeep.ensures.step c.upkeep.ensures.kept) c.hash_one-hash.ensures
 
 pub invariant_of-self : goal.invariant_of-self
-invariant_of-self g c = IsCached-leaving (c.args.key.now ∷ []) (IsCached-upkeep c.args.now c.self.invariant c.keep_up.ensures.step c.keep_up.ensures.kept) c.remove_key.ensures.step c.remove_key.ensures.kept
+invariant_of-self g c =
+    IsCached-leaving (c.args.key.now ∷ []) (IsCached-upkeep c.args.now c.self.invariant c.upkeep.ensures.step c.upkeep.ensures.kept)
+    c.remove_key.ensures.step c.remove_key.ensures.kept

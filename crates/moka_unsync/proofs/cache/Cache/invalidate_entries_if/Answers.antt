@@ -1,14 +1,14 @@
 use Rattle.std.proofs.Common.{ap}
-use Rattle.moka_unsync.specs.Contents.{keys_of}
-use Rattle.moka_unsync.specs.Invalidate.{chosen}
-use Rattle.moka_unsync.specs.Store.{entries_of}
+use Rattle.moka_machine.specs.Contents.{entry_keys}
+use Rattle.moka_machine.specs.Invalidate.{chosen}
+use Rattle.moka_store.specs.Store.{entries_of}
 use Rattle.moka_unsync.proofs.CachedLemmas.{IsCached-leaving}
 use Rattle.moka_unsync.proofs.cache.Cache.invalidate_entries_if.Goals as goal
 
 pub invariant_of-self : goal.invariant_of-self
 invariant_of-self g c =
     let (answers, told, step) = c.remove_where.ensures.step in
-    IsCached-leaving (keys_of (chosen answers (entries_of c.self.inside.store))) c.self.invariant step c.remove_where.ensures.kept
+    IsCached-leaving (entry_keys (chosen answers (entries_of c.self.inside.store))) c.self.invariant step c.remove_where.ensures.kept
 
 pub returns : goal.returns
 returns g c =
@@ -18,6 +18,16 @@ returns g c =
       step = (
         answers,
         told,
-        ap (λ contents. record { settings = record { hash_state = c.self.inside.hash_state; policy = c.self.inside.policy; is_weighed = c.self.inside.is_weighed }; weigher = c.self.inside.weigher; contents = contents; sketch = c.self.inside.sketch }) step,
+        ap (λ contents. record {
+          settings = record {
+            hash_state = c.self.inside.hash_state;
+            policy = c.self.inside.policy;
+            is_weighed =
+                c.self.inside.is_weighed;
+          };
+          weigher = c.self.inside.weigher;
+          contents = contents;
+          sketch = c.self.inside.sketch;
+        }) step,
       );
     })

@@ -1,5 +1,0 @@
-use Rattle.mini_moka.proofs.ScriptLemmas.{script_not_bad}
-use Rattle.mini_moka.proofs.laws.a_script_has_no_bad_line.Goals as goal
-
-pub returns : goal.returns
-returns c = script_not_bad

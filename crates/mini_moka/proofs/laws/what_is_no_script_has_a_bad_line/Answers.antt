@@ -1,5 +1,0 @@
-use Rattle.mini_moka.proofs.ScriptLemmas.{script_or_bad}
-use Rattle.mini_moka.proofs.laws.what_is_no_script_has_a_bad_line.Goals as goal
-
-pub returns : goal.returns
-returns c = script_or_bad

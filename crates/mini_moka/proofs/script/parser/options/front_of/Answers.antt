@@ -1,7 +1,0 @@
-use Rattle.std.proofs.lemmas.Bool.Decides.{Decides-eqb}
-use Rattle.std.proofs.lemmas.Slice.Eq.{strip_suffix_is}
-use Rattle.mini_moka.proofs.OptionLemmas.{front_of-stripped}
-use Rattle.mini_moka.proofs.script.parser.options.front_of.Goals as goal
-
-pub returns : goal.returns
-returns c = front_of-stripped _ _ _ (strip_suffix_is Decides-eqb _ _ _ c.strip_suffix.ensures.cases)

@@ -1,8 +1,0 @@
-use Rattle.std.proofs.Common.{◌==◌, rules}
-use Rattle.std.proofs.lemmas.Iterator.Consumers.{map_from_collect}
-use Rattle.std.proofs.lemmas.Iterator.Splits.{YieldsList-from_slice_split}
-use Rattle.mini_moka.specs.Spelling.{space}
-use Rattle.mini_moka.proofs.script.words.words_of.Goals as goal
-
-pub returns : goal.returns
-returns g c = map_from_collect _ c.collect.ensures.ran (YieldsList-from_slice_split _ (λ b. b == space) c.args.line.now c.split.ensures.rest c.split.ensures.done c.split.ensures.closure (λ x b q h. search rules))

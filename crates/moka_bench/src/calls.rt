@@ -1,0 +1,8 @@
+// Calls of the library that no script makes, or that show what no reply says.
+mod common;
+mod deque;
+mod engine;
+mod record;
+mod sketch;
+mod unsync;
+mod unsync_runs;

@@ -1,0 +1,120 @@
+// The core and a shard of it, called as a caller of the library does.
+ghost use Rattle.std.specs.Prelude.{◌≡◌, IfOk};
+
+use mini_moka::common::time::Instant;
+use mini_moka::common::{FixedState, InsertError, Shared, UnitWeight};
+use mini_moka::sync::engine::{Call, Core, Reply, Shard};
+use std::alloc::Global;
+use std::hash::BuildHasher;
+use std::test::Fail;
+
+type TextCore = Core<u64, u32>;
+
+type TextShard = Shard<u64, u32>;
+
+fn shared<T: Drop>(alloc: Global, value: T) -> Result<Shared<T>, Fail>
+    ensures { IfOk result (λ shared. shared ≡ value) }
+{
+    Ok(Shared::new(alloc, value)?)
+}
+
+/// Whether a core takes an insert of the key 7.
+fn takes(alloc: Global, core: &mut TextCore, value: u32) -> Result<bool, Fail> {
+    let now = Instant::from_nanos(0);
+    let key = shared(alloc, 7u64)?;
+    let value = shared(alloc, value)?;
+    let reply = core.call(Call::Insert { key, value, now });
+    Ok(matches!(reply, Reply::Done))
+}
+
+/// What a copied reply to a get has found.
+fn found(alloc: Global, core: &mut TextCore, key: u64) -> Result<Option<u32>, Fail> {
+    let now = Instant::from_nanos(0);
+    let key = shared(alloc, key)?;
+    let reply = core.call(Call::Get { key, now });
+    match reply.try_clone()? {
+        Reply::Found(Some(value)) => Ok(Some(*value.get())),
+        Reply::Found(None) => Ok(None),
+        _ => Err("what a get replies".into()),
+    }
+}
+
+/// Whether a core has a key, by a copy of the call.
+fn has(alloc: Global, core: &mut TextCore, key: u64) -> Result<bool, Fail> {
+    let now = Instant::from_nanos(0);
+    let key = shared(alloc, key)?;
+    let call = Call::Contains { key, now }.try_clone()?;
+    Ok(matches!(core.call(call), Reply::Bool(true)))
+}
+
+#[test]
+fn a_core_finds_what_was_inserted_last(rt: HostRuntime) -> Result<(), Fail> {
+    let alloc = rt.alloc();
+    let mut core: TextCore = Core::new(alloc, FixedState::new())?;
+    assert_eq!(rt; (core.is_new(), core.first_ticket()), (true, 0));
+    assert!(rt; takes(alloc, &mut core, 1)?);
+    assert!(rt; takes(alloc, &mut core, 2)?);
+    assert!(rt; !core.is_new());
+    assert_eq!(rt; found(alloc, &mut core, 7)?, Some(2));
+    assert_eq!(rt; found(alloc, &mut core, 8)?, None);
+    assert!(rt; has(alloc, &mut core, 7)?);
+    assert!(rt; !has(alloc, &mut core, 8)?);
+    Ok(())
+}
+
+/// A shard from this next number on, once the key 7 was put into it, and what that was answered.
+fn shard_after_insert(
+    alloc: Global,
+    next_number: u64,
+) -> Result<(TextShard, Result<(), InsertError>), Fail> {
+    let state = shared(alloc, FixedState::new())?;
+    let hash = state.get().hash_one(&7u64);
+    let number = (hash % 16) as usize;
+    let mut shard: TextShard = Shard::new(alloc, number, next_number, state);
+    let key = shared(alloc, 7u64)?;
+    let value = shared(alloc, 1u32)?;
+    let answer = shard.insert(hash, key, value, Instant::from_nanos(0));
+    Ok((shard, answer))
+}
+
+/// The value of a key in a shard.
+fn value_in(shard: &TextShard, key: u64) -> Result<Option<u32>, Fail> {
+    match shard.get(&key)? {
+        Some(value) => Ok(Some(*value.try_clone()?.get())),
+        None => Ok(None),
+    }
+}
+
+#[test]
+fn a_shard_keeps_the_keys_of_its_hashes(rt: HostRuntime) -> Result<(), Fail> {
+    let (shard, answer) = shard_after_insert(rt.alloc(), 0)?;
+    assert_eq!(rt; answer, Ok(()));
+    assert_eq!(rt; (shard.next_number(), shard.is_empty()), (1, false));
+    assert_eq!(rt;
+        (shard.contains_key(&7), shard.contains_key(&8)),
+        (true, false)
+    );
+    assert_eq!(rt; value_in(&shard, 7)?, Some(1));
+    assert_eq!(rt; value_in(&shard, 8)?, None);
+    Ok(())
+}
+
+#[test]
+fn a_shard_without_numbers_takes_no_new_key(rt: HostRuntime) -> Result<(), Fail> {
+    let (shard, answer) = shard_after_insert(rt.alloc(), u64::MAX)?;
+    assert_eq!(rt; answer, Err(InsertError::TicketsUsedUp));
+    assert!(rt; shard.is_empty());
+    Ok(())
+}
+
+#[test]
+fn errors_have_their_texts(rt: HostRuntime) -> Result<(), Fail> {
+    let _ = UnitWeight;
+    for (error, text) in [
+        (InsertError::OutOfMemory, "out of memory"),
+        (InsertError::TicketsUsedUp, "tickets used up"),
+    ] {
+        assert_eq!(rt; error.to_string(rt.alloc())?.as_str(), text);
+    }
+    Ok(())
+}

@@ -1,0 +1,233 @@
+// The cache for one thread: what no script shows of it.
+use linked_list_allocator::LocalHeap;
+use mini_moka::common::time::Instant;
+use mini_moka::common::{BuildError, InsertError};
+use mini_moka::unsync::{Cache, CacheBuilder};
+use std::alloc::{Allocator, Global};
+use std::hash::{BuildHasher, Hasher};
+use std::test::Fail;
+use std::time::Duration;
+
+/// More entries than any heap here has room for.
+const MANY: u64 = 1000;
+
+/// A heap of so many bytes has room for some entries, and for no table of a sketch.
+const FEW_BYTES: usize = 700;
+
+/// Each key has the hash 0.
+#[derive(Clone, Copy)]
+struct Zero;
+
+impl Hasher for Zero {
+    ghost write = { λ hasher _. hasher };
+
+    ghost finish = { λ _. 0 };
+
+    fn finish(&self) -> u64 {
+        0
+    }
+
+    fn write(&mut self, _bytes: &[u8]) {}
+}
+
+impl BuildHasher for Zero {
+    type Hasher = Zero;
+
+    ghost build_hasher = { λ state. state };
+
+    fn build_hasher(&self) -> Zero {
+        *self
+    }
+}
+
+fn start() -> Instant {
+    Instant::from_nanos(0)
+}
+
+#[test]
+fn the_weigher_is_asked_once_for_each_insert(rt: HostRuntime) -> Result<(), Fail> {
+    let mut calls = 0u32;
+    let mut cache = Cache::builder(rt.alloc())
+        .max_capacity(10)
+        .weigher(|_key: &u64, value: &u32| {
+            calls = calls.saturating_add(1);
+            *value
+        })
+        .build()?;
+    // A new key, an update, and one that is rejected.
+    for (key, value) in [(0, 5), (0, 6), (1, 11)] {
+        cache.insert(key, value, start())?;
+    }
+    assert_eq!(rt; cache.weighted_size(), 6);
+    drop(cache);
+    assert_eq!(rt; calls, 3);
+    Ok(())
+}
+
+#[test]
+fn a_refused_insert_asks_no_weigher_and_leaves_the_entries(rt: HostRuntime) -> Result<(), Fail> {
+    let heap = LocalHeap::new(rt.alloc(), 4096)?;
+    let mut calls = 0u64;
+    let mut cache = Cache::builder(&heap)
+        .time_to_live(Duration::from_nanos(10))
+        .weigher(|_key: &u64, value: &u32| {
+            calls = calls.saturating_add(1);
+            *value
+        })
+        .build()?;
+    let mut accepted = 0u64;
+    for key in 0..MANY {
+        if cache.insert(key, 2, start()).is_err() {
+            break;
+        }
+        accepted = key + 1;
+    }
+    assert!(rt; 0 < accepted && accepted < MANY, "{accepted} are accepted");
+    let expired = Instant::from_nanos(10);
+    // A new key, and an update of an old one. Neither removes what is expired.
+    for key in [accepted, 0] {
+        let refused = cache.insert(key, 9, expired);
+        assert_eq!(rt; refused, Err(InsertError::OutOfMemory), "at {key}");
+        assert_eq!(rt; cache.entry_count(), accepted, "at {key}");
+        assert_eq!(rt; cache.weighted_size(), accepted.wrapping_mul(2), "at {key}");
+    }
+    for key in 0..accepted {
+        assert_eq!(rt; cache.get(&key, start()), Some(&2), "at {key}");
+    }
+    assert!(rt; !cache.contains_key(&accepted, start()));
+    drop(cache);
+    assert_eq!(rt; calls, accepted);
+    Ok(())
+}
+
+/// Why a cache with these durations is not built, with the default hash state and with one that is handed in.
+fn refusals(alloc: Global, live: Duration, idle: Duration) -> [Option<BuildError>; 2] {
+    let builder = Cache::builder(alloc).time_to_live(live).time_to_idle(idle);
+    let built: Result<Cache<u64, u32>, BuildError> = builder.build();
+    let builder = Cache::builder(alloc).time_to_live(live).time_to_idle(idle);
+    let hashed: Result<Cache<u64, u32, Zero>, BuildError> = builder.build_with_hasher(Zero);
+    [built.err(), hashed.err()]
+}
+
+#[test]
+fn a_duration_of_more_than_a_thousand_years_is_refused(rt: HostRuntime) -> Result<(), Fail> {
+    let longest = Duration::from_secs(31_536_000_000);
+    let longer = Duration::from_secs(31_536_000_001);
+    let live = BuildError::TimeToLiveTooLong;
+    let idle = BuildError::TimeToIdleTooLong;
+    for (time_to_live, time_to_idle, error) in [
+        (longest, longest, None),
+        (longer, longest, Some(live)),
+        (longest, longer, Some(idle)),
+        (longer, longer, Some(live)),
+    ] {
+        assert_eq!(rt;
+            refusals(rt.alloc(), time_to_live, time_to_idle),
+            [error, error]
+        );
+    }
+    Ok(())
+}
+
+#[test]
+fn room_from_the_start_is_refused_where_memory_is(rt: HostRuntime) -> Result<(), Fail> {
+    let heap = LocalHeap::new(rt.alloc(), 4096)?;
+    for (room, error) in [(0, None), (4, None), (1000, Some(BuildError::OutOfMemory))] {
+        let built: Result<Cache<u64, u32, _, _, _>, BuildError> = Cache::builder(&heap)
+            .initial_capacity(room)
+            .build();
+        assert_eq!(rt; built.err(), error, "for {room}");
+        let built: Result<Cache<u64, u32, _, _, _>, BuildError> = Cache::builder(&heap)
+            .initial_capacity(room)
+            .build_with_hasher(Zero);
+        assert_eq!(rt; built.err(), error, "for {room}");
+    }
+    // Without room it takes no memory, so that it is built on any heap.
+    let cache: Cache<u64, u32, _, _, _> = Cache::new(&heap, 3)?;
+    assert_eq!(rt; heap.used(), 0);
+    assert_eq!(rt; cache.policy().max_capacity(), Some(3));
+    let errors = (BuildError::OutOfMemory, InsertError::OutOfMemory);
+    assert_eq!(rt; errors.0.to_string(rt.alloc())?.as_str(), "out of memory");
+    assert_eq!(rt; errors.1.to_string(rt.alloc())?.as_str(), "out of memory");
+    Ok(())
+}
+
+#[test]
+fn a_cache_is_built_and_takes_entries_where_there_is_memory(rt: HostRuntime) -> Result<(), Fail> {
+    let mut limited: Cache<u64, u32> = Cache::new(rt.alloc(), 1)?;
+    assert_eq!(rt; limited.policy().max_capacity(), Some(1));
+    assert_eq!(rt; limited.insert(7, 1, start()), Ok(()));
+    assert_eq!(rt; limited.get(&7, start()), Some(&1));
+    let mut built: Cache<u64, u32> = CacheBuilder::new(rt.alloc(), 1).build()?;
+    assert_eq!(rt; built.insert(7, 2, start()), Ok(()));
+    assert_eq!(rt; built.get(&7, start()), Some(&2));
+    let mut hashed: Cache<u64, u32, Zero> = CacheBuilder::default(rt.alloc()).build_with_hasher(
+        Zero,
+    )?;
+    assert_eq!(rt; hashed.insert(7, 3, start()), Ok(()));
+    assert_eq!(rt; hashed.get(&7, start()), Some(&3));
+    Ok(())
+}
+
+/// The values of the keys 0 to 3 in a cache whose keys all have one hash, where 0 to 2 were inserted and 1 was invalidated.
+fn values_of_one_hash(alloc: Global) -> Result<[Option<u32>; 4], Fail> {
+    let mut cache: Cache<u64, u32, Zero> = Cache::builder(alloc).build_with_hasher(Zero)?;
+    for (key, value) in [(0, 10), (1, 11), (2, 12)] {
+        cache.insert(key, value, start())?;
+    }
+    cache.invalidate(&1, start());
+    let mut values = [None; 4];
+    for (key, value) in values.iter_mut().enumerate() {
+        *value = cache.get(&(key as u64), start()).copied();
+    }
+    Ok(values)
+}
+
+#[test]
+fn keys_of_one_hash_are_told_apart(rt: HostRuntime) -> Result<(), Fail> {
+    let values = values_of_one_hash(rt.alloc())?;
+    assert_eq!(rt; values, [Some(10), None, Some(12), None]);
+    Ok(())
+}
+
+#[test]
+fn what_was_set_is_read_back(rt: HostRuntime) -> Result<(), Fail> {
+    let live = Duration::from_secs(2700);
+    let idle = Duration::from_nanos(900);
+    let set: Cache<u64, u32> = Cache::builder(rt.alloc())
+        .max_capacity(100)
+        .time_to_live(live)
+        .time_to_idle(idle)
+        .build()?;
+    assert_eq!(rt; set.policy().max_capacity(), Some(100));
+    assert_eq!(rt; set.policy().time_to_live(), Some(live));
+    assert_eq!(rt; set.policy().time_to_idle(), Some(idle));
+    assert_eq!(rt; set.entry_count(), 0);
+    assert_eq!(rt; set.weighted_size(), 0);
+    let unset: Cache<u64, u32> = Cache::builder(rt.alloc()).build()?;
+    assert_eq!(rt; unset.policy().max_capacity(), None);
+    assert_eq!(rt; unset.policy().time_to_live(), None);
+    assert_eq!(rt; unset.policy().time_to_idle(), None);
+    assert_eq!(rt; unset.entry_count(), 0);
+    assert_eq!(rt; unset.weighted_size(), 0);
+    Ok(())
+}
+
+/// Whether a key that was often looked for in a cache of one entry enters in its place.
+fn enters_often_wanted<A: Allocator + Clone + Drop>(alloc: A) -> Result<bool, Fail> {
+    let mut cache: Cache<u64, u32, _, _, A> = Cache::new(alloc, 1)?;
+    cache.insert(0, 10, start())?;
+    for _ in 0..3 {
+        cache.get(&1, start());
+    }
+    cache.insert(1, 11, start())?;
+    Ok(cache.contains_key(&1, start()))
+}
+
+#[test]
+fn without_memory_for_a_sketch_the_cache_stays_as_it_is(rt: HostRuntime) -> Result<(), Fail> {
+    let heap = LocalHeap::new(rt.alloc(), FEW_BYTES)?;
+    assert!(rt; enters_often_wanted(rt.alloc())?);
+    assert!(rt; !enters_often_wanted(&heap)?);
+    Ok(())
+}

@@ -1,0 +1,219 @@
+// Invalidations, the iterator, the Debug text and runs of calls of the cache for one thread: what no script shows of them.
+use linked_list_allocator::LocalHeap;
+use mini_moka::common::OutOfMemory;
+use mini_moka::common::time::Instant;
+use mini_moka::unsync::{Cache, Call, Reply, run};
+use std::alloc::{AllocError, Allocator, Global};
+use std::rc::Rc;
+use std::test::Fail;
+use std::time::Duration;
+
+fn start() -> Instant {
+    Instant::from_nanos(0)
+}
+
+/// The texts of a cache of texts that live for 10 ns, without entries and after each of two inserts, joined.
+fn debug_texts(alloc: Global) -> Result<String, Fail> {
+    let mut cache: Cache<u64, &str> = Cache::builder(alloc)
+        .time_to_live(Duration::from_nanos(10))
+        .build()?;
+    let mut texts = debug_text(alloc, &cache)?;
+    for (key, value) in [(0, "a"), (1, "b")] {
+        cache.insert(key, value, start())?;
+        texts.push_str(&debug_text(alloc, &cache)?)?;
+    }
+    Ok(texts)
+}
+
+fn debug_text(alloc: Global, cache: &Cache<u64, &str>) -> Result<String, AllocError> {
+    format!(in alloc; "{cache:?}")
+}
+
+// Debug is no call with a moment, so it shows what is expired by now as well.
+#[test]
+fn the_debug_text_has_every_stored_entry(rt: HostRuntime) -> Result<(), Fail> {
+    let texts = debug_texts(rt.alloc())?;
+    assert_eq!(rt; texts.as_str(), "{}{0: \"a\"}{0: \"a\", 1: \"b\"}");
+    Ok(())
+}
+
+/// The pairs that an iterator gives.
+fn pairs_of(alloc: Global, cache: &Cache<u64, u32>) -> Result<Vec<(u64, u32)>, AllocError> {
+    let mut pairs = Vec::new(alloc);
+    for (key, value) in cache.iter(start()) {
+        pairs.push((*key, *value))?;
+    }
+    Ok(pairs)
+}
+
+#[test]
+fn the_iterator_goes_from_the_least_recently_used_on(rt: HostRuntime) -> Result<(), Fail> {
+    let mut cache: Cache<u64, u32> = Cache::new(rt.alloc(), 10)?;
+    for key in 0..4 {
+        cache.insert(key, 10, start())?;
+    }
+    assert_eq!(rt; cache.get(&1, start()), Some(&10));
+    cache.insert(0, 11, start())?;
+    let pairs = pairs_of(rt.alloc(), &cache)?;
+    assert_eq!(rt;
+        pairs.as_slice(),
+        [(2, 10), (3, 10), (1, 10), (0, 11)].as_slice()
+    );
+    Ok(())
+}
+
+#[test]
+fn an_iterator_stays_at_its_end(rt: HostRuntime) -> Result<(), Fail> {
+    let mut cache: Cache<u64, u32> = Cache::new(rt.alloc(), 10)?;
+    cache.insert(7, 10, start())?;
+    let mut pairs = cache.iter(start());
+    assert_eq!(rt; pairs.next(), Some((&7, &10)));
+    assert_eq!(rt; pairs.next(), None);
+    assert_eq!(rt; pairs.next(), None);
+    Ok(())
+}
+
+#[test]
+fn a_predicate_is_asked_once_of_each_entry_in_order_of_use(rt: HostRuntime) -> Result<(), Fail> {
+    let mut cache: Cache<u64, u32> = Cache::new(rt.alloc(), 10)?;
+    for key in 0..4 {
+        cache.insert(key, 1, start())?;
+    }
+    assert_eq!(rt; cache.get(&0, start()), Some(&1));
+    // Each answer's digit is the key that it was asked of; the keys 1 and 3 leave.
+    let mut asked = 0u64;
+    cache.invalidate_entries_if(|key: &u64, _value: &u32| {
+        asked = asked.wrapping_mul(10).wrapping_add(*key);
+        *key % 2 == 1
+    });
+    assert_eq!(rt; asked, 1230);
+    assert_eq!(rt; cache.entry_count(), 2);
+    assert_eq!(rt; cache.weighted_size(), 2);
+    for (key, there) in [(0, true), (1, false), (2, true), (3, false)] {
+        assert_eq!(rt; cache.contains_key(&key, start()), there, "at {key}");
+    }
+    Ok(())
+}
+
+#[test]
+fn all_are_invalidated_with_their_writes(rt: HostRuntime) -> Result<(), Fail> {
+    let mut cache = Cache::builder(rt.alloc())
+        .time_to_live(Duration::from_nanos(10))
+        .weigher(|_key: &u64, value: &u32| *value)
+        .build()?;
+    for key in 0..3 {
+        cache.insert(key, 5, start())?;
+    }
+    cache.invalidate_all();
+    assert_eq!(rt; cache.entry_count(), 0);
+    assert_eq!(rt; cache.weighted_size(), 0);
+    // The old writes are gone too: nothing of them expires now.
+    cache.insert(1, 7, Instant::from_nanos(20))?;
+    assert_eq!(rt; cache.get(&1, Instant::from_nanos(20)), Some(&7));
+    assert_eq!(rt; cache.entry_count(), 1);
+    Ok(())
+}
+
+/// What a reply is, in a few words.
+fn told<A: Allocator>(reply: &Reply<u32, A>) -> (&'static str, u64) {
+    match reply {
+        Reply::Found(Some(value)) => ("found", u64::from(**value)),
+        Reply::Found(None) => ("none", 0),
+        Reply::Bool(true) => ("true", 0),
+        Reply::Bool(false) => ("false", 0),
+        Reply::Done => ("done", 0),
+        Reply::Number(number) => ("number", *number),
+        Reply::OutOfMemory => ("out of memory", 0),
+    }
+}
+
+/// Calls of each kind, on a cache that has the keys 0 and 1 after the first two.
+fn calls_of_each_kind(alloc: Global) -> Result<Vec<Call<u64, u32>>, Fail> {
+    let now = start();
+    let first = Rc::new(alloc, 10)?;
+    let second = Rc::new(alloc, 11)?;
+    let calls = vec![in alloc;
+        Call::Insert {
+            key: 0,
+            value: first,
+            now
+        },
+        Call::Insert {
+            key: 1,
+            value: second,
+            now
+        },
+        Call::Invalidate { key: 0, now },
+        Call::Get { key: 1, now },
+        Call::EntryCount,
+        Call::WeightedSize,
+        Call::Contains { key: 0, now },
+        Call::Contains { key: 1, now },
+        Call::Get { key: 0, now },
+        Call::InvalidateAll,
+        Call::EntryCount,
+    ]?;
+    Ok(calls)
+}
+
+#[test]
+fn a_run_replies_to_each_call(rt: HostRuntime) -> Result<(), Fail> {
+    let alloc = rt.alloc();
+    let mut cache: Cache<u64, Rc<u32>> = Cache::new(alloc, 10)?;
+    let replies = run(alloc, &mut cache, calls_of_each_kind(alloc)?)?;
+    let meant = [
+        ("done", 0),
+        ("done", 0),
+        ("done", 0),
+        ("found", 11),
+        ("number", 1),
+        ("number", 1),
+        ("false", 0),
+        ("true", 0),
+        ("none", 0),
+        ("done", 0),
+        ("number", 0),
+    ];
+    assert_eq!(rt; replies.len(), meant.len());
+    for i in 0..meant.len() {
+        assert_eq!(rt; told(&replies[i]), meant[i], "at {i}");
+    }
+    Ok(())
+}
+
+/// Takes what is left of a heap in small blocks.
+fn blocks_of<'a>(
+    alloc: Global,
+    heap: &'a LocalHeap,
+) -> Result<Vec<Rc<[u64; 8], &'a LocalHeap>>, AllocError> {
+    let mut taken = Vec::new(alloc);
+    for _ in 0..1000 {
+        match Rc::new(heap, [0u64; 8]) {
+            Ok(block) => taken.push(block)?,
+            Err(_) => break,
+        }
+    }
+    Ok(taken)
+}
+
+/// So many calls that empty a cache.
+fn calls_in(heap: &LocalHeap) -> Result<Vec<Call<u64, u32, &LocalHeap>, &LocalHeap>, AllocError> {
+    let mut calls = Vec::with_capacity(heap, 40)?;
+    for _ in 0..40 {
+        calls.push(Call::InvalidateAll)?;
+    }
+    Ok(calls)
+}
+
+#[test]
+fn a_run_without_room_for_its_replies_makes_no_call(rt: HostRuntime) -> Result<(), Fail> {
+    let heap = LocalHeap::new(rt.alloc(), 4096)?;
+    let mut cache: Cache<u64, Rc<u32, _>, _, _, _> = Cache::new(&heap, 10)?;
+    cache.insert(0, Rc::new(&heap, 10)?, start())?;
+    let calls = calls_in(&heap)?;
+    let taken = blocks_of(rt.alloc(), &heap)?;
+    assert_eq!(rt; run(&heap, &mut cache, calls).err(), Some(OutOfMemory));
+    assert_eq!(rt; cache.entry_count(), 1);
+    drop(taken);
+    Ok(())
+}

@@ -1,0 +1,2 @@
+// What is refused: streams, one call after another.
+mod streams;

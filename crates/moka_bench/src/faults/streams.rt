@@ -1,0 +1,169 @@
+// A stream that refuses its first call, its second, and so on, until nothing is refused.
+use mini_moka::script::{
+    End, Fault, FromRead, FromWrite, ReadError, ScriptError, read_all, run, write_all,
+};
+use std::alloc::Global;
+use std::io;
+use std::io::{Read, Write};
+use std::test::Fail;
+
+const SCRIPT: &str = "recorded\n0 insert 7 alice\n0 get 7\n0 get 8\n";
+
+const REPLIES: &str = "ready\nok\nsome alice\nnone\n";
+
+/// More calls than any run here makes.
+const MANY: usize = 100;
+
+/// Gives three bytes a call at most, and refuses after so many calls.
+#[derive(Drop)]
+struct Dripping<'a> {
+    left: &'a [u8],
+    calls: usize,
+}
+
+impl Read for Dripping<'_> {
+    fn read(&mut self, buffer: &mut [u8]) -> io::Result<usize> {
+        if self.calls == 0 {
+            return Err(io::Error::from(io::ErrorKind::Other));
+        }
+        self.calls -= 1;
+        let count = self.left.len().min(buffer.len()).min(3);
+        let (front, rest) = self.left.split_at(count);
+        for (to, from) in buffer.iter_mut().zip(front) {
+            *to = *from;
+        }
+        self.left = rest;
+        Ok(count)
+    }
+}
+
+/// Takes two bytes a call at most, and refuses after so many calls.
+#[derive(Drop)]
+struct Narrow {
+    taken: Vec<u8>,
+    calls: usize,
+}
+
+impl Write for Narrow {
+    fn write(&mut self, bytes: &[u8]) -> io::Result<usize> {
+        if self.calls == 0 {
+            return Err(io::Error::from(io::ErrorKind::Other));
+        }
+        self.calls -= 1;
+        let count = bytes.len().min(2);
+        self.taken.extend_from_slice(&bytes[..count])?;
+        Ok(count)
+    }
+
+    fn flush(&mut self) -> io::Result<()> {
+        Ok(())
+    }
+}
+
+impl Narrow {
+    fn new(alloc: Global, calls: usize) -> Narrow {
+        Narrow {
+            taken: Vec::new(alloc),
+            calls,
+        }
+    }
+}
+
+/// How a run ends whose source refuses after so many calls, and what it writes.
+fn run_of_reads(alloc: Global, calls: usize) -> (Result<End, ScriptError>, Vec<u8>) {
+    let left = SCRIPT.as_bytes();
+    let mut source = FromRead::new(Dripping { left, calls });
+    let mut sink = FromWrite::new(Vec::new(alloc));
+    let end = run(alloc, &mut source, &mut sink);
+    (end, sink.into_inner())
+}
+
+/// How a run of the script ends whose sink refuses after so many calls, and what was written till then.
+fn run_of_writes(
+    alloc: Global,
+    script: &[u8],
+    calls: usize,
+) -> (Result<End, ScriptError>, Vec<u8>) {
+    let mut source = FromRead::new(script);
+    let mut sink = FromWrite::new(Narrow::new(alloc, calls));
+    let end = run(alloc, &mut source, &mut sink);
+    (end, sink.into_inner().taken)
+}
+
+#[test]
+fn nothing_is_written_where_the_nth_read_fails(rt: HostRuntime) -> Result<(), Fail> {
+    let mut refusals = 0usize;
+    for calls in 0..MANY {
+        let (end, text) = run_of_reads(rt.alloc(), calls);
+        if end == Err(ScriptError::Read) {
+            assert!(rt; text.is_empty(), "after {calls} reads");
+            refusals = calls + 1;
+        } else {
+            assert_eq!(rt; end, Ok(End::Done), "after {calls} reads");
+            assert_eq!(rt; text.as_slice(), REPLIES.as_bytes(), "after {calls} reads");
+        }
+    }
+    // 42 bytes by threes, and the read that finds the end.
+    assert_eq!(rt; refusals, 15);
+    Ok(())
+}
+
+#[test]
+fn a_beginning_is_written_where_the_nth_write_fails(rt: HostRuntime) -> Result<(), Fail> {
+    let mut refusals = 0usize;
+    for calls in 0..MANY {
+        let (end, text) = run_of_writes(rt.alloc(), SCRIPT.as_bytes(), calls);
+        if end == Err(ScriptError::Write) {
+            assert_eq!(rt; text.len(), calls.wrapping_mul(2), "after {calls} writes");
+            assert!(rt;
+                REPLIES.as_bytes().starts_with(text.as_slice()),
+                "after {calls} writes"
+            );
+            refusals = calls + 1;
+        } else {
+            assert_eq!(rt; end, Ok(End::Done), "after {calls} writes");
+            assert_eq!(rt; text.as_slice(), REPLIES.as_bytes(), "after {calls} writes");
+        }
+    }
+    // 25 bytes by twos.
+    assert_eq!(rt; refusals, 13);
+    Ok(())
+}
+
+#[test]
+fn a_bad_line_is_told_as_far_as_the_writer_takes_it(rt: HostRuntime) -> Result<(), Fail> {
+    let (end, text) = run_of_writes(rt.alloc(), b"recorded\nx\n".as_slice(), 3);
+    assert_eq!(rt; end, Err(ScriptError::Write));
+    assert_eq!(rt; text.as_slice(), b"bad li".as_slice());
+    Ok(())
+}
+
+#[test]
+fn all_is_read_and_written_in_any_pieces(rt: HostRuntime) -> Result<(), Fail> {
+    let left = b"get 1".as_slice();
+    for (calls, read) in [(3, true), (2, false)] {
+        match read_all(rt.alloc(), &mut FromRead::new(Dripping { left, calls })) {
+            Ok(bytes) => assert!(rt; read && bytes.as_slice() == left, "at {calls}"),
+            Err(error) => assert!(rt; !read && error == ReadError::Read, "at {calls}"),
+        }
+    }
+    for (calls, written) in [(3, Ok(())), (2, Err(Fault))] {
+        let mut sink = FromWrite::new(Narrow::new(rt.alloc(), calls));
+        assert_eq!(rt; write_all(&mut sink, left), written, "at {calls}");
+    }
+    let source = FromRead::new(left);
+    assert_eq!(rt; source.into_inner(), left);
+    Ok(())
+}
+
+#[test]
+fn faults_have_their_texts(rt: HostRuntime) -> Result<(), Fail> {
+    for (error, text) in [
+        (ScriptError::Read, "read fault"),
+        (ScriptError::Write, "write fault"),
+        (ScriptError::OutOfMemory, "out of memory"),
+    ] {
+        assert_eq!(rt; error.to_string(rt.alloc())?.as_str(), text);
+    }
+    Ok(())
+}

@@ -1,0 +1,7 @@
+// Scripts with their replies, and what is no script.
+mod grammar;
+mod recorded;
+mod sketch;
+mod table;
+mod unsync;
+mod unsync_grammar;

@@ -1,0 +1,220 @@
+// What is a script, and which line is the first bad one.
+use crate::scripts::table::output_of;
+use mini_moka::script::{
+    End, LONGEST_TEXT, Mode, ParseError, Request, Script, SketchLine, Text, is_text, parse,
+};
+use std::alloc::Global;
+use std::process::Abort;
+use std::test::Fail;
+
+// Worked by hand from the grammar: a script, and its first bad line, if it has one.
+const LARGEST: &str = "recorded\n18446744073709551615 get 18446744073709551615\n";
+
+const LONG_TEXT: &str =
+    "recorded\n0 insert 1 abcdefghijklmnopqrstuvwxyz-ABCDEFGHIJKLMNOPQRSTUVWXYZ-0123456789\n";
+
+const TOO_LONG_TEXT: &str =
+    "recorded\n0 insert 1 abcdefghijklmnopqrstuvwxyz-ABCDEFGHIJKLMNOPQRSTUVWXYZ-0123456789a\n";
+
+const EDGES: [(&str, Option<u64>); 46] = [
+    // The header.
+    ("", Some(1)),
+    ("recorded", Some(1)),
+    ("Recorded\n", Some(1)),
+    (" recorded\n", Some(1)),
+    ("recorded \n", Some(1)),
+    ("recorded recorded\n", Some(1)),
+    ("\nrecorded\n", Some(1)),
+    ("recorded\r\n", Some(1)),
+    ("sync\n", Some(1)),
+    ("recorded max 3\n", Some(1)),
+    ("recorded\n", None),
+    ("recorded\n\n", Some(2)),
+    // Spaces and line feeds.
+    ("recorded\n0 get 0\n", None),
+    ("recorded\n0 get 0", Some(2)),
+    ("recorded\n0  get 0\n", Some(2)),
+    ("recorded\n 0 get 0\n", Some(2)),
+    ("recorded\n0 get 0 \n", Some(2)),
+    ("recorded\n0\tget 0\n", Some(2)),
+    ("recorded\n0 get 0\r\n", Some(2)),
+    ("recorded\n0 get 0\0\n", Some(2)),
+    // Numbers.
+    (LARGEST, None),
+    ("recorded\n18446744073709551616 get 0\n", Some(2)),
+    ("recorded\n0 get 18446744073709551616\n", Some(2)),
+    ("recorded\n00 get 0\n", Some(2)),
+    ("recorded\n0 get 01\n", Some(2)),
+    ("recorded\n0 get +1\n", Some(2)),
+    ("recorded\n0 get -1\n", Some(2)),
+    ("recorded\n0 get a\n", Some(2)),
+    // Texts.
+    ("recorded\n0 insert 1 \n", Some(2)),
+    ("recorded\n0 insert 1 -\n", None),
+    (LONG_TEXT, None),
+    (TOO_LONG_TEXT, Some(2)),
+    ("recorded\n0 insert 1 a_b\n", Some(2)),
+    ("recorded\n0 insert 1 \u{e9}\n", Some(2)),
+    // Words.
+    ("recorded\n0 put 0\n", Some(2)),
+    ("recorded\n0 sync\n", Some(2)),
+    ("recorded\n0 Get 0\n", Some(2)),
+    ("recorded\n0 get\n", Some(2)),
+    ("recorded\n0 get 0 0\n", Some(2)),
+    ("recorded\n0 insert 1\n", Some(2)),
+    ("recorded\n0 insert 1 a b\n", Some(2)),
+    ("recorded\nget 0\n", Some(2)),
+    // The first of several.
+    ("recorded\n0 get 0\n0 has 1\n\n", Some(4)),
+    ("recorded\n0 get 0\nx\n0 get 0\n", Some(3)),
+    ("recorded\nx\ny\n", Some(2)),
+    ("recorded\n0 insert 0 alice\n0 fetch 0\n", Some(3)),
+];
+
+const SKETCH_HEADERS: [(&str, Option<u64>); 13] = [
+    ("sketch\n", Some(1)),
+    ("sketch \n", Some(1)),
+    ("sketch 0", Some(1)),
+    ("sketch 00\n", Some(1)),
+    ("sketch -1\n", Some(1)),
+    ("sketch  1\n", Some(1)),
+    ("sketch 1 1\n", Some(1)),
+    ("sketch 1 \n", Some(1)),
+    ("Sketch 1\n", Some(1)),
+    ("sketch 4294967296\n", Some(1)),
+    ("recorded 1\n", Some(1)),
+    ("sketch 0\n", None),
+    ("sketch 1\n\n", Some(2)),
+];
+
+const SKETCH_LINES: [(&str, Option<u64>); 22] = [
+    ("sketch 1\ninc 18446744073709551615 65535\n", None),
+    ("sketch 1\ninc 18446744073709551616 1\n", Some(2)),
+    ("sketch 1\ninc 5 65536\n", Some(2)),
+    ("sketch 1\ninc 5 01\n", Some(2)),
+    ("sketch 1\ninc 5\n", Some(2)),
+    ("sketch 1\ninc 5 1 1\n", Some(2)),
+    ("sketch 1\nfreq 0\n", None),
+    ("sketch 1\nfreq\n", Some(2)),
+    ("sketch 1\nfreq 0 0\n", Some(2)),
+    ("sketch 1\nfreq 18446744073709551616\n", Some(2)),
+    ("sketch 1\nindex 5 3\n", None),
+    ("sketch 1\nindex 5 4\n", Some(2)),
+    ("sketch 1\nindex 5\n", Some(2)),
+    ("sketch 1\nlen\n", None),
+    ("sketch 1\nlen", Some(2)),
+    ("sketch 1\nlen \n", Some(2)),
+    ("sketch 1\nlen 0\n", Some(2)),
+    ("sketch 1\nensure 1\n", None),
+    ("sketch 1\nensure\n", Some(2)),
+    ("sketch 1\nensure 1 1\n", Some(2)),
+    ("sketch 1\nensure 4294967296\n", Some(2)),
+    ("sketch 1\nensure 4294967295 \n", Some(2)),
+];
+
+const LINES_OF_ANOTHER_MODE: [(&str, Option<u64>); 9] = [
+    ("sketch 1\n0 len\n", Some(2)),
+    ("sketch 1\n0 get 0\n", Some(2)),
+    ("sketch 1\nget 0\n", Some(2)),
+    ("recorded\nlen\n", Some(2)),
+    ("recorded\n0 len\n", Some(2)),
+    ("recorded\nfreq 0\n", Some(2)),
+    ("recorded\n0 freq 0\n", Some(2)),
+    ("sketch 1\nlen\nsketch 1\n", Some(3)),
+    ("sketch 1\nlen\nfreq 0\n0 has 0\nx\n", Some(4)),
+];
+
+/// Runs each script, and names the one whose first bad line is another.
+fn check_edges(rt: &impl Abort, alloc: Global, edges: &[(&str, Option<u64>)]) -> Result<(), Fail> {
+    for (script, bad) in edges {
+        let (end, text) = output_of(alloc, script)?;
+        match bad {
+            None => assert_eq!(rt; end, End::Done, "of {script:?}"),
+            Some(number) => {
+                let line = format!(in alloc; "bad line {number}\n")?;
+                assert_eq!(rt; end, End::BadLine(*number), "of {script:?}");
+                assert_eq!(rt; text.as_slice(), line.as_bytes(), "of {script:?}");
+            }
+        }
+    }
+    Ok(())
+}
+
+#[test]
+fn the_first_bad_line_is_named(rt: HostRuntime) -> Result<(), Fail> {
+    check_edges(&rt, rt.alloc(), &EDGES)
+}
+
+#[test]
+fn a_bad_header_of_a_sketch_is_named(rt: HostRuntime) -> Result<(), Fail> {
+    check_edges(&rt, rt.alloc(), &SKETCH_HEADERS)
+}
+
+#[test]
+fn a_bad_line_of_a_sketch_is_named(rt: HostRuntime) -> Result<(), Fail> {
+    check_edges(&rt, rt.alloc(), &SKETCH_LINES)
+}
+
+#[test]
+fn a_line_of_another_mode_is_named(rt: HostRuntime) -> Result<(), Fail> {
+    check_edges(&rt, rt.alloc(), &LINES_OF_ANOTHER_MODE)
+}
+
+#[test]
+fn lines_hold_what_they_spell(rt: HostRuntime) -> Result<(), Fail> {
+    let text = b"recorded\n5 insert 7 a-Z9\n6 get 8\n18446744073709551615 has 0\n".as_slice();
+    let Script::Cache { header, lines } = parse(rt.alloc(), text)? else {
+        return Err("a script of calls to a cache".into());
+    };
+    assert_eq!(rt; header.mode, Mode::Recorded);
+    let [insert, get, has] = lines.as_slice() else {
+        return Err("three lines".into());
+    };
+    assert_eq!(rt; (insert.now, get.now, has.now), (5, 6, u64::MAX));
+    assert!(rt;
+        matches!(&insert.request, Request::Insert { key: 7, text, weight: None } if text.as_bytes() == b"a-Z9".as_slice())
+    );
+    assert!(rt; matches!(&get.request, Request::Get { key: 8 }));
+    assert!(rt; matches!(&has.request, Request::ContainsKey { key: 0 }));
+    Ok(())
+}
+
+#[test]
+fn sketch_lines_hold_what_they_spell(rt: HostRuntime) -> Result<(), Fail> {
+    let text =
+        b"sketch 4294967295\ninc 18446744073709551615 65535\nfreq 0\nindex 7 3\nlen\nensure 4294967295\n".as_slice();
+    let Script::Sketch { cap, lines } = parse(rt.alloc(), text)? else {
+        return Err("a sketch script".into());
+    };
+    assert_eq!(rt; cap, u32::MAX);
+    let want = [
+        SketchLine::Inc {
+            hash: u64::MAX,
+            times: u16::MAX,
+        },
+        SketchLine::Freq { hash: 0 },
+        SketchLine::Index { hash: 7, depth: 3 },
+        SketchLine::Len,
+        SketchLine::Ensure { cap: u32::MAX },
+    ];
+    assert_eq!(rt; lines.as_slice(), want.as_slice());
+    Ok(())
+}
+
+#[test]
+fn a_bad_line_is_an_error_of_the_parser(rt: HostRuntime) {
+    match parse(rt.alloc(), b"recorded\n0 get\n") {
+        Ok(_) => assert!(rt; false, "it has no key"),
+        Err(error) => assert_eq!(rt; error, ParseError::BadLine(2)),
+    }
+}
+
+#[test]
+fn a_text_is_made_of_its_bytes(rt: HostRuntime) -> Result<(), Fail> {
+    let bytes = b"a-Z9".as_slice();
+    assert!(rt; is_text(bytes));
+    let text = Text::new(rt.alloc(), bytes)?;
+    assert_eq!(rt; text.as_bytes(), bytes);
+    assert_eq!(rt; LONGEST_TEXT, 64);
+    Ok(())
+}

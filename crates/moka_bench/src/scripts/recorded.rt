@@ -1,0 +1,69 @@
+// Recorded scripts with the replies that were worked out by hand.
+use crate::scripts::table::{Row, check_rows, check_script};
+use std::fmt::Write;
+use std::test::Fail;
+
+const ROWS: [Row; 4] = [
+    Row {
+        name: "a key that was inserted, and one that wasn't",
+        lines: "
+            recorded -> ready
+            0 insert 7 alice -> ok
+            0 get 7 -> some alice
+            0 get 8 -> none
+        ",
+    },
+    Row {
+        name: "a key of the same shard is another key",
+        lines: "
+            recorded -> ready
+            0 insert 0 a -> ok
+            0 insert 0 b -> ok
+            0 get 0 -> some b
+            0 has 16 -> false
+        ",
+    },
+    Row {
+        name: "moments that go back",
+        lines: "
+            recorded -> ready
+            9 insert 3 a -> ok
+            2 get 3 -> some a
+            0 insert 3 b -> ok
+            18446744073709551615 has 3 -> true
+            1 get 3 -> some b
+        ",
+    },
+    Row {
+        name: "no call",
+        lines: "
+            recorded -> ready
+        ",
+    },
+];
+
+#[test]
+fn recorded_rows_have_their_replies(rt: HostRuntime) -> Result<(), Fail> {
+    check_rows(&rt, rt.alloc(), &ROWS)
+}
+
+#[test]
+fn a_hundred_keys_are_read_back_as_last_inserted(rt: HostRuntime) -> Result<(), Fail> {
+    let mut script = String::from_str(rt.alloc(), "recorded\n")?;
+    let mut replies = String::from_str(rt.alloc(), "ready\n")?;
+    for key in 0..100u64 {
+        writeln!(script, "0 insert {key} first-{key}")?;
+        writeln!(replies, "ok")?;
+    }
+    for key in 0..100u64 {
+        writeln!(script, "1 insert {key} second-{key}")?;
+        writeln!(replies, "ok")?;
+    }
+    for key in 0..100u64 {
+        writeln!(script, "2 get {key}\n2 has {key}")?;
+        writeln!(replies, "some second-{key}\ntrue")?;
+    }
+    writeln!(script, "2 get 100")?;
+    writeln!(replies, "none")?;
+    check_script(&rt, rt.alloc(), "a hundred keys", &script, &replies)
+}

@@ -1,0 +1,104 @@
+// Runs tables of scripts, and names the line that fails.
+use mini_moka::script::{End, FromRead, FromWrite, ScriptError, run};
+use std::alloc::{AllocError, Allocator, Global};
+use std::process::Abort;
+use std::test::Fail;
+
+/// A script with its replies, side by side: a line of the script, an arrow, and the reply. A line without an arrow has no reply. Spaces in front
+/// of a line are layout.
+pub struct Row {
+    pub name: &'static str,
+    pub lines: &'static str,
+}
+
+/// What stands between a line and its reply.
+const ARROW: &str = " -> ";
+
+/// How a run of the script ends, whose memory is of this heap, and what it writes.
+pub fn run_in<A: Allocator + Clone + Drop>(
+    heap: A,
+    alloc: Global,
+    script: &str,
+) -> (Result<End, ScriptError>, Vec<u8>) {
+    let mut source = FromRead::new(script.as_bytes());
+    let mut sink = FromWrite::new(Vec::new(alloc));
+    let end = run(heap, &mut source, &mut sink);
+    (end, sink.into_inner())
+}
+
+/// How a run of the script ends, and what it writes.
+pub fn output_of(alloc: Global, script: &str) -> Result<(End, Vec<u8>), Fail> {
+    let (end, text) = run_in(alloc, alloc, script);
+    Ok((end?, text))
+}
+
+/// The lines of the script, and those of the replies.
+pub fn sides_of(alloc: Global, lines: &str) -> Result<(String, String), AllocError> {
+    let mut script = String::new(alloc);
+    let mut replies = String::new(alloc);
+    for line in lines.lines() {
+        let line = line.trim();
+        if line.is_empty() {
+            continue;
+        }
+        match line.split_once(ARROW) {
+            Some((call, reply)) => {
+                push_line(&mut script, call)?;
+                push_line(&mut replies, reply)?;
+            }
+            None => push_line(&mut script, line)?,
+        }
+    }
+    Ok((script, replies))
+}
+
+fn push_line(text: &mut String, line: &str) -> Result<(), AllocError> {
+    text.push_str(line)?;
+    text.push_str("\n")
+}
+
+/// Runs each row to its end.
+pub fn check_rows(rt: &impl Abort, alloc: Global, rows: &[Row]) -> Result<(), Fail> {
+    for row in rows {
+        check_lines(rt, alloc, row.name, row.lines)?;
+    }
+    Ok(())
+}
+
+/// Runs a script with its replies side by side to its end.
+pub fn check_lines(rt: &impl Abort, alloc: Global, name: &str, lines: &str) -> Result<(), Fail> {
+    let (script, replies) = sides_of(alloc, lines)?;
+    check_script(rt, alloc, name, &script, &replies)
+}
+
+/// Runs a script with its replies side by side to its end, in memory of this heap.
+pub fn check_lines_in<A: Allocator + Clone + Drop>(
+    rt: &impl Abort,
+    heap: A,
+    alloc: Global,
+    lines: &str,
+) -> Result<(), Fail> {
+    let (script, replies) = sides_of(alloc, lines)?;
+    let (end, text) = run_in(heap, alloc, &script);
+    assert_eq!(rt; end, Ok(End::Done));
+    assert_eq!(rt; text.as_slice(), replies.as_bytes());
+    Ok(())
+}
+
+/// Runs a script to its end, and compares its replies line by line.
+pub fn check_script(
+    rt: &impl Abort,
+    alloc: Global,
+    name: &str,
+    script: &str,
+    replies: &str,
+) -> Result<(), Fail> {
+    let (end, text) = output_of(alloc, script)?;
+    assert_eq!(rt; end, End::Done, "the end of {name}");
+    let text = std::str::from_utf8(text.as_slice())?;
+    for ((call, reply), want) in script.lines().zip(text.lines()).zip(replies.lines()) {
+        assert_eq!(rt; reply, want, "the reply to {call:?} of {name}");
+    }
+    assert_eq!(rt; text, replies, "the replies of {name}");
+    Ok(())
+}

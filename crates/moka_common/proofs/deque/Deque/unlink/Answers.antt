@@ -1,6 +1,0 @@
-use Rattle.moka_common.proofs.DequeLemmas.{CursorIsIn-passed}
-use Rattle.moka_common.proofs.deque.Deque.unlink.Goals as goal
-
-pub invariant_of-self : goal.invariant_of-self
-invariant_of-self g c =
-    rw (c.unlink.ensures.items, c.pass.ensures) (CursorIsIn-passed c.id.inside.number c.self.inside.list.items c.self.inside.cursor c.unlink.ensures.apart c.self.invariant)

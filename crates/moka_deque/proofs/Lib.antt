@@ -1,0 +1,2 @@
+pub mod DequeLemmas
+pub mod NodesLemmas

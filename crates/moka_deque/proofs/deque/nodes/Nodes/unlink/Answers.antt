@@ -1,0 +1,27 @@
+use Rattle.std.proofs.Common.{◌≡◌, ap, refl, sym, ◌∙◌, arith}
+use Rattle.std.specs.Option.{option_map}
+use Rattle.moka_deque.specs.Nodes.{link_of, next_at, prev_at}
+use Rattle.moka_deque.proofs.NodesLemmas.{before_stays, after_stays, IsListed-unlink}
+use Rattle.moka_deque.proofs.deque.nodes.Nodes.unlink.Goals as goal
+
+pub returns : goal.returns
+returns g c =
+    let old = c.args.self.now in let id = c.args.id in let out = c.remove-element.ensures in let node = c.remove-element.result in
+    let mid = record old { slab = c.remove-element.new.self } in let kept = c.join.ensures.kept in
+    let was = ap (option_map (λ n. n.element)) out.value in
+    let before_is : node.prev ≡ prev_at old id = sym (ap (λ o. link_of (λ n. n.prev) old.tail o id) out.value) in
+    let after_is : node.next ≡ next_at old id = sym (ap (λ o. link_of (λ n. n.next) old.head o id) out.value) in
+    record {
+      step = record {
+        listed = λ es listed.
+            let at = sym (listed.elements id) ∙ was in
+            let joins =
+            c.join.ensures.joins (before_stays old mid id node.element es listed at out.updates node.prev before_is)
+            (after_stays old mid id node.element es listed at out.updates node.next after_is) in
+            IsListed-unlink old mid id node.element es listed at out.updates c.join.new.self node.prev node.next before_is after_is refl refl
+            out.len out.capacity joins;
+        value = was;
+        len = omega (arith, kept.len, out.len);
+        capacity = kept.capacity ∙ out.capacity;
+      };
+    }

@@ -1,0 +1,7 @@
+pub mod Deque
+pub mod DequeLends
+-- inside
+pub mod Linked
+pub mod Lends
+pub mod Nodes
+pub mod NodesChanges

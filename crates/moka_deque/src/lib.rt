@@ -1,0 +1,4 @@
+//! Lists whose nodes have ids.
+#![tactic(auto)]
+
+pub mod deque;

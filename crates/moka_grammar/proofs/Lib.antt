@@ -1,0 +1,12 @@
+pub mod NumberLemmas
+pub mod WordLemmas
+pub mod CutLemmas
+pub mod ReadLemmas
+pub mod LineLemmas
+pub mod LineListLemmas
+pub mod ArgumentLemmas
+pub mod OptionLemmas
+pub mod HeaderLemmas
+pub mod RequestLemmas
+pub mod SketchLineLemmas
+pub mod ScriptLemmas

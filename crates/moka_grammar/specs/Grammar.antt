@@ -1,0 +1,101 @@
+-- What a contract sees of scripts: which bytes are one, and which line is the first bad one.
+use Rattle.std.specs.Prelude.{◌≡◌, ◌≢◌, ℕ, ◌+◌, ◌^◌, ◌<◌, List, [], ◌∷◌, ◌++◌, length, codes, IsTrue, ◌⊎◌}
+use Rattle.std.specs.List.{flat_map, AllByRecursion}
+use Rattle.std.specs.Fmt.{decimal}
+use Rattle.moka_grammar.specs.Spelling.{line_of}
+use Rattle.moka_grammar.specs.Options.{allows_options, options_words, OptionsFit}
+use Rattle.moka_grammar.specs.Lines.{line_words, LineFits}
+use Rattle.moka_grammar.specs.SketchLines.{sketch_words, SketchFits}
+use Rattle.moka_grammar.specs.declared.line.CacheHeader.{CacheHeader}
+use Rattle.moka_grammar.specs.declared.line.Header.{Header}
+use Rattle.moka_grammar.specs.declared.line.Header.TheVariants.{Cache, Sketch}
+use Rattle.moka_grammar.specs.declared.line.Line.{Line}
+use Rattle.moka_grammar.specs.declared.line.Mode.{Mode}
+use Rattle.moka_grammar.specs.declared.line.Mode.TheVariants.{Recorded, Unsync}
+use Rattle.moka_grammar.specs.declared.line.SketchLine.{SketchLine}
+
+-- the name of a mode
+abbrev pub mode_word : Mode → List ℕ
+mode_word Recorded = codes "recorded"
+mode_word Unsync = codes "unsync"
+
+-- the words of a header: the name of the mode, and what it is given
+abbrev pub header_words : Header → List (List ℕ)
+header_words (Cache header) = mode_word header.mode ∷ options_words header.options
+header_words (Sketch cap) = codes "sketch" ∷ decimal cap ∷ []
+
+-- the settings are ones of the mode, and hold what can be spelled
+pub record CacheHeaderFits (header : CacheHeader) : Type 0 where
+  pub allowed : IsTrue (allows_options header.mode header.options)
+  pub options : OptionsFit header.options
+
+-- the header holds what can be spelled
+abbrev pub HeaderFits : Header → Type 0
+HeaderFits (Cache header) = CacheHeaderFits header
+HeaderFits (Sketch cap) = cap < 2 ^ 32
+
+-- ---- lines of one kind
+
+module _ {L : Type 0} (words : L → List (List ℕ)) (Fits : L → Type 0) where
+  -- the bytes are these lines, one after another, and nothing else
+  abbrev pub AreLines : List ℕ → List L → Type 0
+  AreLines bytes lines = AllByRecursion Fits lines × (bytes ≡ flat_map (λ line. line_of (words line)) lines)
+
+  -- no line begins the bytes
+  abbrev pub LacksLine : List ℕ → Type 0
+  LacksLine bytes = (line : L) (rest : List ℕ) → Fits line → bytes ≡ line_of (words line) ++ rest → ⊥
+
+  -- as many good lines as this begin the bytes, and then comes something that no line begins
+  pub record IsBadAfter (bytes : List ℕ) (count : ℕ) : Type 0 where
+    pub good : List L
+    pub rest : List ℕ
+    pub each : AllByRecursion Fits good
+    pub parts : bytes ≡ flat_map (λ line. line_of (words line)) good ++ rest
+    pub number : count ≡ length good
+    pub some : rest ≢ []
+    pub bad : LacksLine rest
+
+-- ---- scripts
+
+-- a script of calls to a cache or to a sketch: what its header gives, and its lines
+pub data Script : Type 0 where
+  CacheScript : CacheHeader → List (Line (List ℕ)) → Script
+  SketchScript : ℕ → List SketchLine → Script
+
+-- the header of a script
+abbrev pub header_of : Script → Header
+header_of (CacheScript header lines) = Cache header
+header_of (SketchScript cap lines) = Sketch cap
+
+-- the bytes are the lines of the script, which are those of its mode
+abbrev pub IsBody : List ℕ → Script → Type 0
+IsBody bytes (CacheScript header lines) = AreLines line_words (LineFits header) bytes lines
+IsBody bytes (SketchScript cap lines) = AreLines sketch_words SketchFits bytes lines
+
+-- the bytes are the header of the script and its lines, and nothing else
+pub record IsScript (bytes : List ℕ) (script : Script) : Type 0 where
+  pub fits : HeaderFits (header_of script)
+  pub body : List ℕ
+  pub begins : bytes ≡ line_of (header_words (header_of script)) ++ body
+  pub lines : IsBody body script
+
+-- ---- the first bad line
+
+-- as many good lines of the header's mode as this begin the bytes, and then comes something that no line of it begins
+abbrev pub IsBadBehind : Header → List ℕ → ℕ → Type 0
+IsBadBehind (Cache header) bytes count = IsBadAfter line_words (LineFits header) bytes count
+IsBadBehind (Sketch cap) bytes count = IsBadAfter sketch_words SketchFits bytes count
+
+-- a header begins the bytes, and behind it the line of this number is the first bad one
+pub record HasBadLine (bytes : List ℕ) (number : ℕ) : Type 0 where
+  pub header : Header
+  pub fits : HeaderFits header
+  pub body : List ℕ
+  pub begins : bytes ≡ line_of (header_words header) ++ body
+  pub count : ℕ
+  pub number_is : number ≡ count + 2
+  pub bad : IsBadBehind header body count
+
+-- the line of this number, counted from 1, is the first bad one
+abbrev pub IsBadAt : List ℕ → ℕ → Type 0
+IsBadAt bytes number = ((number ≡ 1) × LacksLine header_words HeaderFits bytes) ⊎ HasBadLine bytes number

@@ -1,0 +1,11 @@
+pub mod Text
+pub mod Spelling
+pub mod Options
+pub mod Lines
+pub mod SketchLines
+pub mod Grammar
+pub mod Parsed
+-- inside
+pub mod Reading
+pub mod ReadingOptions
+pub mod ReadingLines

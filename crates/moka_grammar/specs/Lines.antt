@@ -1,0 +1,62 @@
+-- What a contract sees of the lines of scripts of calls to a cache: a moment and a request each.
+use Rattle.std.specs.Prelude.{ℕ, ◌^◌, ◌<◌, Bool, true, false, List, [], ◌∷◌, codes, Option, Some, None, IsTrue}
+use Rattle.std.specs.Fmt.{decimal}
+use Rattle.moka_grammar.specs.Text.{IsText}
+use Rattle.moka_grammar.specs.declared.line.CacheHeader.{CacheHeader}
+use Rattle.moka_grammar.specs.declared.line.Mode.{Mode}
+use Rattle.moka_grammar.specs.declared.line.Mode.TheVariants.{Recorded, Unsync}
+use Rattle.moka_grammar.specs.declared.line.Line.{Line}
+use Rattle.moka_grammar.specs.declared.line.Request.{Request}
+use Rattle.moka_grammar.specs.declared.line.Request.TheVariants.{Insert, Get, ContainsKey, Invalidate, InvalidateAll, InvalidateIf, Sync, Iter, EntryCount, WeightedSize, Policy}
+
+-- the word of a weight, where there is one
+abbrev pub weight_words : Option ℕ → List (List ℕ)
+weight_words None = []
+weight_words (Some weight) = decimal weight ∷ []
+
+-- the words of a request: the name of the call, and what it is given
+abbrev pub request_words : Request (List ℕ) → List (List ℕ)
+request_words (Insert key text weight) = codes "insert" ∷ decimal key ∷ text ∷ weight_words weight
+request_words (Get key) = codes "get" ∷ decimal key ∷ []
+request_words (ContainsKey key) = codes "has" ∷ decimal key ∷ []
+request_words (Invalidate key) = codes "invalidate" ∷ decimal key ∷ []
+request_words InvalidateAll = codes "clear" ∷ []
+request_words (InvalidateIf text) = codes "drop-if" ∷ text ∷ []
+request_words Sync = codes "sync" ∷ []
+request_words Iter = codes "iter" ∷ []
+request_words EntryCount = codes "count" ∷ []
+request_words WeightedSize = codes "weight" ∷ []
+request_words Policy = codes "policy" ∷ []
+
+-- the words of a line: its moment, and those of its request
+abbrev pub line_words : Line (List ℕ) → List (List ℕ)
+line_words line = decimal line.now ∷ request_words line.request
+
+-- whether the request is one of a script of this mode
+abbrev pub allows : {T : Type 0} → Mode → Request T → Bool
+allows Recorded (Insert key text weight) = true
+allows Recorded (Get key) = true
+allows Recorded (ContainsKey key) = true
+allows Recorded request = false
+allows Unsync Sync = false
+allows Unsync request = true
+
+-- the weight can be spelled, and is there exactly where the script is weighed
+abbrev pub WeightFits : Bool → Option ℕ → Type 0
+WeightFits true (Some weight) = weight < 2 ^ 32
+WeightFits true None = ⊥
+WeightFits false (Some weight) = ⊥
+WeightFits false None = Unit {0}
+
+-- the request holds what can be spelled, where the script is weighed or not
+abbrev pub RequestFits : Bool → Request (List ℕ) → Type 0
+RequestFits weighed (Insert key text weight) = (key < 2 ^ 64) × IsText text × WeightFits weighed weight
+RequestFits weighed (Get key) = key < 2 ^ 64
+RequestFits weighed (ContainsKey key) = key < 2 ^ 64
+RequestFits weighed (Invalidate key) = key < 2 ^ 64
+RequestFits weighed (InvalidateIf text) = IsText text
+RequestFits weighed request = Unit {0}
+
+-- the line is one of a script with this header, and holds what can be spelled
+abbrev pub LineFits : CacheHeader → Line (List ℕ) → Type 0
+LineFits header line = (line.now < 2 ^ 64) × IsTrue (allows header.mode line.request) × RequestFits header.options.weighed line.request

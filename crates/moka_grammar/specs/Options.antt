@@ -1,0 +1,58 @@
+-- What a contract sees of the settings of a cache: how the first line of a script spells them, and which cache can be given which.
+use Rattle.std.specs.Prelude.{ℕ, ◌^◌, ◌<◌, ◌*◌, ◌&&◌, not, is_none, Bool, true, false, List, [], ◌∷◌, ◌++◌, codes, Option, Some, None, IfSome}
+use Rattle.std.specs.Fmt.{decimal}
+use Rattle.moka_grammar.specs.declared.line.Span.{Span}
+use Rattle.moka_grammar.specs.declared.line.Span.TheVariants.{Seconds, Nanos}
+use Rattle.moka_grammar.specs.declared.line.CacheOptions.{CacheOptions}
+use Rattle.moka_grammar.specs.declared.line.Mode.{Mode}
+use Rattle.moka_grammar.specs.declared.line.Mode.TheVariants.{Recorded, Unsync}
+
+-- how many nanoseconds a span has
+abbrev pub span_nanos : Span → ℕ
+span_nanos (Seconds count) = count * 1_000_000_000
+span_nanos (Nanos count) = count
+
+-- the word of a span: its number, and its unit at once behind it
+abbrev pub span_word : Span → List ℕ
+span_word (Seconds count) = decimal count ++ codes "s"
+span_word (Nanos count) = decimal count ++ codes "ns"
+
+-- the words of a setting, where there is one: its name and its value
+abbrev pub option_words : {X : Type 0} → List ℕ → (X → List ℕ) → Option X → List (List ℕ)
+option_words name word None = []
+option_words name word (Some value) = name ∷ word value ∷ []
+
+-- the word that says that inserts have weights, where they have
+abbrev pub weighed_words : Bool → List (List ℕ)
+weighed_words true = codes "weighed" ∷ []
+weighed_words false = []
+
+-- the words of settings, in their order
+abbrev pub options_words : CacheOptions → List (List ℕ)
+options_words options =
+    option_words (codes "max") decimal options.max
+    ++ (option_words (codes "live") span_word options.live
+    ++ (option_words (codes "idle") span_word options.idle
+    ++ weighed_words options.weighed))
+
+-- the number can be spelled
+abbrev pub NumberFits : ℕ → Type 0
+NumberFits n = n < 2 ^ 64
+
+-- the span holds what can be spelled
+abbrev pub SpanFits : Span → Type 0
+SpanFits (Seconds count) = count < 2 ^ 64
+SpanFits (Nanos count) = count < 2 ^ 64
+
+-- the settings hold what can be spelled
+abbrev pub OptionsFit : CacheOptions → Type 0
+OptionsFit options = IfSome options.max NumberFits × IfSome options.live SpanFits × IfSome options.idle SpanFits
+
+-- whether nothing is set
+abbrev pub is_empty : CacheOptions → Bool
+is_empty options = is_none options.max && is_none options.live && is_none options.idle && not options.weighed
+
+-- whether a cache of this mode can be given these settings
+abbrev pub allows_options : Mode → CacheOptions → Bool
+allows_options Recorded options = is_empty options
+allows_options Unsync options = true

@@ -1,0 +1,173 @@
+//! A script as values: its header, and the lines behind it.
+ghost use Rattle.std.specs.Prelude.{◌≡◌};
+ghost use Rattle.std.specs.Duration.{as_nanos};
+ghost use Rattle.moka_grammar.specs.Lines.{allows};
+ghost use Rattle.moka_grammar.specs.Options.{allows_options, span_nanos};
+
+use crate::text::Text;
+use std::alloc::{Allocator, Global};
+use std::time::Duration;
+
+/// What a whole script is for: its first line.
+#[derive(Clone, Copy, Debug, PartialEq, Eq)]
+pub enum Header {
+    /// Calls to a cache.
+    Cache(CacheHeader),
+    /// Calls to a frequency sketch that begins with a table for `cap` entries.
+    Sketch { cap: u32 },
+}
+
+/// The first line of a script of calls to a cache: which cache it is, and its settings.
+#[derive(Clone, Copy, Debug, PartialEq, Eq)]
+pub struct CacheHeader {
+    pub mode: Mode,
+    pub options: CacheOptions,
+}
+
+/// Which cache a script's calls are made on.
+#[derive(Clone, Copy, Debug, PartialEq, Eq)]
+pub enum Mode {
+    /// A cache that keeps a record of its calls.
+    Recorded,
+    /// The cache for one thread.
+    Unsync,
+}
+
+impl Mode {
+    /// Whether a cache of this mode can be given these settings.
+    pub fn allows_options(self, options: CacheOptions) -> bool
+        ensures { result ≡ allows_options self options }
+    {
+        match self {
+            Mode::Recorded => options.is_empty(),
+            Mode::Unsync => true,
+        }
+    }
+
+    /// Whether the request is one of a script of this mode.
+    pub fn allows<T>(self, request: &Request<T>) -> bool
+        ensures { result ≡ allows self request.now }
+    {
+        match (self, request) {
+            (_, Request::Insert { .. } | Request::Get { .. } | Request::ContainsKey { .. }) => true,
+            (Mode::Recorded, _) => false,
+            (Mode::Unsync, Request::Sync) => false,
+            (Mode::Unsync, _) => true,
+        }
+    }
+}
+
+/// A length of time, in the unit that it is given in.
+#[derive(Clone, Copy, Debug, PartialEq, Eq)]
+pub enum Span {
+    Seconds(u64),
+    Nanos(u64),
+}
+
+impl Span {
+    /// The same length of time as a `Duration`.
+    pub fn to_duration(self) -> Duration
+        ensures { as_nanos result ≡ span_nanos self }
+    {
+        match self {
+            Span::Seconds(count) => Duration::from_secs(count),
+            Span::Nanos(count) => Duration::from_nanos(count),
+        }
+    }
+}
+
+/// The settings of a cache, as the first line of its script gives them.
+#[derive(Clone, Copy, Debug, PartialEq, Eq)]
+pub struct CacheOptions {
+    /// The limit.
+    pub max: Option<u64>,
+    /// The time to live.
+    pub live: Option<Span>,
+    /// The time to idle.
+    pub idle: Option<Span>,
+    /// Whether each insert is given the weight of its value.
+    pub weighed: bool,
+}
+
+impl CacheOptions {
+    ghost use Rattle.moka_grammar.specs.Options.{is_empty};
+
+    /// Whether nothing is set.
+    pub fn is_empty(self) -> bool
+        ensures { result ≡ is_empty self }
+    {
+        self.max.is_none() && self.live.is_none() && self.idle.is_none() && !self.weighed
+    }
+}
+
+/// What is asked of a cache. `T` is how texts are held, so that a contract sees a request without an allocator.
+#[derive(Drop)]
+pub enum Request<T = Text> {
+    /// Stores the text. The weight is there exactly where the script is weighed.
+    Insert {
+        key: u64,
+        text: T,
+        weight: Option<u32>,
+    },
+    Get {
+        key: u64,
+    },
+    ContainsKey {
+        key: u64,
+    },
+    /// Removes the entry of the key.
+    Invalidate {
+        key: u64,
+    },
+    /// Removes all entries.
+    InvalidateAll,
+    /// Removes the entries whose text is this one.
+    InvalidateIf {
+        text: T,
+    },
+    /// Applies what the shared cache has put off.
+    Sync,
+    /// The unexpired entries.
+    Iter,
+    /// How many entries there are.
+    EntryCount,
+    /// How much they weigh.
+    WeightedSize,
+    /// The settings that the cache was built with.
+    Policy,
+}
+
+/// A request and its moment, in nanoseconds.
+#[derive(Drop)]
+pub struct Line<T = Text> {
+    pub now: u64,
+    pub request: Request<T>,
+}
+
+/// What is asked of the sketch.
+#[derive(Clone, Copy, Debug, PartialEq, Eq)]
+pub enum SketchLine {
+    /// Counts the hash so many times.
+    Inc { hash: u64, times: u16 },
+    /// How often the hash was counted of late.
+    Freq { hash: u64 },
+    /// Where the hash's counter lies at a depth.
+    Index { hash: u64, depth: u8 },
+    /// How long the table is.
+    Len,
+    /// Sees to a table for so many entries.
+    Ensure { cap: u32 },
+}
+
+/// A whole script, its lines in their order.
+#[derive(Drop)]
+pub enum Script<A: Allocator + Clone + Drop = Global> {
+    Cache {
+        header: CacheHeader,
+        lines: Vec<Line<Text<A>>, A>,
+    },
+    Sketch {
+        cap: u32,
+        lines: Vec<SketchLine, A>,
+    },
+}

@@ -1,0 +1,96 @@
+// From the words of the first line to the settings of a cache.
+ghost use Rattle.std.specs.Prelude.{◌≡◌, map, option_map};
+ghost use Rattle.moka_grammar.specs.Reading.{Gives, GivesLeft, number_of};
+ghost use Rattle.moka_grammar.specs.ReadingOptions.{front_of, span_of, option_of, weighed_of, options_of};
+
+use crate::line::{CacheOptions, Span};
+use crate::words::{LineError, number_of};
+
+/// The settings that all of the words spell, each at most once and in their order.
+#[tactic(auto, unfolding(crate::specs::ReadingOptions::options_of))]
+pub(super) fn options_of(arguments: &[&[u8]]) -> Result<CacheOptions, LineError>
+    ensures { Gives result (options_of (map (λ word. word.now) arguments.now)) }
+{
+    let (max, arguments) = number_option(b"max", arguments)?;
+    let (live, arguments) = span_option(b"live", arguments)?;
+    let (idle, arguments) = span_option(b"idle", arguments)?;
+    let weighed = weighed_of(arguments)?;
+    Ok(CacheOptions {
+        max,
+        live,
+        idle,
+        weighed,
+    })
+}
+
+/// The number behind this name, where the name comes first, and the words that are left.
+#[tactic(auto, unfolding(crate::specs::ReadingOptions::option_of))]
+fn number_option<'a>(
+    name: &[u8],
+    arguments: &'a [&'a [u8]],
+) -> Result<(Option<u64>, &'a [&'a [u8]]), LineError>
+    ensures { GivesLeft result (option_of name.now number_of (map (λ word. word.now) arguments.now)) }
+{
+    let [first, value, behind @ ..] = arguments else {
+        return Ok((None, arguments));
+    };
+    if *first != name {
+        return Ok((None, arguments));
+    }
+    let number = number_of(value)?;
+    Ok((Some(number), behind))
+}
+
+/// The span behind this name, where the name comes first, and the words that are left.
+#[tactic(auto, unfolding(crate::specs::ReadingOptions::option_of))]
+fn span_option<'a>(
+    name: &[u8],
+    arguments: &'a [&'a [u8]],
+) -> Result<(Option<Span>, &'a [&'a [u8]]), LineError>
+    ensures { GivesLeft result (option_of name.now span_of (map (λ word. word.now) arguments.now)) }
+{
+    let [first, value, behind @ ..] = arguments else {
+        return Ok((None, arguments));
+    };
+    if *first != name {
+        return Ok((None, arguments));
+    }
+    let span = span_of(value)?;
+    Ok((Some(span), behind))
+}
+
+/// Whether the last word is there, which says that inserts have weights.
+#[tactic(auto, unfolding(crate::specs::ReadingOptions::weighed_of))]
+fn weighed_of(arguments: &[&[u8]]) -> Result<bool, LineError>
+    ensures { Gives result (weighed_of (map (λ word. word.now) arguments.now)) }
+{
+    match arguments {
+        [] => Ok(false),
+        [word] if *word == b"weighed".as_slice() => Ok(true),
+        _ => Err(LineError::Bad),
+    }
+}
+
+/// The span that a word spells: a number, and its unit at once behind it.
+#[tactic(auto, unfolding(crate::specs::ReadingOptions::span_of))]
+fn span_of(word: &[u8]) -> Result<Span, LineError>
+    ensures { Gives result (span_of word.now) }
+{
+    if let Some(count) = front_of(word, b"ns") {
+        let count = number_of(count)?;
+        return Ok(Span::Nanos(count));
+    }
+    if let Some(count) = front_of(word, b"s") {
+        let count = number_of(count)?;
+        return Ok(Span::Seconds(count));
+    }
+    Err(LineError::Bad)
+}
+
+/// What is in front of this end of a word.
+#[tactic(auto, unfolding(crate::specs::ReadingOptions::front_of))]
+fn front_of<'a>(word: &'a [u8], end: &[u8]) -> Option<&'a [u8]>
+    ensures { option_map (λ front. front.now) result ≡ front_of end.now word.now }
+{
+    word.strip_suffix(end)
+}

@@ -1,0 +1,175 @@
+-- Lemmas on keys that stand once.
+use Rattle.std.proofs.Common.{◌≡◌, ◌||◌, ℕ, Bool, true, false, not, List, [], ◌∷◌, ◌++◌, filter, is_some, Option, Some, None, refl, sym, ap, ◌∙◌, inl, inr, subst}
+use Rattle.std.proofs.lemmas.Bool.{cases_Bool, cond-true, cond-false, false≢true}
+use Rattle.std.proofs.lemmas.Map.Keys.{IsDistinct-push}
+use Rattle.std.proofs.lemmas.Map.Made.{IsDistinct-keys_filter}
+use Rattle.std.specs.Cmp.{IsEquivalence}
+use Rattle.std.specs.List.{IsDistinct, list_any}
+use Rattle.std.specs.Map.{keys_of}
+use Rattle.moka_base.specs.Keys.{Keys}
+use Rattle.moka_machine.specs.declared.entry.Entry.{Entry}
+use Rattle.moka_machine.specs.Contents.{Contents, after_leaving, entry_at, entries_without, entry_keys}
+use Rattle.moka_machine.specs.CacheState.{CacheState, new_cache}
+use Rattle.moka_machine.specs.Insert.{after_put, after_verdict, new_entry, victims_of}
+use Rattle.moka_laws.specs.Laws.{KeysStandOnce, Remains}
+use Rattle.moka_machine.specs.Lookup.{after_look, after_use, unexpired_at}
+use Rattle.moka_machine.specs.Iterate.{pairs_of}
+use Rattle.moka_machine.specs.Step.{Answer, IsStep, Request, Runs, Get, ContainsKey, Insert, Invalidate, InvalidateAll, InvalidateEntriesIf, Iterate, EntryCount, WeightedSize}
+use Rattle.moka_machine.proofs.ContentsLemmas.{absent-leaving}
+use Rattle.moka_laws.proofs.RemainLemmas.{invalidations, looks, remains-leaving, remains-upkeep}
+
+module _ {K V : Type 0} where
+  -- the pairs have the entries' keys
+  pub keys-pairs : (entries : List (Entry K V)) → keys_of (pairs_of entries) ≡ entry_keys entries
+  keys-pairs [] = refl
+  keys-pairs (e ∷ es) = ap (λ l. e.key ∷ l) (keys-pairs es)
+
+  -- what passes a test of its key passes it as a pair
+  pairs-filter : (stays : K → Bool) (entries : List (Entry K V))
+      → pairs_of (filter (λ e. stays e.key) entries) ≡ filter (λ p. stays p.0) (pairs_of entries)
+  pairs-filter stays [] = refl
+  pairs-filter stays (e ∷ es) =
+      let passing = filter (λ e. stays e.key) es in
+      elim (cases_Bool (stays e.key)) [
+        | inl passes ↦
+            ap pairs_of (cond-true (stays e.key) (e ∷ passing) passing passes)
+            ∙ (ap (λ l. (e.key, e.value) ∷ l) (pairs-filter stays es)
+            ∙ sym (cond-true (stays e.key) ((e.key, e.value) ∷ filter (λ p. stays p.0) (pairs_of es))
+            (filter (λ p. stays p.0) (pairs_of es)) passes))
+        | inr fails ↦
+            ap pairs_of (cond-false (stays e.key) (e ∷ passing) passing fails)
+            ∙ (pairs-filter stays es
+            ∙ sym (cond-false (stays e.key) ((e.key, e.value) ∷ filter (λ p. stays p.0) (pairs_of es))
+            (filter (λ p. stays p.0) (pairs_of es)) fails))
+      ]
+
+  -- one more entry has one more key
+  keys-push : (entries : List (Entry K V)) (new : Entry K V) → entry_keys (entries ++ new ∷ []) ≡ entry_keys entries ++ new.key ∷ []
+  keys-push [] new = refl
+  keys-push (e ∷ es) new = ap (λ l. e.key ∷ l) (keys-push es new)
+
+module _ {K V : Type 0} (eq : K → K → Bool) where
+  -- no key stands twice
+  abbrev pub StandOnce : List (Entry K V) → Type 0
+  StandOnce entries = IsDistinct eq (entry_keys entries)
+
+  -- what remains stands once
+  pub once-remains : (old new : Contents K V) → Remains old new → StandOnce old.entries → StandOnce new.entries
+  once-remains old new remains once =
+      let pairs = filter (λ p. remains.stays p.0) (pairs_of old.entries) in
+      let same : keys_of pairs ≡ entry_keys new.entries =
+      ap keys_of (sym (ap pairs_of remains.entries ∙ pairs-filter remains.stays old.entries)) ∙ keys-pairs new.entries in
+      subst (IsDistinct eq) same
+      (IsDistinct-keys_filter eq (λ p. remains.stays p.0) (pairs_of old.entries)
+      (subst (IsDistinct eq) (sym (keys-pairs old.entries)) once))
+
+  -- a key without an entry is none of the keys
+  unlisted : (key : K) (entries : List (Entry K V)) → entry_at eq key entries ≡ None → list_any (eq key) (entry_keys entries) ≡ false
+  unlisted key [] absent = refl
+  unlisted key (e ∷ es) absent =
+      elim (cases_Bool (eq key e.key)) [
+        | inl equal ↦ absurd (false≢true (sym (ap is_some (sym (cond-true (eq key e.key) (Some e) (entry_at eq key es) equal) ∙ absent))))
+        | inr differ ↦
+            ap (λ b. b || list_any (eq key) (entry_keys es)) differ
+            ∙ unlisted key es (sym (cond-false (eq key e.key) (Some e) (entry_at eq key es) differ) ∙ absent)
+      ]
+
+  module _ (laws : IsEquivalence eq) where
+    -- a key that has left has no entry
+    pub entry_at-gone : (gone key : K) → eq gone key ≡ true → (entries : List (Entry K V))
+        → entry_at eq key (entries_without eq gone entries) ≡ None
+    entry_at-gone gone key equal [] = refl
+    entry_at-gone gone key equal (e ∷ es) =
+        elim (cases_Bool (eq gone e.key)) [
+          | inl leaves ↦
+              ap (entry_at eq key)
+              (cond-false (not (eq gone e.key)) (e ∷ entries_without eq gone es) (entries_without eq gone es) (ap not leaves))
+              ∙ entry_at-gone gone key equal es
+          | inr stays ↦
+              ap (entry_at eq key)
+              (cond-true (not (eq gone e.key)) (e ∷ entries_without eq gone es) (entries_without eq gone es) (ap not stays))
+              ∙ (cond-false (eq key e.key) (Some e) (entry_at eq key (entries_without eq gone es))
+              (sym (laws.congr gone key e.key equal) ∙ stays)
+              ∙ entry_at-gone gone key equal es)
+        ]
+
+    -- a new key stands once
+    once-push : (entries : List (Entry K V)) (new : Entry K V) → entry_at eq new.key entries ≡ None → StandOnce entries
+        → StandOnce (entries ++ new ∷ [])
+    once-push entries new absent once =
+        subst (IsDistinct eq) (sym (keys-push entries new))
+        (IsDistinct-push laws (entry_keys entries) new.key once (unlisted new.key entries absent))
+
+    -- and so does one that takes its entry's place
+    once-put : (contents : Contents K V) (new : Entry K V) → StandOnce contents.entries
+        → StandOnce (entries_without eq new.key contents.entries ++ new ∷ [])
+    once-put contents new once =
+        once-push (entries_without eq new.key contents.entries) new (entry_at-gone new.key new.key (laws.refl new.key) contents.entries)
+        (once-remains contents (after_leaving eq (new.key ∷ []) contents) (remains-leaving eq (new.key ∷ []) contents) once)
+
+    once-use : (now : ℕ) (o : Option (Entry K V)) (contents : Contents K V) → StandOnce contents.entries
+        → StandOnce (after_use eq now o contents).entries
+    once-use now None contents once = once
+    once-use now (Some used) contents once = once-put contents (record used { accessed = now }) once
+
+module _ {K V S W : Type 0} (eq : K → K → Bool) (laws : IsEquivalence eq) where
+  once-verdict : (cache : CacheState K V S W) (new : Entry K V) (gone : Option (List (Entry K V))) (refused : Bool)
+      → entry_at eq new.key cache.contents.entries ≡ None
+      → StandOnce eq cache.contents.entries → StandOnce eq (after_verdict eq cache new gone refused).contents.entries
+  once-verdict cache new None refused absent once = once
+  once-verdict cache new (Some gone) refused absent once =
+      let left = after_leaving eq (entry_keys gone) cache.contents in
+      once-push eq laws left.entries new (absent-leaving eq new.key (entry_keys gone) cache.contents absent)
+      (once-remains eq cache.contents left (remains-leaving eq (entry_keys gone) cache.contents) once)
+
+  once-insert : (cache : CacheState K V S W) (o : Option (Entry K V)) (new : Entry K V) (refused : Bool)
+      → entry_at eq new.key cache.contents.entries ≡ o
+      → StandOnce eq cache.contents.entries → StandOnce eq (after_put eq cache o new refused).contents.entries
+  once-insert cache None new refused absent once =
+      once-verdict cache new (victims_of cache.settings.policy.max_capacity cache.sketch new cache.contents) refused absent once
+  once-insert cache (Some old) new refused found once = once-put eq laws cache.contents (record new { key = old.key; hash = old.hash }) once
+
+module _ {K V S W : Type 0} (keys : Keys K S) (laws : IsEquivalence keys.eq) (weighs : W → K → V → ℕ → W → Type 0) where
+  -- no call makes a key stand twice
+  pub once-step : (old new : CacheState K V S W) (request : Request K V) (answer : Answer K V) → IsStep keys weighs old request answer new
+      → StandOnce keys.eq old.contents.entries → StandOnce keys.eq new.contents.entries
+  once-step old new (Get key now) answer step once =
+      let kept = (after_look keys old now).contents in
+      subst (λ c. StandOnce keys.eq c.contents.entries) (sym step.1)
+      (once-use keys.eq laws now (unexpired_at keys.eq old.settings.policy now key kept) kept
+      (once-remains keys.eq old.contents kept (remains-upkeep keys.eq old.settings.policy now old.contents) once))
+  once-step old new (ContainsKey key now) answer step once =
+      once-remains keys.eq old.contents new.contents (looks keys weighs old new (ContainsKey key now) answer tt step).1 once
+  once-step old new (Insert key value now) answer (inl (done, inserted)) once =
+      let kept = (after_look keys old now).contents in
+      let asked : CacheState K V S W = record old { weigher = inserted.weigher; contents = kept } in
+      subst (λ c. StandOnce keys.eq c.contents.entries) (sym inserted.step)
+      (once-insert keys.eq laws asked (entry_at keys.eq key kept.entries)
+      (new_entry keys old.settings.hash_state key value inserted.weight now) inserted.refused refl
+      (once-remains keys.eq old.contents kept (remains-upkeep keys.eq old.settings.policy now old.contents) once))
+  once-step old new (Insert key value now) answer (inr (refused, same)) once =
+      subst (λ c. StandOnce keys.eq c.contents.entries) (sym same) once
+  once-step old new (Invalidate key now) answer step once =
+      once-remains keys.eq old.contents new.contents (invalidations keys weighs old new (Invalidate key now) answer tt step).1 once
+  once-step old new InvalidateAll answer step once =
+      once-remains keys.eq old.contents new.contents (invalidations keys weighs old new InvalidateAll answer tt step).1 once
+  once-step old new (InvalidateEntriesIf answers) answer step once =
+      once-remains keys.eq old.contents new.contents (invalidations keys weighs old new (InvalidateEntriesIf answers) answer tt step).1 once
+  once-step old new (Iterate now) answer step once = subst (λ c. StandOnce keys.eq c.contents.entries) (sym step.1) once
+  once-step old new EntryCount answer step once = subst (λ c. StandOnce keys.eq c.contents.entries) (sym step.1) once
+  once-step old new WeightedSize answer step once = subst (λ c. StandOnce keys.eq c.contents.entries) (sym step.1) once
+
+  once-runs : (old new : CacheState K V S W) (requests : List (Request K V)) (answers : List (Answer K V))
+      → Runs keys weighs old requests answers new
+      → StandOnce keys.eq old.contents.entries → StandOnce keys.eq new.contents.entries
+  once-runs old new [] answers run once = subst (λ c. StandOnce keys.eq c.contents.entries) (sym run.1) once
+  once-runs old new (request ∷ requests) answers (answer, rest, next, is, step, run) once =
+      once-runs next new requests rest run (once-step old next request answer step once)
+
+  none_stand : StandOnce {V = V} keys.eq []
+  unfolding IsDistinct
+  none_stand = tt
+
+  -- and a new cache has none
+  pub keys_stand_once : KeysStandOnce keys weighs
+  keys_stand_once settings weigher requests answers cache run = once-runs (new_cache settings weigher) cache requests answers run none_stand

@@ -1,0 +1,4 @@
+pub mod RemainLemmas
+pub mod LimitLemmas
+pub mod KeyLemmas
+pub mod MapLemmas

@@ -1,0 +1,85 @@
+-- What a contract sees of the laws of the cache, which `src/laws.rt` promises, but for those of a plain map.
+use Rattle.std.specs.Prelude.{◌≡◌, ◌<◌, ◌≤◌, ℕ, Bool, List, filter, length, Some, IsSome}
+use Rattle.std.specs.List.{IsDistinct}
+use Rattle.moka_base.specs.Keys.{Keys}
+use Rattle.moka_machine.specs.Contents.{Contents, entry_at, entry_keys, total_weight}
+use Rattle.moka_machine.specs.CacheState.{CacheState, new_cache}
+use Rattle.moka_base.specs.Settings.{Settings}
+use Rattle.moka_machine.specs.Lookup.{after_look}
+use Rattle.moka_machine.specs.Step.{Answer, IsStep, Request, Runs, Get, ContainsKey, Insert, Invalidate, InvalidateAll, InvalidateEntriesIf, Iterate, EntryCount, WeightedSize}
+
+-- ---- limits and keys
+
+module _ {K V S W : Type 0} (keys : Keys K S) (weighs : W → K → V → ℕ → W → Type 0) where
+  -- from a new cache with a limit, whose weigher weighs each entry 1, no calls lead to more entries than that
+  abbrev pub StaysWithinLimit : Type 0
+  StaysWithinLimit =
+      ((old new : W) (key : K) (value : V) (weight : ℕ) → weighs old key value weight new → weight ≡ 1) →
+      (settings : Settings S) (weigher : W) (limit : ℕ) (requests : List (Request K V)) (answers : List (Answer K V)) (cache : CacheState K V S W) →
+      settings.policy.max_capacity ≡ Some limit → Runs keys weighs (new_cache settings weigher) requests answers cache →
+      length cache.contents.entries ≤ limit
+
+  -- the call is an insert at a key that is there when it acts
+  abbrev pub IsUpdate : CacheState K V S W → Request K V → Type 0
+  IsUpdate old request =
+      (key : K) × (value : V) × (now : ℕ) × (request ≡ Insert key value now)
+      × IsSome (entry_at keys.eq key (after_look keys old now).contents.entries)
+
+  -- a call that leaves more weight than it found, and more than the limit, is an insert at a key that is there
+  abbrev pub OnlyUpdatesOutgrowLimit : Type 0
+  OnlyUpdatesOutgrowLimit =
+      (old new : CacheState K V S W) (request : Request K V) (answer : Answer K V) (limit : ℕ) →
+      old.settings.policy.max_capacity ≡ Some limit → IsStep keys weighs old request answer new →
+      total_weight old.contents.entries < total_weight new.contents.entries → limit < total_weight new.contents.entries → IsUpdate old request
+
+  -- from a new cache no calls lead to a key with two entries
+  abbrev pub KeysStandOnce : Type 0
+  KeysStandOnce =
+      (settings : Settings S) (weigher : W) (requests : List (Request K V)) (answers : List (Answer K V)) (cache : CacheState K V S W) →
+      Runs keys weighs (new_cache settings weigher) requests answers cache → IsDistinct keys.eq (entry_keys cache.contents.entries)
+
+-- ---- looks and invalidations
+
+module _ {K V : Type 0} where
+  -- the call asks something, and is no use of an entry
+  abbrev pub IsLook : Request K V → Type 0
+  IsLook (Get key now) = ⊥
+  IsLook (ContainsKey key now) = Unit {0}
+  IsLook (Insert key value now) = ⊥
+  IsLook (Invalidate key now) = ⊥
+  IsLook InvalidateAll = ⊥
+  IsLook (InvalidateEntriesIf answers) = ⊥
+  IsLook (Iterate now) = Unit {0}
+  IsLook EntryCount = Unit {0}
+  IsLook WeightedSize = Unit {0}
+
+  -- the call is an invalidation
+  abbrev pub IsInvalidation : Request K V → Type 0
+  IsInvalidation (Get key now) = ⊥
+  IsInvalidation (ContainsKey key now) = ⊥
+  IsInvalidation (Insert key value now) = ⊥
+  IsInvalidation (Invalidate key now) = Unit {0}
+  IsInvalidation InvalidateAll = Unit {0}
+  IsInvalidation (InvalidateEntriesIf answers) = Unit {0}
+  IsInvalidation (Iterate now) = ⊥
+  IsInvalidation EntryCount = ⊥
+  IsInvalidation WeightedSize = ⊥
+
+  -- some entries and writes have left, and all others are as they were, in the same order
+  pub record Remains (old new : Contents K V) : Type 0 where
+    pub stays : K → Bool
+    pub entries : new.entries ≡ filter (λ e. stays e.key) old.entries
+    pub written : new.written ≡ filter (λ w. stays w.key) old.written
+
+module _ {K V S W : Type 0} (keys : Keys K S) (weighs : W → K → V → ℕ → W → Type 0) where
+  -- a look counts nothing, and what remains of it is as it was
+  abbrev pub LooksChangeNothing : Type 0
+  LooksChangeNothing =
+      (old new : CacheState K V S W) (request : Request K V) (answer : Answer K V) → IsLook request → IsStep keys weighs old request answer new →
+      (new.sketch ≡ old.sketch) × Remains old.contents new.contents
+
+  -- an invalidation keeps what was counted, and what remains of it is as it was
+  abbrev pub InvalidationsKeepCounts : Type 0
+  InvalidationsKeepCounts =
+      (old new : CacheState K V S W) (request : Request K V) (answer : Answer K V) → IsInvalidation request → IsStep keys weighs old request answer new →
+      (new.sketch ≡ old.sketch) × Remains old.contents new.contents

@@ -1,0 +1,42 @@
+//! The laws of the cache as a machine, one a function. A law is its function's clause: there is no code to call.
+ghost use Rattle.moka_base.specs.Keys.{keys_by};
+ghost use Rattle.moka_laws.specs.Laws.{InvalidationsKeepCounts, KeysStandOnce, LooksChangeNothing, OnlyUpdatesOutgrowLimit, StaysWithinLimit};
+ghost use Rattle.moka_laws.specs.PlainMap.{RunsAsMap, StepsAsMap};
+
+use moka_base::weigh::Weigh;
+use std::hash::{BuildHasher, Hash};
+
+/// A cache with a limit and without a weigher never has more entries than that at a call's end, whatever calls are made.
+pub fn entry_count_stays_within_the_limit<K: Eq + Hash, V, S: BuildHasher, W: Weigh<K, V>>()
+    ensures { StaysWithinLimit (keys_by K.Hash S.BuildHasher S.Hasher.Hasher) W.weighs }
+{}
+
+/// With a weigher, only an insert at a key that is there can leave more weight than it found, and more than the limit.
+pub fn only_updates_outgrow_the_limit<K: Eq + Hash, V, S: BuildHasher, W: Weigh<K, V>>()
+    ensures { OnlyUpdatesOutgrowLimit (keys_by K.Hash S.BuildHasher S.Hasher.Hasher) W.weighs }
+{}
+
+/// A key never has two entries, whatever calls are made.
+pub fn each_key_stands_once<K: Eq + Hash, V, S: BuildHasher, W: Weigh<K, V>>()
+    ensures { KeysStandOnce (keys_by K.Hash S.BuildHasher S.Hasher.Hasher) W.weighs }
+{}
+
+/// `contains_key`, `iter` and the counts are no reads: they count nothing, and set no moment and no order of what remains.
+pub fn looks_change_nothing<K: Eq + Hash, V, S: BuildHasher, W: Weigh<K, V>>()
+    ensures { LooksChangeNothing (keys_by K.Hash S.BuildHasher S.Hasher.Hasher) W.weighs }
+{}
+
+/// An invalidation keeps what was counted of all keys, and what remains is as it was.
+pub fn invalidations_keep_counts<K: Eq + Hash, V, S: BuildHasher, W: Weigh<K, V>>()
+    ensures { InvalidationsKeepCounts (keys_by K.Hash S.BuildHasher S.Hasher.Hasher) W.weighs }
+{}
+
+/// Without limit, durations and refusal a call answers as a plain map of the cache's pairs would, and leaves what that would leave.
+pub fn steps_are_those_of_a_map<K: Eq + Hash, V, S: BuildHasher, W: Weigh<K, V>>()
+    ensures { StepsAsMap (keys_by K.Hash S.BuildHasher S.Hasher.Hasher) W.weighs }
+{}
+
+/// So does any list of calls of which none is refused.
+pub fn runs_are_those_of_a_map<K: Eq + Hash, V, S: BuildHasher, W: Weigh<K, V>>()
+    ensures { RunsAsMap (keys_by K.Hash S.BuildHasher S.Hasher.Hasher) W.weighs }
+{}

@@ -1,0 +1,91 @@
+-- What an insert leaves.
+use Rattle.std.specs.Prelude.{◌≡◌, ℕ, Bool, true, false, List, [], ◌∷◌, ◌++◌, length, Option, Some, None, if◌then◌else◌}
+use Rattle.moka_base.specs.Admission.{victims}
+use Rattle.moka_sketch.specs.Enabling.{enables_sketch, capacity_asked}
+use Rattle.moka_base.specs.Keys.{Keys}
+use Rattle.moka_sketch.specs.Sketch.{Table, estimate}
+use Rattle.moka_sketch.specs.SketchCapacity.{after_ensure_capacity}
+use Rattle.moka_machine.specs.declared.entry.Entry.{Entry}
+use Rattle.moka_machine.specs.Contents.{Contents, Write, total_weight, entry_keys, entry_at, entries_without, writes_without, after_leaving}
+use Rattle.moka_machine.specs.CacheState.{CacheState}
+use Rattle.moka_base.specs.Settings.{Settings, keeps_writes}
+use Rattle.moka_machine.specs.Upkeep.{after_upkeep}
+
+-- the writes with one more, where they are kept
+abbrev pub with_write : {K : Type 0} → Bool → List (Write K) → K → ℕ → List (Write K)
+with_write true written key now = written ++ record { key = key; modified = now } ∷ []
+with_write false written key now = written
+
+module _ {K V : Type 0} (eq : K → K → Bool) where
+  -- the contents once an entry has another's value, weight and moments: it keeps its key, and is the most recent in both orders
+  abbrev pub after_update : Bool → Entry K V → Entry K V → Contents K V → Contents K V
+  after_update keeps old new contents =
+      record {
+        entries = entries_without eq old.key contents.entries ++ record new { key = old.key; hash = old.hash } ∷ [];
+        written = with_write keeps (writes_without eq old.key contents.written) old.key new.modified;
+      }
+
+  -- the contents once a new entry is the most recent in both orders
+  abbrev pub after_entry : Bool → Entry K V → Contents K V → Contents K V
+  after_entry keeps new contents =
+      record { entries = contents.entries ++ new ∷ []; written = with_write keeps contents.written new.key new.modified }
+
+  -- the contents once a new entry was admitted in place of these, or was rejected
+  abbrev pub after_admission : Bool → Entry K V → Option (List (Entry K V)) → Contents K V → Contents K V
+  after_admission keeps new None contents = contents
+  after_admission keeps new (Some gone) contents = after_entry keeps new (after_leaving eq (entry_keys gone) contents)
+
+-- the entries that give way to a new one, or nothing where it is rejected
+abbrev pub victims_of : {K V : Type 0} → Option ℕ → Option Table → Entry K V → Contents K V → Option (List (Entry K V))
+victims_of limit sketch new contents =
+    victims (λ e. e.weight) (λ e. estimate sketch e.hash) limit contents.entries new.weight (estimate sketch new.hash)
+
+-- the sketch once a table was asked for, if these contents ask for one, and whether memory refuses it
+abbrev pub after_enabling : {K V S : Type 0} → Settings S → Option ℕ → Option Table → Contents K V → Bool → Option Table
+after_enabling settings None sketch contents refused = sketch
+after_enabling settings (Some limit) sketch contents true = sketch
+after_enabling settings (Some limit) sketch contents false =
+    if enables_sketch (Some limit) sketch (total_weight contents.entries) then
+    after_ensure_capacity sketch (capacity_asked settings.is_weighed limit (length contents.entries) (total_weight contents.entries))
+    else sketch
+
+module _ {K V S W : Type 0} (eq : K → K → Bool) where
+  -- the cache once it has asked whether to turn its sketch on
+  abbrev pub after_asking : Bool → CacheState K V S W → CacheState K V S W
+  after_asking refused cache =
+      record cache { sketch = after_enabling cache.settings cache.settings.policy.max_capacity cache.sketch cache.contents refused }
+
+  -- the cache once a new entry was admitted in place of these, or was rejected
+  abbrev pub after_verdict : CacheState K V S W → Entry K V → Option (List (Entry K V)) → Bool → CacheState K V S W
+  after_verdict cache new None refused = cache
+  after_verdict cache new (Some gone) refused =
+      after_asking refused (record cache {
+        contents = after_admission eq (keeps_writes cache.settings.policy) new (Some gone) cache.contents;
+      })
+
+  -- the cache once an entry was put at its key, where one stands or none
+  abbrev pub after_put : CacheState K V S W → Option (Entry K V) → Entry K V → Bool → CacheState K V S W
+  after_put cache (Some old) new refused =
+      record cache { contents = after_update eq (keeps_writes cache.settings.policy) old new cache.contents }
+  after_put cache None new refused =
+      after_verdict cache new (victims_of cache.settings.policy.max_capacity cache.sketch new cache.contents) refused
+
+  -- the cache after an insert that had its room: upkeep, and then the entry is put
+  abbrev pub after_insert : CacheState K V S W → Entry K V → ℕ → Bool → CacheState K V S W
+  after_insert cache new now refused =
+      let kept = after_upkeep eq cache.settings.policy now cache.contents in
+      after_put (record cache { contents = kept }) (entry_at eq new.key kept.entries) new refused
+
+-- the entry of a key, as it is written
+abbrev pub new_entry : {K V S : Type 0} → Keys K S → S → K → V → ℕ → ℕ → Entry K V
+new_entry keys state key value weight now =
+    record { key = key; value = value; hash = keys.hash_of state key; weight = weight; accessed = now; modified = now }
+
+module _ {K V S W : Type 0} (keys : Keys K S) where
+  -- the weigher was asked once, and the entry is put with its answer, whether or not memory refuses a table
+  pub record IsInserted (weighs : W → K → V → ℕ → W → Type 0) (old : CacheState K V S W) (key : K) (value : V) (now : ℕ) (new : CacheState K V S W) : Type 0 where
+    pub weight : ℕ
+    pub weigher : W
+    pub refused : Bool
+    pub weighed : weighs old.weigher key value weight weigher
+    pub step : new ≡ after_insert keys.eq (record old { weigher = weigher }) (new_entry keys old.settings.hash_state key value weight now) now refused

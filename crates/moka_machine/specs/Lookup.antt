@@ -1,0 +1,46 @@
+-- What look-ups answer and leave.
+use Rattle.std.specs.Prelude.{ℕ, Bool, [], ◌∷◌, ◌++◌, is_some, Option, Some, None, option_map}
+use Rattle.moka_base.specs.Keys.{Keys}
+use Rattle.moka_base.specs.Policy.{Policy}
+use Rattle.moka_sketch.specs.Sketch.{after_increment}
+use Rattle.moka_machine.specs.declared.entry.Entry.{Entry}
+use Rattle.moka_machine.specs.Contents.{Contents, entry_at, entries_without}
+use Rattle.moka_machine.specs.CacheState.{CacheState}
+use Rattle.moka_machine.specs.Upkeep.{after_upkeep, unexpired}
+
+module _ {K V : Type 0} (eq : K → K → Bool) where
+  -- the unexpired entry of a key
+  abbrev pub unexpired_at : Policy → ℕ → K → Contents K V → Option (Entry K V)
+  unexpired_at policy now key contents = unexpired policy now (entry_at eq key contents.entries)
+
+  -- the contents once an entry was used, or none was found
+  abbrev pub after_use : ℕ → Option (Entry K V) → Contents K V → Contents K V
+  after_use now None contents = contents
+  after_use now (Some used) contents =
+      record contents { entries = entries_without eq used.key contents.entries ++ record used { accessed = now } ∷ [] }
+
+  -- the contents once a key was looked for: its unexpired entry becomes the most recent
+  abbrev pub after_search : Policy → ℕ → K → Contents K V → Contents K V
+  after_search policy now key contents = after_use now (unexpired_at policy now key contents) contents
+
+module _ {K V S W : Type 0} (keys : Keys K S) where
+  -- the cache after a call that only looks: upkeep
+  abbrev pub after_look : CacheState K V S W → ℕ → CacheState K V S W
+  after_look cache now = record cache { contents = after_upkeep keys.eq cache.settings.policy now cache.contents }
+
+  -- the cache after a get: upkeep, then the key is counted, and its unexpired entry becomes the most recent
+  abbrev pub after_get : CacheState K V S W → K → ℕ → CacheState K V S W
+  after_get cache key now =
+      record cache {
+        contents = after_search keys.eq cache.settings.policy now key (after_look cache now).contents;
+        sketch = after_increment cache.sketch (keys.hash_of cache.settings.hash_state key);
+      }
+
+  -- what a get finds
+  abbrev pub found_by_get : CacheState K V S W → K → ℕ → Option V
+  found_by_get cache key now =
+      option_map (λ e. e.value) (unexpired_at keys.eq cache.settings.policy now key (after_look cache now).contents)
+
+  -- whether a key is there, to a call that is no use of it
+  abbrev pub is_contained : CacheState K V S W → K → ℕ → Bool
+  is_contained cache key now = is_some (unexpired_at keys.eq cache.settings.policy now key (after_look cache now).contents)

@@ -1,0 +1,13 @@
+//! What a cache for one thread keeps of a key.
+use moka_base::time::Instant;
+
+/// A key with its value and what the cache keeps of them. Contracts name it; no call of a cache takes or gives one.
+#[derive(Drop)]
+pub struct Entry<K: Drop, V: Drop> {
+    pub key: K,
+    pub value: V,
+    pub hash: u64,
+    pub weight: u32,
+    pub accessed: Instant,
+    pub modified: Instant,
+}

@@ -1,0 +1,4 @@
+pub mod CellLemmas
+pub mod LawLemmas
+pub mod SketchLemmas
+pub mod UnpackedLemmas

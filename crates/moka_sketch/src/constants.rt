@@ -1,0 +1,25 @@
+//! The limits of the sketch, each with its reason.
+
+/// How many bits a counter of the sketch has: what is used more than 15 times in a sample is used often, and need not be told apart.
+pub const COUNTER_BITS: usize = 4;
+
+/// The most that a counter holds in its bits.
+pub const MAX_FREQUENCY: u8 = 15;
+
+/// How many counters a word of 64 bits holds.
+pub const COUNTERS_PER_WORD: usize = 16;
+
+/// How many counters a hash has. A word has four such groups, of which a hash's residue modulo 4 chooses one.
+pub const DEPTHS: usize = 4;
+
+/// The longest table, in words: as in the original, the power of two that half of `i32::MAX` is rounded up to.
+pub const MAX_TABLE_LEN: u32 = 1 << 30;
+
+/// How many counts make a sample, for each entry of the capacity. After a sample the table ages.
+pub const SAMPLE_FACTOR: u64 = 10;
+
+/// The largest sample: `i32::MAX`, as in the original.
+pub const MAX_SAMPLE_SIZE: u64 = 2_147_483_647;
+
+/// The least capacity that a cache asks for, as in the original: in a smaller table too many hashes share their counters.
+pub const MIN_SKETCH_CAPACITY: u64 = 128;

@@ -1,0 +1,42 @@
+//! The laws of the crate's definitions, one a function. A law is its function's clause: there is no code to call.
+ghost use Rattle.moka_sketch.specs.Laws.{AgingHalvesSizes, BoundsEstimates, CountingKeepsSketches, CountingKeepsTrueCounts, FindsNextPower, GrowingKeepsSketches, GrowingKeepsTrueCounts, ResiduesAreApart};
+
+/// No estimate is above what four bits hold.
+pub fn estimates_are_bounded()
+    ensures { BoundsEstimates }
+{}
+
+/// A count keeps what holds of every sketch, so a table's size is below its sample in any state that calls reach.
+pub fn counting_keeps_sketches()
+    ensures { CountingKeepsSketches }
+{}
+
+/// The same where a table is asked for.
+pub fn growing_keeps_sketches()
+    ensures { GrowingKeepsSketches }
+{}
+
+/// A sketch never counts too little: a hash's true count that is at most its estimate is so again once any hash is counted.
+pub fn counting_keeps_true_counts()
+    ensures { CountingKeepsTrueCounts }
+{}
+
+/// The same where a table is asked for: in a new one nothing is counted yet.
+pub fn growing_keeps_true_counts()
+    ensures { GrowingKeepsTrueCounts }
+{}
+
+/// Aging leaves a size of at most half of the sample, rounded down, so the next aging is that far off.
+pub fn aging_halves_sizes()
+    ensures { AgingHalvesSizes }
+{}
+
+/// Two hashes that differ modulo 4 share no counter, whatever the table.
+pub fn residues_are_apart()
+    ensures { ResiduesAreApart }
+{}
+
+/// The next power of two is the least that is at least the number.
+pub fn next_powers_are_least()
+    ensures { FindsNextPower }
+{}

@@ -1,0 +1,212 @@
+-- What each change of the store's two lists is to a contract.
+use Rattle.std.proofs.Common.{◌≡◌, ◌<◌, ◌≤◌, ◌^◌, ◌+◌, ◌-◌, ◌*◌, ℕ, Bool, true, false, nat_eq, List, [], ◌∷◌, ◌++◌, length, Option, Some}
+use Rattle.std.proofs.Common.{None, is_some, option_map, unwrap_or, refl, sym, ap, ◌∙◌, inl, inr, arith, subst}
+use Rattle.std.proofs.lemmas.Bool.{cases_Bool, cond-true, cond-false, eqb-true, false≢true}
+use Rattle.std.proofs.lemmas.List.Elements.{recursion_from_All}
+use Rattle.std.specs.Cmp.{IsEquivalence}
+use Rattle.std.specs.List.{IsDistinct, AllByRecursion}
+use Rattle.std.specs.Map.{lookup, remove_entry, set_value, keys_of, values_of}
+use Rattle.moka_machine.specs.declared.entry.Entry.{Entry}
+use Rattle.moka_store.specs.declared.store.Node.{Node}
+use Rattle.moka_machine.specs.Contents.{entry_at, writes_without}
+use Rattle.moka_machine.specs.Insert.{with_write}
+use Rattle.moka_store.specs.Store.{Store, Enters, Removes, Touches, Updates}
+use Rattle.moka_store.specs.Nodes.{entries_under, written_under, IsTied, IsStored, with_write_last, without_write}
+use Rattle.moka_deque.proofs.DequeLemmas.{lookup-push, nat_eq-same}
+use Rattle.moka_store.proofs.NodeLemmas.{lookup-rewritten, IsDistinct-rewritten}
+use Rattle.moka_store.proofs.StoreLemmas.{lookup-entries, entries-remove, weight-remove, others, written-left, written-touch}
+use Rattle.moka_store.proofs.StoreLemmas.{written-update, written-enter, written-unkept, entries-rewrite, entries-push, no_writes}
+use Rattle.moka_store.proofs.StoreLemmas.{set-pushed, IsStored-remove, IsStored-rewrite, IsStored-enter, IsStored-unkept, total_bound}
+use Rattle.moka_store.proofs.FindLemmas.{moved-found}
+
+module _ {K V : Type 0} where
+  -- what a contract sees of the two lists
+  abbrev pub seen : List (ℕ × Node K V) → List (ℕ × ℕ) → Bool → ℕ → Store K V
+  seen items writes keeps room =
+      record { nodes = entries_under items; written = written_under items writes; keeps_writes = keeps; room = room }
+
+  -- the node, used at a moment
+  abbrev pub touched : Node K V → ℕ → Node K V
+  touched n now = record n { entry = record n.entry { accessed = now } }
+
+  -- the node with another's value, weight and moments
+  abbrev pub updated : Node K V → Entry K V → Node K V
+  updated n update = record { entry = record update { key = n.entry.key; hash = n.entry.hash }; write = n.write }
+
+  small_at : (id : ℕ) (n : Node K V) (items : List (ℕ × Node K V)) → AllByRecursion (λ p. p.1.entry.weight < 2 ^ 32) items
+      → lookup (nat_eq id) items ≡ Some n → n.entry.weight < 2 ^ 32
+  small_at id n [] a h = absurd (false≢true (ap is_some h))
+  small_at id n (p ∷ items) a h =
+      elim (cases_Bool (nat_eq id p.0)) [
+        | inl same ↦
+            subst (λ m. m.entry.weight < 2 ^ 32)
+            (ap (λ o. unwrap_or o n) (sym (cond-true (nat_eq id p.0) (Some p.1) (lookup (nat_eq id) items) same) ∙ h)) a.0
+        | inr other ↦ small_at id n items a.1 (sym (cond-false (nat_eq id p.0) (Some p.1) (lookup (nat_eq id) items) other) ∙ h)
+      ]
+
+-- a list in which nothing is found is empty
+none_at_all : (ws : List (ℕ × ℕ)) → ((w i : ℕ) → lookup (nat_eq w) ws ≡ Some i → ⊥) → ws ≡ []
+none_at_all [] h = refl
+none_at_all (w ∷ ws) h = absurd (h w.0 w.1 (cond-true (nat_eq w.0 w.0) _ _ (nat_eq-same w.0)))
+
+module _ {K V : Type 0} {eq : K → K → Bool} (laws : IsEquivalence eq) {keeps : Bool} {items : List (ℕ × Node K V)} {writes : List (ℕ × ℕ)}
+    {total : ℕ} (s : IsStored eq keeps items writes total) (id : ℕ) (n : Node K V) (stood : lookup (nat_eq id) items ≡ Some n) where
+  -- a weight is part of the total
+  pub weight_in_total : n.entry.weight ≤ total
+  weight_in_total = grind (arith, weight-remove id n items stood, s.sum)
+
+  pub weight_small : n.entry.weight < 2 ^ 32
+  weight_small = small_at id n items (recursion_from_All (λ p. p.1.entry.weight < 2 ^ 32) items s.small) stood
+
+  module _ (left : List (ℕ × Node K V)) (left_is : left ≡ remove_entry (nat_eq id) items) (unwritten : List (ℕ × ℕ))
+      (unwritten_is : unwritten ≡ without_write n.write writes) where
+    pub remove_keeps : (rest : ℕ) → rest ≡ total - n.entry.weight → IsStored eq keeps left unwritten rest
+    remove_keeps rest is = rw (left_is, unwritten_is, is) (IsStored-remove laws s id n stood)
+
+    pub remove_is : (old new : ℕ) → old ≤ new → Removes eq (seen items writes keeps old) id (seen left unwritten keeps new)
+    remove_is old new room =
+        record {
+          entry = n.entry;
+          stood = lookup-entries id items ∙ ap (option_map (λ n. n.entry)) stood;
+          entries = ap (λ l. values_of (entries_under l)) left_is ∙ others laws s id n stood;
+          written =
+              ap (λ l. written_under l unwritten) left_is
+              ∙ (ap (written_under (remove_entry (nat_eq id) items)) unwritten_is ∙ written-left laws s id n stood);
+          keeps = refl;
+          room = room;
+          nodes = ap entries_under left_is ∙ entries-remove id items;
+        }
+
+  module _ (now : ℕ) (moved : List (ℕ × Node K V)) (moved_is : moved ≡ remove_entry (nat_eq id) items ++ (id, touched n now) ∷ []) where
+    pub touch_keeps : IsStored eq keeps moved writes total
+    touch_keeps =
+        rw moved_is (IsStored-rewrite laws s id n stood (touched n now) refl refl weight_small writes total (λ v. refl) s.written_once
+        (grind (arith, weight_in_total)))
+
+    pub touch_is : (old new : ℕ) → Touches eq (seen items writes keeps old) id now (seen moved writes keeps new)
+    touch_is old new =
+        record {
+          entry = n.entry;
+          stood = lookup-entries id items ∙ ap (option_map (λ n. n.entry)) stood;
+          stands =
+              lookup-entries id moved ∙ ap (option_map (λ n. n.entry))
+              (ap (lookup (nat_eq id)) moved_is
+              ∙ (lookup-rewritten id id (touched n now) items s.once ∙ cond-true (nat_eq id id) _ _ (nat_eq-same id)));
+          entries =
+              ap (λ l. values_of (entries_under l)) moved_is ∙ entries-rewrite laws s id n stood (touched n now) refl refl weight_small;
+          written = ap (λ l. written_under l writes) moved_is ∙ written-touch laws s id n stood (touched n now) refl refl weight_small refl;
+          keeps = refl;
+        }
+
+  module _ (update : Entry K V) (fits : update.weight < 2 ^ 32) (moved : List (ℕ × Node K V))
+      (moved_is : moved ≡ remove_entry (nat_eq id) items ++ (id, updated n update) ∷ []) (rewritten : List (ℕ × ℕ))
+      (rewritten_is : rewritten ≡ with_write_last n.write writes) where
+    own_write : (w : ℕ) → n.write ≡ Some w → rewritten ≡ remove_entry (nat_eq w) writes ++ (w, id) ∷ []
+    own_write w named =
+        rewritten_is ∙ (ap (λ o. with_write_last o writes) named
+        ∙ moved-found w id writes (subst (IsTied keeps writes id) named (s.tied id n stood)).1)
+
+    same_writes : (o : Option ℕ) → n.write ≡ o → (v : ℕ) → lookup (nat_eq v) rewritten ≡ lookup (nat_eq v) writes
+    same_writes None none v = ap (lookup (nat_eq v)) (rewritten_is ∙ ap (λ o. with_write_last o writes) none)
+    same_writes (Some w) named v =
+        ap (lookup (nat_eq v)) (own_write w named)
+        ∙ (lookup-rewritten w v id writes s.written_once ∙ elim (cases_Bool (nat_eq w v)) [
+          | inl same ↦
+              cond-true (nat_eq w v) _ _ same
+              ∙ sym (ap (λ q. lookup (nat_eq q) writes) (sym (eqb-true w v same))
+              ∙ (subst (IsTied keeps writes id) named (s.tied id n stood)).1)
+          | inr other ↦ cond-false (nat_eq w v) _ _ other
+        ])
+
+    distinct : (o : Option ℕ) → n.write ≡ o → IsDistinct nat_eq (keys_of rewritten)
+    distinct None none =
+        subst (λ l. IsDistinct nat_eq (keys_of l)) (sym (rewritten_is ∙ ap (λ o. with_write_last o writes) none)) s.written_once
+    distinct (Some w) named =
+        subst (λ l. IsDistinct nat_eq (keys_of l)) (sym (own_write w named)) (IsDistinct-rewritten w id writes s.written_once)
+
+    pub update_keeps : (changed : ℕ) → changed ≡ total - n.entry.weight + update.weight → IsStored eq keeps moved rewritten changed
+    update_keeps changed is =
+        rw moved_is (IsStored-rewrite laws s id n stood (updated n update) refl refl fits rewritten changed (same_writes n.write refl)
+        (distinct n.write refl) is)
+
+    written : (o : Option ℕ) → n.write ≡ o → written_under moved rewritten
+        ≡ with_write keeps (writes_without eq n.entry.key (written_under items writes)) n.entry.key update.modified
+    written None none =
+        let unkept : keeps ≡ false = subst (IsTied keeps writes id) none (s.tied id n stood) in
+        let empty : writes ≡ [] = none_at_all writes (λ w i h. no_writes laws s id n stood none w i h {P = ⊥}) in
+        ap (written_under moved) (rewritten_is ∙ (ap (λ o. with_write_last o writes) none ∙ empty)) ∙ rw (unkept, empty) refl
+    written (Some w) named =
+        ap (λ l. written_under l rewritten) moved_is
+        ∙ (ap (written_under (remove_entry (nat_eq id) items ++ (id, updated n update) ∷ [])) (own_write w named)
+        ∙ (written-update laws s id n stood (updated n update) refl refl fits w named
+        ∙ rw ((subst (IsTied keeps writes id) named (s.tied id n stood)).0) refl))
+
+    pub update_is : (old new : ℕ) → Updates eq (seen items writes keeps old) id update (seen moved rewritten keeps new)
+    update_is old new =
+        record {
+          entry = n.entry;
+          stood = lookup-entries id items ∙ ap (option_map (λ n. n.entry)) stood;
+          entries = ap (λ l. values_of (entries_under l)) moved_is ∙ entries-rewrite laws s id n stood (updated n update) refl refl fits;
+          written = written n.write refl;
+          keeps = refl;
+        }
+
+-- the total without a weight is no larger
+pub rest_bound : {K V : Type 0} {eq : K → K → Bool} {keeps : Bool} {items : List (ℕ × Node K V)} {writes : List (ℕ × ℕ)} {total : ℕ}
+    → IsStored eq keeps items writes total → (w : ℕ) → total - w ≤ length items * (2 ^ 32 - 1)
+rest_bound s w = grind (arith, total_bound s)
+
+-- ---- a new entry
+
+module _ {K V : Type 0} where
+  -- the node of a new entry
+  abbrev pub new_node : Entry K V → Option ℕ → Node K V
+  new_node entry write = record { entry = entry; write = write }
+
+module _ {K V : Type 0} {eq : K → K → Bool} (laws : IsEquivalence eq) {keeps : Bool} {items : List (ℕ × Node K V)} {writes : List (ℕ × ℕ)}
+    {total : ℕ} (s : IsStored eq keeps items writes total) (id : ℕ) (entry : Entry K V) (fresh : lookup (nat_eq id) items ≡ None)
+    (pushed : List (ℕ × Node K V)) (pushed_is : pushed ≡ items ++ (id, new_node entry None) ∷ []) where
+  -- it is in the list
+  pub is_pushed : lookup (nat_eq id) pushed ≡ Some (new_node entry None)
+  is_pushed =
+      ap (lookup (nat_eq id)) pushed_is
+      ∙ (lookup-push id id (new_node entry None) items fresh ∙ cond-true (nat_eq id id) _ _ (nat_eq-same id))
+
+  module _ (kept : keeps ≡ true) (w : ℕ) (unused : lookup (nat_eq w) writes ≡ None) (found : Node K V)
+      (found_is : lookup (nat_eq id) pushed ≡ Some found) (written : List (ℕ × ℕ)) (written_is : written ≡ writes ++ (w, id) ∷ []) where
+    named_is : set_value (nat_eq id) pushed (new_node found.entry (Some w)) ≡ items ++ (id, new_node entry (Some w)) ∷ []
+    named_is =
+        ap (λ n. set_value (nat_eq id) pushed (new_node n.entry (Some w))) (ap (λ o. unwrap_or o found) (sym found_is ∙ is_pushed))
+        ∙ (ap (λ l. set_value (nat_eq id) l (new_node entry (Some w))) pushed_is
+        ∙ set-pushed id (new_node entry None) (new_node entry (Some w)) items fresh)
+
+    pub enter_keeps : entry_at eq entry.key (values_of (entries_under items)) ≡ None → entry.weight < 2 ^ 32 → (sum : ℕ)
+        → sum ≡ total + entry.weight
+        → IsStored eq keeps (set_value (nat_eq id) pushed (new_node found.entry (Some w))) written sum
+    enter_keeps absent fits sum is =
+        rw (named_is, written_is, is) (IsStored-enter laws s id (new_node entry (Some w)) fresh absent fits kept w refl unused)
+
+    pub enter_is : (old new : ℕ) → Enters eq (seen items writes keeps old) entry
+        (seen (set_value (nat_eq id) pushed (new_node found.entry (Some w))) written keeps new)
+    enter_is old new =
+        record {
+          entries = ap (λ l. values_of (entries_under l)) named_is ∙ entries-push items (id, new_node entry (Some w));
+          written =
+              ap (λ l. written_under l written) named_is
+              ∙ (ap (written_under (items ++ (id, new_node entry (Some w)) ∷ [])) written_is
+              ∙ written-enter laws s id (new_node entry (Some w)) fresh kept w);
+          keeps = refl;
+        }
+
+  module _ (unkept : keeps ≡ false) where
+    pub unkept_keeps : entry_at eq entry.key (values_of (entries_under items)) ≡ None → entry.weight < 2 ^ 32 → (sum : ℕ)
+        → sum ≡ total + entry.weight → IsStored eq keeps pushed writes sum
+    unkept_keeps absent fits sum is = rw (pushed_is, is) (IsStored-unkept laws s id (new_node entry None) fresh absent fits unkept refl)
+
+    pub unkept_is : (old new : ℕ) → Enters eq (seen items writes keeps old) entry (seen pushed writes keeps new)
+    unkept_is old new =
+        record {
+          entries = ap (λ l. values_of (entries_under l)) pushed_is ∙ entries-push items (id, new_node entry None);
+          written = ap (λ l. written_under l writes) pushed_is ∙ written-unkept laws s id (new_node entry None) fresh unkept;
+          keeps = refl;
+        }

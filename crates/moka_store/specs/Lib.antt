@@ -1,0 +1,4 @@
+pub mod Store
+pub mod Turns
+-- inside
+pub mod Nodes

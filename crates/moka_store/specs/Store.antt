@@ -1,0 +1,80 @@
+-- What a contract sees of the store of a cache's entries, and of each change of it.
+use Rattle.std.specs.Prelude.{◌≡◌, ◌≤◌, ℕ, Bool, true, nat_eq, List, [], ◌∷◌, ◌++◌, All, Some}
+use Rattle.std.specs.Map.{lookup, remove_entry, values_of}
+use Rattle.moka_machine.specs.declared.entry.Entry.{Entry}
+use Rattle.moka_machine.specs.Contents.{Write, entry_at, entries_without, writes_without}
+use Rattle.moka_machine.specs.Insert.{with_write}
+
+-- the entries in order of use, each under the id of its node; the writes in their order, if they are kept; and for how many more entries there is room
+pub record Store (K V : Type 0) : Type 0 where
+  pub nodes : List (ℕ × Entry K V)
+  pub written : List (Write K)
+  pub keeps_writes : Bool
+  pub room : ℕ
+
+module _ {K V : Type 0} where
+  -- the entries in order of use
+  abbrev pub entries_of : Store K V → List (Entry K V)
+  entries_of store = values_of store.nodes
+
+  -- the write of an entry
+  abbrev pub write_of : Entry K V → Write K
+  write_of entry = record { key = entry.key; modified = entry.modified }
+
+  module _ (eq : K → K → Bool) where
+    -- every entry of this key has this hash
+    abbrev pub HasHash : Store K V → K → ℕ → Type 0
+    HasHash store key hash = All (λ e. eq key e.key ≡ true → e.hash ≡ hash) (entries_of store)
+
+    -- it is the node of the entry of this key
+    abbrev pub IsFound : Store K V → K → ℕ → Type 0
+    IsFound store key id = (e : Entry K V) × (lookup (nat_eq id) store.nodes ≡ Some e) × (entry_at eq key (entries_of store) ≡ Some e)
+
+    -- it is the node of the least recently used entry, whose key no other entry has
+    pub record IsFront (store : Store K V) (id : ℕ) : Type 0 where
+      pub entry : Entry K V
+      pub rest : List (Entry K V)
+      pub stands : lookup (nat_eq id) store.nodes ≡ Some entry
+      pub first : entries_of store ≡ entry ∷ rest
+      pub alone : entries_without eq entry.key (entries_of store) ≡ rest
+
+    -- it is the node of the entry whose write is the oldest, and no other write has its key
+    pub record IsOldest (store : Store K V) (id : ℕ) : Type 0 where
+      pub entry : Entry K V
+      pub rest : List (Write K)
+      pub stands : lookup (nat_eq id) store.nodes ≡ Some entry
+      pub first : store.written ≡ write_of entry ∷ rest
+      pub alone : writes_without eq entry.key store.written ≡ rest
+
+    -- what the store is once the entry of the node has left
+    pub record Removes (old : Store K V) (id : ℕ) (new : Store K V) : Type 0 where
+      pub entry : Entry K V
+      pub stood : lookup (nat_eq id) old.nodes ≡ Some entry
+      pub entries : entries_of new ≡ entries_without eq entry.key (entries_of old)
+      pub written : new.written ≡ writes_without eq entry.key old.written
+      pub keeps : new.keeps_writes ≡ old.keeps_writes
+      pub room : old.room ≤ new.room
+      pub nodes : new.nodes ≡ remove_entry (nat_eq id) old.nodes
+
+    -- what it is once the entry was used at a moment
+    pub record Touches (old : Store K V) (id now : ℕ) (new : Store K V) : Type 0 where
+      pub entry : Entry K V
+      pub stood : lookup (nat_eq id) old.nodes ≡ Some entry
+      pub stands : lookup (nat_eq id) new.nodes ≡ Some (record entry { accessed = now })
+      pub entries : entries_of new ≡ entries_without eq entry.key (entries_of old) ++ record entry { accessed = now } ∷ []
+      pub written : new.written ≡ old.written
+      pub keeps : new.keeps_writes ≡ old.keeps_writes
+
+    -- what it is once the entry has another's value, weight and moments
+    pub record Updates (old : Store K V) (id : ℕ) (update : Entry K V) (new : Store K V) : Type 0 where
+      pub entry : Entry K V
+      pub stood : lookup (nat_eq id) old.nodes ≡ Some entry
+      pub entries : entries_of new ≡ entries_without eq entry.key (entries_of old) ++ record update { key = entry.key; hash = entry.hash } ∷ []
+      pub written : new.written ≡ with_write old.keeps_writes (writes_without eq entry.key old.written) entry.key update.modified
+      pub keeps : new.keeps_writes ≡ old.keeps_writes
+
+    -- what it is once a new entry has entered
+    pub record Enters (old : Store K V) (entry : Entry K V) (new : Store K V) : Type 0 where
+      pub entries : entries_of new ≡ entries_of old ++ entry ∷ []
+      pub written : new.written ≡ with_write old.keeps_writes old.written entry.key entry.modified
+      pub keeps : new.keeps_writes ≡ old.keeps_writes

@@ -1,0 +1,27 @@
+-- What a contract sees of a batch that leaves the store, one entry after another.
+use Rattle.std.specs.Prelude.{◌≡◌, ◌≤◌, ℕ, suc, Bool, true, false, List, take, Option, option_map}
+use Rattle.moka_machine.specs.Contents.{Contents, entry_keys, after_leaving}
+use Rattle.moka_store.specs.Store.{Store, entries_of}
+
+-- one left and the others are up to further turns, or none is left to leave
+abbrev pub IsTurn : {X : Type 0} → (ℕ → X → X) → Bool → X → X → Type 0
+IsTurn batch true old new = (most : ℕ) → batch (suc most) old ≡ batch most new
+IsTurn batch false old new = (new ≡ old) × ((most : ℕ) → batch most old ≡ old)
+
+module _ {K V : Type 0} where
+  -- the contents of a store
+  abbrev pub contents_of : Store K V → Contents K V
+  contents_of store = record { entries = entries_of store; written = store.written }
+
+  -- the store keeps its writes or not as before, and has no less room
+  pub record Continues (old new : Store K V) : Type 0 where
+    pub keeps : new.keeps_writes ≡ old.keeps_writes
+    pub room : old.room ≤ new.room
+
+-- the contents once as many of the least recently used entries have left
+abbrev pub after_eviction_of : {K V : Type 0} → (K → K → Bool) → ℕ → Contents K V → Contents K V
+after_eviction_of eq count contents = after_leaving eq (entry_keys (take count contents.entries)) contents
+
+-- as many entries from the front, where there is a number
+abbrev pub counted : {X : Type 0} → List X → Option ℕ → Option (List X)
+counted entries count = option_map (λ n. take n entries) count

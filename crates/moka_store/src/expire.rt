@@ -1,0 +1,122 @@
+//! What each call does first: expired entries leave, in batches, by the order of writing and then by the order of use, and entries above the
+//! limit.
+ghost use Rattle.std.specs.Prelude.{◌≡◌};
+ghost use Rattle.moka_machine.specs.Upkeep.{after_expiry, after_idle_expiry, after_live_expiry, after_upkeep, is_expired};
+ghost use Rattle.moka_store.specs.Turns.{Continues, IsTurn, contents_of};
+ghost use Rattle.moka_machine.specs.declared.constants.TheConstants.{EVICTION_BATCH_SIZE};
+
+use crate::store::Store;
+use crate::trim::trim;
+use moka_base::policy::Policy;
+use moka_base::time::{Instant, idle_expired, live_expired};
+use moka_machine::constants::EVICTION_BATCH_SIZE;
+use moka_machine::entry::Entry;
+use std::alloc::Allocator;
+
+/// What each call does first: expired entries leave, and entries above the limit.
+pub fn upkeep<K: Eq + Drop, V: Drop, A: Allocator + Clone + Drop>(
+    store: &mut Store<K, V, A>,
+    policy: Policy,
+    now: Instant,
+)
+    ensures step { contents_of store.new ≡ after_upkeep K.eq policy now (contents_of store.old) }
+    ensures kept { Continues store.old store.new }
+{
+    expire(store, policy, now);
+    trim(store, policy.max_capacity());
+}
+
+/// A batch leaves by time to live, and a batch by time to idle, where these are set.
+fn expire<K: Eq + Drop, V: Drop, A: Allocator + Clone + Drop>(
+    store: &mut Store<K, V, A>,
+    policy: Policy,
+    now: Instant,
+)
+    ensures step { contents_of store.new ≡ after_expiry K.eq policy now (contents_of store.old) }
+    ensures kept { Continues store.old store.new }
+{
+    if policy.time_to_live().is_some() {
+        expire_by_write(store, policy, now);
+    }
+    if policy.time_to_idle().is_some() {
+        expire_by_use(store, policy, now);
+    }
+}
+
+fn expire_by_write<K: Eq + Drop, V: Drop, A: Allocator + Clone + Drop>(
+    store: &mut Store<K, V, A>,
+    policy: Policy,
+    now: Instant,
+)
+    ensures step { contents_of store.new
+        ≡ after_live_expiry K.eq policy now EVICTION_BATCH_SIZE (contents_of store.old) }
+    ensures kept { Continues store.old store.new }
+{
+    let mut left = EVICTION_BATCH_SIZE;
+    while left > 0 && expire_oldest(store, policy, now) {
+        left -= 1;
+    }
+}
+
+/// The entry that was written the longest ago leaves, if it has lived too long.
+fn expire_oldest<K: Eq + Drop, V: Drop, A: Allocator + Clone + Drop>(
+    store: &mut Store<K, V, A>,
+    policy: Policy,
+    now: Instant,
+) -> bool
+    ensures turn { IsTurn (after_live_expiry K.eq policy now)
+        result (contents_of store.old) (contents_of store.new) }
+    ensures kept { Continues store.old store.new }
+{
+    let Some(id) = store.oldest() else {
+        return false;
+    };
+    if !live_expired(policy.time_to_live(), store.get(id).modified, now) {
+        return false;
+    }
+    store.remove(id);
+    true
+}
+
+fn expire_by_use<K: Eq + Drop, V: Drop, A: Allocator + Clone + Drop>(
+    store: &mut Store<K, V, A>,
+    policy: Policy,
+    now: Instant,
+)
+    ensures step { contents_of store.new
+        ≡ after_idle_expiry K.eq policy now EVICTION_BATCH_SIZE (contents_of store.old) }
+    ensures kept { Continues store.old store.new }
+{
+    let mut left = EVICTION_BATCH_SIZE;
+    while left > 0 && expire_front(store, policy, now) {
+        left -= 1;
+    }
+}
+
+/// The least recently used entry leaves, if it has been idle too long.
+fn expire_front<K: Eq + Drop, V: Drop, A: Allocator + Clone + Drop>(
+    store: &mut Store<K, V, A>,
+    policy: Policy,
+    now: Instant,
+) -> bool
+    ensures turn { IsTurn (after_idle_expiry K.eq policy now)
+        result (contents_of store.old) (contents_of store.new) }
+    ensures kept { Continues store.old store.new }
+{
+    let Some(id) = store.front() else {
+        return false;
+    };
+    if !idle_expired(policy.time_to_idle(), store.get(id).accessed, now) {
+        return false;
+    }
+    store.remove(id);
+    true
+}
+
+/// Whether an entry is expired, for either reason.
+pub fn is_expired<K: Drop, V: Drop>(policy: Policy, entry: &Entry<K, V>, now: Instant) -> bool
+    ensures { result ≡ is_expired policy now entry.now }
+{
+    live_expired(policy.time_to_live(), entry.modified, now)
+        || idle_expired(policy.time_to_idle(), entry.accessed, now)
+}

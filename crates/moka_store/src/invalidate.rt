@@ -1,0 +1,54 @@
+//! Entries leave because their owner says so: that of a key, all of them, or those that a predicate chooses.
+ghost use Rattle.std.specs.Prelude.{◌≡◌, Bool, List};
+ghost use Rattle.moka_machine.specs.Contents.{after_leaving, entry_keys, no_contents, without};
+ghost use Rattle.moka_machine.specs.Invalidate.{AnswersInTurn, chosen};
+ghost use Rattle.moka_store.specs.Store.{HasHash, entries_of};
+ghost use Rattle.moka_store.specs.Turns.{Continues, contents_of};
+
+use crate::store::Store;
+use std::alloc::Allocator;
+
+/// The entry of the key leaves, if there is one. The hash is the key's.
+pub fn remove_key<K: Eq + Drop, V: Drop, A: Allocator + Clone + Drop>(
+    store: &mut Store<K, V, A>,
+    key: &K,
+    hash: u64,
+)
+    requires { HasHash K.eq store.old key.now hash }
+    ensures step { contents_of store.new ≡ without K.eq (contents_of store.old) key.now }
+    ensures kept { Continues store.old store.new }
+{
+    if let Some(id) = store.find(key, hash) {
+        store.remove(id);
+    }
+}
+
+/// All entries leave.
+pub fn clear<K: Eq + Drop, V: Drop, A: Allocator + Clone + Drop>(store: &mut Store<K, V, A>)
+    ensures step { contents_of store.new ≡ no_contents }
+    ensures kept { Continues store.old store.new }
+{
+    while let Some(id) = store.front() {
+        store.remove(id);
+    }
+}
+
+/// The entries leave at which the predicate answers `true`. It is called once at each entry, in order of use.
+pub fn remove_where<K: Eq + Drop, V: Drop, A: Allocator + Clone + Drop, F: FnMut(&K, &V) -> bool>(
+    store: &mut Store<K, V, A>,
+    mut predicate: F,
+)
+    requires { F.IsAlwaysCallable predicate }
+    ensures step { (answers : List Bool) × AnswersInTurn F.step predicate (entries_of store.old) answers
+        × (contents_of store.new ≡ after_leaving K.eq (entry_keys (chosen answers (entries_of store.old))) (contents_of store.old)) }
+    ensures kept { Continues store.old store.new }
+{
+    let mut here = store.front();
+    while let Some(id) = here {
+        here = store.next(id);
+        let entry = store.get(id);
+        if predicate(&entry.key, &entry.value) {
+            store.remove(id);
+        }
+    }
+}

@@ -1,0 +1,8 @@
+//! The entries of the cache for one thread, and how they come and leave.
+#![tactic(auto)]
+
+pub mod admit;
+pub mod expire;
+pub mod invalidate;
+pub mod store;
+pub mod trim;

@@ -1,6 +1,0 @@
-use Rattle.moka_common.specs.Keys.{keys_of}
-use Rattle.moka_unsync.proofs.RemainLemmas.{looks}
-use Rattle.moka_unsync.proofs.laws.looks_change_nothing.Goals as goal
-
-pub returns : goal.returns
-returns g c = looks (keys_of (record { eq = g.K.PartialEq.eq; hash_input = g.K.Hash.hash_input }) g.S.BuildHasher g.S.Hasher.Hasher) g.W.Weigh.weighs
