@@ -70,6 +70,7 @@ stored_insert weighs old new key value now answers inserted = record {
   weigher = inserted.weigher;
   refused = inserted.refused;
   weighed = answers old.weigher inserted.weigher inserted.weight inserted.weighed;
+  small = inserted.small;
   step = inserted.step;
 }
 

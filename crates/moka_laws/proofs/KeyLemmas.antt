@@ -94,14 +94,14 @@ module _ {K V : Type 0} (eq : K → K → Bool) where
         ]
 
     -- a new key stands once
-    once-push : (entries : List (Entry K V)) (new : Entry K V) → entry_at eq new.key entries ≡ None → StandOnce entries
+    pub once-push : (entries : List (Entry K V)) (new : Entry K V) → entry_at eq new.key entries ≡ None → StandOnce entries
         → StandOnce (entries ++ new ∷ [])
     once-push entries new absent once =
         subst (IsDistinct eq) (sym (keys-push entries new))
         (IsDistinct-push laws (entry_keys entries) new.key once (unlisted new.key entries absent))
 
     -- and so does one that takes its entry's place
-    once-put : (contents : Contents K V) (new : Entry K V) → StandOnce contents.entries
+    pub once-put : (contents : Contents K V) (new : Entry K V) → StandOnce contents.entries
         → StandOnce (entries_without eq new.key contents.entries ++ new ∷ [])
     once-put contents new once =
         once-push (entries_without eq new.key contents.entries) new (entry_at-gone new.key new.key (laws.refl new.key) contents.entries)

@@ -2,3 +2,5 @@ pub mod RemainLemmas
 pub mod LimitLemmas
 pub mod KeyLemmas
 pub mod MapLemmas
+pub mod OwnLemmas
+pub mod WriteLemmas

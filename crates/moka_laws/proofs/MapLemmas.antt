@@ -65,12 +65,12 @@ module _ (policy : Policy) (unbounded : IsUnbounded policy) (now : ℕ) where
 
 module _ {K V : Type 0} {eq : K → K → Bool} (laws : IsEquivalence eq) where
   -- equal keys have the same entry
-  entry_at-equal : (key other : K) → eq key other ≡ true → (entries : List (Entry K V))
+  pub entry_at-equal : (key other : K) → eq key other ≡ true → (entries : List (Entry K V))
       → entry_at eq key entries ≡ entry_at eq other entries
   entry_at-equal key other equal entries = λ i. find (λ e. laws.congr key other e.key equal i) entries
 
   -- another key has the entry that it had
-  entry_at-other : (gone key : K) → eq gone key ≡ false → (entries : List (Entry K V))
+  pub entry_at-other : (gone key : K) → eq gone key ≡ false → (entries : List (Entry K V))
       → entry_at eq key (entries_without eq gone entries) ≡ entry_at eq key entries
   entry_at-other gone key differ [] = refl
   entry_at-other gone key differ (e ∷ es) =
@@ -88,7 +88,7 @@ module _ {K V : Type 0} {eq : K → K → Bool} (laws : IsEquivalence eq) where
       ]
 
   -- a new entry stands at its key, where none stood
-  entry_at-push : (key : K) (new : Entry K V) (entries : List (Entry K V)) → (eq new.key key ≡ true → entry_at eq key entries ≡ None)
+  pub entry_at-push : (key : K) (new : Entry K V) (entries : List (Entry K V)) → (eq new.key key ≡ true → entry_at eq key entries ≡ None)
       → entry_at eq key (entries ++ new ∷ []) ≡ cond (eq new.key key) (Some new) (entry_at eq key entries)
   entry_at-push key new entries absent =
       find-append (λ e. eq key e.key) entries (new ∷ [])
@@ -107,7 +107,7 @@ module _ {K V : Type 0} {eq : K → K → Bool} (laws : IsEquivalence eq) where
       or_none (Some e) = refl
 
   -- an entry that takes the place of another stands at its key
-  entry_at-put : (key : K) (new : Entry K V) (entries : List (Entry K V))
+  pub entry_at-put : (key : K) (new : Entry K V) (entries : List (Entry K V))
       → entry_at eq key (entries_without eq new.key entries ++ new ∷ []) ≡ cond (eq new.key key) (Some new) (entry_at eq key entries)
   entry_at-put key new entries =
       entry_at-push key new (entries_without eq new.key entries) (λ equal. entry_at-gone eq laws new.key key equal entries)
@@ -268,7 +268,7 @@ module _ {K V S W : Type 0} (keys : Keys K S) where
 
 module _ {K V S W : Type 0} (keys : Keys K S) (weighs : W → K → V → ℕ → W → Type 0) where
   -- each call leaves the settings
-  settings-step : (old new : CacheState K V S W) (request : Request K V) (answer : Answer K V) → IsStep keys weighs old request answer new
+  pub settings-step : (old new : CacheState K V S W) (request : Request K V) (answer : Answer K V) → IsStep keys weighs old request answer new
       → new.settings ≡ old.settings
   settings-step old new (Get other now) answer step = ap (λ c. c.settings) step.1
   settings-step old new (ContainsKey other now) answer step = ap (λ c. c.settings) step.1
@@ -307,7 +307,7 @@ module _ {K V S W : Type 0} (keys : Keys K S) (weighs : W → K → V → ℕ �
     answers_as_map old new (Insert other value now) answer unbounded known (inr (refused, same)) = absurd (known refused)
     answers_as_map old new (Invalidate other now) answer unbounded known step = step.0
     answers_as_map old new InvalidateAll answer unbounded known step = step.0
-    answers_as_map old new (InvalidateEntriesIf answers) answer unbounded known step = step.0
+    answers_as_map old new (InvalidateEntriesIf answers) answer unbounded known step = step.0.0
     answers_as_map old new (Iterate now) answer unbounded known step =
         step.0 ∙ ap Pairs (pairs-unexpired old.settings.policy unbounded now old.contents.entries)
     answers_as_map old new EntryCount answer unbounded known step =

@@ -1,10 +1,10 @@
 -- What a contract sees of the laws of the cache, which `src/laws.rt` promises, but for those of a plain map.
-use Rattle.std.specs.Prelude.{◌≡◌, ◌<◌, ◌≤◌, ℕ, Bool, List, filter, length, Some, IsSome}
-use Rattle.std.specs.List.{IsDistinct}
+use Rattle.std.specs.Prelude.{◌≡◌, ◌<◌, ◌≤◌, ◌^◌, ℕ, Bool, true, false, List, [], All, filter, length, map, Some, IsSome, option_map}
+use Rattle.std.specs.List.{IsDistinct, find}
 use Rattle.moka_base.specs.Keys.{Keys}
-use Rattle.moka_machine.specs.Contents.{Contents, entry_at, entry_keys, total_weight}
+use Rattle.moka_machine.specs.Contents.{Contents, entry_at, entry_keys, total_weight, write_of}
 use Rattle.moka_machine.specs.CacheState.{CacheState, new_cache}
-use Rattle.moka_base.specs.Settings.{Settings}
+use Rattle.moka_base.specs.Settings.{Settings, keeps_writes}
 use Rattle.moka_machine.specs.Lookup.{after_look}
 use Rattle.moka_machine.specs.Step.{Answer, IsStep, Request, Runs, Get, ContainsKey, Insert, Invalidate, InvalidateAll, InvalidateEntriesIf, Iterate, EntryCount, WeightedSize}
 
@@ -37,6 +37,30 @@ module _ {K V S W : Type 0} (keys : Keys K S) (weighs : W → K → V → ℕ �
   KeysStandOnce =
       (settings : Settings S) (weigher : W) (requests : List (Request K V)) (answers : List (Answer K V)) (cache : CacheState K V S W) →
       Runs keys weighs (new_cache settings weigher) requests answers cache → IsDistinct keys.eq (entry_keys cache.contents.entries)
+
+-- ---- entries and their writes
+
+-- where writes are kept they are those of the entries, each key once; elsewhere there are none
+abbrev pub AreWritesOf : {K V : Type 0} → (K → K → Bool) → Bool → Contents K V → Type 0
+AreWritesOf {K} eq true contents =
+    IsDistinct eq (map (λ w. w.key) contents.written)
+    × ((key : K) → find (λ w. eq key w.key) contents.written ≡ option_map write_of (entry_at eq key contents.entries))
+AreWritesOf eq false contents = contents.written ≡ []
+
+module _ {K V S W : Type 0} (keys : Keys K S) (weighs : W → K → V → ℕ → W → Type 0) where
+  -- from a new cache all calls leave the entries' writes: with a time to live each entry's key and moment, and else none
+  abbrev pub WritesFollowEntries : Type 0
+  WritesFollowEntries =
+      (settings : Settings S) (weigher : W) (requests : List (Request K V)) (answers : List (Answer K V)) (cache : CacheState K V S W) →
+      Runs keys weighs (new_cache settings weigher) requests answers cache →
+      AreWritesOf keys.eq (keeps_writes cache.settings.policy) cache.contents
+
+  -- from a new cache each entry has its key's hash, and a weight of 32 bits
+  abbrev pub EntriesAreOwn : Type 0
+  EntriesAreOwn =
+      (settings : Settings S) (weigher : W) (requests : List (Request K V)) (answers : List (Answer K V)) (cache : CacheState K V S W) →
+      Runs keys weighs (new_cache settings weigher) requests answers cache →
+      All (λ e. (e.hash ≡ keys.hash_of cache.settings.hash_state e.key) × (e.weight < 2 ^ 32)) cache.contents.entries
 
 -- ---- looks and invalidations
 

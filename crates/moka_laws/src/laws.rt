@@ -1,6 +1,8 @@
 //! The laws of the cache as a machine, one a function. A law is its function's clause: there is no code to call.
 ghost use Rattle.moka_base.specs.Keys.{keys_by};
-ghost use Rattle.moka_laws.specs.Laws.{InvalidationsKeepCounts, KeysStandOnce, LooksChangeNothing, OnlyUpdatesOutgrowLimit, StaysWithinLimit};
+ghost use Rattle.std.specs.Prelude.{◌≡◌};
+ghost use Rattle.moka_machine.specs.declared.constants.TheConstants.{EVICTION_BATCH_SIZE};
+ghost use Rattle.moka_laws.specs.Laws.{EntriesAreOwn, InvalidationsKeepCounts, KeysStandOnce, LooksChangeNothing, OnlyUpdatesOutgrowLimit, StaysWithinLimit, WritesFollowEntries};
 ghost use Rattle.moka_laws.specs.PlainMap.{RunsAsMap, StepsAsMap};
 
 use moka_base::weigh::Weigh;
@@ -19,6 +21,21 @@ pub fn only_updates_outgrow_the_limit<K: Eq + Hash, V, S: BuildHasher, W: Weigh<
 /// A key never has two entries, whatever calls are made.
 pub fn each_key_stands_once<K: Eq + Hash, V, S: BuildHasher, W: Weigh<K, V>>()
     ensures { KeysStandOnce (keys_by K.Hash S.BuildHasher S.Hasher.Hasher) W.weighs }
+{}
+
+/// With a time to live the order of writing has exactly the entries' keys, each with the moment of its last insert; without one it is empty.
+pub fn writes_follow_entries<K: Eq + Hash, V, S: BuildHasher, W: Weigh<K, V>>()
+    ensures { WritesFollowEntries (keys_by K.Hash S.BuildHasher S.Hasher.Hasher) W.weighs }
+{}
+
+/// An entry has its key's hash under the cache's hash state, and a weight of 32 bits.
+pub fn entries_are_own<K: Eq + Hash, V, S: BuildHasher, W: Weigh<K, V>>()
+    ensures { EntriesAreOwn (keys_by K.Hash S.BuildHasher S.Hasher.Hasher) W.weighs }
+{}
+
+/// How many entries a call removes at most for a reason that isn't its own, by its digits: definitions name the constant.
+pub fn batches_are_of_a_hundred()
+    ensures { EVICTION_BATCH_SIZE ≡ 100 }
 {}
 
 /// `contains_key`, `iter` and the counts are no reads: they count nothing, and set no moment and no order of what remains.

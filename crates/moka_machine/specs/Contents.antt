@@ -26,6 +26,10 @@ module _ {K V : Type 0} where
   abbrev pub weighted_size : List (Entry K V) → ℕ
   weighted_size entries = min (total_weight entries) (2 ^ 64 - 1)
 
+  -- the write of an entry
+  abbrev pub write_of : Entry K V → Write K
+  write_of entry = record { key = entry.key; modified = entry.modified }
+
   -- the keys of the entries
   abbrev pub entry_keys : List (Entry K V) → List K
   entry_keys entries = map (λ e. e.key) entries

@@ -1,5 +1,5 @@
 -- What an insert leaves.
-use Rattle.std.specs.Prelude.{◌≡◌, ℕ, Bool, true, false, List, [], ◌∷◌, ◌++◌, length, Option, Some, None, if◌then◌else◌}
+use Rattle.std.specs.Prelude.{◌≡◌, ◌<◌, ◌^◌, ℕ, Bool, true, false, List, [], ◌∷◌, ◌++◌, length, Option, Some, None, if◌then◌else◌}
 use Rattle.moka_base.specs.Admission.{victims}
 use Rattle.moka_sketch.specs.Enabling.{enables_sketch, capacity_asked}
 use Rattle.moka_base.specs.Keys.{Keys}
@@ -88,4 +88,5 @@ module _ {K V S W : Type 0} (keys : Keys K S) where
     pub weigher : W
     pub refused : Bool
     pub weighed : weighs old.weigher key value weight weigher
+    pub small : weight < 2 ^ 32
     pub step : new ≡ after_insert keys.eq (record old { weigher = weigher }) (new_entry keys old.settings.hash_state key value weight now) now refused

@@ -30,7 +30,7 @@ pub data Answer (K V : Type 0) : Type 0 where
   Number : ℕ → Answer K V
 
 module _ {K V S W : Type 0} (keys : Keys K S) (weighs : W → K → V → ℕ → W → Type 0) where
-  -- what a call may answer, and the cache after it: an insert whose room is refused leaves it as it was
+  -- what a call may answer, and the cache after it: an insert whose room is refused leaves it as it was, and a predicate answers once an entry
   abbrev pub IsStep : CacheState K V S W → Request K V → Answer K V → CacheState K V S W → Type 0
   IsStep old (Get key now) answer new = (answer ≡ Found (found_by_get keys old key now)) × (new ≡ after_get keys old key now)
   IsStep old (ContainsKey key now) answer new = (answer ≡ Truth (is_contained keys old key now)) × (new ≡ after_look keys old now)
@@ -38,7 +38,8 @@ module _ {K V S W : Type 0} (keys : Keys K S) (weighs : W → K → V → ℕ �
       ((answer ≡ Done) × IsInserted keys weighs old key value now new) ⊎ ((answer ≡ OutOfMemory) × (new ≡ old))
   IsStep old (Invalidate key now) answer new = (answer ≡ Done) × (new ≡ after_invalidate keys old key now)
   IsStep old InvalidateAll answer new = (answer ≡ Done) × (new ≡ after_invalidate_all old)
-  IsStep old (InvalidateEntriesIf answers) answer new = (answer ≡ Done) × (new ≡ after_invalidate_if keys old answers)
+  IsStep old (InvalidateEntriesIf answers) answer new =
+      ((answer ≡ Done) × (length answers ≡ length old.contents.entries)) × (new ≡ after_invalidate_if keys old answers)
   IsStep old (Iterate now) answer new = (answer ≡ Pairs (pairs_at old now)) × (new ≡ old)
   IsStep old EntryCount answer new = (answer ≡ Number (length old.contents.entries)) × (new ≡ old)
   IsStep old WeightedSize answer new = (answer ≡ Number (weighted_size old.contents.entries)) × (new ≡ old)

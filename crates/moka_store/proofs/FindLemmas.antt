@@ -11,8 +11,8 @@ use Rattle.std.specs.Map.{lookup, remove_entry, set_value, keys_of, values_of}
 use Rattle.moka_deque.specs.Deque.{IsIn, first_id, next_id, moved_to_back}
 use Rattle.moka_machine.specs.declared.entry.Entry.{Entry}
 use Rattle.moka_store.specs.declared.store.Node.{Node}
-use Rattle.moka_machine.specs.Contents.{entry_at, no_contents}
-use Rattle.moka_store.specs.Store.{write_of, IsFront, IsOldest}
+use Rattle.moka_machine.specs.Contents.{entry_at, no_contents, write_of}
+use Rattle.moka_store.specs.Store.{IsFront, IsOldest}
 use Rattle.moka_store.specs.Nodes.{entries_under, written_under, IsStored, room_for}
 use Rattle.moka_deque.proofs.DequeLemmas.{lookup-set, nat_eq-same}
 use Rattle.moka_store.proofs.NodeLemmas.{remove-set}

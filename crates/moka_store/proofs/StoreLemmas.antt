@@ -11,9 +11,8 @@ use Rattle.std.specs.List.{IsDistinct, AllByRecursion, cons_option, filter_map}
 use Rattle.std.specs.Map.{lookup, remove_entry, set_value, keys_of, values_of}
 use Rattle.moka_deque.specs.Deque.{first_id, next_id}
 use Rattle.moka_store.specs.declared.store.Node.{Node}
-use Rattle.moka_machine.specs.Contents.{Write, total_weight, entry_at, entries_without, writes_without}
+use Rattle.moka_machine.specs.Contents.{entries_without, entry_at, total_weight, Write, write_of, writes_without}
 use Rattle.moka_machine.specs.Insert.{with_write}
-use Rattle.moka_store.specs.Store.{write_of}
 use Rattle.moka_store.specs.Nodes.{entries_under, write_under, written_under, IsTied, IsStored, without_write}
 use Rattle.moka_deque.proofs.DequeLemmas.{lookup-push, nat_eq-same}
 use Rattle.moka_store.proofs.NodeLemmas.{each_found, lookup-removed, lookup-behind, lookup-rewritten, IsDistinct-removed, IsDistinct-pushed}

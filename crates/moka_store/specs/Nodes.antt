@@ -5,8 +5,7 @@ use Rattle.std.specs.Map.{lookup, keys_of, remove_entry, values_of}
 use Rattle.moka_deque.specs.Deque.{moved_to_back}
 use Rattle.moka_machine.specs.declared.entry.Entry.{Entry}
 use Rattle.moka_store.specs.declared.store.Node.{Node}
-use Rattle.moka_machine.specs.Contents.{Write, total_weight}
-use Rattle.moka_store.specs.Store.{write_of}
+use Rattle.moka_machine.specs.Contents.{total_weight, Write, write_of}
 
 -- for how many entries there is room, in one list or in both
 abbrev pub room_for : Bool → ℕ → ℕ → ℕ

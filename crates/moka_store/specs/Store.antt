@@ -2,7 +2,7 @@
 use Rattle.std.specs.Prelude.{◌≡◌, ◌≤◌, ℕ, Bool, true, nat_eq, List, [], ◌∷◌, ◌++◌, All, Some}
 use Rattle.std.specs.Map.{lookup, remove_entry, values_of}
 use Rattle.moka_machine.specs.declared.entry.Entry.{Entry}
-use Rattle.moka_machine.specs.Contents.{Write, entry_at, entries_without, writes_without}
+use Rattle.moka_machine.specs.Contents.{Write, entry_at, entries_without, write_of, writes_without}
 use Rattle.moka_machine.specs.Insert.{with_write}
 
 -- the entries in order of use, each under the id of its node; the writes in their order, if they are kept; and for how many more entries there is room
@@ -16,10 +16,6 @@ module _ {K V : Type 0} where
   -- the entries in order of use
   abbrev pub entries_of : Store K V → List (Entry K V)
   entries_of store = values_of store.nodes
-
-  -- the write of an entry
-  abbrev pub write_of : Entry K V → Write K
-  write_of entry = record { key = entry.key; modified = entry.modified }
 
   module _ (eq : K → K → Bool) where
     -- every entry of this key has this hash

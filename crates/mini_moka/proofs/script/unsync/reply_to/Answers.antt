@@ -1,4 +1,5 @@
 use Rattle.std.proofs.Common.{rules, ◌≡◌, refl, ap, ◌∙◌, subst, inl, inr}
+use Rattle.std.proofs.lemmas.List.{length-map}
 use Rattle.moka_unsync.specs.Insert.{IsInserted}
 use Rattle.moka_unsync.specs.Invalidate.{after_invalidate_if}
 use Rattle.moka_unsync.specs.Step as machine
@@ -50,7 +51,7 @@ returns-in-InvalidateIf-clause-step g c =
     let step = c.invalidate_if.ensures.step
     ∙ ap (λ text. after_invalidate_if script_keys c.args.cache.now (have_text text entries)) (search rules) in
     replied _ _ _ _ _ _ c.push_reply-in-InvalidateIf.result _ _ Done c.from_nanos-now.ensures c.in-InvalidateIf.is
-    (machine.Done, (refl, step), refl) c.push_reply-in-InvalidateIf.ensures
+    (machine.Done, ((refl, length-map entries _), step), refl) c.push_reply-in-InvalidateIf.ensures
 
 pub returns-in_ok-pairs-in-Iter-clause-step : goal.returns-in_ok-pairs-in-Iter-clause-step
 returns-in_ok-pairs-in-Iter-clause-step g c =
