@@ -4,6 +4,7 @@
 pub mod constants;
 pub mod error;
 pub mod hash;
+pub mod laws;
 pub mod policy;
 pub mod settings;
 pub mod shared;

@@ -1,5 +1,6 @@
 //! What follows from the definitions alone. The functions do nothing: their contracts are the laws.
 ghost use Rattle.std.specs.Prelude.{◌≡◌, ◌⊎◌, ℕ, List};
+ghost use Rattle.moka_grammar.specs.declared.text.TheConstants.{LONGEST_TEXT};
 ghost use Rattle.moka_grammar.specs.Grammar.{Script, IsScript, IsBadAt};
 
 /// A script has no bad line.
@@ -22,4 +23,9 @@ pub fn one_line_is_the_first_bad_one()
 /// Bytes spell one script at most.
 pub fn bytes_spell_one_script()
     ensures { (bytes : List ℕ) (a b : Script) → IsScript bytes a → IsScript bytes b → a ≡ b }
+{}
+
+/// How many bytes a text has at most, by its digits: definitions name the constant.
+pub fn texts_have_64_bytes_at_most()
+    ensures { LONGEST_TEXT ≡ 64 }
 {}

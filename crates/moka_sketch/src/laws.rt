@@ -1,4 +1,6 @@
 //! The laws of the crate's definitions, one a function. A law is its function's clause: there is no code to call.
+ghost use Rattle.std.specs.Prelude.{◌≡◌};
+ghost use Rattle.moka_sketch.specs.declared.constants.TheConstants.{COUNTERS_PER_WORD, COUNTER_BITS, DEPTHS, MAX_FREQUENCY, MAX_SAMPLE_SIZE, MAX_TABLE_LEN, MIN_SKETCH_CAPACITY, SAMPLE_FACTOR};
 ghost use Rattle.moka_sketch.specs.Laws.{AgingHalvesSizes, BoundsEstimates, CountingKeepsSketches, CountingKeepsTrueCounts, FindsNextPower, GrowingKeepsSketches, GrowingKeepsTrueCounts, ResiduesAreApart};
 
 /// No estimate is above what four bits hold.
@@ -39,4 +41,12 @@ pub fn residues_are_apart()
 /// The next power of two is the least that is at least the number.
 pub fn next_powers_are_least()
     ensures { FindsNextPower }
+{}
+
+/// The numbers of the sketch by their digits: definitions name the constants.
+pub fn numbers_of_the_sketch()
+    ensures counters { (COUNTER_BITS ≡ 4) × (COUNTERS_PER_WORD ≡ 16) × (DEPTHS ≡ 4) }
+    ensures frequency { MAX_FREQUENCY ≡ 15 }
+    ensures table { (MIN_SKETCH_CAPACITY ≡ 128) × (MAX_TABLE_LEN ≡ 1073741824) }
+    ensures sample { (SAMPLE_FACTOR ≡ 10) × (MAX_SAMPLE_SIZE ≡ 2147483647) }
 {}

@@ -3,3 +3,4 @@
 
 pub mod constants;
 pub mod engine;
+pub mod laws;
