@@ -1,5 +1,5 @@
 -- What a run of a script writes, and how it ends.
-use Rattle.std.specs.Prelude.{◌≡◌, ℕ, List, Option, Result, Ok, Err, IfSome}
+use Rattle.std.specs.Prelude.{◌≡◌, ℕ, List, Option, Result, Ok, Err, IfSome, codes}
 use Rattle.std.specs.Io.KnownBytes.{Keeps, Appends}
 use Rattle.mini_moka.specs.declared.script.runner.End.{End}
 use Rattle.mini_moka.specs.declared.script.runner.End.TheVariants.{Done, BadLine}
@@ -40,3 +40,15 @@ module _ (A : Type 0) where
       IfSome input (λ bytes. (end : End) × (text : List ℕ) × IsRunOf bytes end text × AppendsBeginning old new text)
   EndsSo input (Err Read) old new = Keeps old new
   EndsSo input (Err OutOfMemory) old new = Keeps old new
+
+-- why a run is broken off, in words
+abbrev pub script_error_text : ScriptError → List ℕ
+script_error_text Read = codes "read fault"
+script_error_text Write = codes "write fault"
+script_error_text OutOfMemory = codes "out of memory"
+
+-- the exit status of a program whose run ends so
+abbrev pub status_of : Result End ScriptError → ℕ
+status_of (Ok Done) = 0
+status_of (Ok (BadLine number)) = 2
+status_of (Err error) = 1

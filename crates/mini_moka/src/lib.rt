@@ -6,4 +6,5 @@ pub mod script;
 pub mod sync;
 pub mod unsync;
 
+pub use common::Policy;
 pub use moka_grammar::laws;

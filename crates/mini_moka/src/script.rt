@@ -15,4 +15,4 @@ pub use moka_grammar::text::{LONGEST_TEXT, Text, is_text};
 pub use moka_streams::streams::{
     Fault, FromRead, FromWrite, ReadError, Sink, Source, read_all, write_all,
 };
-pub use runner::{End, ScriptError, run};
+pub use runner::{End, ScriptError, run, status_of};

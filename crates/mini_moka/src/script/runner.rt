@@ -3,7 +3,7 @@ ghost use Rattle.std.specs.Prelude.{◌≡◌, ◌↔◌, true, false, IfOk};
 ghost use Rattle.mini_moka.specs.Reply.{bad_line};
 ghost use Rattle.std.specs.List.{AllByRecursion};
 ghost use Rattle.moka_grammar.specs.Lines.{LineFits};
-ghost use Rattle.mini_moka.specs.ScriptRun.{AreCacheReplyLines, EndsSo, IsRunOf};
+ghost use Rattle.mini_moka.specs.ScriptRun.{AreCacheReplyLines, EndsSo, IsRunOf, status_of};
 ghost use Rattle.mini_moka.specs.declared.script.runner.ScriptError.TheVariants as script_error;
 
 use crate::script::recorded::recorded_replies;
@@ -15,7 +15,7 @@ use moka_grammar::parser::{ParseError, parse};
 use moka_grammar::text::Text;
 use moka_streams::streams::{Fault, ReadError, Sink, Source, read_all, write_all};
 use std::alloc::{AllocError, Allocator};
-use thiserror::Error;
+use std::fmt;
 
 /// How a run of a script ends where its streams and memory serve.
 #[derive(Clone, Copy, Debug, PartialEq, Eq)]
@@ -27,17 +27,53 @@ pub enum End {
 }
 
 /// Why a run of a script is broken off.
-#[derive(Clone, Copy, Debug, PartialEq, Eq, Error)]
+#[derive(Clone, Copy, Debug, PartialEq, Eq)]
 pub enum ScriptError {
     /// The source refused to be read. Nothing was written.
-    #[error("read fault")]
     Read,
     /// The sink refused to be written. A beginning of the text was written.
-    #[error("write fault")]
     Write,
     /// Memory was refused. Nothing was written.
-    #[error("out of memory")]
     OutOfMemory,
+}
+
+impl ScriptError {
+    ghost use Rattle.mini_moka.specs.ScriptRun.{script_error_text};
+
+    /// The reason in words, which is what `Display` writes, and the program to standard error.
+    pub fn text(self) -> &'static str
+        ensures { result.now ≡ script_error_text self }
+    {
+        match self {
+            ScriptError::Read => "read fault",
+            ScriptError::Write => "write fault",
+            ScriptError::OutOfMemory => "out of memory",
+        }
+    }
+}
+
+impl fmt::Display for ScriptError {
+    ghost use Rattle.std.specs.Prelude.{Some};
+    ghost use Rattle.mini_moka.specs.ScriptRun.{script_error_text};
+
+    ghost output = { λ error. Some (script_error_text error) };
+
+    fn fmt<W: fmt::Write>(&self, f: &mut fmt::Formatter<W>) -> fmt::Result {
+        f.write_str(self.text())
+    }
+}
+
+impl std::error::Error for ScriptError {}
+
+/// The exit status of a program whose run ends so: 0 where the replies were written, 2 where the input is no script, 1 after a fault.
+pub fn status_of(ended: Result<End, ScriptError>) -> u8
+    ensures { result ≡ status_of ended }
+{
+    match ended {
+        Ok(End::Done) => 0,
+        Ok(End::BadLine(_)) => 2,
+        Err(_) => 1,
+    }
 }
 
 impl From<ReadError> for ScriptError {
