@@ -2,6 +2,7 @@
 mod common;
 mod deque;
 mod engine;
+mod heap;
 mod record;
 mod sketch;
 mod unsync;

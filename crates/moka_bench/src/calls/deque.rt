@@ -65,6 +65,20 @@ fn room_that_is_reserved_takes_pushes(rt: HostRuntime) -> Result<(), Fail> {
     Ok(())
 }
 
+#[test]
+fn a_list_takes_a_hundred_thousand_nodes(rt: HostRuntime) -> Result<(), Fail> {
+    let mut list = Deque::new(rt.alloc(), CacheRegion::Window);
+    for number in 0..100_000u32 {
+        list.push_back(number).map_err(|_| Fail::from("no memory"))?;
+    }
+    assert_eq!(rt; list.len(), 100_000);
+    assert_eq!(rt;
+        (list.peek_front(), list.peek_back()),
+        (Some(&0), Some(&99_999))
+    );
+    Ok(())
+}
+
 // Writes its number down when it is dropped.
 struct Noted<'a> {
     number: u32,
@@ -91,7 +105,15 @@ fn elements_are_dropped_from_front_to_back(rt: HostRuntime) -> Result<(), Fail> 
         };
         list.push_back(noted).map_err(|_| Fail::from("no memory"))?;
     }
+    // 5 takes the place that 3 had in the slab, and 1 goes to the back.
+    drop(list.pop_front());
+    let noted = Noted {
+        number: 5,
+        notes: &notes,
+    };
+    list.push_back(noted).map_err(|_| Fail::from("no memory"))?;
+    list.move_front_to_back();
     drop(list);
-    assert_eq!(rt; notes.into_inner().as_slice(), [3, 1, 4, 2].as_slice());
+    assert_eq!(rt; notes.into_inner().as_slice(), [3, 4, 2, 5, 1].as_slice());
     Ok(())
 }

@@ -18,33 +18,33 @@ fn shared<T: Drop>(alloc: Global, value: T) -> Result<Shared<T>, Fail>
     Ok(Shared::new(alloc, value)?)
 }
 
-/// Whether a core takes an insert of the key 7.
-fn takes(alloc: Global, core: &mut TextCore, value: u32) -> Result<bool, Fail> {
+/// An insert of the key 7.
+fn insert_of_seven(alloc: Global, value: u32) -> Result<Call<u64, u32>, Fail> {
     let now = Instant::from_nanos(0);
     let key = shared(alloc, 7u64)?;
     let value = shared(alloc, value)?;
-    let reply = core.call(Call::Insert { key, value, now });
-    Ok(matches!(reply, Reply::Done))
+    Ok(Call::Insert { key, value, now })
 }
 
-/// What a copied reply to a get has found.
-fn found(alloc: Global, core: &mut TextCore, key: u64) -> Result<Option<u32>, Fail> {
+/// A copy of a get of a key.
+fn get_of(alloc: Global, key: u64) -> Result<Call<u64, u32>, Fail> {
     let now = Instant::from_nanos(0);
     let key = shared(alloc, key)?;
-    let reply = core.call(Call::Get { key, now });
-    match reply.try_clone()? {
-        Reply::Found(Some(value)) => Ok(Some(*value.get())),
-        Reply::Found(None) => Ok(None),
-        _ => Err("what a get replies".into()),
-    }
+    Ok(Call::Get { key, now }.try_clone()?)
 }
 
-/// Whether a core has a key, by a copy of the call.
-fn has(alloc: Global, core: &mut TextCore, key: u64) -> Result<bool, Fail> {
-    let now = Instant::from_nanos(0);
-    let key = shared(alloc, key)?;
-    let call = Call::Contains { key, now }.try_clone()?;
-    Ok(matches!(core.call(call), Reply::Bool(true)))
+/// What a call is answered, in a word and a number; a reply is copied first.
+fn told(core: &mut TextCore, call: Call<u64, u32>) -> Result<(&'static str, u32), Fail> {
+    let reply = core.call(call);
+    Ok(match reply.try_clone()? {
+        Reply::Done => ("done", 0),
+        Reply::Found(Some(value)) => ("found", *value.get()),
+        Reply::Found(None) => ("none", 0),
+        Reply::Bool(true) => ("true", 0),
+        Reply::Bool(false) => ("false", 0),
+        Reply::OutOfMemory => ("out of memory", 0),
+        Reply::TicketsUsedUp => ("tickets used up", 0),
+    })
 }
 
 #[test]
@@ -52,13 +52,25 @@ fn a_core_finds_what_was_inserted_last(rt: HostRuntime) -> Result<(), Fail> {
     let alloc = rt.alloc();
     let mut core: TextCore = Core::new(alloc, FixedState::new())?;
     assert_eq!(rt; (core.is_new(), core.first_ticket()), (true, 0));
-    assert!(rt; takes(alloc, &mut core, 1)?);
-    assert!(rt; takes(alloc, &mut core, 2)?);
+    for value in [1, 2] {
+        assert_eq!(rt;
+            told(&mut core, insert_of_seven(alloc, value)?)?,
+            ("done", 0)
+        );
+    }
     assert!(rt; !core.is_new());
-    assert_eq!(rt; found(alloc, &mut core, 7)?, Some(2));
-    assert_eq!(rt; found(alloc, &mut core, 8)?, None);
-    assert!(rt; has(alloc, &mut core, 7)?);
-    assert!(rt; !has(alloc, &mut core, 8)?);
+    for (key, want) in [(7, ("found", 2)), (8, ("none", 0))] {
+        assert_eq!(rt; told(&mut core, get_of(alloc, key)?)?, want);
+    }
+    Ok(())
+}
+
+#[test]
+fn a_core_has_no_key_that_was_not_inserted(rt: HostRuntime) -> Result<(), Fail> {
+    let mut core: TextCore = Core::new(rt.alloc(), FixedState::new())?;
+    let key = shared(rt.alloc(), 7u64)?;
+    let now = Instant::from_nanos(0);
+    assert_eq!(rt; told(&mut core, Call::Contains { key, now })?, ("false", 0));
     Ok(())
 }
 

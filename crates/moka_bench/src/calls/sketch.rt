@@ -1,4 +1,4 @@
-// What no script can show of the frequency sketch. `sketch_rows` has the rest.
+// What no script can show of the frequency sketch. `scripts/sketch.rt` has the rest.
 use linked_list_allocator::LocalHeap;
 use mini_moka::common::frequency_sketch::{FrequencySketch, sketch_capacity};
 use std::alloc::Allocator;
@@ -39,5 +39,14 @@ fn a_refused_table_leaves_the_counters(rt: HostRuntime) -> Result<(), Fail> {
     sketch.ensure_capacity(32)?;
     assert_eq!(rt; sketch.table_len(), 32);
     assert_eq!(rt; sketch.frequency(0), 0);
+    Ok(())
+}
+
+#[test]
+fn a_table_of_a_million_words_is_made(rt: HostRuntime) -> Result<(), Fail> {
+    let mut sketch = FrequencySketch::default(rt.alloc());
+    sketch.ensure_capacity(1 << 20)?;
+    count(&mut sketch, 7, 3);
+    assert_eq!(rt; (sketch.table_len(), sketch.frequency(7)), (1 << 20, 3));
     Ok(())
 }

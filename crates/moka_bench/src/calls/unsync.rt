@@ -1,7 +1,8 @@
 // The cache for one thread: what no script shows of it.
+use crate::calls::heap::blocks_of;
 use linked_list_allocator::LocalHeap;
 use mini_moka::common::time::Instant;
-use mini_moka::common::{BuildError, InsertError};
+use mini_moka::common::{BuildError, FixedState, InsertError, UnitWeight};
 use mini_moka::unsync::{Cache, CacheBuilder};
 use std::alloc::{Allocator, Global};
 use std::hash::{BuildHasher, Hasher};
@@ -100,13 +101,18 @@ fn a_refused_insert_asks_no_weigher_and_leaves_the_entries(rt: HostRuntime) -> R
     Ok(())
 }
 
-/// Why a cache with these durations is not built, with the default hash state and with one that is handed in.
-fn refusals(alloc: Global, live: Duration, idle: Duration) -> [Option<BuildError>; 2] {
+/// Why a cache with these durations is not built.
+fn refusal(alloc: Global, live: Duration, idle: Duration) -> Option<BuildError> {
     let builder = Cache::builder(alloc).time_to_live(live).time_to_idle(idle);
     let built: Result<Cache<u64, u32>, BuildError> = builder.build();
+    built.err()
+}
+
+/// The same with a hash state that is handed in.
+fn refusal_of_hashed(alloc: Global, live: Duration, idle: Duration) -> Option<BuildError> {
     let builder = Cache::builder(alloc).time_to_live(live).time_to_idle(idle);
-    let hashed: Result<Cache<u64, u32, Zero>, BuildError> = builder.build_with_hasher(Zero);
-    [built.err(), hashed.err()]
+    let built: Result<Cache<u64, u32, Zero>, BuildError> = builder.build_with_hasher(Zero);
+    built.err()
 }
 
 #[test]
@@ -121,9 +127,10 @@ fn a_duration_of_more_than_a_thousand_years_is_refused(rt: HostRuntime) -> Resul
         (longest, longer, Some(idle)),
         (longer, longer, Some(live)),
     ] {
+        assert_eq!(rt; refusal(rt.alloc(), time_to_live, time_to_idle), error);
         assert_eq!(rt;
-            refusals(rt.alloc(), time_to_live, time_to_idle),
-            [error, error]
+            refusal_of_hashed(rt.alloc(), time_to_live, time_to_idle),
+            error
         );
     }
     Ok(())
@@ -229,5 +236,58 @@ fn without_memory_for_a_sketch_the_cache_stays_as_it_is(rt: HostRuntime) -> Resu
     let heap = LocalHeap::new(rt.alloc(), FEW_BYTES)?;
     assert!(rt; enters_often_wanted(rt.alloc())?);
     assert!(rt; !enters_often_wanted(&heap)?);
+    Ok(())
+}
+
+/// How many inserts are taken, of more than there is room for.
+fn taken_by<A: Allocator + Clone + Drop>(
+    cache: &mut Cache<u64, u32, FixedState, UnitWeight, A>,
+) -> u64 {
+    for key in 0..MANY {
+        if cache.insert(key, 1, start()).is_err() {
+            return key;
+        }
+    }
+    MANY
+}
+
+// The rest of the heap is taken, so that there is room for these entries and for no more.
+#[test]
+fn room_from_the_start_is_for_as_many_entries(rt: HostRuntime) -> Result<(), Fail> {
+    let heap = LocalHeap::new(rt.alloc(), 8192)?;
+    let mut cache = Cache::builder(&heap).initial_capacity(20).build()?;
+    let blocks = blocks_of(rt.alloc(), &heap)?;
+    assert_eq!(rt; taken_by(&mut cache), 20);
+    drop(blocks);
+    Ok(())
+}
+
+/// A cache of four places, half of them taken, whose table was refused.
+fn without_table<'a>(
+    alloc: Global,
+    heap: &'a LocalHeap,
+) -> Result<Cache<u64, u32, FixedState, UnitWeight, &'a LocalHeap>, Fail> {
+    let mut cache = CacheBuilder::new(heap, 4).initial_capacity(4).build()?;
+    let blocks = blocks_of(alloc, heap)?;
+    cache.insert(0, 1, start())?;
+    cache.insert(1, 1, start())?;
+    drop(blocks);
+    Ok(cache)
+}
+
+/// Whether such a cache asks for the table again: a key that was got once is then admitted.
+fn asks_again(alloc: Global, heap: &LocalHeap) -> Result<bool, Fail> {
+    let mut cache = without_table(alloc, heap)?;
+    cache.insert(2, 1, start())?;
+    cache.get(&7, start());
+    cache.insert(3, 1, start())?;
+    cache.insert(7, 1, start())?;
+    Ok(cache.contains_key(&7, start()))
+}
+
+#[test]
+fn a_refused_table_is_asked_for_again(rt: HostRuntime) -> Result<(), Fail> {
+    let heap = LocalHeap::new(rt.alloc(), 8192)?;
+    assert!(rt; asks_again(rt.alloc(), &heap)?);
     Ok(())
 }

@@ -1,4 +1,5 @@
 // Invalidations, the iterator, the Debug text and runs of calls of the cache for one thread: what no script shows of them.
+use crate::calls::heap::blocks_of;
 use linked_list_allocator::LocalHeap;
 use mini_moka::common::OutOfMemory;
 use mini_moka::common::time::Instant;
@@ -181,39 +182,37 @@ fn a_run_replies_to_each_call(rt: HostRuntime) -> Result<(), Fail> {
     Ok(())
 }
 
-/// Takes what is left of a heap in small blocks.
-fn blocks_of<'a>(
-    alloc: Global,
-    heap: &'a LocalHeap,
-) -> Result<Vec<Rc<[u64; 8], &'a LocalHeap>>, AllocError> {
-    let mut taken = Vec::new(alloc);
-    for _ in 0..1000 {
-        match Rc::new(heap, [0u64; 8]) {
-            Ok(block) => taken.push(block)?,
-            Err(_) => break,
-        }
-    }
-    Ok(taken)
-}
-
-/// So many calls that empty a cache.
-fn calls_in(heap: &LocalHeap) -> Result<Vec<Call<u64, u32, &LocalHeap>, &LocalHeap>, AllocError> {
-    let mut calls = Vec::with_capacity(heap, 40)?;
-    for _ in 0..40 {
-        calls.push(Call::InvalidateAll)?;
-    }
-    Ok(calls)
-}
-
 #[test]
 fn a_run_without_room_for_its_replies_makes_no_call(rt: HostRuntime) -> Result<(), Fail> {
     let heap = LocalHeap::new(rt.alloc(), 4096)?;
     let mut cache: Cache<u64, Rc<u32, _>, _, _, _> = Cache::new(&heap, 10)?;
     cache.insert(0, Rc::new(&heap, 10)?, start())?;
-    let calls = calls_in(&heap)?;
+    let calls = vec![in &heap;
+        Call::EntryCount,
+        Call::EntryCount,
+        Call::EntryCount,
+        Call::EntryCount,
+        Call::EntryCount,
+        Call::EntryCount,
+        Call::EntryCount,
+        Call::EntryCount,
+    ]?;
     let taken = blocks_of(rt.alloc(), &heap)?;
     assert_eq!(rt; run(&heap, &mut cache, calls).err(), Some(OutOfMemory));
     assert_eq!(rt; cache.entry_count(), 1);
     drop(taken);
+    Ok(())
+}
+
+#[test]
+fn a_run_makes_two_thousand_calls(rt: HostRuntime) -> Result<(), Fail> {
+    let mut cache: Cache<u64, Rc<u32>> = Cache::new(rt.alloc(), 10)?;
+    let mut calls = Vec::new(rt.alloc());
+    for key in 0..2000 {
+        calls.push(Call::Get { key, now: start() })?;
+    }
+    let replies = run(rt.alloc(), &mut cache, calls)?;
+    assert_eq!(rt; replies.len(), 2000);
+    assert_eq!(rt; replies.last().map(told), Some(("none", 0)));
     Ok(())
 }

@@ -1,6 +1,6 @@
 // A stream that refuses its first call, its second, and so on, until nothing is refused.
 use mini_moka::script::{
-    End, Fault, FromRead, FromWrite, ReadError, ScriptError, read_all, run, write_all,
+    End, Fault, FromRead, FromWrite, ReadError, ScriptError, read_all, run, status_of, write_all,
 };
 use std::alloc::Global;
 use std::io;
@@ -163,7 +163,34 @@ fn faults_have_their_texts(rt: HostRuntime) -> Result<(), Fail> {
         (ScriptError::Write, "write fault"),
         (ScriptError::OutOfMemory, "out of memory"),
     ] {
+        assert_eq!(rt; error.text(), text);
         assert_eq!(rt; error.to_string(rt.alloc())?.as_str(), text);
     }
     Ok(())
+}
+
+#[test]
+fn errors_of_streams_have_their_texts(rt: HostRuntime) -> Result<(), Fail> {
+    let fault = Fault.to_string(rt.alloc())?;
+    assert_eq!(rt; fault.as_str(), "the stream refused a call");
+    for (error, text) in [
+        (ReadError::Read, "the source refused to be read"),
+        (ReadError::OutOfMemory, "out of memory"),
+    ] {
+        assert_eq!(rt; error.to_string(rt.alloc())?.as_str(), text);
+    }
+    Ok(())
+}
+
+#[test]
+fn a_run_has_its_status(rt: HostRuntime) {
+    for (ended, status) in [
+        (Ok(End::Done), 0),
+        (Ok(End::BadLine(1)), 2),
+        (Err(ScriptError::Read), 1),
+        (Err(ScriptError::Write), 1),
+        (Err(ScriptError::OutOfMemory), 1),
+    ] {
+        assert_eq!(rt; status_of(ended), status, "of {ended:?}");
+    }
 }

@@ -124,6 +124,16 @@ const LINES_OF_ANOTHER_MODE: [(&str, Option<u64>); 9] = [
     ("sketch 1\nlen\nfreq 0\n0 has 0\nx\n", Some(4)),
 ];
 
+// Behind a first line whose cache is refused the lines are read as well.
+const CACHE_LINES: [(&str, Option<u64>); 6] = [
+    ("unsync\n0 get\n", Some(2)),
+    ("unsync max 3\n0 insert 0 a\nx\n", Some(3)),
+    ("unsync weighed\n0 insert 0 a\n", Some(2)),
+    ("unsync live 31536000001s\n0 get\n", Some(2)),
+    ("unsync live 31536000001s\n0 get 0\n", None),
+    ("unsync live 31536000001s\n0 get 0", Some(2)),
+];
+
 /// Runs each script, and names the one whose first bad line is another.
 fn check_edges(rt: &impl Abort, alloc: Global, edges: &[(&str, Option<u64>)]) -> Result<(), Fail> {
     for (script, bad) in edges {
@@ -153,6 +163,11 @@ fn a_bad_header_of_a_sketch_is_named(rt: HostRuntime) -> Result<(), Fail> {
 #[test]
 fn a_bad_line_of_a_sketch_is_named(rt: HostRuntime) -> Result<(), Fail> {
     check_edges(&rt, rt.alloc(), &SKETCH_LINES)
+}
+
+#[test]
+fn a_bad_line_behind_a_cache_or_its_refusal_is_named(rt: HostRuntime) -> Result<(), Fail> {
+    check_edges(&rt, rt.alloc(), &CACHE_LINES)
 }
 
 #[test]
@@ -207,6 +222,14 @@ fn a_bad_line_is_an_error_of_the_parser(rt: HostRuntime) {
         Ok(_) => assert!(rt; false, "it has no key"),
         Err(error) => assert_eq!(rt; error, ParseError::BadLine(2)),
     }
+}
+
+#[test]
+fn errors_of_the_parser_have_their_texts(rt: HostRuntime) -> Result<(), Fail> {
+    let (bad, memory) = (ParseError::BadLine(7), ParseError::OutOfMemory);
+    assert_eq!(rt; bad.to_string(rt.alloc())?.as_str(), "bad line 7");
+    assert_eq!(rt; memory.to_string(rt.alloc())?.as_str(), "out of memory");
+    Ok(())
 }
 
 #[test]

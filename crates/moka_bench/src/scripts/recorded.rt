@@ -3,7 +3,7 @@ use crate::scripts::table::{Row, check_rows, check_script};
 use std::fmt::Write;
 use std::test::Fail;
 
-const ROWS: [Row; 4] = [
+const ROWS: [Row; 5] = [
     Row {
         name: "a key that was inserted, and one that wasn't",
         lines: "
@@ -32,6 +32,15 @@ const ROWS: [Row; 4] = [
             0 insert 3 b -> ok
             18446744073709551615 has 3 -> true
             1 get 3 -> some b
+        ",
+    },
+    Row {
+        name: "the last moment and the last hash are as any other",
+        lines: "
+            recorded -> ready
+            18446744073709551615 insert 18446744073709551615 a -> ok
+            18446744073709551615 get 18446744073709551615 -> some a
+            18446744073709551615 has 18446744073709551615 -> true
         ",
     },
     Row {
@@ -66,4 +75,30 @@ fn a_hundred_keys_are_read_back_as_last_inserted(rt: HostRuntime) -> Result<(), 
     writeln!(script, "2 get 100")?;
     writeln!(replies, "none")?;
     check_script(&rt, rt.alloc(), "a hundred keys", &script, &replies)
+}
+
+// All keys are of one shard.
+#[test]
+fn five_thousand_keys_of_a_shard_are_kept(rt: HostRuntime) -> Result<(), Fail> {
+    let mut script = String::from_str(rt.alloc(), "recorded\n")?;
+    let mut replies = String::from_str(rt.alloc(), "ready\n")?;
+    for number in 0..5000u64 {
+        writeln!(script, "0 insert {} v{number}", number.wrapping_mul(16))?;
+        writeln!(replies, "ok")?;
+    }
+    writeln!(script, "0 get 0\n0 get 79984")?;
+    writeln!(replies, "some v0\nsome v4999")?;
+    check_script(&rt, rt.alloc(), "five thousand keys", &script, &replies)
+}
+
+// Each line has eight bytes, so that the script has more than two mebibytes.
+#[test]
+fn a_script_of_two_mebibytes_is_answered(rt: HostRuntime) -> Result<(), Fail> {
+    let mut script = String::from_str(rt.alloc(), "recorded\n")?;
+    let mut replies = String::from_str(rt.alloc(), "ready\n")?;
+    for _ in 0..262144u32 {
+        script.push_str("0 get 0\n")?;
+        replies.push_str("none\n")?;
+    }
+    check_script(&rt, rt.alloc(), "two mebibytes", &script, &replies)
 }

@@ -4,7 +4,41 @@ use linked_list_allocator::LocalHeap;
 use mini_moka::script::ScriptError;
 use std::test::Fail;
 
-const ROWS: [Row; 9] = [
+const ROWS: [Row; 11] = [
+    Row {
+        name: "an aging whose odd counters outnumber half of the sample leaves a size of nothing",
+        lines: "
+            sketch 3 -> ready
+            inc 0 1 -> ok
+            inc 4 1 -> ok
+            inc 448 1 -> ok
+            inc 1452 1 -> ok
+            inc 1 1 -> ok
+            inc 5 1 -> ok
+            inc 101 1 -> ok
+            inc 981 1 -> ok
+            inc 2 1 -> ok
+            inc 6 1 -> ok
+            inc 58 1 -> ok
+            inc 830 1 -> ok
+            inc 3 1 -> ok
+            inc 7 1 -> ok
+            inc 247 1 -> ok
+            inc 815 1 -> ok
+            inc 0 14 -> ok
+            freq 0 -> 7
+            freq 1 -> 0
+        ",
+    },
+    Row {
+        name: "a longer table forgets what was counted",
+        lines: "
+            sketch 3 -> ready
+            inc 0 2 -> ok
+            ensure 5 -> ok
+            freq 0 -> 0
+        ",
+    },
     Row {
         name: "the least table ages at ten counts",
         lines: "

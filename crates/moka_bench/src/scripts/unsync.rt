@@ -416,6 +416,190 @@ const SETTINGS: [Row; 7] = [
     },
 ];
 
+// Where the original answers otherwise, and where a body may be wrong at a boundary.
+const CORRECTED: [Row; 4] = [
+    Row {
+        name: "an invalidated entry is counted no more",
+        lines: "
+            unsync max 10 -> ready
+            0 insert 0 a -> ok
+            0 insert 1 b -> ok
+            0 invalidate 0 -> ok
+            0 count -> 1
+            0 weight -> 1
+        ",
+    },
+    Row {
+        name: "what leaves is taken off the weight",
+        lines: "
+            unsync live 10ns weighed -> ready
+            0 insert 0 a 5 -> ok
+            0 insert 1 b 7 -> ok
+            0 drop-if a -> ok
+            0 weight -> 7
+            10 has 1 -> false
+            10 weight -> 0
+        ",
+    },
+    Row {
+        name: "weights are summed exactly",
+        lines: "
+            unsync weighed -> ready
+            0 insert 0 a 4294967295 -> ok
+            0 insert 1 b 4294967295 -> ok
+            0 weight -> 8589934590
+        ",
+    },
+    Row {
+        name: "the last moment is one as any other",
+        lines: "
+            unsync live 10ns idle 10ns -> ready
+            18446744073709551615 insert 0 a -> ok
+            18446744073709551615 get 0 -> some a
+            18446744073709551615 iter -> 0=a
+            18446744073709551615 insert 18446744073709551615 b -> ok
+            18446744073709551615 get 18446744073709551615 -> some b
+        ",
+    },
+];
+
+// A table is there where a get of an absent key is counted, so that the key is admitted in place of another.
+const ENABLING: [Row; 11] = [
+    Row {
+        name: "from half of two on",
+        lines: "
+            unsync max 2 -> ready
+            0 insert 0 a -> ok
+            0 get 7 -> none
+            0 insert 1 b -> ok
+            0 insert 7 c -> ok
+            0 has 7 -> true
+        ",
+    },
+    Row {
+        name: "from half of four on",
+        lines: "
+            unsync max 4 -> ready
+            0 insert 0 a -> ok
+            0 insert 1 a -> ok
+            0 get 7 -> none
+            0 insert 2 c -> ok
+            0 insert 3 d -> ok
+            0 insert 7 c -> ok
+            0 has 7 -> true
+        ",
+    },
+    Row {
+        name: "not below half of four",
+        lines: "
+            unsync max 4 -> ready
+            0 insert 0 a -> ok
+            0 get 7 -> none
+            0 insert 1 a -> ok
+            0 insert 2 c -> ok
+            0 insert 3 d -> ok
+            0 insert 7 c -> ok
+            0 has 7 -> false
+        ",
+    },
+    Row {
+        name: "from half of five, rounded down, on",
+        lines: "
+            unsync max 5 -> ready
+            0 insert 0 a -> ok
+            0 insert 1 b -> ok
+            0 get 7 -> none
+            0 insert 2 c -> ok
+            0 insert 3 d -> ok
+            0 insert 4 e -> ok
+            0 insert 7 f -> ok
+            0 has 7 -> true
+        ",
+    },
+    Row {
+        name: "from half of a weight on",
+        lines: "
+            unsync max 10 weighed -> ready
+            0 insert 0 a 5 -> ok
+            0 get 7 -> none
+            0 insert 1 b 5 -> ok
+            0 insert 7 c 5 -> ok
+            0 has 7 -> true
+        ",
+    },
+    Row {
+        name: "not below half of a weight",
+        lines: "
+            unsync max 10 weighed -> ready
+            0 insert 0 a 4 -> ok
+            0 get 7 -> none
+            0 insert 1 b 6 -> ok
+            0 insert 7 c 4 -> ok
+            0 has 7 -> false
+        ",
+    },
+    Row {
+        name: "with a time to live",
+        lines: "
+            unsync max 4 live 100s -> ready
+            0 insert 0 a -> ok
+            0 insert 1 b -> ok
+            0 get 7 -> none
+            0 insert 2 c -> ok
+            0 insert 3 d -> ok
+            0 insert 7 e -> ok
+            0 has 7 -> true
+        ",
+    },
+    Row {
+        name: "with a time to idle",
+        lines: "
+            unsync max 4 idle 100s -> ready
+            0 insert 0 a -> ok
+            0 insert 1 b -> ok
+            0 get 7 -> none
+            0 insert 2 c -> ok
+            0 insert 3 d -> ok
+            0 insert 7 e -> ok
+            0 has 7 -> true
+        ",
+    },
+    Row {
+        name: "with a time to live and a weigher",
+        lines: "
+            unsync max 10 live 100s weighed -> ready
+            0 insert 0 a 5 -> ok
+            0 get 7 -> none
+            0 insert 1 b 5 -> ok
+            0 insert 7 c 5 -> ok
+            0 has 7 -> true
+        ",
+    },
+    Row {
+        name: "for a large limit",
+        lines: "
+            unsync max 100000 weighed -> ready
+            0 insert 0 a 50000 -> ok
+            0 get 7 -> none
+            0 insert 1 b 50000 -> ok
+            0 insert 7 c 50000 -> ok
+            0 has 7 -> true
+        ",
+    },
+    Row {
+        name: "not at an update",
+        lines: "
+            unsync max 10 weighed -> ready
+            0 insert 0 a 4 -> ok
+            0 insert 0 a 6 -> ok
+            0 get 7 -> none
+            0 insert 1 b 4 -> ok
+            0 insert 7 c 6 -> ok
+            0 has 7 -> false
+        ",
+    },
+];
+
 #[test]
 fn cache_rows_have_their_replies(rt: HostRuntime) -> Result<(), Fail> {
     check_rows(&rt, rt.alloc(), &PLAIN)
@@ -434,6 +618,16 @@ fn weighed_rows_have_their_replies(rt: HostRuntime) -> Result<(), Fail> {
 #[test]
 fn settings_are_refused_or_read_back(rt: HostRuntime) -> Result<(), Fail> {
     check_rows(&rt, rt.alloc(), &SETTINGS)
+}
+
+#[test]
+fn faults_of_the_original_are_corrected(rt: HostRuntime) -> Result<(), Fail> {
+    check_rows(&rt, rt.alloc(), &CORRECTED)
+}
+
+#[test]
+fn a_table_is_asked_for_from_half_of_the_limit_on(rt: HostRuntime) -> Result<(), Fail> {
+    check_rows(&rt, rt.alloc(), &ENABLING)
 }
 
 /// A script that begins with many inserts: its header, how many keys are inserted from 0 on at the moment 0, what stands behind each key, and the

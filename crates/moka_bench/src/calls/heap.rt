@@ -1,0 +1,19 @@
+// A heap that is filled.
+use linked_list_allocator::LocalHeap;
+use std::alloc::{AllocError, Global};
+use std::rc::Rc;
+
+/// Takes what is left of a heap in small blocks.
+pub fn blocks_of<'a>(
+    alloc: Global,
+    heap: &'a LocalHeap,
+) -> Result<Vec<Rc<[u64; 8], &'a LocalHeap>>, AllocError> {
+    let mut taken = Vec::new(alloc);
+    for _ in 0..1000 {
+        match Rc::new(heap, [0u64; 8]) {
+            Ok(block) => taken.push(block)?,
+            Err(_) => break,
+        }
+    }
+    Ok(taken)
+}
