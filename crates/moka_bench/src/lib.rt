@@ -1,11 +1,11 @@
-//! The tests of the caches: scripts with their replies, and the calls that no script makes.
+//! The tests of scripts with their replies, and of what `mini_moka` alone has.
 #![tactic(auto)]
 
 pub mod calling;
 #[cfg(test)]
-mod calls;
-#[cfg(test)]
 mod faults;
+#[cfg(test)]
+mod record;
 #[cfg(test)]
 mod scripts;
 pub mod uses;

@@ -2,7 +2,7 @@
 ghost use Rattle.std.specs.Prelude.{◌≡◌, ◌<◌, ◌-◌, ◌^◌, Bool, List, false, length, min, None, Some, option_copied, IfErr, IfOk, OnErr, OnOk};
 ghost use Rattle.std.specs.Borrow.{sem};
 ghost use Rattle.moka_base.specs.Keys.{keys_by};
-ghost use Rattle.moka_sketch.specs.Enabling.{expected_entries};
+ghost use Rattle.moka_sketch.specs.Enabling.{enables_sketch, expected_entries};
 ghost use Rattle.moka_unsync.specs.Builder.{new_builder};
 ghost use Rattle.moka_machine.specs.CacheState.{new_cache};
 ghost use Rattle.moka_machine.specs.Contents.{total_weight, weighted_size};
@@ -286,12 +286,24 @@ impl<
         let Some(limit) = self.policy.max_capacity() else {
             return;
         };
-        if self.sketch.table_len() > 0 || self.store.weight() < u128::from(limit / 2) {
-            return;
+        if self.enables_sketch() {
+            let cap = sketch_capacity(self.expected_entries(limit));
+            // Without memory for it the sketch stays off, and is asked for again at the next new entry.
+            let _ = self.sketch.ensure_capacity(cap);
         }
-        let cap = sketch_capacity(self.expected_entries(limit));
-        // Without memory for it the sketch stays off, and is asked for again at the next new entry.
-        let _ = self.sketch.ensure_capacity(cap);
+    }
+
+    /// Whether the cache asks for a table: it has a limit, no table yet, and at least half of the limit, rounded down.
+    fn enables_sketch(&self) -> bool
+        ensures { result ≡ enables_sketch self.now.settings.policy.max_capacity self.now.sketch
+            (total_weight self.now.contents.entries) }
+    {
+        match self.policy.max_capacity() {
+            Some(limit) => {
+                self.sketch.table_len() == 0 && self.store.weight() >= u128::from(limit / 2)
+            }
+            None => false,
+        }
     }
 
     /// How many entries there is room for at the present mean weight, as far as 64 bits tell.

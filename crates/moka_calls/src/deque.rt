@@ -1,5 +1,5 @@
 // What no clause says: the order of drops, and that calls succeed where there is memory. The orders of steps are worked by hand.
-use mini_moka::common::deque::{CacheRegion, Deque, NodeId};
+use moka_common::deque::{CacheRegion, Deque, NodeId};
 use std::alloc::Global;
 use std::cell::RefCell;
 use std::process::Abort;

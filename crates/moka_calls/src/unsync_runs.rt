@@ -1,9 +1,10 @@
 // Invalidations, the iterator, the Debug text and runs of calls of the cache for one thread: what no script shows of them.
-use crate::calls::heap::blocks_of;
+use crate::heap::blocks_of;
 use linked_list_allocator::LocalHeap;
-use mini_moka::common::OutOfMemory;
-use mini_moka::common::time::Instant;
-use mini_moka::unsync::{Cache, Call, Reply, run};
+use moka_common::error::OutOfMemory;
+use moka_common::time::Instant;
+use moka_unsync::cache::Cache;
+use moka_unsync::runs::{Call, Reply, run};
 use std::alloc::{AllocError, Allocator, Global};
 use std::rc::Rc;
 use std::test::Fail;
@@ -47,14 +48,20 @@ fn pairs_of(alloc: Global, cache: &Cache<u64, u32>) -> Result<Vec<(u64, u32)>, A
     Ok(pairs)
 }
 
-#[test]
-fn the_iterator_goes_from_the_least_recently_used_on(rt: HostRuntime) -> Result<(), Fail> {
-    let mut cache: Cache<u64, u32> = Cache::new(rt.alloc(), 10)?;
+/// Four keys, of which 1 is asked for and 0 written again.
+fn used_in_turn(alloc: Global) -> Result<Cache<u64, u32>, Fail> {
+    let mut cache: Cache<u64, u32> = Cache::new(alloc, 10)?;
     for key in 0..4 {
         cache.insert(key, 10, start())?;
     }
-    assert_eq!(rt; cache.get(&1, start()), Some(&10));
+    let _ = cache.get(&1, start());
     cache.insert(0, 11, start())?;
+    Ok(cache)
+}
+
+#[test]
+fn the_iterator_goes_from_the_least_recently_used_on(rt: HostRuntime) -> Result<(), Fail> {
+    let cache = used_in_turn(rt.alloc())?;
     let pairs = pairs_of(rt.alloc(), &cache)?;
     assert_eq!(rt;
         pairs.as_slice(),
@@ -182,21 +189,24 @@ fn a_run_replies_to_each_call(rt: HostRuntime) -> Result<(), Fail> {
     Ok(())
 }
 
+/// Calls that ask for the number of entries.
+fn counts<'a>(
+    heap: &'a LocalHeap,
+    number: u64,
+) -> Result<Vec<Call<u64, u32, &'a LocalHeap>, &'a LocalHeap>, AllocError> {
+    let mut calls = Vec::new(heap);
+    for _ in 0..number {
+        calls.push(Call::EntryCount)?;
+    }
+    Ok(calls)
+}
+
 #[test]
 fn a_run_without_room_for_its_replies_makes_no_call(rt: HostRuntime) -> Result<(), Fail> {
     let heap = LocalHeap::new(rt.alloc(), 4096)?;
     let mut cache: Cache<u64, Rc<u32, _>, _, _, _> = Cache::new(&heap, 10)?;
     cache.insert(0, Rc::new(&heap, 10)?, start())?;
-    let calls = vec![in &heap;
-        Call::EntryCount,
-        Call::EntryCount,
-        Call::EntryCount,
-        Call::EntryCount,
-        Call::EntryCount,
-        Call::EntryCount,
-        Call::EntryCount,
-        Call::EntryCount,
-    ]?;
+    let calls = counts(&heap, 8)?;
     let taken = blocks_of(rt.alloc(), &heap)?;
     assert_eq!(rt; run(&heap, &mut cache, calls).err(), Some(OutOfMemory));
     assert_eq!(rt; cache.entry_count(), 1);

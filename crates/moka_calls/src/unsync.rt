@@ -1,11 +1,16 @@
 // The cache for one thread: what no script shows of it.
-use crate::calls::heap::blocks_of;
+use crate::heap::blocks_of;
 use linked_list_allocator::LocalHeap;
-use mini_moka::common::time::Instant;
-use mini_moka::common::{BuildError, FixedState, InsertError, UnitWeight};
-use mini_moka::unsync::{Cache, CacheBuilder};
+use moka_common::error::{BuildError, InsertError};
+use moka_common::hash::FixedState;
+use moka_common::policy::Policy;
+use moka_common::time::Instant;
+use moka_common::weigh::UnitWeight;
+use moka_unsync::builder::CacheBuilder;
+use moka_unsync::cache::Cache;
 use std::alloc::{Allocator, Global};
 use std::hash::{BuildHasher, Hasher};
+use std::process::Abort;
 use std::test::Fail;
 use std::time::Duration;
 
@@ -143,16 +148,27 @@ fn room_from_the_start_is_refused_where_memory_is(rt: HostRuntime) -> Result<(),
         let built: Result<Cache<u64, u32, _, _, _>, BuildError> = Cache::builder(&heap)
             .initial_capacity(room)
             .build();
-        assert_eq!(rt; built.err(), error, "for {room}");
+        assert_eq!(rt; built.err(), error);
         let built: Result<Cache<u64, u32, _, _, _>, BuildError> = Cache::builder(&heap)
             .initial_capacity(room)
             .build_with_hasher(Zero);
-        assert_eq!(rt; built.err(), error, "for {room}");
+        assert_eq!(rt; built.err(), error);
     }
-    // Without room it takes no memory, so that it is built on any heap.
+    Ok(())
+}
+
+// So it is built on any heap.
+#[test]
+fn without_room_from_the_start_no_memory_is_taken(rt: HostRuntime) -> Result<(), Fail> {
+    let heap = LocalHeap::new(rt.alloc(), 4096)?;
     let cache: Cache<u64, u32, _, _, _> = Cache::new(&heap, 3)?;
     assert_eq!(rt; heap.used(), 0);
     assert_eq!(rt; cache.policy().max_capacity(), Some(3));
+    Ok(())
+}
+
+#[test]
+fn want_of_memory_has_its_texts(rt: HostRuntime) -> Result<(), Fail> {
     let errors = (BuildError::OutOfMemory, InsertError::OutOfMemory);
     assert_eq!(rt; errors.0.to_string(rt.alloc())?.as_str(), "out of memory");
     assert_eq!(rt; errors.1.to_string(rt.alloc())?.as_str(), "out of memory");
@@ -197,6 +213,21 @@ fn keys_of_one_hash_are_told_apart(rt: HostRuntime) -> Result<(), Fail> {
     Ok(())
 }
 
+fn assert_empty(rt: &impl Abort, cache: &Cache<u64, u32>) {
+    assert_eq!(rt; cache.entry_count(), 0);
+    assert_eq!(rt; cache.weighted_size(), 0);
+}
+
+fn assert_set(
+    rt: &impl Abort,
+    policy: Policy,
+    limit: Option<u64>,
+    durations: [Option<Duration>; 2],
+) {
+    assert_eq!(rt; policy.max_capacity(), limit);
+    assert_eq!(rt; [policy.time_to_live(), policy.time_to_idle()], durations);
+}
+
 #[test]
 fn what_was_set_is_read_back(rt: HostRuntime) -> Result<(), Fail> {
     let live = Duration::from_secs(2700);
@@ -206,17 +237,16 @@ fn what_was_set_is_read_back(rt: HostRuntime) -> Result<(), Fail> {
         .time_to_live(live)
         .time_to_idle(idle)
         .build()?;
-    assert_eq!(rt; set.policy().max_capacity(), Some(100));
-    assert_eq!(rt; set.policy().time_to_live(), Some(live));
-    assert_eq!(rt; set.policy().time_to_idle(), Some(idle));
-    assert_eq!(rt; set.entry_count(), 0);
-    assert_eq!(rt; set.weighted_size(), 0);
+    assert_empty(&rt, &set);
+    assert_set(&rt, set.policy(), Some(100), [Some(live), Some(idle)]);
+    Ok(())
+}
+
+#[test]
+fn what_was_not_set_is_none(rt: HostRuntime) -> Result<(), Fail> {
     let unset: Cache<u64, u32> = Cache::builder(rt.alloc()).build()?;
-    assert_eq!(rt; unset.policy().max_capacity(), None);
-    assert_eq!(rt; unset.policy().time_to_live(), None);
-    assert_eq!(rt; unset.policy().time_to_idle(), None);
-    assert_eq!(rt; unset.entry_count(), 0);
-    assert_eq!(rt; unset.weighted_size(), 0);
+    assert_empty(&rt, &unset);
+    assert_set(&rt, unset.policy(), None, [None, None]);
     Ok(())
 }
 

@@ -1,6 +1,6 @@
 // What no script can show of the frequency sketch. `scripts/sketch.rt` has the rest.
 use linked_list_allocator::LocalHeap;
-use mini_moka::common::frequency_sketch::{FrequencySketch, sketch_capacity};
+use moka_common::frequency_sketch::{FrequencySketch, sketch_capacity};
 use std::alloc::Allocator;
 use std::test::Fail;
 

@@ -1,7 +1,9 @@
 // Moments, settings and weighers, called as a caller of the library does.
-use mini_moka::common::settings::duration_fault;
-use mini_moka::common::time::{Instant, idle_expired, live_expired};
-use mini_moka::common::{BuildError, Policy, UnitWeight, Weigh};
+use moka_common::error::BuildError;
+use moka_common::policy::Policy;
+use moka_common::settings::duration_fault;
+use moka_common::time::{Instant, idle_expired, live_expired};
+use moka_common::weigh::{UnitWeight, Weigh};
 use std::test::Fail;
 use std::time::Duration;
 

@@ -1,0 +1,17 @@
+//! The tests of the calls that no script makes.
+#![tactic(auto)]
+
+#[cfg(test)]
+mod common;
+#[cfg(test)]
+mod deque;
+#[cfg(test)]
+mod engine;
+#[cfg(test)]
+mod heap;
+#[cfg(test)]
+mod sketch;
+#[cfg(test)]
+mod unsync;
+#[cfg(test)]
+mod unsync_runs;
