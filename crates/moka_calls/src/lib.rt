@@ -8,6 +8,8 @@ mod deque;
 #[cfg(test)]
 mod engine;
 #[cfg(test)]
+mod hashers;
+#[cfg(test)]
 mod heap;
 #[cfg(test)]
 mod sketch;
@@ -15,3 +17,5 @@ mod sketch;
 mod unsync;
 #[cfg(test)]
 mod unsync_runs;
+#[cfg(test)]
+mod unsync_sizes;

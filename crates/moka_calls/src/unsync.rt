@@ -1,4 +1,5 @@
 // The cache for one thread: what no script shows of it.
+use crate::hashers::Zero;
 use crate::heap::blocks_of;
 use linked_list_allocator::LocalHeap;
 use moka_common::error::{BuildError, InsertError};
@@ -9,7 +10,7 @@ use moka_common::weigh::UnitWeight;
 use moka_unsync::builder::CacheBuilder;
 use moka_unsync::cache::Cache;
 use std::alloc::{Allocator, Global};
-use std::hash::{BuildHasher, Hasher};
+use std::hash::BuildHasher;
 use std::process::Abort;
 use std::test::Fail;
 use std::time::Duration;
@@ -19,32 +20,6 @@ const MANY: u64 = 1000;
 
 /// A heap of so many bytes has room for some entries, and for no table of a sketch.
 const FEW_BYTES: usize = 700;
-
-/// Each key has the hash 0.
-#[derive(Clone, Copy)]
-struct Zero;
-
-impl Hasher for Zero {
-    ghost write = { λ hasher _. hasher };
-
-    ghost finish = { λ _. 0 };
-
-    fn finish(&self) -> u64 {
-        0
-    }
-
-    fn write(&mut self, _bytes: &[u8]) {}
-}
-
-impl BuildHasher for Zero {
-    type Hasher = Zero;
-
-    ghost build_hasher = { λ state. state };
-
-    fn build_hasher(&self) -> Zero {
-        *self
-    }
-}
 
 fn start() -> Instant {
     Instant::from_nanos(0)
@@ -88,17 +63,17 @@ fn a_refused_insert_asks_no_weigher_and_leaves_the_entries(rt: HostRuntime) -> R
         }
         accepted = key + 1;
     }
-    assert!(rt; 0 < accepted && accepted < MANY, "{accepted} are accepted");
+    assert!(rt; 0 < accepted && accepted < MANY);
     let expired = Instant::from_nanos(10);
     // A new key, and an update of an old one. Neither removes what is expired.
     for key in [accepted, 0] {
         let refused = cache.insert(key, 9, expired);
-        assert_eq!(rt; refused, Err(InsertError::OutOfMemory), "at {key}");
-        assert_eq!(rt; cache.entry_count(), accepted, "at {key}");
-        assert_eq!(rt; cache.weighted_size(), accepted.wrapping_mul(2), "at {key}");
+        assert_eq!(rt; refused, Err(InsertError::OutOfMemory));
+        assert_eq!(rt; cache.entry_count(), accepted);
+        assert_eq!(rt; cache.weighted_size(), accepted.wrapping_mul(2));
     }
     for key in 0..accepted {
-        assert_eq!(rt; cache.get(&key, start()), Some(&2), "at {key}");
+        assert_eq!(rt; cache.get(&key, start()), Some(&2));
     }
     assert!(rt; !cache.contains_key(&accepted, start()));
     drop(cache);
@@ -175,20 +150,35 @@ fn want_of_memory_has_its_texts(rt: HostRuntime) -> Result<(), Fail> {
     Ok(())
 }
 
+/// What stands at a key once a value was inserted there.
+fn stored<S: BuildHasher + Drop>(
+    cache: &mut Cache<u64, u32, S>,
+    value: u32,
+) -> Result<Option<u32>, InsertError> {
+    cache.insert(7, value, start())?;
+    Ok(cache.get(&7, start()).copied())
+}
+
 #[test]
-fn a_cache_is_built_and_takes_entries_where_there_is_memory(rt: HostRuntime) -> Result<(), Fail> {
+fn a_cache_takes_entries_where_there_is_memory(rt: HostRuntime) -> Result<(), Fail> {
     let mut limited: Cache<u64, u32> = Cache::new(rt.alloc(), 1)?;
     assert_eq!(rt; limited.policy().max_capacity(), Some(1));
-    assert_eq!(rt; limited.insert(7, 1, start()), Ok(()));
-    assert_eq!(rt; limited.get(&7, start()), Some(&1));
+    assert_eq!(rt; stored(&mut limited, 1), Ok(Some(1)));
+    Ok(())
+}
+
+#[test]
+fn a_cache_is_built_where_there_is_memory(rt: HostRuntime) -> Result<(), Fail> {
     let mut built: Cache<u64, u32> = CacheBuilder::new(rt.alloc(), 1).build()?;
-    assert_eq!(rt; built.insert(7, 2, start()), Ok(()));
-    assert_eq!(rt; built.get(&7, start()), Some(&2));
-    let mut hashed: Cache<u64, u32, Zero> = CacheBuilder::default(rt.alloc()).build_with_hasher(
-        Zero,
-    )?;
-    assert_eq!(rt; hashed.insert(7, 3, start()), Ok(()));
-    assert_eq!(rt; hashed.get(&7, start()), Some(&3));
+    assert_eq!(rt; stored(&mut built, 2), Ok(Some(2)));
+    Ok(())
+}
+
+#[test]
+fn a_cache_is_built_with_a_hasher_where_there_is_memory(rt: HostRuntime) -> Result<(), Fail> {
+    let builder = CacheBuilder::default(rt.alloc());
+    let mut hashed: Cache<u64, u32, Zero> = builder.build_with_hasher(Zero)?;
+    assert_eq!(rt; stored(&mut hashed, 3), Ok(Some(3)));
     Ok(())
 }
 

@@ -14,11 +14,9 @@ fn start() -> Instant {
     Instant::from_nanos(0)
 }
 
-/// The texts of a cache of texts that live for 10 ns, without entries and after each of two inserts, joined.
+/// The texts of a cache of texts, without entries and after each of two inserts, joined.
 fn debug_texts(alloc: Global) -> Result<String, Fail> {
-    let mut cache: Cache<u64, &str> = Cache::builder(alloc)
-        .time_to_live(Duration::from_nanos(10))
-        .build()?;
+    let mut cache: Cache<u64, &str> = Cache::new(alloc, 10)?;
     let mut texts = debug_text(alloc, &cache)?;
     for (key, value) in [(0, "a"), (1, "b")] {
         cache.insert(key, value, start())?;
@@ -164,11 +162,15 @@ fn calls_of_each_kind(alloc: Global) -> Result<Vec<Call<u64, u32>>, Fail> {
     Ok(calls)
 }
 
+fn replies_of_each_kind(alloc: Global) -> Result<Vec<Reply<u32>>, Fail> {
+    let mut cache: Cache<u64, Rc<u32>> = Cache::new(alloc, 10)?;
+    let calls = calls_of_each_kind(alloc)?;
+    Ok(run(alloc, &mut cache, calls)?)
+}
+
 #[test]
 fn a_run_replies_to_each_call(rt: HostRuntime) -> Result<(), Fail> {
-    let alloc = rt.alloc();
-    let mut cache: Cache<u64, Rc<u32>> = Cache::new(alloc, 10)?;
-    let replies = run(alloc, &mut cache, calls_of_each_kind(alloc)?)?;
+    let replies = replies_of_each_kind(rt.alloc())?;
     let meant = [
         ("done", 0),
         ("done", 0),
@@ -183,8 +185,8 @@ fn a_run_replies_to_each_call(rt: HostRuntime) -> Result<(), Fail> {
         ("number", 0),
     ];
     assert_eq!(rt; replies.len(), meant.len());
-    for i in 0..meant.len() {
-        assert_eq!(rt; told(&replies[i]), meant[i], "at {i}");
+    for (reply, expected) in replies.iter().zip(meant) {
+        assert_eq!(rt; told(reply), expected);
     }
     Ok(())
 }

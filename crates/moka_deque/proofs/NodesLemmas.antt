@@ -1,6 +1,6 @@
 -- Lemmas on how a list is laid out.
-use Rattle.std.proofs.Common.{◌≡◌, ◌⊎◌, ℕ, suc, ◌+◌, ◌-◌, ◌≤◌, Bool, true, false, cond, nat_eq, eq-eqb, List, [], ◌∷◌, ◌++◌, length, Option}
-use Rattle.std.proofs.Common.{Some, None, is_some, IsSome, slice_get, refl, sym, ap, subst, ◌∙◌, inl, inr, arith, length-append}
+use Rattle.std.proofs.Common.{◌≡◌, ◌⊎◌, ℕ, zero, suc, ◌+◌, ◌-◌, ◌<◌, ◌≤◌, Bool, true, false, cond, nat_eq, eq-eqb, List, [], ◌∷◌, ◌++◌, length, Option}
+use Rattle.std.proofs.Common.{Some, None, is_some, IsSome, slice_get, slice_index_or, refl, sym, ap, subst, ◌∙◌, inl, inr, arith, length-append}
 use Rattle.std.proofs.lemmas.Bool.{cases_Bool, cond_both, cond-true, cond-false, eqb-true, false≢true}
 use Rattle.std.specs.Option.{option_map}
 use Rattle.std.specs.Map.{lookup, remove_entry, set_value, values_of}
@@ -20,6 +20,15 @@ use Rattle.moka_deque.proofs.DequeLemmas.{nat_eq-same, nat_eq_comm, ne_comm, con
 use Rattle.moka_deque.proofs.DequeLemmas.{lookup-same, differs, remove-same, remove-other, found_cons, found_same, found_tail, lookup-push}
 use Rattle.moka_deque.proofs.DequeLemmas.{AreApart-push, lookup-remove_other, lookup-remove_same, absent-remove, AreApart-remove}
 use Rattle.moka_deque.proofs.DequeLemmas.{length-remove, set-same, set-other, AreApart-set, absent-set, lookup-set}
+
+in_slots : {X : Type 0} (slots : List (Option X)) (id : ℕ) → is_some (slice_index_or slots id None) ≡ true → id < length slots
+in_slots [] id h = absurd (false≢true h)
+in_slots (s ∷ slots) zero h = omega arith
+in_slots (s ∷ slots) (suc id) h = let later = in_slots slots id h in omega arith
+
+mapped : {X Y : Type 0} (f : X → Y) (o : Option X) → is_some (option_map f o) ≡ true → is_some o ≡ true
+mapped f None h = h
+mapped f (Some x) h = refl
 
 module _ {T : Type 0} (none : ℕ) where
   -- what precedes a node is before the list or in it
@@ -716,6 +725,8 @@ module _ {T A : Type 0} where
   shown_pushes old new id x was push = record {
     items = items_of-listed new _ (push.listed (items_of old) was);
     new_id = sym (was.elements id) ∙ push.new_id;
+    room = omega (arith, push.len, push.capacity, (push.listed (items_of old) was).fits);
+    below = omega (arith, push.below, (IsListed-items_of new _ (push.listed (items_of old) was)).len, (push.listed (items_of old) was).fits);
   }
 
   -- and has lost one, once they have
@@ -724,9 +735,17 @@ module _ {T A : Type 0} where
   shown_unlinks old new id x was unlink = record {
     items = items_of-listed new _ (unlink.listed (items_of old) was);
     value = sym (was.elements id) ∙ unlink.value;
-    room = omega (arith, unlink.len, unlink.capacity);
+    room = omega (arith, unlink.len, unlink.capacity, was.fits);
     apart = was.apart;
   }
+
+  -- the ids of a list's nodes are below the capacity
+  pub is_below : (ns : Nodes T A) → IsListed ns (items_of ns) → (id : ℕ) → IsSome (lookup (nat_eq id) (items_of ns)) → (n : ℕ)
+      → length ns.slab.slots ≤ n → id < n
+  is_below ns listed id found n within =
+      let below : id < length ns.slab.slots =
+      in_slots ns.slab.slots id (mapped (λ node. node.element) (get ns.slab id) (ap is_some (listed.elements id) ∙ found)) in
+      omega (arith, below, within)
 
   set_listed : (ns : Nodes T A) (id : ℕ) (w : T) (es : List (ℕ × T)) → IsListed ns es → IsSome (lookup (nat_eq id) es)
       → (o : Option (Node T)) → get ns.slab id ≡ o → IsListed (with_node ns id w o) (set_value (nat_eq id) es w)

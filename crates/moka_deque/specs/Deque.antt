@@ -1,5 +1,5 @@
 -- What a contract sees of a `Deque`.
-use Rattle.std.specs.Prelude.{ℕ, nat_eq, if◌then◌else◌, List, [], ◌∷◌, ◌++◌, Option, Some, None, is_some, IsSome}
+use Rattle.std.specs.Prelude.{ℕ, ◌+◌, nat_eq, if◌then◌else◌, List, [], ◌∷◌, ◌++◌, Option, Some, None, is_some, IsSome}
 use Rattle.std.specs.Option.{option_map_or}
 use Rattle.std.specs.Map.{lookup, remove_entry}
 use Rattle.moka_deque.specs.declared.deque.cursor.Cursor.{Cursor}
@@ -89,11 +89,12 @@ module _ {T : Type 0} where
   abbrev pub stepped : Deque T → Deque T
   stepped d = record d { cursor = advanced d.items (entered d.items d.cursor) }
 
-  -- the list without the node
+  -- the list without the node, and with room for one more
   abbrev pub after_unlink : ℕ → Deque T → Deque T
   after_unlink id d = record d {
     items = remove_entry (nat_eq id) d.items;
     cursor = passed id d.items d.cursor;
+    room = d.room + 1;
   }
 
   -- the list without its first node, if it has one

@@ -1,5 +1,5 @@
 -- What a contract sees of a `Linked`, and how nodes show it. No public clause cites this module.
-use Rattle.std.specs.Prelude.{◌≡◌, ℕ, zero, suc, ◌-◌, ◌≤◌, nat_eq, List, [], ◌∷◌, ◌++◌, length, Option, Some, None, slice_get}
+use Rattle.std.specs.Prelude.{◌≡◌, ℕ, zero, suc, ◌+◌, ◌-◌, ◌<◌, nat_eq, List, [], ◌∷◌, ◌++◌, length, Option, Some, None, slice_get}
 use Rattle.std.specs.Map.{lookup, remove_entry, values_of}
 use Rattle.slab.specs.Slab.{get, slab_len, with_value}
 use Rattle.moka_deque.specs.Deque.{IsIn}
@@ -19,22 +19,18 @@ module _ {T : Type 0} where
   EndsWith items (Some id) = IsIn items id
       × (lookup (nat_eq id) items ≡ slice_get (values_of items) (length items - 1))
 
-  -- a new node with this element is at the back
+  -- a new node with this element is at the back, in room that was there, and its id is below the capacity
   pub record Pushes (old new : Linked T) (id : ℕ) (element : T) : Type 0 where
     pub items : new.items ≡ old.items ++ (id, element) ∷ []
     pub new_id : lookup (nat_eq id) old.items ≡ None
+    pub room : old.room ≡ new.room + 1
+    pub below : id < length new.items + new.room
 
-  -- the list is as it was, as many more fit at least, and the element is handed back
-  pub record Refuses (old new : Linked T) (element back : T) : Type 0 where
-    pub items : new.items ≡ old.items
-    pub room : old.room ≤ new.room
-    pub value_returned : back ≡ element
-
-  -- the node, which had this element, is out, at least as many more fit, and none came twice
+  -- the node, which had this element, is out, one more fits, and none came twice
   pub record Unlinks (old new : Linked T) (id : ℕ) (element : T) : Type 0 where
     pub items : new.items ≡ remove_entry (nat_eq id) old.items
     pub value : lookup (nat_eq id) old.items ≡ Some element
-    pub room : old.room ≤ new.room
+    pub room : new.room ≡ old.room + 1
     pub apart : AreApart old.items
 
   -- a node with those that follow it, if there is one

@@ -1,5 +1,5 @@
 -- What a call changes in the nodes of a list. No public clause cites this module.
-use Rattle.std.specs.Prelude.{◌≡◌, ℕ, ◌+◌, nat_eq, if◌then◌else◌, List, [], ◌∷◌, ◌++◌, Some, None}
+use Rattle.std.specs.Prelude.{◌≡◌, ℕ, ◌+◌, ◌<◌, nat_eq, if◌then◌else◌, List, [], ◌∷◌, ◌++◌, Some, None}
 use Rattle.std.specs.Map.{lookup, remove_entry}
 use Rattle.slab.specs.Slab.{slab_len}
 use Rattle.moka_deque.specs.declared.deque.nodes.Nodes.{Nodes}
@@ -32,15 +32,13 @@ module _ {T A : Type 0} where
   abbrev pub Relists : Nodes T A → Nodes T A → (List (ℕ × T) → List (ℕ × T)) → Type 0
   Relists old new change = (es : List (ℕ × T)) → IsListed old es → IsListed new (change es)
 
-  -- whatever list old is, new is that with a new node of this element at the back
+  -- whatever list old is, new is that with a new node of this element at the back, in room that was there
   pub record Pushes (old new : Nodes T A) (id : ℕ) (element : T) : Type 0 where
     pub listed : Relists old new (λ es. es ++ (id, element) ∷ [])
     pub new_id : element_at old id ≡ None
-
-  -- whatever list old is, new is that too, and the element is handed back
-  pub record Refuses (old new : Nodes T A) (element back : T) : Type 0 where
-    pub listed : Relists old new (λ es. es)
-    pub value_returned : back ≡ element
+    pub len : slab_len new.slab ≡ slab_len old.slab + 1
+    pub capacity : new.slab.capacity ≡ old.slab.capacity
+    pub below : id < new.slab.capacity
 
   -- whatever list old is, new is that without the node, which had this element
   pub record Unlinks (old new : Nodes T A) (id : ℕ) (element : T) : Type 0 where

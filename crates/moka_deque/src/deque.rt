@@ -66,6 +66,22 @@ impl Model for NodeId {
     ghost inverse = { λ n. record { number = n } };
 }
 
+impl NodeId {
+    /// The number of the node, for an owner that keeps its ids as numbers.
+    pub fn number(self) -> usize
+        ensures { result ≡ self }
+    {
+        self.number
+    }
+
+    /// The id with this number.
+    pub fn from_number(number: usize) -> NodeId
+        ensures { result ≡ number }
+    {
+        NodeId { number }
+    }
+}
+
 /// A list of elements with a cursor.
 ///
 /// Every call takes constant time, but for the memory that a `push_back` without reserved room or a `reserve` asks for. Dropping the list drops
@@ -137,6 +153,7 @@ impl<T, A: Allocator> Deque<T, A> {
     pub fn reserve(&mut self, additional: usize) -> Result<(), OutOfMemory>
         ensures ok { OnOk result (additional ≤ self.new.room) }
         ensures succeeds { additional ≤ self.old.room → IsOk result }
+        ensures had_room { additional ≤ self.old.room → self.new ≡ self.old }
         ensures room { self.old.room ≤ self.new.room }
         ensures unchanged { self.new ≡ record self.old { room = self.new.room } }
     {
@@ -144,6 +161,14 @@ impl<T, A: Allocator> Deque<T, A> {
             Ok(()) => Ok(()),
             Err(_) => Err(OutOfMemory),
         }
+    }
+
+    /// How many elements fit with no allocation, with those that are there. All ids are below it.
+    pub fn capacity(&self) -> usize
+        ensures value { result ≡ length self.now.items + self.now.room }
+        ensures bound { (id : ℕ) → IsIn self.now.items id → id < result }
+    {
+        self.list.capacity()
     }
 
     /// Puts the element at the back, or hands it back where there is no memory. It allocates only where no room is reserved.
@@ -160,10 +185,26 @@ impl<T, A: Allocator> Deque<T, A> {
         ensures room { self.old.room ≤ self.new.room + 1 }
         ensures room_stays { OnErr result (self.old.room ≤ self.new.room) }
     {
-        match self.list.push_back(element) {
-            Ok(number) => Ok(NodeId { number }),
-            Err(element) => Err(element),
+        if self.list.reserve(1).is_err() {
+            return Err(element);
         }
+        Ok(self.push_reserved(element))
+    }
+
+    /// Puts the element at the back, in room that was reserved. It allocates nothing.
+    #[inline]
+    pub fn push_reserved(&mut self, element: T) -> NodeId
+        requires { 0 < self.old.room }
+        ensures items { self.new.items ≡ self.old.items ++ (result, element) ∷ [] }
+        ensures new_id { lookup (nat_eq result) self.old.items ≡ None }
+        ensures unchanged { self.new ≡ record self.old { items = self.new.items; room = self.new.room } }
+        ensures room { self.old.room ≡ self.new.room + 1 }
+
+        // Its id is below the capacity.
+        ensures below { result < length self.new.items + self.new.room }
+    {
+        let number = self.list.push_reserved(element);
+        NodeId { number }
     }
 
     /// Whether the node is in the list.
@@ -227,8 +268,7 @@ impl<T, A: Allocator> Deque<T, A> {
     /// Takes out the first node. A cursor at it advances first.
     pub fn pop_front(&mut self) -> Option<T>
         ensures value { result ≡ slice_get (values_of self.old.items) 0 }
-        ensures step { self.new ≡ record (after_pop_front self.old) { room = self.new.room } }
-        ensures room { self.old.room ≤ self.new.room }
+        ensures step { self.new ≡ after_pop_front self.old }
     {
         let first = self.list.first()?;
         pass(&mut self.cursor, &self.list, first);
@@ -260,8 +300,7 @@ impl<T, A: Allocator> Deque<T, A> {
     pub fn unlink(&mut self, id: NodeId) -> T
         requires { IsIn self.old.items id }
         ensures value { lookup (nat_eq id) self.old.items ≡ Some result }
-        ensures step { self.new ≡ record (after_unlink id self.old) { room = self.new.room } }
-        ensures room { self.old.room ≤ self.new.room }
+        ensures step { self.new ≡ after_unlink id self.old }
     {
         pass(&mut self.cursor, &self.list, id.number);
         self.list.unlink(id.number)
@@ -272,8 +311,7 @@ impl<T, A: Allocator> Deque<T, A> {
     where
         T: Drop,
         requires { IsIn self.old.items id }
-        ensures step { self.new ≡ record (after_unlink id self.old) { room = self.new.room } }
-        ensures room { self.old.room ≤ self.new.room }
+        ensures step { self.new ≡ after_unlink id self.old }
     {
         drop(self.unlink(id));
     }

@@ -1,4 +1,4 @@
--- What each change of the store's two lists is to a contract.
+-- What each change of the store's two deques is to a contract.
 use Rattle.std.proofs.Common.{◌≡◌, ◌<◌, ◌≤◌, ◌^◌, ◌+◌, ◌-◌, ◌*◌, ℕ, Bool, true, false, nat_eq, List, [], ◌∷◌, ◌++◌, length, Option, Some}
 use Rattle.std.proofs.Common.{None, is_some, option_map, unwrap_or, refl, sym, ap, ◌∙◌, inl, inr, arith, subst}
 use Rattle.std.proofs.lemmas.Bool.{cases_Bool, cond-true, cond-false, eqb-true, false≢true}
@@ -7,12 +7,14 @@ use Rattle.std.specs.Cmp.{IsEquivalence}
 use Rattle.std.specs.List.{IsDistinct, AllByRecursion}
 use Rattle.std.specs.Map.{lookup, remove_entry, set_value, keys_of, values_of}
 use Rattle.moka_machine.specs.declared.entry.Entry.{Entry}
-use Rattle.moka_store.specs.declared.store.Node.{Node}
+use Rattle.moka_store.specs.declared.deques.Node.{Node}
 use Rattle.moka_machine.specs.Contents.{entry_at, writes_without}
 use Rattle.moka_machine.specs.Insert.{with_write}
 use Rattle.moka_store.specs.Store.{Store, Enters, Removes, Touches, Updates}
-use Rattle.moka_store.specs.Nodes.{entries_under, written_under, IsTied, IsStored, with_write_last, without_write}
-use Rattle.moka_deque.proofs.DequeLemmas.{lookup-push, nat_eq-same}
+use Rattle.moka_store.specs.Nodes.{entries_under, written_under, IsTied, IsStored, ids_of, with_write_last, without_write}
+use Rattle.std.proofs.lemmas.Map.{length-set_value}
+use Rattle.std.proofs.lemmas.List.{length_push}
+use Rattle.moka_deque.proofs.DequeLemmas.{length-remove, lookup-push, nat_eq-same}
 use Rattle.moka_store.proofs.NodeLemmas.{lookup-rewritten, IsDistinct-rewritten}
 use Rattle.moka_store.proofs.StoreLemmas.{lookup-entries, entries-remove, weight-remove, others, written-left, written-touch}
 use Rattle.moka_store.proofs.StoreLemmas.{written-update, written-enter, written-unkept, entries-rewrite, entries-push, no_writes}
@@ -20,10 +22,10 @@ use Rattle.moka_store.proofs.StoreLemmas.{set-pushed, IsStored-remove, IsStored-
 use Rattle.moka_store.proofs.FindLemmas.{moved-found}
 
 module _ {K V : Type 0} where
-  -- what a contract sees of the two lists
-  abbrev pub seen : List (ℕ × Node K V) → List (ℕ × ℕ) → Bool → ℕ → Store K V
-  seen items writes keeps room =
-      record { nodes = entries_under items; written = written_under items writes; keeps_writes = keeps; room = room }
+  -- what a contract sees of the two deques
+  abbrev pub seen : List (ℕ × Node K V) → List (ℕ × ℕ) → Bool → ℕ → ℕ → Store K V
+  seen items writes keeps room ids =
+      record { nodes = entries_under items; written = written_under items writes; keeps_writes = keeps; room = room; ids = ids }
 
   -- the node, used at a moment
   abbrev pub touched : Node K V → ℕ → Node K V
@@ -32,6 +34,16 @@ module _ {K V : Type 0} where
   -- the node with another's value, weight and moments
   abbrev pub updated : Node K V → Entry K V → Node K V
   updated n update = record { entry = record update { key = n.entry.key; hash = n.entry.hash }; write = n.write }
+
+  nodes-push : (items : List (ℕ × Node K V)) (p : ℕ × Node K V)
+      → entries_under (items ++ p ∷ []) ≡ entries_under items ++ (p.0, p.1.entry) ∷ []
+  nodes-push [] p = refl
+  nodes-push (q ∷ items) p = ap (λ l. (q.0, q.1.entry) ∷ l) (nodes-push items p)
+
+  nodes-rewrite : (id : ℕ) (n : Node K V) (items : List (ℕ × Node K V))
+      → entries_under (remove_entry (nat_eq id) items ++ (id, n) ∷ []) ≡ remove_entry (nat_eq id) (entries_under items) ++ (id, n.entry) ∷ []
+  nodes-rewrite id n items =
+      nodes-push (remove_entry (nat_eq id) items) (id, n) ∙ ap (λ l. l ++ (id, n.entry) ∷ []) (entries-remove id items)
 
   small_at : (id : ℕ) (n : Node K V) (items : List (ℕ × Node K V)) → AllByRecursion (λ p. p.1.entry.weight < 2 ^ 32) items
       → lookup (nat_eq id) items ≡ Some n → n.entry.weight < 2 ^ 32
@@ -43,6 +55,28 @@ module _ {K V : Type 0} where
             (ap (λ o. unwrap_or o n) (sym (cond-true (nat_eq id p.0) (Some p.1) (lookup (nat_eq id) items) same) ∙ h)) a.0
         | inr other ↦ small_at id n items a.1 (sym (cond-false (nat_eq id p.0) (Some p.1) (lookup (nat_eq id) items) other) ∙ h)
       ]
+
+-- ---- below which number the ids are
+
+-- one more is no less
+pub one_more : (room more : ℕ) → more ≡ room + 1 → room ≤ more
+one_more room more is = grind (arith, is)
+
+module _ {X : Type 0} where
+  -- a node that leaves gives its room back
+  pub ids_removed : (items left : List (ℕ × X)) (room more id : ℕ) (x : X) → lookup (nat_eq id) items ≡ Some x
+      → left ≡ remove_entry (nat_eq id) items → more ≡ room + 1 → ids_of left more ≡ ids_of items room
+  ids_removed items left room more id x stood left_is more_is =
+      omega (arith, ap length left_is, length-remove id items (ap is_some stood), more_is)
+
+  -- and a new one takes it
+  pub ids_pushed : (items pushed : List (ℕ × X)) (room less : ℕ) (p : ℕ × X) → pushed ≡ items ++ p ∷ [] → room ≡ less + 1
+      → ids_of pushed less ≡ ids_of items room
+  ids_pushed items pushed room less p pushed_is room_is = omega (arith, ap length pushed_is, length_push items p, room_is)
+
+  -- a node that is rewritten stays
+  pub ids_set : (pushed : List (ℕ × X)) (less id : ℕ) (x : X) → ids_of (set_value (nat_eq id) pushed x) less ≡ ids_of pushed less
+  ids_set pushed less id x = ap (λ n. n + less) (length-set_value (nat_eq id) pushed x)
 
 -- a list in which nothing is found is empty
 none_at_all : (ws : List (ℕ × ℕ)) → ((w i : ℕ) → lookup (nat_eq w) ws ≡ Some i → ⊥) → ws ≡ []
@@ -63,8 +97,9 @@ module _ {K V : Type 0} {eq : K → K → Bool} (laws : IsEquivalence eq) {keeps
     pub remove_keeps : (rest : ℕ) → rest ≡ total - n.entry.weight → IsStored eq keeps left unwritten rest
     remove_keeps rest is = rw (left_is, unwritten_is, is) (IsStored-remove laws s id n stood)
 
-    pub remove_is : (old new : ℕ) → old ≤ new → Removes eq (seen items writes keeps old) id (seen left unwritten keeps new)
-    remove_is old new room =
+    pub remove_is : (old new ids same : ℕ) → old ≤ new → same ≡ ids
+        → Removes eq (seen items writes keeps old ids) id (seen left unwritten keeps new same)
+    remove_is old new ids same room same_is =
         record {
           entry = n.entry;
           stood = lookup-entries id items ∙ ap (option_map (λ n. n.entry)) stood;
@@ -75,6 +110,7 @@ module _ {K V : Type 0} {eq : K → K → Bool} (laws : IsEquivalence eq) {keeps
           keeps = refl;
           room = room;
           nodes = ap entries_under left_is ∙ entries-remove id items;
+          ids = same_is;
         }
 
   module _ (now : ℕ) (moved : List (ℕ × Node K V)) (moved_is : moved ≡ remove_entry (nat_eq id) items ++ (id, touched n now) ∷ []) where
@@ -83,8 +119,8 @@ module _ {K V : Type 0} {eq : K → K → Bool} (laws : IsEquivalence eq) {keeps
         rw moved_is (IsStored-rewrite laws s id n stood (touched n now) refl refl weight_small writes total (λ v. refl) s.written_once
         (grind (arith, weight_in_total)))
 
-    pub touch_is : (old new : ℕ) → Touches eq (seen items writes keeps old) id now (seen moved writes keeps new)
-    touch_is old new =
+    pub touch_is : (old new ids same : ℕ) → Touches eq (seen items writes keeps old ids) id now (seen moved writes keeps new same)
+    touch_is old new ids same =
         record {
           entry = n.entry;
           stood = lookup-entries id items ∙ ap (option_map (λ n. n.entry)) stood;
@@ -96,6 +132,7 @@ module _ {K V : Type 0} {eq : K → K → Bool} (laws : IsEquivalence eq) {keeps
               ap (λ l. values_of (entries_under l)) moved_is ∙ entries-rewrite laws s id n stood (touched n now) refl refl weight_small;
           written = ap (λ l. written_under l writes) moved_is ∙ written-touch laws s id n stood (touched n now) refl refl weight_small refl;
           keeps = refl;
+          nodes = ap entries_under moved_is ∙ nodes-rewrite id (touched n now) items;
         }
 
   module _ (update : Entry K V) (fits : update.weight < 2 ^ 32) (moved : List (ℕ × Node K V))
@@ -141,14 +178,16 @@ module _ {K V : Type 0} {eq : K → K → Bool} (laws : IsEquivalence eq) {keeps
         ∙ (written-update laws s id n stood (updated n update) refl refl fits w named
         ∙ rw ((subst (IsTied keeps writes id) named (s.tied id n stood)).0) refl))
 
-    pub update_is : (old new : ℕ) → Updates eq (seen items writes keeps old) id update (seen moved rewritten keeps new)
-    update_is old new =
+    pub update_is : (old new ids same : ℕ)
+        → Updates eq (seen items writes keeps old ids) id update (seen moved rewritten keeps new same)
+    update_is old new ids same =
         record {
           entry = n.entry;
           stood = lookup-entries id items ∙ ap (option_map (λ n. n.entry)) stood;
           entries = ap (λ l. values_of (entries_under l)) moved_is ∙ entries-rewrite laws s id n stood (updated n update) refl refl fits;
           written = written n.write refl;
           keeps = refl;
+          nodes = ap entries_under moved_is ∙ nodes-rewrite id (updated n update) items;
         }
 
 -- the total without a weight is no larger
@@ -186,9 +225,9 @@ module _ {K V : Type 0} {eq : K → K → Bool} (laws : IsEquivalence eq) {keeps
     enter_keeps absent fits sum is =
         rw (named_is, written_is, is) (IsStored-enter laws s id (new_node entry (Some w)) fresh absent fits kept w refl unused)
 
-    pub enter_is : (old new : ℕ) → Enters eq (seen items writes keeps old) entry
-        (seen (set_value (nat_eq id) pushed (new_node found.entry (Some w))) written keeps new)
-    enter_is old new =
+    pub enter_is : (old new ids same : ℕ) → id < same → same ≡ ids → Enters eq (seen items writes keeps old ids) entry id
+        (seen (set_value (nat_eq id) pushed (new_node found.entry (Some w))) written keeps new same)
+    enter_is old new ids same below same_is =
         record {
           entries = ap (λ l. values_of (entries_under l)) named_is ∙ entries-push items (id, new_node entry (Some w));
           written =
@@ -196,6 +235,10 @@ module _ {K V : Type 0} {eq : K → K → Bool} (laws : IsEquivalence eq) {keeps
               ∙ (ap (written_under (items ++ (id, new_node entry (Some w)) ∷ [])) written_is
               ∙ written-enter laws s id (new_node entry (Some w)) fresh kept w);
           keeps = refl;
+          nodes = ap entries_under named_is ∙ nodes-push items (id, new_node entry (Some w));
+          new_id = lookup-entries id items ∙ ap (option_map (λ n. n.entry)) fresh;
+          below = below;
+          ids = same_is;
         }
 
   module _ (unkept : keeps ≡ false) where
@@ -203,10 +246,15 @@ module _ {K V : Type 0} {eq : K → K → Bool} (laws : IsEquivalence eq) {keeps
         → sum ≡ total + entry.weight → IsStored eq keeps pushed writes sum
     unkept_keeps absent fits sum is = rw (pushed_is, is) (IsStored-unkept laws s id (new_node entry None) fresh absent fits unkept refl)
 
-    pub unkept_is : (old new : ℕ) → Enters eq (seen items writes keeps old) entry (seen pushed writes keeps new)
-    unkept_is old new =
+    pub unkept_is : (old new ids same : ℕ) → id < same → same ≡ ids
+        → Enters eq (seen items writes keeps old ids) entry id (seen pushed writes keeps new same)
+    unkept_is old new ids same below same_is =
         record {
           entries = ap (λ l. values_of (entries_under l)) pushed_is ∙ entries-push items (id, new_node entry None);
           written = ap (λ l. written_under l writes) pushed_is ∙ written-unkept laws s id (new_node entry None) fresh unkept;
           keeps = refl;
+          nodes = ap entries_under pushed_is ∙ nodes-push items (id, new_node entry None);
+          new_id = lookup-entries id items ∙ ap (option_map (λ n. n.entry)) fresh;
+          below = below;
+          ids = same_is;
         }

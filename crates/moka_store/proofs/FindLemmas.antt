@@ -1,22 +1,21 @@
 -- Lemmas on walks through the nodes, from the front on.
-use Rattle.std.proofs.Common.{◌≡◌, ◌<◌, ◌≤◌, ℕ, Bool, true, false, cond, nat_eq, List, [], ◌∷◌, ◌++◌, All, length, Option, Some, None}
+use Rattle.std.proofs.Common.{◌≡◌, ◌<◌, ◌≤◌, ℕ, Bool, true, false, cond, nat_eq, List, [], ◌∷◌, ◌++◌, length, Option, Some, None}
 use Rattle.std.proofs.Common.{is_some, option_map, unwrap_or, refl, sym, ap, ◌∙◌, inl, inr, arith, subst}
 use Rattle.std.proofs.lemmas.Bool.{cases_Bool, cond_both, cond-true, cond-false, eqb-true, false≢true}
 use Rattle.std.proofs.lemmas.Map.Keys.{IsDistinct-head, IsDistinct-tail}
 use Rattle.std.proofs.lemmas.Cmp.{nat_eq_equiv}
-use Rattle.std.proofs.lemmas.List.Elements.{All-head, All-tail}
 use Rattle.std.specs.Cmp.{IsEquivalence}
 use Rattle.std.specs.List.{IsDistinct, AllByRecursion, filter_map}
 use Rattle.std.specs.Map.{lookup, remove_entry, set_value, keys_of, values_of}
 use Rattle.moka_deque.specs.Deque.{IsIn, first_id, next_id, moved_to_back}
 use Rattle.moka_machine.specs.declared.entry.Entry.{Entry}
-use Rattle.moka_store.specs.declared.store.Node.{Node}
+use Rattle.moka_store.specs.declared.deques.Node.{Node}
 use Rattle.moka_machine.specs.Contents.{entry_at, no_contents, write_of}
 use Rattle.moka_store.specs.Store.{IsFront, IsOldest}
 use Rattle.moka_store.specs.Nodes.{entries_under, written_under, IsStored, room_for}
 use Rattle.moka_deque.proofs.DequeLemmas.{lookup-set, nat_eq-same}
-use Rattle.moka_store.proofs.NodeLemmas.{remove-set}
-use Rattle.moka_store.proofs.StoreLemmas.{lookup-entries, others, written-elsewhere, written-none, written-remove}
+use Rattle.moka_store.proofs.NodeLemmas.{remove-set, some_parts}
+use Rattle.moka_store.proofs.StoreLemmas.{agrees, is_node, lookup-entries, others, written-elsewhere, written-none, written-remove}
 
 module _ {X : Type 0} where
   -- the nodes from one on
@@ -99,6 +98,11 @@ module _ {X : Type 0} where
             ∙ past_head e es apart (next_id id es) (next_is_in id es))))
       ]
 
+  -- behind a node fewer are left
+  pub fewer_behind : (id : ℕ) (x : X) (items : List (ℕ × X)) → IsDistinct nat_eq (keys_of items) → lookup (nat_eq id) items ≡ Some x
+      → length (from_node (next_id id items) items) < length (from_node (Some id) items)
+  fewer_behind id x items once stands = rw (from_next id x items once stands) (grind (arith))
+
   -- the node behind one that leaves is still there
   pub next_stays : (id : ℕ) (items : List (ℕ × X))
       → Rattle.std.specs.Prelude.IfSome (next_id id items) (λ j. IsIn (remove_entry (nat_eq id) items) j)
@@ -174,12 +178,12 @@ front_absent (p ∷ items) writes o h none = absurd (false≢true (sym none ∙ 
 
 module _ {K V : Type 0} {eq : K → K → Bool} (laws : IsEquivalence eq) {keeps : Bool} where
   -- the first node is that of the front
-  pub front_is : (items : List (ℕ × Node K V)) (writes : List (ℕ × ℕ)) {total : ℕ} (room : ℕ) → IsStored eq keeps items writes total
+  pub front_is : (items : List (ℕ × Node K V)) (writes : List (ℕ × ℕ)) {total : ℕ} (room ids : ℕ) → IsStored eq keeps items writes total
       → (o : Option ℕ) → o ≡ first_id items → Rattle.std.specs.Prelude.IfSome o
-      (λ id. IsFront eq (record { nodes = entries_under items; written = written_under items writes; keeps_writes = keeps; room = room })
+      (λ id. IsFront eq (record { nodes = entries_under items; written = written_under items writes; keeps_writes = keeps; room = room; ids = ids })
       id)
-  front_is [] writes room s o h = rw h tt
-  front_is (p ∷ items) writes room s o h =
+  front_is [] writes room ids s o h = rw h tt
+  front_is (p ∷ items) writes room ids s o h =
       let stood : lookup (nat_eq p.0) (p ∷ items) ≡ Some p.1 = cond-true (nat_eq p.0 p.0) _ _ (nat_eq-same p.0) in
       rw h (record {
         entry = p.1.entry;
@@ -192,11 +196,11 @@ module _ {K V : Type 0} {eq : K → K → Bool} (laws : IsEquivalence eq) {keeps
       })
 
   -- the node that the first write names is the oldest
-  pub oldest_is : (items : List (ℕ × Node K V)) (writes : List (ℕ × ℕ)) {total : ℕ} (room : ℕ) → IsStored eq keeps items writes total
+  pub oldest_is : (items : List (ℕ × Node K V)) (writes : List (ℕ × ℕ)) {total : ℕ} (room ids : ℕ) → IsStored eq keeps items writes total
       → (id : ℕ) → Some id ≡ Rattle.std.specs.Prelude.slice_get (values_of writes) 0
-      → IsOldest eq (record { nodes = entries_under items; written = written_under items writes; keeps_writes = keeps; room = room }) id
-  oldest_is items [] room s id h = absurd (false≢true (sym (ap is_some h)))
-  oldest_is items (w ∷ ws) room s id h =
+      → IsOldest eq (record { nodes = entries_under items; written = written_under items writes; keeps_writes = keeps; room = room; ids = ids }) id
+  oldest_is items [] room ids s id h = absurd (false≢true (sym (ap is_some h)))
+  oldest_is items (w ∷ ws) room ids s id h =
       let named : lookup (nat_eq w.0) (w ∷ ws) ≡ Some w.1 = cond-true (nat_eq w.0 w.0) _ _ (nat_eq-same w.0) in
       let node = s.standing w.0 w.1 named in
       let is : w.1 ≡ id = ap (λ o. unwrap_or o id) (sym h) in
@@ -221,79 +225,53 @@ pub oldest_absent : {K V : Type 0} → (items : List (ℕ × Node K V)) (writes 
 oldest_absent items [] h = refl
 oldest_absent items (w ∷ ws) h = absurd (false≢true (sym (ap is_some h)))
 
--- ---- a search from node to node
+-- ---- the entry of a key
 
-module _ {K V : Type 0} (eq : K → K → Bool) (key : K) where
-  -- the entry of the key is among those from this node on, or there is none
-  abbrev pub IsAhead : Option ℕ → List (ℕ × Node K V) → Type 0
-  IsAhead here items =
-      entry_at eq key (values_of (entries_under (from_node here items))) ≡ entry_at eq key (values_of (entries_under items))
-
-  pub is_ahead_at_first : (items : List (ℕ × Node K V)) (here : Option ℕ) → here ≡ first_id items → IsAhead here items
-  is_ahead_at_first items here h = rw h (ap (λ l. entry_at eq key (values_of (entries_under l))) (from_first items))
-
-  module _ (items : List (ℕ × Node K V)) (distinct : IsDistinct nat_eq (keys_of items)) (id : ℕ) (n : Node K V)
-      (stands : lookup (nat_eq id) items ≡ Some n) where
-    ahead : entry_at eq key (values_of (entries_under (from_node (Some id) items)))
-        ≡ cond (eq key n.entry.key) (Some n.entry) (entry_at eq key (values_of (entries_under (from_node (next_id id items) items))))
-    ahead = ap (λ l. entry_at eq key (values_of (entries_under l))) (from_next id n items distinct stands)
-
-    -- it is this one's
-    pub is_here : IsAhead (Some id) items → eq key n.entry.key ≡ true → entry_at eq key (values_of (entries_under items)) ≡ Some n.entry
-    is_here h equal = sym h ∙ (ahead ∙ cond-true (eq key n.entry.key) _ _ equal)
-
-    -- or one's behind it
-    pub is_behind : IsAhead (Some id) items → eq key n.entry.key ≡ false → IsAhead (next_id id items) items
-    is_behind h differ = sym (ahead ∙ cond-false (eq key n.entry.key) _ _ differ) ∙ h
-
-    -- where fewer nodes are left
-    pub fewer_ahead : length (from_node (next_id id items) items) < length (from_node (Some id) items)
-    fewer_ahead = rw (from_next id n items distinct stands) (grind (arith))
-
-  -- past the last node there is none
-  pub is_nowhere : (items : List (ℕ × Node K V)) → IsAhead None items → entry_at eq key (values_of (entries_under items)) ≡ None
-  is_nowhere items h = sym h ∙ ap (λ l. entry_at eq key (values_of (entries_under l))) (from_none items)
-
--- an entry of another hash has another key
-pub other_hash : {K V : Type 0} (eq : K → K → Bool) (key : K) (hash : ℕ) (items : List (ℕ × Node K V))
-    → All (λ e. eq key e.key ≡ true → e.hash ≡ hash) (values_of (entries_under items))
-    → (id : ℕ) (n : Node K V) → lookup (nat_eq id) items ≡ Some n → (n.entry.hash ≡ hash → ⊥) → eq key n.entry.key ≡ false
-other_hash eq key hash [] a id n h differ = absurd (false≢true (ap is_some h))
-other_hash {K = K} {V = V} eq key hash (p ∷ items) a id n h differ =
-    let test : Entry K V → Type 0 = λ e. eq key e.key ≡ true → e.hash ≡ hash in
-    elim (cases_Bool (nat_eq id p.0)) [
-      | inl same ↦
-          elim (cases_Bool (eq key n.entry.key)) [
-            | inl equal ↦
-                let is : p.1 ≡ n =
-                ap (λ o. unwrap_or o n) (sym (cond-true (nat_eq id p.0) (Some p.1) (lookup (nat_eq id) items) same) ∙ h) in
-                absurd (differ (subst (λ m. test m.entry) is (All-head test p.1.entry (values_of (entries_under items)) a) equal))
-            | inr other ↦ other
-          ]
-      | inr other ↦
-          other_hash eq key hash items (All-tail test p.1.entry (values_of (entries_under items)) a) id n
-          (sym (cond-false (nat_eq id p.0) (Some p.1) (lookup (nat_eq id) items) other) ∙ h) differ
-    ]
+-- one whose key is the node's is the node's
+pub alone_is : {K V : Type 0} {eq : K → K → Bool} (laws : IsEquivalence eq) {keeps : Bool} {items : List (ℕ × Node K V)}
+    {writes : List (ℕ × ℕ)} {total : ℕ} → IsStored eq keeps items writes total → (id : ℕ) (e : Entry K V) (key : K)
+    → lookup (nat_eq id) (entries_under items) ≡ Some e → eq key e.key ≡ true
+    → entry_at eq key (values_of (entries_under items)) ≡ Some e
+alone_is {K = K} {V = V} {eq = eq} laws {items = items} s id e key stands equal =
+    let node = is_node id items (ap is_some stands) in
+    let same : e ≡ node.0.entry =
+    some_parts e node.0.entry (sym stands ∙ (lookup-entries id items ∙ ap (option_map (λ n. n.entry)) node.1)) in
+    found node.0 (subst (λ x. eq key x.key ≡ true) same equal) items (agrees laws s id node.0 node.1) node.1 ∙ ap Some (sym same)
+  where
+    found : (n : Node K V) → eq key n.entry.key ≡ true → (es : List (ℕ × Node K V))
+        → AllByRecursion (λ p. eq n.entry.key p.1.entry.key ≡ nat_eq id p.0) es → lookup (nat_eq id) es ≡ Some n
+        → entry_at eq key (values_of (entries_under es)) ≡ Some n.entry
+    found n is [] a h = absurd (false≢true (ap is_some h))
+    found n is (p ∷ es) a h =
+        let tells : eq key p.1.entry.key ≡ nat_eq id p.0 = laws.congr key n.entry.key p.1.entry.key is ∙ a.0 in
+        elim (cases_Bool (nat_eq id p.0)) [
+          | inl same ↦
+              cond-true (eq key p.1.entry.key) _ _ (tells ∙ same)
+              ∙ ap (λ o. option_map (λ n. n.entry) o) (sym (cond-true (nat_eq id p.0) (Some p.1) (lookup (nat_eq id) es) same) ∙ h)
+          | inr other ↦
+              cond-false (eq key p.1.entry.key) _ _ (tells ∙ other)
+              ∙ found n is es a.1 (sym (cond-false (nat_eq id p.0) (Some p.1) (lookup (nat_eq id) es) other) ∙ h)
+        ]
 
 -- an empty store has no room
 pub room_for-none : (keeps : Bool) → room_for keeps 0 0 ≡ 0
 room_for-none true = refl
 room_for-none false = refl
 
--- more room in both lists is more room
+-- more room in both deques is more room
 pub room_for-mono : (keeps : Bool) (a b c d : ℕ) → a ≤ c → b ≤ d → room_for keeps a b ≤ room_for keeps c d
 room_for-mono true a b c d h k = grind (arith, h, k)
 room_for-mono false a b c d h k = h
 
 module _ {K V : Type 0} {eq : K → K → Bool} (laws : IsEquivalence eq) {keeps : Bool} where
   -- the node that is first in the order of writing, if there is one, is the oldest
-  pub oldest_found : (items : List (ℕ × Node K V)) (writes : List (ℕ × ℕ)) {total : ℕ} (room : ℕ) → IsStored eq keeps items writes total
+  pub oldest_found : (items : List (ℕ × Node K V)) (writes : List (ℕ × ℕ)) {total : ℕ} (room ids : ℕ) → IsStored eq keeps items writes total
       → (o : Option ℕ) → o ≡ Rattle.std.specs.Prelude.slice_get (values_of writes) 0
       → Rattle.std.specs.Prelude.IfSome o
-      (λ id. IsOldest eq (record { nodes = entries_under items; written = written_under items writes; keeps_writes = keeps; room = room })
+      (λ id. IsOldest eq (record { nodes = entries_under items; written = written_under items writes; keeps_writes = keeps; room = room; ids = ids })
       id)
-  oldest_found items writes room s None h = tt
-  oldest_found items writes room s (Some id) h = oldest_is laws items writes room s id h
+  oldest_found items writes room ids s None h = tt
+  oldest_found items writes room ids s (Some id) h = oldest_is laws items writes room ids s id h
 
 none_is : {X : Type 0} (o : Option X) → is_some o ≡ false → o ≡ None
 none_is None h = refl

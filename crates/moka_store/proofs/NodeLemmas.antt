@@ -1,4 +1,4 @@
--- Lemmas on lists of nodes: what is found under an id after a change, and what of it is seen by keys.
+-- Lemmas on deques of nodes: what is found under an id after a change, and what of it is seen by keys.
 use Rattle.std.proofs.Common.{◌≡◌, ℕ, Bool, true, false, cond, nat_eq, not, List, [], ◌∷◌, ◌++◌, map, filter, Contains, Option, Some, None}
 use Rattle.std.proofs.Common.{is_some, unwrap_or, refl, sym, ap, ◌∙◌, inl, inr, subst}
 use Rattle.std.proofs.lemmas.Bool.{cases_Bool, cond_both, cond-true, cond-false, eqb-true, false≢true}

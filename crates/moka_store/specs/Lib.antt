@@ -1,4 +1,5 @@
 pub mod Store
 pub mod Turns
 -- inside
+pub mod Indexed
 pub mod Nodes

@@ -1,16 +1,20 @@
--- How the store lays its entries out in two lists. No public clause cites this module.
-use Rattle.std.specs.Prelude.{◌≡◌, ◌<◌, ℕ, ◌^◌, Bool, true, false, min, nat_eq, List, All, map, Option, Some, None, option_map}
+-- How the store lays its entries out in two deques. No public clause cites this module.
+use Rattle.std.specs.Prelude.{◌≡◌, ◌<◌, ℕ, ◌+◌, ◌^◌, Bool, true, false, min, nat_eq, List, All, map, length, Option, Some, None, option_map}
 use Rattle.std.specs.List.{IsDistinct, filter_map}
 use Rattle.std.specs.Map.{lookup, keys_of, remove_entry, values_of}
 use Rattle.moka_deque.specs.Deque.{moved_to_back}
 use Rattle.moka_machine.specs.declared.entry.Entry.{Entry}
-use Rattle.moka_store.specs.declared.store.Node.{Node}
+use Rattle.moka_store.specs.declared.deques.Node.{Node}
 use Rattle.moka_machine.specs.Contents.{total_weight, Write, write_of}
 
 -- for how many entries there is room, in one list or in both
 abbrev pub room_for : Bool → ℕ → ℕ → ℕ
 room_for true entries writes = min entries writes
 room_for false entries writes = entries
+
+-- the ids of nodes are below this number: as many as are there and as there is room for
+abbrev pub ids_of : {X : Type 0} → List (ℕ × X) → ℕ → ℕ
+ids_of items room = length items + room
 
 -- the node names its place in the order of writing, if that is kept
 abbrev pub IsTied : Bool → List (ℕ × ℕ) → ℕ → Option ℕ → Type 0
@@ -40,7 +44,7 @@ module _ {K V : Type 0} where
   abbrev pub written_under : List (ℕ × Node K V) → List (ℕ × ℕ) → List (Write K)
   written_under items writes = filter_map (write_under items) writes
 
-  -- the two lists name each other, no key stands twice, and the total is of all weights
+  -- the two deques name each other, no key stands twice, and the total is of all weights
   pub record IsStored (eq : K → K → Bool) (keeps : Bool) (items : List (ℕ × Node K V)) (writes : List (ℕ × ℕ)) (total : ℕ) : Type 0 where
     pub apart : (i j : ℕ) (m n : Node K V) → lookup (nat_eq i) items ≡ Some m → lookup (nat_eq j) items ≡ Some n → eq m.entry.key n.entry.key ≡ true → i ≡ j
     pub tied : (i : ℕ) (n : Node K V) → lookup (nat_eq i) items ≡ Some n → IsTied keeps writes i n.write

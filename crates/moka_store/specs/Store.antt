@@ -1,16 +1,18 @@
 -- What a contract sees of the store of a cache's entries, and of each change of it.
-use Rattle.std.specs.Prelude.{◌≡◌, ◌≤◌, ℕ, Bool, true, nat_eq, List, [], ◌∷◌, ◌++◌, All, Some}
+use Rattle.std.specs.Prelude.{◌≡◌, ◌≤◌, ◌<◌, ℕ, Bool, true, nat_eq, List, [], ◌∷◌, ◌++◌, All, Some, None}
 use Rattle.std.specs.Map.{lookup, remove_entry, values_of}
 use Rattle.moka_machine.specs.declared.entry.Entry.{Entry}
 use Rattle.moka_machine.specs.Contents.{Write, entry_at, entries_without, write_of, writes_without}
 use Rattle.moka_machine.specs.Insert.{with_write}
 
--- the entries in order of use, each under the id of its node; the writes in their order, if they are kept; and for how many more entries there is room
+-- the entries in order of use, each under the id of its node; the writes in their order, if they are kept; for how many more entries there is room;
+-- and a number that the ids of all nodes are below, as long as there is room
 pub record Store (K V : Type 0) : Type 0 where
   pub nodes : List (ℕ × Entry K V)
   pub written : List (Write K)
   pub keeps_writes : Bool
   pub room : ℕ
+  pub ids : ℕ
 
 module _ {K V : Type 0} where
   -- the entries in order of use
@@ -51,6 +53,7 @@ module _ {K V : Type 0} where
       pub keeps : new.keeps_writes ≡ old.keeps_writes
       pub room : old.room ≤ new.room
       pub nodes : new.nodes ≡ remove_entry (nat_eq id) old.nodes
+      pub ids : new.ids ≡ old.ids
 
     -- what it is once the entry was used at a moment
     pub record Touches (old : Store K V) (id now : ℕ) (new : Store K V) : Type 0 where
@@ -60,6 +63,7 @@ module _ {K V : Type 0} where
       pub entries : entries_of new ≡ entries_without eq entry.key (entries_of old) ++ record entry { accessed = now } ∷ []
       pub written : new.written ≡ old.written
       pub keeps : new.keeps_writes ≡ old.keeps_writes
+      pub nodes : new.nodes ≡ remove_entry (nat_eq id) old.nodes ++ (id, record entry { accessed = now }) ∷ []
 
     -- what it is once the entry has another's value, weight and moments
     pub record Updates (old : Store K V) (id : ℕ) (update : Entry K V) (new : Store K V) : Type 0 where
@@ -68,9 +72,14 @@ module _ {K V : Type 0} where
       pub entries : entries_of new ≡ entries_without eq entry.key (entries_of old) ++ record update { key = entry.key; hash = entry.hash } ∷ []
       pub written : new.written ≡ with_write old.keeps_writes (writes_without eq entry.key old.written) entry.key update.modified
       pub keeps : new.keeps_writes ≡ old.keeps_writes
+      pub nodes : new.nodes ≡ remove_entry (nat_eq id) old.nodes ++ (id, record update { key = entry.key; hash = entry.hash }) ∷ []
 
-    -- what it is once a new entry has entered
-    pub record Enters (old : Store K V) (entry : Entry K V) (new : Store K V) : Type 0 where
+    -- what it is once a new entry has entered, under the id of a new node
+    pub record Enters (old : Store K V) (entry : Entry K V) (id : ℕ) (new : Store K V) : Type 0 where
       pub entries : entries_of new ≡ entries_of old ++ entry ∷ []
       pub written : new.written ≡ with_write old.keeps_writes old.written entry.key entry.modified
       pub keeps : new.keeps_writes ≡ old.keeps_writes
+      pub nodes : new.nodes ≡ old.nodes ++ (id, entry) ∷ []
+      pub new_id : lookup (nat_eq id) old.nodes ≡ None
+      pub below : id < new.ids
+      pub ids : new.ids ≡ old.ids

@@ -16,10 +16,10 @@ use std::alloc::Allocator;
 /// What each call does first: expired entries leave, and entries above the limit.
 pub fn upkeep<K: Eq + Drop, V: Drop, A: Allocator + Clone + Drop>(
     store: &mut Store<K, V, A>,
-    policy: Policy,
+    policy: &Policy,
     now: Instant,
 )
-    ensures step { contents_of store.new ≡ after_upkeep K.eq policy now (contents_of store.old) }
+    ensures step { contents_of store.new ≡ after_upkeep K.eq policy.now now (contents_of store.old) }
     ensures kept { Continues store.old store.new }
 {
     expire(store, policy, now);
@@ -29,10 +29,10 @@ pub fn upkeep<K: Eq + Drop, V: Drop, A: Allocator + Clone + Drop>(
 /// A batch leaves by time to live, and a batch by time to idle, where these are set.
 fn expire<K: Eq + Drop, V: Drop, A: Allocator + Clone + Drop>(
     store: &mut Store<K, V, A>,
-    policy: Policy,
+    policy: &Policy,
     now: Instant,
 )
-    ensures step { contents_of store.new ≡ after_expiry K.eq policy now (contents_of store.old) }
+    ensures step { contents_of store.new ≡ after_expiry K.eq policy.now now (contents_of store.old) }
     ensures kept { Continues store.old store.new }
 {
     if policy.time_to_live().is_some() {
@@ -45,11 +45,11 @@ fn expire<K: Eq + Drop, V: Drop, A: Allocator + Clone + Drop>(
 
 fn expire_by_write<K: Eq + Drop, V: Drop, A: Allocator + Clone + Drop>(
     store: &mut Store<K, V, A>,
-    policy: Policy,
+    policy: &Policy,
     now: Instant,
 )
     ensures step { contents_of store.new
-        ≡ after_live_expiry K.eq policy now EVICTION_BATCH_SIZE (contents_of store.old) }
+        ≡ after_live_expiry K.eq policy.now now EVICTION_BATCH_SIZE (contents_of store.old) }
     ensures kept { Continues store.old store.new }
 {
     let mut left = EVICTION_BATCH_SIZE;
@@ -61,10 +61,10 @@ fn expire_by_write<K: Eq + Drop, V: Drop, A: Allocator + Clone + Drop>(
 /// The entry that was written the longest ago leaves, if it has lived too long.
 fn expire_oldest<K: Eq + Drop, V: Drop, A: Allocator + Clone + Drop>(
     store: &mut Store<K, V, A>,
-    policy: Policy,
+    policy: &Policy,
     now: Instant,
 ) -> bool
-    ensures turn { IsTurn (after_live_expiry K.eq policy now)
+    ensures turn { IsTurn (after_live_expiry K.eq policy.now now)
         result (contents_of store.old) (contents_of store.new) }
     ensures kept { Continues store.old store.new }
 {
@@ -80,11 +80,11 @@ fn expire_oldest<K: Eq + Drop, V: Drop, A: Allocator + Clone + Drop>(
 
 fn expire_by_use<K: Eq + Drop, V: Drop, A: Allocator + Clone + Drop>(
     store: &mut Store<K, V, A>,
-    policy: Policy,
+    policy: &Policy,
     now: Instant,
 )
     ensures step { contents_of store.new
-        ≡ after_idle_expiry K.eq policy now EVICTION_BATCH_SIZE (contents_of store.old) }
+        ≡ after_idle_expiry K.eq policy.now now EVICTION_BATCH_SIZE (contents_of store.old) }
     ensures kept { Continues store.old store.new }
 {
     let mut left = EVICTION_BATCH_SIZE;
@@ -96,10 +96,10 @@ fn expire_by_use<K: Eq + Drop, V: Drop, A: Allocator + Clone + Drop>(
 /// The least recently used entry leaves, if it has been idle too long.
 fn expire_front<K: Eq + Drop, V: Drop, A: Allocator + Clone + Drop>(
     store: &mut Store<K, V, A>,
-    policy: Policy,
+    policy: &Policy,
     now: Instant,
 ) -> bool
-    ensures turn { IsTurn (after_idle_expiry K.eq policy now)
+    ensures turn { IsTurn (after_idle_expiry K.eq policy.now now)
         result (contents_of store.old) (contents_of store.new) }
     ensures kept { Continues store.old store.new }
 {
@@ -114,8 +114,8 @@ fn expire_front<K: Eq + Drop, V: Drop, A: Allocator + Clone + Drop>(
 }
 
 /// Whether an entry is expired, for either reason.
-pub fn is_expired<K: Drop, V: Drop>(policy: Policy, entry: &Entry<K, V>, now: Instant) -> bool
-    ensures { result ≡ is_expired policy now entry.now }
+pub fn is_expired<K: Drop, V: Drop>(policy: &Policy, entry: &Entry<K, V>, now: Instant) -> bool
+    ensures { result ≡ is_expired policy.now now entry.now }
 {
     live_expired(policy.time_to_live(), entry.modified, now)
         || idle_expired(policy.time_to_idle(), entry.accessed, now)

@@ -2,6 +2,7 @@
 #![tactic(auto)]
 
 pub mod admit;
+mod deques;
 pub mod expire;
 pub mod invalidate;
 pub mod store;

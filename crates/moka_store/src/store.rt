@@ -1,88 +1,77 @@
-//! The entries of a cache in order of use and in order of writing, with the total of their weights. Only here is an entry found, added, changed
-//! or removed.
-ghost use Rattle.std.specs.Prelude.{◌≡◌, ◌≤◌, ◌<◌, ◌+◌, ◌-◌, ◌*◌, ◌^◌, ◌++◌, ◌∷◌, ℕ, [], length, nat_eq, IfOk, OnOk, IfSome, IsNone, IsSome, None, Some};
+//! The entries of a cache in order of use and in order of writing, found by the hashes of their keys. Only here is an entry found, added, changed or
+//! removed.
+ghost use Rattle.std.specs.Prelude.{◌≡◌, ◌≤◌, ◌<◌, ◌^◌, ℕ, [], length, nat_eq, IfOk, OnErr, OnOk, IfSome, IsNone, IsSome, None, Some};
 ghost use Rattle.std.specs.List.{IsDistinct};
 ghost use Rattle.std.specs.Map.{keys_of, lookup};
-ghost use Rattle.moka_deque.specs.Deque.{IsIn, first_id, next_id};
-ghost use Rattle.moka_store.specs.Nodes.{with_write_last, without_write};
+ghost use Rattle.moka_deque.specs.Deque.{first_id, next_id};
+ghost use Rattle.moka_index.specs.HashIndex.{candidates};
 ghost use Rattle.moka_base.specs.Settings.{keeps_writes};
 ghost use Rattle.moka_machine.specs.Contents.{entry_at, no_contents, total_weight, writes_without};
+ghost use Rattle.moka_store.specs.Indexed.{IsIndexed};
 ghost use Rattle.moka_store.specs.Store.{Enters, HasHash, IsFound, IsFront, IsOldest, Removes, Touches, Updates, entries_of};
 ghost use Rattle.moka_store.specs.Turns.{contents_of};
 
-mod entries;
-
-pub use entries::Entries;
+use crate::deques::Deques;
+pub use crate::deques::Entries;
 use moka_base::error::OutOfMemory;
 use moka_base::policy::Policy;
 use moka_base::time::Instant;
-use moka_deque::deque::{CacheRegion, Deque, NodeId};
+use moka_deque::deque::NodeId;
+use moka_index::hash_index::HashIndex;
 use moka_machine::entry::Entry;
 use std::alloc::{AllocError, Allocator, Global};
 use std::marker::Model;
 
-/// An entry, and where it stands in the order of writing.
-#[derive(Drop)]
-pub(crate) struct Node<K: Drop, V: Drop> {
-    entry: Entry<K, V>,
-    write: Option<NodeId>,
-}
-
-/// The entries of a cache. It looks through them all to find one.
+/// The entries of a cache. One is found by its hash in constant time in the mean.
 #[derive(Drop)]
 pub struct Store<K: Eq + Drop, V: Drop, A: Allocator + Clone + Drop = Global> {
-    order: Deque<Node<K, V>, A>,
-    writes: Deque<NodeId, A>,
-    keeps_writes: bool,
-    total: u128,
+    deques: Deques<K, V, A>,
+    index: HashIndex<A>,
 }
 
 impl<K: Eq + Drop, V: Drop, A: Allocator + Clone + Drop> Model for Store<K, V, A> {
     ghost use Rattle.moka_store.specs.Store.{Store as StoreState};
-    ghost use Rattle.moka_store.specs.Nodes.{IsStored, entries_under, room_for, written_under};
+    ghost use Rattle.moka_store.specs.Indexed.{IsIndexed, indexed_room};
 
     ghost Value = { StoreState K V };
 
-    ghost view = { λ s. record {
-      nodes = entries_under s.order.items;
-      written = written_under s.order.items s.writes.items;
-      keeps_writes = s.keeps_writes;
-      room = room_for s.keeps_writes s.order.room s.writes.room;
-    } };
+    ghost view = { λ s. record s.deques { room = indexed_room s.deques s.index } };
 
-    ghost invariant = { λ s. IsStored K.eq s.keeps_writes s.order.items s.writes.items s.total };
+    ghost invariant = { λ s. IsIndexed s.deques.nodes s.index };
 }
 
 impl<K: Eq + Drop, V: Drop, A: Allocator + Clone + Drop> Store<K, V, A> {
     /// A store without entries. It keeps the order of writing where there is a time to live.
     pub fn new(alloc: A, policy: Policy) -> Result<Self, AllocError>
         ensures { IfOk result (λ store. store
-            ≡ record { nodes = []; written = []; keeps_writes = keeps_writes policy; room = 0 }) }
+            ≡ record { nodes = []; written = []; keeps_writes = keeps_writes policy; room = 0; ids = 0 }) }
     {
         Ok(Store {
-            order: Deque::new(alloc.clone()?, CacheRegion::MainProbation),
-            writes: Deque::new(alloc, CacheRegion::Other),
-            keeps_writes: policy.time_to_live().is_some(),
-            total: 0,
+            deques: Deques::new(alloc.clone()?, policy)?,
+            index: HashIndex::new(alloc),
         })
     }
 
     /// Makes room for `additional` more entries.
     pub fn reserve(&mut self, additional: usize) -> Result<(), OutOfMemory>
         ensures ok { OnOk result (additional ≤ self.new.room) }
-        ensures unchanged { self.new ≡ record self.old { room = self.new.room } }
+        ensures unchanged { self.new ≡ record self.old { room = self.new.room; ids = self.new.ids } }
     {
-        if self.keeps_writes {
-            self.writes.reserve(additional)?;
+        let needed = self.deques.len().saturating_add(additional);
+        if needed > self.deques.ids() {
+            // The deques grow by doubling. The index grows first, so that they are as they were where memory for it is refused.
+            let doubled = self.deques.ids().saturating_mul(2);
+            index_all(&mut self.index, &self.deques, needed.max(doubled))?;
         }
-        self.order.reserve(additional)
+        self.deques.reserve(additional)?;
+        index_all(&mut self.index, &self.deques, self.deques.ids())
     }
 
     /// How many entries there are.
     pub fn len(&self) -> usize
         ensures { result ≡ length self.now.nodes }
     {
-        self.order.len()
+        self.deques.len()
     }
 
     /// What all entries weigh together.
@@ -90,9 +79,7 @@ impl<K: Eq + Drop, V: Drop, A: Allocator + Clone + Drop> Store<K, V, A> {
         ensures value { result ≡ total_weight (entries_of self.now) }
         ensures small { result < 2 ^ 96 }
     {
-        // At most `usize::MAX` weights of 32 bits come to less than 2^96.
-        let _ = self.order.len();
-        self.total
+        self.deques.weight()
     }
 
     /// The node of the entry of this key, whose hash it is.
@@ -102,13 +89,14 @@ impl<K: Eq + Drop, V: Drop, A: Allocator + Clone + Drop> Store<K, V, A> {
         ensures absent { IsNone result → entry_at K.eq key.now (entries_of self.now) ≡ None }
         ensures unwritten { IsNone result → writes_without K.eq key.now self.now.written ≡ self.now.written }
     {
-        let mut here = self.order.front();
-        while let Some(id) = here {
-            let entry = &self.order.get(id).entry;
+        // No two entries have one key.
+        let _ = self.deques.len();
+        for number in self.index.candidates(hash) {
+            let id = NodeId::from_number(number);
+            let entry = self.deques.get(id);
             if entry.hash == hash && *key == entry.key {
                 return Some(id);
             }
-            here = self.order.next(id);
         }
         None
     }
@@ -118,16 +106,14 @@ impl<K: Eq + Drop, V: Drop, A: Allocator + Clone + Drop> Store<K, V, A> {
         requires { IsSome (lookup (nat_eq id) self.now.nodes) }
         ensures { lookup (nat_eq id) self.now.nodes ≡ Some result.now }
     {
-        &self.order.get(id).entry
+        self.deques.get(id)
     }
 
     /// The entries in order of use.
     pub fn iter(&self) -> Entries<'_, K, V, A>
         ensures { result ≡ entries_of self.now }
     {
-        Entries {
-            nodes: self.order.iter(),
-        }
+        self.deques.iter()
     }
 
     /// The node of the least recently used entry.
@@ -136,7 +122,7 @@ impl<K: Eq + Drop, V: Drop, A: Allocator + Clone + Drop> Store<K, V, A> {
         ensures absent { IsNone result → contents_of self.now ≡ no_contents }
         ensures first { result ≡ first_id self.now.nodes }
     {
-        self.order.front()
+        self.deques.front()
     }
 
     /// The node of the entry that was used next after this one.
@@ -145,7 +131,7 @@ impl<K: Eq + Drop, V: Drop, A: Allocator + Clone + Drop> Store<K, V, A> {
         ensures value { result ≡ next_id id self.now.nodes }
         ensures distinct { IsDistinct nat_eq (keys_of self.now.nodes) }
     {
-        self.order.next(id)
+        self.deques.next(id)
     }
 
     /// The node of the entry that was written the longest ago.
@@ -153,7 +139,7 @@ impl<K: Eq + Drop, V: Drop, A: Allocator + Clone + Drop> Store<K, V, A> {
         ensures found { IfSome result (λ id. IsOldest K.eq self.now id) }
         ensures absent { IsNone result → self.now.written ≡ [] }
     {
-        self.writes.peek_front().copied()
+        self.deques.oldest()
     }
 
     /// The entry becomes the most recently used one.
@@ -161,8 +147,8 @@ impl<K: Eq + Drop, V: Drop, A: Allocator + Clone + Drop> Store<K, V, A> {
         requires { IsSome (lookup (nat_eq id) self.old.nodes) }
         ensures { Touches K.eq self.old id now self.new }
     {
-        self.order.get_mut(id).entry.accessed = now;
-        self.order.move_to_back(id);
+        let _ = self.deques.len();
+        self.deques.touch(id, now);
     }
 
     /// The entry gets another's value, weight and moments, and becomes the most recent one in both orders. It keeps its key.
@@ -170,26 +156,19 @@ impl<K: Eq + Drop, V: Drop, A: Allocator + Clone + Drop> Store<K, V, A> {
         requires { IsSome (lookup (nat_eq id) self.old.nodes) }
         ensures { Updates K.eq self.old id update self.new }
     {
-        let node = self.order.get(id);
-        let (weight, write) = (node.entry.weight, node.write);
-        self.total = with_weight(&self.order, self.total - u128::from(weight), update.weight);
-        rewrite(self.order.get_mut(id), update);
-        self.order.move_to_back(id);
-        move_write_to_back(&mut self.writes, write);
+        let _ = self.deques.len();
+        self.deques.update(id, update);
     }
 
     /// A new entry, most recent in both orders. There must be room for it, and no entry of its key.
     pub fn enter(&mut self, entry: Entry<K, V>)
         requires room { 0 < self.old.room }
         requires absent { entry_at K.eq entry.key (entries_of self.old) ≡ None }
-        ensures { Enters K.eq self.old entry self.new }
+        ensures { (id : ℕ) × Enters K.eq self.old entry id self.new }
     {
-        self.total = with_weight(&self.order, self.total, entry.weight);
-        let id = push_reserved(&mut self.order, Node { entry, write: None });
-        if self.keeps_writes {
-            let write = push_reserved(&mut self.writes, id);
-            self.order.get_mut(id).write = Some(write);
-        }
+        let hash = entry.hash;
+        let id = self.deques.enter(entry);
+        self.index.add(id.number(), hash);
     }
 
     /// The entry leaves.
@@ -197,67 +176,48 @@ impl<K: Eq + Drop, V: Drop, A: Allocator + Clone + Drop> Store<K, V, A> {
         requires { IsSome (lookup (nat_eq id) self.old.nodes) }
         ensures { Removes K.eq self.old id self.new }
     {
-        let node = self.order.unlink(id);
-        self.total -= u128::from(node.entry.weight);
-        unlink_write(&mut self.writes, node.write);
+        let _ = self.deques.len();
+        let hash = self.deques.get(id).hash;
+        self.index.remove(id.number(), hash);
+        self.deques.remove(id);
     }
 }
 
-/// Puts the element at the back, where there is room.
-fn push_reserved<T: Drop, A: Allocator>(list: &mut Deque<T, A>, element: T) -> NodeId
-    requires { 0 < list.old.room }
-    ensures items { list.new.items ≡ list.old.items ++ (result, element) ∷ [] }
-    ensures new_id { lookup (nat_eq result) list.old.items ≡ None }
-    ensures room { list.old.room ≤ list.new.room + 1 }
+/// Makes room in the index for all ids below this number.
+fn index_all<K: Eq + Drop, V: Drop, A: Allocator + Clone + Drop>(
+    index: &mut HashIndex<A>,
+    deques: &Deques<K, V, A>,
+    ids: usize,
+) -> Result<(), OutOfMemory>
+    requires bound { deques.now.ids ≤ ids }
+    requires indexed { IsIndexed deques.now.nodes index.old }
+    ensures indexed { IsIndexed deques.now.nodes index.new }
+    ensures room { OnOk result (ids ≤ index.new.ids) }
+    ensures err { OnErr result (index.new ≡ index.old) }
 {
-    match list.push_back(element) {
-        Ok(id) => id,
-        Err(_) => unreachable!(),
+    if ids <= index.ids() {
+        return Ok(());
     }
+    index.clear_for(ids)?;
+    add_all(index, deques);
+    Ok(())
 }
 
-/// A total with one more weight. Fewer than 2^64 weights, of 32 bits each, come to less than 2^96.
-fn with_weight<K: Drop, V: Drop, A: Allocator>(
-    order: &Deque<Node<K, V>, A>,
-    total: u128,
-    weight: u32,
-) -> u128
-    requires { total ≤ length order.now.items * (2 ^ 32 - 1) }
-    ensures value { result ≡ total + weight }
-    ensures small { weight < 2 ^ 32 }
+/// Adds the ids of all nodes to an index that has none.
+fn add_all<K: Eq + Drop, V: Drop, A: Allocator + Clone + Drop>(
+    index: &mut HashIndex<A>,
+    deques: &Deques<K, V, A>,
+)
+    requires bound { deques.now.ids ≤ index.old.ids }
+    requires empty { (hash : ℕ) → candidates index.old hash ≡ [] }
+    ensures indexed { IsIndexed deques.now.nodes index.new }
+    ensures ids { index.new.ids ≡ index.old.ids }
 {
-    let _ = order.len();
-    total + u128::from(weight)
-}
-
-/// Gives an entry another's value, weight and moments.
-fn rewrite<K: Drop, V: Drop>(node: &mut Node<K, V>, update: Entry<K, V>)
-    ensures { node.new ≡ record { entry = record update { key = node.old.entry.key; hash = node.old.entry.hash }; write = node.old.write } }
-{
-    node.entry.value = update.value;
-    node.entry.weight = update.weight;
-    node.entry.accessed = update.accessed;
-    node.entry.modified = update.modified;
-}
-
-/// Takes a write out of the order of writing, if there is one.
-fn unlink_write<A: Allocator>(writes: &mut Deque<NodeId, A>, write: Option<NodeId>)
-    requires { IfSome write (λ w. IsIn writes.old.items w) }
-    ensures items { writes.new.items ≡ without_write write writes.old.items }
-    ensures room { writes.old.room ≤ writes.new.room }
-{
-    if let Some(write) = write {
-        writes.unlink_and_drop(write);
-    }
-}
-
-/// Moves a write to the back of the order of writing, if there is one.
-fn move_write_to_back<A: Allocator>(writes: &mut Deque<NodeId, A>, write: Option<NodeId>)
-    requires { IfSome write (λ w. IsIn writes.old.items w) }
-    ensures items { writes.new.items ≡ with_write_last write writes.old.items }
-    ensures room { writes.new.room ≡ writes.old.room }
-{
-    if let Some(write) = write {
-        writes.move_to_back(write);
+    // All ids are below this number, and none stands twice.
+    let _ = (deques.ids(), deques.len());
+    let mut here = deques.front();
+    while let Some(id) = here {
+        index.add(id.number(), deques.get(id).hash);
+        here = deques.next(id);
     }
 }

@@ -100,7 +100,7 @@ module _ {K V S : Type 0} {keys : Keys K S} {state : S} {policy : Policy} where
   IsCached-new none keeps = record { hashed = rw none (All-from_recursion _ [] tt); keeps = keeps }
 
   -- more room changes nothing
-  pub IsCached-room : {old new : Store K V} → IsCached keys state policy old → new ≡ record old { room = new.room }
+  pub IsCached-room : {old new : Store K V} → IsCached keys state policy old → new ≡ record old { room = new.room; ids = new.ids }
       → IsCached keys state policy new
   IsCached-room is same =
       record {

@@ -81,8 +81,10 @@ pub(crate) struct Parts<S: Drop, W: Drop> {
 ///
 /// # Cost
 ///
-/// A look-up takes time linear in the number of entries, since there is no index yet; all else in a call takes constant time for each entry that
-/// it adds or removes. Nothing but building and inserting takes memory.
+/// A look-up takes constant time in the mean, by an index over the hashes of the keys, as long as these are spread; keys of one hash are looked
+/// through in turn. All else in a call takes constant time for each entry that it adds or removes. Nothing but building and inserting takes
+/// memory, and an insert for which there is room takes it for the sketch's table alone. Growing doubles the room, and then adds all entries to the
+/// index anew.
 ///
 /// # What differs from mini-moka
 ///
@@ -213,10 +215,10 @@ impl<
         ensures step { self.new
             ≡ after_look (keys_by K.Hash S.BuildHasher S.Hasher.Hasher) self.old now }
     {
-        upkeep(&mut self.store, self.policy, now);
+        upkeep(&mut self.store, &self.policy, now);
         let hash = self.hash_state.hash_one(key);
         match self.store.find(key, hash) {
-            Some(id) => !is_expired(self.policy, self.store.get(id), now),
+            Some(id) => !is_expired(&self.policy, self.store.get(id), now),
             None => false,
         }
     }
@@ -229,11 +231,11 @@ impl<
         ensures value { option_copied result
             ≡ found_by_get (keys_by K.Hash S.BuildHasher S.Hasher.Hasher) self.old key.now now }
     {
-        upkeep(&mut self.store, self.policy, now);
+        upkeep(&mut self.store, &self.policy, now);
         let hash = self.hash_state.hash_one(key);
         self.sketch.increment(hash);
         let id = self.store.find(key, hash)?;
-        if is_expired(self.policy, self.store.get(id), now) {
+        if is_expired(&self.policy, self.store.get(id), now) {
             return None;
         }
         self.store.touch(id, now);
@@ -247,7 +249,7 @@ impl<
     {
         let hash = self.hash_state.hash_one(key);
         let store = &mut self.store;
-        upkeep(store, self.policy, now);
+        upkeep(store, &self.policy, now);
         remove_key(store, key, hash);
     }
 
@@ -346,7 +348,7 @@ impl<
         if self.store.reserve(1).is_err() {
             return Err(InsertError::OutOfMemory);
         }
-        upkeep(&mut self.store, self.policy, now);
+        upkeep(&mut self.store, &self.policy, now);
         let entry = Entry {
             hash: self.hash_state.hash_one(&key),
             weight: self.weigher.weigh(&key, &value),

@@ -1,10 +1,10 @@
 // A list of nodes, which contracts see as the node ids with their elements.
-ghost use Rattle.std.specs.Prelude.{◌≡◌, ◌+◌, ◌<◌, ◌≤◌, [], ◌↔◌, nat_eq, if◌then◌else◌, length, IsTrue, IsOk, IfOk, OnOk, IfErr, Some, None};
+ghost use Rattle.std.specs.Prelude.{◌≡◌, ℕ, ◌+◌, ◌<◌, ◌≤◌, [], ◌↔◌, nat_eq, if◌then◌else◌, length, IsTrue, IsOk, OnOk, Some, None};
 ghost use Rattle.std.specs.Borrow.{sem};
 ghost use Rattle.std.specs.Map.{lookup, values_of};
 ghost use Rattle.moka_deque.specs.Deque.{IsIn, first_id, next_id, moved_to_back};
 ghost use Rattle.moka_deque.specs.Nodes.{AreApart};
-ghost use Rattle.moka_deque.specs.Linked.{EndsWith, Pushes, Refuses, Unlinks};
+ghost use Rattle.moka_deque.specs.Linked.{EndsWith, Pushes, Unlinks};
 ghost use Rattle.moka_deque.specs.declared.deque.nodes.TheConstants.{NONE};
 
 use crate::deque::iter::Iter;
@@ -56,9 +56,17 @@ impl<T, A: Allocator> Linked<T, A> {
         ensures ok { OnOk result (additional ≤ self.new.room) }
         ensures succeeds { additional ≤ self.old.room → IsOk result }
         ensures items { self.new.items ≡ self.old.items }
+        ensures had_room { additional ≤ self.old.room → self.new ≡ self.old }
         ensures room { self.old.room ≤ self.new.room }
     {
         self.nodes.slab.reserve(additional)
+    }
+
+    pub(crate) fn capacity(&self) -> usize
+        ensures value { result ≡ length self.now.items + self.now.room }
+        ensures bound { (id : ℕ) → IsIn self.now.items id → id < result }
+    {
+        self.nodes.slab.capacity()
     }
 
     pub(crate) fn contains(&self, id: usize) -> bool
@@ -101,13 +109,11 @@ impl<T, A: Allocator> Linked<T, A> {
         self.nodes.element_mut(id)
     }
 
-    pub(crate) fn push_back(&mut self, element: T) -> Result<usize, T>
-        ensures ok { IfOk result (λ id. Pushes self.old self.new id element) }
-        ensures err { IfErr result (λ back. Refuses self.old self.new element back) }
-        ensures succeeds { 0 < self.old.room → IsOk result }
-        ensures room { self.old.room ≤ self.new.room + 1 }
+    pub(crate) fn push_reserved(&mut self, element: T) -> usize
+        requires { 0 < self.old.room }
+        ensures step { Pushes self.old self.new result element }
     {
-        self.nodes.push_back(element)
+        self.nodes.push_reserved(element)
     }
 
     pub(crate) fn unlink(&mut self, id: usize) -> T

@@ -2,11 +2,11 @@
 //
 // `NONE` stands for the place before the first node and after the last, so that the ends need no cases: its next node is the head, and its
 // previous one the tail.
-ghost use Rattle.std.specs.Prelude.{◌≡◌, ℕ, ◌≤◌, [], ◌↔◌, IsTrue, IsSome, IfOk, IfErr, IsOk, Some, None};
+ghost use Rattle.std.specs.Prelude.{◌≡◌, ℕ, ◌+◌, ◌<◌, [], ◌↔◌, IsTrue, IsSome, Some, None};
 ghost use Rattle.std.specs.Borrow.{sem};
-ghost use Rattle.slab.specs.Slab.{HasRoomFor, ContainsKey};
+ghost use Rattle.slab.specs.Slab.{HasRoomFor, ContainsKey, slab_len};
 ghost use Rattle.moka_deque.specs.Nodes.{next_at, prev_at, element_at, IsPlace, IsListed, FacesEnd};
-ghost use Rattle.moka_deque.specs.NodesChanges.{KeepsElements, RelinksNext, RelinksPrev, Joins, Relists, Pushes, Refuses, Unlinks, Gains, Attaches, Detaches};
+ghost use Rattle.moka_deque.specs.NodesChanges.{KeepsElements, RelinksNext, RelinksPrev, Joins, Relists, Pushes, Unlinks, Gains, Attaches, Detaches};
 ghost use Rattle.moka_deque.specs.Deque.{moved_to_back};
 ghost use Rattle.moka_deque.specs.Lends.{lends_element};
 
@@ -72,19 +72,14 @@ impl<T, A: Allocator> Nodes<T, A> {
         &mut node.element
     }
 
-    // A node at the back.
-    pub(crate) fn push_back(&mut self, element: T) -> Result<usize, T>
-        ensures ok { IfOk result (λ id. Pushes self.old self.new id element) }
-        ensures err { IfErr result (λ back. Refuses self.old self.new element back) }
-        ensures succeeds { HasRoomFor self.old.slab 1 → IsOk result }
-        ensures capacity { self.old.slab.capacity ≤ self.new.slab.capacity }
+    // A node at the back, in room that was reserved.
+    pub(crate) fn push_reserved(&mut self, element: T) -> usize
+        requires { HasRoomFor self.old.slab 1 }
+        ensures step { Pushes self.old self.new result element }
     {
-        if self.slab.reserve(1).is_err() {
-            return Err(element);
-        }
         let id = self.insert(element);
         self.link_back(id);
-        Ok(id)
+        id
     }
 
     pub(crate) fn unlink(&mut self, id: usize) -> T
@@ -130,7 +125,9 @@ impl<T, A: Allocator> Nodes<T, A> {
         ensures apart { Gains self.old self.new result element }
         ensures new_id { element_at self.old result ≡ None }
         ensures faces_end { FacesEnd self.new result }
+        ensures len { slab_len self.new.slab ≡ slab_len self.old.slab + 1 }
         ensures capacity { self.new.slab.capacity ≡ self.old.slab.capacity }
+        ensures below { result < self.new.slab.capacity }
     {
         let id = self.slab.insert_reserved(Node {
             element,

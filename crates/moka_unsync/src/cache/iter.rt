@@ -58,7 +58,7 @@ impl<'a, K: Drop, V: Drop, A: Allocator> Iterator for Iter<'a, K, V, A> {
 
     fn next(&mut self) -> Option<(&'a K, &'a V)> {
         while let Some(entry) = self.entries.next() {
-            if !is_expired(self.policy, entry, self.now) {
+            if !is_expired(&self.policy, entry, self.now) {
                 return Some((&entry.key, &entry.value));
             }
         }

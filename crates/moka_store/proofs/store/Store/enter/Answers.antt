@@ -1,46 +1,20 @@
-use Rattle.std.proofs.Common.{◌≡◌, None, ap, is_some, subst, sym}
-use Rattle.moka_machine.specs.Contents.{entry_at}
-use Rattle.moka_store.specs.Store.{entries_of}
-use Rattle.moka_store.proofs.ChangeLemmas.{enter_is, enter_keeps, is_pushed, unkept_is, unkept_keeps}
-use Rattle.moka_store.proofs.StoreLemmas.{total_bound}
+use Rattle.std.proofs.Common.{◌≡◌, ◌∙◌, ap, is_some, subst, sym, true}
+use Rattle.std.proofs.lemmas.Bool.{false≢true}
+use Rattle.moka_index.proofs.IdsLemmas.{in_from_Contains}
+use Rattle.moka_index.specs.HashIndex.{candidates, Adds}
+use Rattle.moka_store.specs.Indexed.{is_among}
+use Rattle.moka_store.proofs.IndexLemmas.{IsIndexed-enter}
 use Rattle.moka_store.proofs.store.Store.enter.Goals as goal
 
-pub with_weight-self-inside-requires : goal.with_weight-self-inside-requires
-with_weight-self-inside-requires g c = total_bound c.self.invariant
-
-pub get_mut-requires : goal.get_mut-requires
-get_mut-requires g c =
-    ap is_some (is_pushed g.met.K.Eq.laws c.self.invariant c.push_reserved-id.result c.args.entry c.push_reserved-id.ensures.new_id
-    c.push_reserved-id.new.list.items c.push_reserved-id.ensures.items)
+pub add-requires-clause-absent : goal.add-requires-clause-absent
+add-requires-clause-absent g c =
+    λ other held.
+    let ids = candidates c.self.inside.index other in
+    let among = subst (λ i. is_among i ids ≡ true) c.number.ensures (in_from_Contains ids c.number.result held) in
+    false≢true (sym (ap is_some c.enter-id.ensures.new_id) ∙ c.self.invariant.standing other c.enter-id.result among)
 
 pub invariant_of-self : goal.invariant_of-self
 invariant_of-self g c =
-    enter_keeps g.met.K.Eq.laws c.self.invariant c.push_reserved-id.result c.args.entry c.push_reserved-id.ensures.new_id
-    c.push_reserved-id.new.list.items c.push_reserved-id.ensures.items
-    c.if-self.true c.push_reserved-write.result c.push_reserved-write.ensures.new_id c.get_mut.result.now c.get_mut.ensures.value
-    c.push_reserved-write.new.list.items c.push_reserved-write.ensures.items
-    (subst (λ v. entry_at g.K.PartialEq.eq c.args.entry.key (entries_of v) ≡ None) (sym c.self.view_is) c.requires.absent)
-    c.with_weight-self-inside.ensures.small c.with_weight-self-inside.result c.with_weight-self-inside.ensures.value
-
-pub invariant_of-self-else-self : goal.invariant_of-self-else-self
-invariant_of-self-else-self g c =
-    unkept_keeps g.met.K.Eq.laws c.self.invariant c.push_reserved-id.result c.args.entry c.push_reserved-id.ensures.new_id
-    c.push_reserved-id.new.list.items c.push_reserved-id.ensures.items
-    c.if-self.false
-    (subst (λ v. entry_at g.K.PartialEq.eq c.args.entry.key (entries_of v) ≡ None) (sym c.self.view_is) c.requires.absent)
-    c.with_weight-self-inside.ensures.small c.with_weight-self-inside.result c.with_weight-self-inside.ensures.value
-
-pub returns-then-self : goal.returns-then-self
-returns-then-self g c =
-    rw (← c.self.view_is)
-    (enter_is g.met.K.Eq.laws c.self.invariant c.push_reserved-id.result c.args.entry c.push_reserved-id.ensures.new_id
-    c.push_reserved-id.new.list.items c.push_reserved-id.ensures.items
-    c.if-self.true c.push_reserved-write.result c.push_reserved-write.ensures.new_id c.get_mut.result.now c.get_mut.ensures.value
-    c.push_reserved-write.new.list.items c.push_reserved-write.ensures.items _ _)
-
-pub returns-else-self : goal.returns-else-self
-returns-else-self g c =
-    rw (← c.self.view_is)
-    (unkept_is g.met.K.Eq.laws c.self.invariant c.push_reserved-id.result c.args.entry c.push_reserved-id.ensures.new_id
-    c.push_reserved-id.new.list.items c.push_reserved-id.ensures.items
-    c.if-self.false _ _)
+    let step = c.enter-id.ensures in
+    let added = subst (λ i. Adds c.self.inside.index i c.args.entry.hash c.add.new.self) c.number.ensures c.add.ensures.step in
+    IsIndexed-enter c.self.invariant c.enter-id.result c.args.entry c.add.new.self added step.new_id _ step.nodes

@@ -1,14 +1,6 @@
-use Rattle.std.proofs.Common.{◌∙◌}
-use Rattle.moka_store.proofs.FindLemmas.{oldest_found, oldest_none}
+use Rattle.moka_store.proofs.IndexLemmas.{shown_oldest}
 use Rattle.moka_store.proofs.store.Store.oldest.Goals as goal
 
 pub returns-clause-found : goal.returns-clause-found
 returns-clause-found g c =
-    rw (← c.self.view_is)
-    (oldest_found g.met.K.Eq.laws c.self.inside.order.items c.self.inside.writes.items _ c.self.invariant c.copied.result
-    (c.copied.ensures ∙ c.peek_front.ensures))
-
-pub returns-clause-absent : goal.returns-clause-absent
-returns-clause-absent g c =
-    rw (← c.self.view_is)
-    (oldest_none c.self.inside.order.items c.self.inside.writes.items c.copied.result (c.copied.ensures ∙ c.peek_front.ensures))
+    rw (← c.self.view_is) (shown_oldest g.K.PartialEq.eq c.self.inside.deques _ c.oldest.result c.oldest.ensures.found)

@@ -1,28 +1,24 @@
-use Rattle.std.proofs.Common.{◌-◌, ap, is_some, IsSome, nat_eq, subst, sym}
-use Rattle.std.specs.Map.{lookup}
-use Rattle.moka_store.proofs.ChangeLemmas.{remove_is, remove_keeps, weight_in_total}
-use Rattle.moka_store.proofs.FindLemmas.{room_for-mono}
-use Rattle.moka_store.proofs.StoreLemmas.{is_node}
+use Rattle.std.proofs.Common.{Contains, subst, sym}
+use Rattle.moka_index.proofs.IdsLemmas.{Contains_from_in}
+use Rattle.moka_index.specs.HashIndex.{candidates, Removes}
+use Rattle.moka_store.proofs.IndexLemmas.{IsIndexed-remove, indexed_room-mono, shown_removes}
 use Rattle.moka_store.proofs.store.Store.remove.Goals as goal
 
-pub unlink-node-requires : goal.unlink-node-requires
-unlink-node-requires g c =
-    ap is_some (is_node c.args.id c.self.inside.order.items
-    (subst (λ v. IsSome (lookup (nat_eq c.args.id) v.nodes)) (sym c.self.view_is) c.requires)).1
-
-pub overflow_sub-self : goal.overflow_sub-self
-overflow_sub-self g c =
-    rw c.from.ensures (weight_in_total g.met.K.Eq.laws c.self.invariant c.args.id c.unlink-node.result c.unlink-node.ensures.value)
+pub remove-requires : goal.remove-requires
+remove-requires g c =
+    let ids = candidates c.self.inside.index c.get.result.now.hash in
+    subst (Contains ids) (sym c.number.ensures)
+    (Contains_from_in ids c.args.id (c.self.invariant.listed c.args.id c.get.result.now c.get.ensures))
 
 pub invariant_of-self : goal.invariant_of-self
 invariant_of-self g c =
-    remove_keeps g.met.K.Eq.laws c.self.invariant c.args.id c.unlink-node.result c.unlink-node.ensures.value
-    c.unlink-node.new.self.items (ap (λ d. d.items) c.unlink-node.ensures.step) c.unlink_write.new.writes.items c.unlink_write.ensures.items
-    (c.self.inside.total - c.from.result) (ap (λ w. c.self.inside.total - w) c.from.ensures)
+    let step = c.remove-2.ensures in
+    let removed = subst (λ i. Removes c.self.inside.index i c.remove.new.self) c.number.ensures c.remove.ensures.step in
+    IsIndexed-remove c.self.invariant c.args.id step.entry c.len.ensures.distinct step.stood c.remove.new.self removed _ step.nodes
 
 pub returns : goal.returns
 returns g c =
+    let step = c.remove-2.ensures in
     rw (← c.self.view_is)
-    (remove_is g.met.K.Eq.laws c.self.invariant c.args.id c.unlink-node.result c.unlink-node.ensures.value
-    c.unlink-node.new.self.items (ap (λ d. d.items) c.unlink-node.ensures.step) c.unlink_write.new.writes.items c.unlink_write.ensures.items
-    _ _ (room_for-mono c.self.inside.keeps_writes _ _ _ _ c.unlink-node.ensures.room c.unlink_write.ensures.room))
+    (shown_removes _ _ (indexed_room-mono c.self.inside.deques c.remove-2.new.self c.self.inside.index c.remove.new.self step.ids
+    c.remove.ensures.step.ids step.room) step)

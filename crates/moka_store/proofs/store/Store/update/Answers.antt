@@ -1,51 +1,12 @@
-use Rattle.std.proofs.Common.{◌≡◌, ◌∙◌, ◌-◌, ◌+◌, ◌++◌, ◌∷◌, [], ap, is_some, IsSome, nat_eq, subst, sym, unwrap_or}
-use Rattle.std.specs.Map.{lookup, remove_entry}
-use Rattle.moka_store.proofs.ChangeLemmas.{rest_bound, update_is, update_keeps, updated, weight_in_total}
-use Rattle.moka_store.proofs.FindLemmas.{lookup-set_same, moved-set}
-use Rattle.moka_store.proofs.StoreLemmas.{is_node}
-use Rattle.moka_store.proofs.store.Store.update.Given.{Over}
-use Rattle.moka_store.proofs.store.Store.update.Goals.{After-move_write_to_back}
+use Rattle.std.proofs.Common.{refl}
+use Rattle.moka_store.proofs.IndexLemmas.{IsIndexed-rewrite, shown_updates}
 use Rattle.moka_store.proofs.store.Store.update.Goals as goal
-
-pub get-node-requires : goal.get-node-requires
-get-node-requires g c =
-    ap is_some (is_node c.args.id c.self.inside.order.items
-    (subst (λ v. IsSome (lookup (nat_eq c.args.id) v.nodes)) (sym c.self.view_is) c.requires)).1
-
-pub overflow_sub-self-inside : goal.overflow_sub-self-inside
-overflow_sub-self-inside g c =
-    rw c.from.ensures (weight_in_total g.met.K.Eq.laws c.self.invariant c.args.id c.get-node.result.now c.get-node.ensures)
-
-pub with_weight-self-inside-requires : goal.with_weight-self-inside-requires
-with_weight-self-inside-requires g c =
-    rw c.from.ensures (rest_bound c.self.invariant c.get-node.result.now.entry.weight)
-
-pub move_to_back-requires : goal.move_to_back-requires
-move_to_back-requires g c =
-    ap is_some (lookup-set_same c.args.id c.rewrite.new.node c.self.inside.order.items (ap is_some c.get-node.ensures))
-
--- the node, updated, is the last
-moved : (g : Over) (c : After-move_write_to_back g) → c.move_to_back.new.self.items
-    ≡ remove_entry (nat_eq c.args.id) c.self.inside.order.items ++ (c.args.id, updated c.get-node.result.now c.args.update) ∷ []
-moved g c =
-    let items = c.self.inside.order.items in
-    let node = c.get-node.result.now in
-    let same : c.get_mut.result.now ≡ node = ap (λ o. unwrap_or o node) (sym c.get_mut.ensures.value ∙ c.get-node.ensures) in
-    let rewritten = c.rewrite.ensures ∙ ap (λ n. updated n c.args.update) same in
-    ap (λ d. d.items) c.move_to_back.ensures
-    ∙ (moved-set c.args.id c.rewrite.new.node items (ap is_some c.get-node.ensures)
-    ∙ ap (λ n. remove_entry (nat_eq c.args.id) items ++ (c.args.id, n) ∷ []) rewritten)
 
 pub invariant_of-self : goal.invariant_of-self
 invariant_of-self g c =
-    update_keeps g.met.K.Eq.laws c.self.invariant c.args.id c.get-node.result.now c.get-node.ensures c.args.update
-    c.with_weight-self-inside.ensures.small _ (moved g (goal.at.invariant_of-self g c).After-move_write_to_back) _
-    c.move_write_to_back.ensures.items c.with_weight-self-inside.result
-    (c.with_weight-self-inside.ensures.value ∙ ap (λ w. c.self.inside.total - w + c.args.update.weight) c.from.ensures)
+    let step = c.update.ensures in
+    IsIndexed-rewrite c.self.invariant c.args.id step.entry c.len.ensures.distinct step.stood
+    (record c.args.update { key = step.entry.key; hash = step.entry.hash }) refl _ step.nodes
 
 pub returns : goal.returns
-returns g c =
-    rw (← c.self.view_is)
-    (update_is g.met.K.Eq.laws c.self.invariant c.args.id c.get-node.result.now c.get-node.ensures c.args.update
-    c.with_weight-self-inside.ensures.small _ (moved g (goal.at.returns g c).After-move_write_to_back) _
-    c.move_write_to_back.ensures.items _ _)
+returns g c = rw (← c.self.view_is) (shown_updates _ _ c.args.update c.update.ensures)

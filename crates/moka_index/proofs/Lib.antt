@@ -1,0 +1,4 @@
+pub mod CallerLemmas
+pub mod ChainsLemmas
+pub mod HashIndexLemmas
+pub mod IdsLemmas

@@ -1,0 +1,3 @@
+pub mod HashIndex
+-- inside
+pub mod Chains

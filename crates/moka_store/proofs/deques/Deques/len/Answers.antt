@@ -1,0 +1,18 @@
+use Rattle.std.proofs.Common.{nat_eq, subst, sym}
+use Rattle.std.specs.List.{IsDistinct}
+use Rattle.moka_store.proofs.FindLemmas.{alone_is}
+use Rattle.moka_store.proofs.StoreLemmas.{ids-entries, written-absent}
+use Rattle.moka_store.proofs.deques.Deques.len.Goals as goal
+
+pub returns-clause-distinct : goal.returns-clause-distinct
+returns-clause-distinct g c =
+    rw (← c.self.view_is) (subst (IsDistinct nat_eq) (sym (ids-entries c.self.inside.order.items)) c.self.invariant.once)
+
+pub returns-clause-alone : goal.returns-clause-alone
+returns-clause-alone g c =
+    rw (← c.self.view_is) (λ id e key stands equal. alone_is g.met.K.Eq.laws c.self.invariant id e key stands equal)
+
+pub returns-clause-unwritten : goal.returns-clause-unwritten
+returns-clause-unwritten g c =
+    rw (← c.self.view_is)
+    (λ key absent. written-absent g.K.PartialEq.eq key c.self.inside.order.items c.self.inside.writes.items absent)

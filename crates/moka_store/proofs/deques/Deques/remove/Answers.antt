@@ -1,0 +1,30 @@
+use Rattle.std.proofs.Common.{◌-◌, ap, is_some, IsSome, nat_eq, subst, sym}
+use Rattle.std.specs.Map.{lookup}
+use Rattle.moka_store.proofs.ChangeLemmas.{ids_removed, one_more, remove_is, remove_keeps, weight_in_total}
+use Rattle.moka_store.proofs.FindLemmas.{room_for-mono}
+use Rattle.moka_store.proofs.StoreLemmas.{is_node}
+use Rattle.moka_store.proofs.deques.Deques.remove.Goals as goal
+
+pub unlink-node-requires : goal.unlink-node-requires
+unlink-node-requires g c =
+    ap is_some (is_node c.args.id c.self.inside.order.items
+    (subst (λ v. IsSome (lookup (nat_eq c.args.id) v.nodes)) (sym c.self.view_is) c.requires)).1
+
+pub overflow_sub-self : goal.overflow_sub-self
+overflow_sub-self g c =
+    rw c.from.ensures (weight_in_total g.met.K.Eq.laws c.self.invariant c.args.id c.unlink-node.result c.unlink-node.ensures.value)
+
+pub invariant_of-self : goal.invariant_of-self
+invariant_of-self g c =
+    remove_keeps g.met.K.Eq.laws c.self.invariant c.args.id c.unlink-node.result c.unlink-node.ensures.value
+    c.unlink-node.new.self.items (ap (λ d. d.items) c.unlink-node.ensures.step) c.unlink_write.new.writes.items c.unlink_write.ensures.items
+    (c.self.inside.total - c.from.result) (ap (λ w. c.self.inside.total - w) c.from.ensures)
+
+pub returns : goal.returns
+returns g c =
+    rw (← c.self.view_is)
+    (remove_is g.met.K.Eq.laws c.self.invariant c.args.id c.unlink-node.result c.unlink-node.ensures.value
+    c.unlink-node.new.self.items (ap (λ d. d.items) c.unlink-node.ensures.step) c.unlink_write.new.writes.items c.unlink_write.ensures.items
+    _ _ _ _ (room_for-mono c.self.inside.keeps_writes _ _ _ _ (one_more _ _ (ap (λ d. d.room) c.unlink-node.ensures.step)) c.unlink_write.ensures.room)
+    (ids_removed c.self.inside.order.items _ _ _ c.args.id c.unlink-node.result c.unlink-node.ensures.value (ap (λ d. d.items) c.unlink-node.ensures.step)
+    (ap (λ d. d.room) c.unlink-node.ensures.step)))

@@ -1,0 +1,248 @@
+// The entries of a cache in order of use and in order of writing, with the total of their weights.
+ghost use Rattle.std.specs.Prelude.{◌≡◌, ◌≤◌, ◌<◌, ◌+◌, ◌-◌, ◌*◌, ◌^◌, ◌++◌, ◌∷◌, ℕ, [], length, nat_eq, IfOk, OnOk, IfSome, IsNone, IsSome, None, Some, true};
+ghost use Rattle.std.specs.List.{IsDistinct};
+ghost use Rattle.std.specs.Map.{keys_of, lookup};
+ghost use Rattle.moka_deque.specs.Deque.{IsIn, first_id, next_id};
+ghost use Rattle.moka_store.specs.Nodes.{with_write_last, without_write};
+ghost use Rattle.moka_base.specs.Settings.{keeps_writes};
+ghost use Rattle.moka_machine.specs.Contents.{entry_at, no_contents, total_weight, writes_without};
+ghost use Rattle.moka_store.specs.Store.{Enters, IsFront, IsOldest, Removes, Touches, Updates, entries_of};
+ghost use Rattle.moka_store.specs.Turns.{contents_of};
+
+mod entries;
+
+pub use entries::Entries;
+use moka_base::error::OutOfMemory;
+use moka_base::policy::Policy;
+use moka_base::time::Instant;
+use moka_deque::deque::{CacheRegion, Deque, NodeId};
+use moka_machine::entry::Entry;
+use std::alloc::{AllocError, Allocator, Global};
+use std::marker::Model;
+
+/// An entry, and where it stands in the order of writing.
+#[derive(Drop)]
+pub(crate) struct Node<K: Drop, V: Drop> {
+    entry: Entry<K, V>,
+    write: Option<NodeId>,
+}
+
+/// The entries of a cache in their orders. An entry is found by the id of its node.
+#[derive(Drop)]
+pub(crate) struct Deques<K: Eq + Drop, V: Drop, A: Allocator + Clone + Drop = Global> {
+    order: Deque<Node<K, V>, A>,
+    writes: Deque<NodeId, A>,
+    keeps_writes: bool,
+    total: u128,
+}
+
+impl<K: Eq + Drop, V: Drop, A: Allocator + Clone + Drop> Model for Deques<K, V, A> {
+    ghost use Rattle.moka_store.specs.Store.{Store as StoreState};
+    ghost use Rattle.moka_store.specs.Nodes.{IsStored, entries_under, ids_of, room_for, written_under};
+
+    ghost Value = { StoreState K V };
+
+    ghost view = { λ s. record {
+      nodes = entries_under s.order.items;
+      written = written_under s.order.items s.writes.items;
+      keeps_writes = s.keeps_writes;
+      room = room_for s.keeps_writes s.order.room s.writes.room;
+      ids = ids_of s.order.items s.order.room;
+    } };
+
+    ghost invariant = { λ s. IsStored K.eq s.keeps_writes s.order.items s.writes.items s.total };
+}
+
+impl<K: Eq + Drop, V: Drop, A: Allocator + Clone + Drop> Deques<K, V, A> {
+    /// Deques without entries. They keep the order of writing where there is a time to live.
+    pub(crate) fn new(alloc: A, policy: Policy) -> Result<Self, AllocError>
+        ensures { IfOk result (λ deques. deques
+            ≡ record { nodes = []; written = []; keeps_writes = keeps_writes policy; room = 0; ids = 0 }) }
+    {
+        Ok(Deques {
+            order: Deque::new(alloc.clone()?, CacheRegion::MainProbation),
+            writes: Deque::new(alloc, CacheRegion::Other),
+            keeps_writes: policy.time_to_live().is_some(),
+            total: 0,
+        })
+    }
+
+    /// Makes room for `additional` more entries.
+    pub(crate) fn reserve(&mut self, additional: usize) -> Result<(), OutOfMemory>
+        ensures ok { OnOk result (additional ≤ self.new.room) }
+        ensures unchanged { self.new ≡ record self.old { room = self.new.room; ids = self.new.ids } }
+    {
+        if self.keeps_writes {
+            self.writes.reserve(additional)?;
+        }
+        self.order.reserve(additional)
+    }
+
+    /// The ids of all nodes are below this number, as long as there is room.
+    pub(crate) fn ids(&self) -> usize
+        ensures value { result ≡ self.now.ids }
+        ensures bound { (id : ℕ) → IsSome (lookup (nat_eq id) self.now.nodes) → id < result }
+    {
+        self.order.capacity()
+    }
+
+    /// How many entries there are.
+    pub(crate) fn len(&self) -> usize
+        ensures len { result ≡ length self.now.nodes }
+
+        // What holds of all deques: no id and no key stands twice, and each write has its entry.
+        ensures distinct { IsDistinct nat_eq (keys_of self.now.nodes) }
+        ensures alone { (id : ℕ) (e : Entry K V) (key : K) → lookup (nat_eq id) self.now.nodes ≡ Some e
+            → K.eq key e.key ≡ true → entry_at K.eq key (entries_of self.now) ≡ Some e }
+        ensures unwritten { (key : K) → entry_at K.eq key (entries_of self.now) ≡ None
+            → writes_without K.eq key self.now.written ≡ self.now.written }
+    {
+        self.order.len()
+    }
+
+    /// What all entries weigh together.
+    pub(crate) fn weight(&self) -> u128
+        ensures value { result ≡ total_weight (entries_of self.now) }
+        ensures small { result < 2 ^ 96 }
+    {
+        // At most `usize::MAX` weights of 32 bits come to less than 2^96.
+        let _ = self.order.len();
+        self.total
+    }
+
+    /// The entry of a node.
+    pub(crate) fn get(&self, id: NodeId) -> &Entry<K, V>
+        requires { IsSome (lookup (nat_eq id) self.now.nodes) }
+        ensures { lookup (nat_eq id) self.now.nodes ≡ Some result.now }
+    {
+        &self.order.get(id).entry
+    }
+
+    /// The entries in order of use.
+    pub(crate) fn iter(&self) -> Entries<'_, K, V, A>
+        ensures { result ≡ entries_of self.now }
+    {
+        Entries {
+            nodes: self.order.iter(),
+        }
+    }
+
+    /// The node of the least recently used entry.
+    pub(crate) fn front(&self) -> Option<NodeId>
+        ensures found { IfSome result (λ id. IsFront K.eq self.now id) }
+        ensures absent { IsNone result → contents_of self.now ≡ no_contents }
+        ensures first { result ≡ first_id self.now.nodes }
+    {
+        self.order.front()
+    }
+
+    /// The node of the entry that was used next after this one.
+    pub(crate) fn next(&self, id: NodeId) -> Option<NodeId>
+        requires { IsSome (lookup (nat_eq id) self.now.nodes) }
+        ensures value { result ≡ next_id id self.now.nodes }
+        ensures distinct { IsDistinct nat_eq (keys_of self.now.nodes) }
+    {
+        self.order.next(id)
+    }
+
+    /// The node of the entry that was written the longest ago.
+    pub(crate) fn oldest(&self) -> Option<NodeId>
+        ensures found { IfSome result (λ id. IsOldest K.eq self.now id) }
+        ensures absent { IsNone result → self.now.written ≡ [] }
+    {
+        self.writes.peek_front().copied()
+    }
+
+    /// The entry becomes the most recently used one.
+    pub(crate) fn touch(&mut self, id: NodeId, now: Instant)
+        requires { IsSome (lookup (nat_eq id) self.old.nodes) }
+        ensures { Touches K.eq self.old id now self.new }
+    {
+        self.order.get_mut(id).entry.accessed = now;
+        self.order.move_to_back(id);
+    }
+
+    /// The entry gets another's value, weight and moments, and becomes the most recent one in both orders. It keeps its key.
+    pub(crate) fn update(&mut self, id: NodeId, update: Entry<K, V>)
+        requires { IsSome (lookup (nat_eq id) self.old.nodes) }
+        ensures { Updates K.eq self.old id update self.new }
+    {
+        let node = self.order.get(id);
+        let (weight, write) = (node.entry.weight, node.write);
+        self.total = with_weight(&self.order, self.total - u128::from(weight), update.weight);
+        rewrite(self.order.get_mut(id), update);
+        self.order.move_to_back(id);
+        move_write_to_back(&mut self.writes, write);
+    }
+
+    /// A new entry, most recent in both orders. There must be room for it, and no entry of its key.
+    pub(crate) fn enter(&mut self, entry: Entry<K, V>) -> NodeId
+        requires room { 0 < self.old.room }
+        requires absent { entry_at K.eq entry.key (entries_of self.old) ≡ None }
+        ensures { Enters K.eq self.old entry result self.new }
+    {
+        self.total = with_weight(&self.order, self.total, entry.weight);
+        let id = self.order.push_reserved(Node { entry, write: None });
+        if self.keeps_writes {
+            let write = self.writes.push_reserved(id);
+            self.order.get_mut(id).write = Some(write);
+        }
+        id
+    }
+
+    /// The entry leaves.
+    pub(crate) fn remove(&mut self, id: NodeId)
+        requires { IsSome (lookup (nat_eq id) self.old.nodes) }
+        ensures { Removes K.eq self.old id self.new }
+    {
+        let node = self.order.unlink(id);
+        self.total -= u128::from(node.entry.weight);
+        unlink_write(&mut self.writes, node.write);
+    }
+}
+
+/// A total with one more weight. Fewer than 2^64 weights, of 32 bits each, come to less than 2^96.
+fn with_weight<K: Drop, V: Drop, A: Allocator>(
+    order: &Deque<Node<K, V>, A>,
+    total: u128,
+    weight: u32,
+) -> u128
+    requires { total ≤ length order.now.items * (2 ^ 32 - 1) }
+    ensures value { result ≡ total + weight }
+    ensures small { weight < 2 ^ 32 }
+{
+    let _ = order.len();
+    total + u128::from(weight)
+}
+
+/// Gives an entry another's value, weight and moments.
+fn rewrite<K: Drop, V: Drop>(node: &mut Node<K, V>, update: Entry<K, V>)
+    ensures { node.new ≡ record { entry = record update { key = node.old.entry.key; hash = node.old.entry.hash }; write = node.old.write } }
+{
+    node.entry.value = update.value;
+    node.entry.weight = update.weight;
+    node.entry.accessed = update.accessed;
+    node.entry.modified = update.modified;
+}
+
+/// Takes a write out of the order of writing, if there is one.
+fn unlink_write<A: Allocator>(writes: &mut Deque<NodeId, A>, write: Option<NodeId>)
+    requires { IfSome write (λ w. IsIn writes.old.items w) }
+    ensures items { writes.new.items ≡ without_write write writes.old.items }
+    ensures room { writes.old.room ≤ writes.new.room }
+{
+    if let Some(write) = write {
+        writes.unlink_and_drop(write);
+    }
+}
+
+/// Moves a write to the back of the order of writing, if there is one.
+fn move_write_to_back<A: Allocator>(writes: &mut Deque<NodeId, A>, write: Option<NodeId>)
+    requires { IfSome write (λ w. IsIn writes.old.items w) }
+    ensures items { writes.new.items ≡ with_write_last write writes.old.items }
+    ensures room { writes.new.room ≡ writes.old.room }
+{
+    if let Some(write) = write {
+        writes.move_to_back(write);
+    }
+}
