@@ -1,0 +1,33 @@
+//! Plays one trace on one side, to be watched by a profiler: `one SIDE TRACE [TIMES]`, where SIDE is `port` or `original`.
+use moka_trace_bench::{port, rust_sides, traces};
+
+fn main() {
+    let words: Vec<String> = std::env::args().collect();
+    let [_, side, name, times @ ..] = words.as_slice() else {
+        panic!("usage: one SIDE TRACE [TIMES]");
+    };
+    let times = times.first().map_or(1, |word| {
+        word.parse().expect("the number of times is no number")
+    });
+    // A trace of single calls has its number of entries as its last word.
+    let entries = name.rsplit(", ").next().and_then(|word| word.parse().ok());
+    let all = match entries {
+        Some(entries) => traces::single_calls(entries),
+        None => traces::read_through_traces(),
+    };
+    let trace = all
+        .into_iter()
+        .find(|trace| trace.name == *name)
+        .expect("no trace has this name");
+    for _ in 0..times {
+        let outcome = match side.as_str() {
+            "port" => port::play(&trace.settings, &trace.operations),
+            "original" => {
+                let mut cache = rust_sides::original(&trace.settings);
+                rust_sides::play(&mut cache, &trace.operations)
+            }
+            _ => panic!("the sides are port and original"),
+        };
+        println!("{outcome:?}");
+    }
+}

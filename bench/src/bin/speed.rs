@@ -1,0 +1,193 @@
+//! How long a call takes on each side: `speed [PART] [REPEATS]`, where PART is `zipf`, `single` or `all`.
+use moka_trace_bench::port::{self, Outcome};
+use moka_trace_bench::rust_sides::{self, Side};
+use moka_trace_bench::table;
+use moka_trace_bench::traces::{self, Operation, Settings, Trace};
+use std::hint::black_box;
+use std::process::ExitCode;
+use std::time::Instant;
+
+const REPEATS: usize = 5;
+const ENTRIES: [u64; 2] = [10_000, 1_000_000];
+
+/// The least times of the repeats, in nanoseconds: of a whole trace, and of its filling alone.
+#[derive(Clone, Copy)]
+struct Least {
+    whole: f64,
+    filling: f64,
+    outcome: Outcome,
+}
+
+impl Least {
+    fn new() -> Least {
+        Least {
+            whole: f64::INFINITY,
+            filling: f64::INFINITY,
+            outcome: Outcome::default(),
+        }
+    }
+
+    fn a_call(&self, trace: &Trace) -> f64 {
+        let filling = if trace.filling == 0 {
+            0.0
+        } else {
+            self.filling
+        };
+        (self.whole - filling) / trace.counted() as f64
+    }
+}
+
+type Player = fn(&Settings, &[Operation]) -> (f64, Outcome);
+
+/// The port's time has the making and the dropping of the cache in it.
+fn time_port(settings: &Settings, operations: &[Operation]) -> (f64, Outcome) {
+    let start = Instant::now();
+    let outcome = port::play(settings, operations);
+    (start.elapsed().as_nanos() as f64, black_box(outcome))
+}
+
+/// The time of the operations alone.
+fn time_side<S: Side>(mut side: S, operations: &[Operation]) -> (f64, Outcome) {
+    let start = Instant::now();
+    let outcome = rust_sides::play(&mut side, operations);
+    (start.elapsed().as_nanos() as f64, black_box(outcome))
+}
+
+fn time_original(settings: &Settings, operations: &[Operation]) -> (f64, Outcome) {
+    time_side(rust_sides::original(settings), operations)
+}
+
+fn time_lru(settings: &Settings, operations: &[Operation]) -> (f64, Outcome) {
+    time_side(rust_sides::lru_cache(settings), operations)
+}
+
+fn time_map(settings: &Settings, operations: &[Operation]) -> (f64, Outcome) {
+    time_side(rust_sides::map(settings), operations)
+}
+
+/// The sides in turn, repeat by repeat.
+fn measure(trace: &Trace, players: &[Option<Player>], repeats: usize) -> Vec<Option<Least>> {
+    let mut least: Vec<Option<Least>> = players
+        .iter()
+        .map(|player| player.map(|_| Least::new()))
+        .collect();
+    for _ in 0..repeats {
+        for (player, least) in players.iter().zip(&mut least) {
+            let (Some(player), Some(least)) = (player, least) else {
+                continue;
+            };
+            if trace.filling > 0 {
+                let (nanos, _) = player(&trace.settings, &trace.operations[..trace.filling]);
+                least.filling = least.filling.min(nanos);
+            }
+            let (nanos, outcome) = player(&trace.settings, &trace.operations);
+            least.whole = least.whole.min(nanos);
+            least.outcome = outcome;
+        }
+    }
+    least
+}
+
+/// Prints the row of a trace. Says whether the port gave what the original gave.
+fn print_trace(trace: &Trace, repeats: usize) -> bool {
+    let is_plain = !trace.settings.is_weighed && !trace.settings.has_durations();
+    let players: [Option<Player>; 4] = [
+        Some(time_port),
+        Some(time_original),
+        is_plain.then_some(time_lru as Player),
+        trace.fits_a_map.then_some(time_map as Player),
+    ];
+    let least = measure(trace, &players, repeats);
+    let nanos: Vec<Option<f64>> = least
+        .iter()
+        .map(|least| least.map(|least| least.a_call(trace)))
+        .collect();
+    let outcome = |at: usize| least[at].map_or(Outcome::default(), |least| least.outcome);
+    let (port, original) = (outcome(0), outcome(1));
+    let share = |outcome: Outcome| format!("{:.4}", outcome.hits as f64 / trace.counted() as f64);
+    let verdict = if port == original {
+        "the same".to_string()
+    } else {
+        format!("port {port:?}, original {original:?}")
+    };
+    table::print_row(&[
+        trace.name.clone(),
+        table::number(nanos[0]),
+        table::number(nanos[1]),
+        table::number(nanos[2]),
+        table::number(nanos[3]),
+        table::ratio(nanos[0].unwrap_or(0.0), nanos[1].unwrap_or(0.0)),
+        share(port),
+        least[2].map_or("-".into(), |least| share(least.outcome)),
+        verdict,
+    ]);
+    port == original
+}
+
+/// What a reading of the clock takes: the original reads it once or twice a call where a duration is set, and the port is handed moments.
+fn clock_nanos() -> f64 {
+    let readings = 1_000_000;
+    let start = Instant::now();
+    for _ in 0..readings {
+        black_box(Instant::now());
+    }
+    start.elapsed().as_nanos() as f64 / f64::from(readings)
+}
+
+/// Lets `malloc` keep what is freed, so that no side is charged with the first touch of a page: in the first repeat alone pages are new.
+#[cfg(target_env = "gnu")]
+fn keep_memory() {
+    use std::ffi::c_int;
+    extern "C" {
+        fn mallopt(parameter: c_int, value: c_int) -> c_int;
+    }
+    const TRIM_THRESHOLD: c_int = -1;
+    const MMAP_MAX: c_int = -4;
+    let kept = unsafe { mallopt(MMAP_MAX, 0) == 1 && mallopt(TRIM_THRESHOLD, -1) == 1 };
+    assert!(kept, "malloc can't be told to keep its memory");
+}
+
+#[cfg(not(target_env = "gnu"))]
+fn keep_memory() {}
+
+fn main() -> ExitCode {
+    keep_memory();
+    let part = std::env::args().nth(1).unwrap_or("all".into());
+    let repeats = std::env::args().nth(2).map_or(REPEATS, |word| {
+        word.parse().expect("the number of repeats is no number")
+    });
+    let mut all_same = true;
+    println!(
+        "Nanoseconds a call, the least of {repeats} repeats; a reading of the clock takes {:.1}.",
+        clock_nanos()
+    );
+    println!();
+    table::print_head(&[
+        "Trace",
+        "port",
+        "mini-moka",
+        "lru",
+        "map",
+        "port to mini-moka",
+        "hits, port",
+        "hits, lru",
+        "hits, values and entries of port and mini-moka",
+    ]);
+    if part == "zipf" || part == "all" {
+        for trace in traces::read_through_traces() {
+            all_same &= print_trace(&trace, repeats);
+        }
+    }
+    if part == "single" || part == "all" {
+        for entries in ENTRIES {
+            for trace in traces::single_calls(entries) {
+                all_same &= print_trace(&trace, repeats);
+            }
+        }
+    }
+    if all_same {
+        ExitCode::SUCCESS
+    } else {
+        ExitCode::FAILURE
+    }
+}

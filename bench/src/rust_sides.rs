@@ -1,0 +1,162 @@
+//! The original, an LRU cache and a map without a limit, all with the hasher that the port has.
+use crate::port::Outcome;
+use crate::traces::{Operation, Settings, GET, GET_AND_INSERT, INSERT, READ_THROUGH, UNLIMITED};
+use mini_moka::unsync::Cache;
+use std::hash::{BuildHasher, Hasher};
+use std::time::Duration;
+
+/// One multiplication for each word of 64 bits.
+#[derive(Clone, Copy, Default)]
+pub struct Multiply(u64);
+
+impl Hasher for Multiply {
+    fn write(&mut self, _bytes: &[u8]) {
+        unreachable!("keys are numbers of 64 bits");
+    }
+
+    fn write_u64(&mut self, word: u64) {
+        self.0 = (self.0.rotate_left(5) ^ word).wrapping_mul(0x517C_C1B7_2722_0A95);
+    }
+
+    fn finish(&self) -> u64 {
+        self.0
+    }
+}
+
+impl BuildHasher for Multiply {
+    type Hasher = Multiply;
+
+    fn build_hasher(&self) -> Multiply {
+        Multiply(0)
+    }
+}
+
+/// What operations are played on.
+pub trait Side {
+    fn look(&mut self, key: u64) -> Option<u64>;
+    fn put(&mut self, key: u64, value: u64);
+    fn entries(&self) -> u64;
+    fn weight(&self) -> u64;
+}
+
+pub type Original = Cache<u64, u64, Multiply>;
+
+pub fn original(settings: &Settings) -> Original {
+    let mut builder = Cache::builder();
+    if settings.capacity != UNLIMITED {
+        builder = builder.max_capacity(settings.capacity);
+    }
+    if settings.time_to_live != UNLIMITED {
+        builder = builder.time_to_live(Duration::from_nanos(settings.time_to_live));
+    }
+    if settings.time_to_idle != UNLIMITED {
+        builder = builder.time_to_idle(Duration::from_nanos(settings.time_to_idle));
+    }
+    if settings.is_weighed {
+        builder = builder.weigher(|_key, value| u32::try_from(*value).unwrap_or(u32::MAX));
+    }
+    builder.build_with_hasher(Multiply::default())
+}
+
+impl Side for Original {
+    fn look(&mut self, key: u64) -> Option<u64> {
+        self.get(&key).copied()
+    }
+
+    fn put(&mut self, key: u64, value: u64) {
+        self.insert(key, value);
+    }
+
+    fn entries(&self) -> u64 {
+        self.entry_count()
+    }
+
+    fn weight(&self) -> u64 {
+        self.weighted_size()
+    }
+}
+
+pub type LruCache = lru::LruCache<u64, u64, Multiply>;
+
+pub fn lru_cache(settings: &Settings) -> LruCache {
+    LruCache::with_hasher(settings.capacity as usize, Multiply::default())
+}
+
+impl Side for LruCache {
+    fn look(&mut self, key: u64) -> Option<u64> {
+        self.get(&key).copied()
+    }
+
+    fn put(&mut self, key: u64, value: u64) {
+        LruCache::put(self, key, value);
+    }
+
+    fn entries(&self) -> u64 {
+        self.len() as u64
+    }
+
+    fn weight(&self) -> u64 {
+        self.len() as u64
+    }
+}
+
+pub type Map = hashbrown::HashMap<u64, u64, Multiply>;
+
+pub fn map(_settings: &Settings) -> Map {
+    Map::with_hasher(Multiply::default())
+}
+
+impl Side for Map {
+    fn look(&mut self, key: u64) -> Option<u64> {
+        self.get(&key).copied()
+    }
+
+    fn put(&mut self, key: u64, value: u64) {
+        self.insert(key, value);
+    }
+
+    fn entries(&self) -> u64 {
+        self.len() as u64
+    }
+
+    fn weight(&self) -> u64 {
+        self.len() as u64
+    }
+}
+
+/// Plays the operations, as the port does.
+pub fn play<S: Side>(side: &mut S, operations: &[Operation]) -> Outcome {
+    let mut outcome = Outcome::default();
+    for operation in operations {
+        match operation.kind {
+            GET => {
+                look(side, operation.key, &mut outcome);
+            }
+            INSERT => side.put(operation.key, u64::from(operation.value)),
+            READ_THROUGH => {
+                if !look(side, operation.key, &mut outcome) {
+                    side.put(operation.key, u64::from(operation.value));
+                }
+            }
+            GET_AND_INSERT => {
+                look(side, operation.key, &mut outcome);
+                side.put(operation.key, u64::from(operation.value));
+            }
+            _ => unreachable!("an operation of no kind that there is"),
+        }
+    }
+    outcome.entries = side.entries();
+    outcome.weight = side.weight();
+    outcome
+}
+
+fn look<S: Side>(side: &mut S, key: u64, outcome: &mut Outcome) -> bool {
+    match side.look(key) {
+        Some(value) => {
+            outcome.hits += 1;
+            outcome.checksum = outcome.checksum.wrapping_add(value);
+            true
+        }
+        None => false,
+    }
+}

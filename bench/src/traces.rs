@@ -1,0 +1,256 @@
+//! The traces: lists of operations, and the cache that they are played on.
+
+/// The capacity or the duration of a cache that has none.
+pub const UNLIMITED: u64 = u64::MAX;
+
+pub const GET: u32 = 0;
+pub const INSERT: u32 = 1;
+pub const READ_THROUGH: u32 = 2;
+pub const GET_AND_INSERT: u32 = 3;
+
+/// One operation, as the static library takes it.
+#[repr(C)]
+#[derive(Clone, Copy)]
+pub struct Operation {
+    pub key: u64,
+    pub value: u32,
+    pub kind: u32,
+}
+
+/// What a cache is built of, as the static library takes it.
+#[repr(C)]
+#[derive(Clone, Copy)]
+pub struct Settings {
+    pub capacity: u64,
+    pub time_to_live: u64,
+    pub time_to_idle: u64,
+    pub start: u64,
+    pub tick: u64,
+    pub is_weighed: bool,
+}
+
+impl Settings {
+    pub fn with_capacity(capacity: u64) -> Settings {
+        Settings {
+            capacity,
+            time_to_live: UNLIMITED,
+            time_to_idle: UNLIMITED,
+            start: 0,
+            tick: 0,
+            is_weighed: false,
+        }
+    }
+
+    /// With both durations, which nothing outlives: an hour, and moments that rise by one nanosecond.
+    pub fn with_durations(self) -> Settings {
+        Settings {
+            time_to_live: HOUR,
+            time_to_idle: HOUR,
+            tick: 1,
+            ..self
+        }
+    }
+
+    pub fn with_time_to_live(self) -> Settings {
+        Settings {
+            time_to_live: HOUR,
+            tick: 1,
+            ..self
+        }
+    }
+
+    pub fn weighed(self) -> Settings {
+        Settings {
+            is_weighed: true,
+            ..self
+        }
+    }
+
+    pub fn has_durations(&self) -> bool {
+        self.time_to_live != UNLIMITED || self.time_to_idle != UNLIMITED
+    }
+}
+
+const HOUR: u64 = 3_600_000_000_000;
+
+/// A list of operations. The first `filling` of them fill the cache and aren't counted.
+pub struct Trace {
+    pub name: String,
+    pub settings: Settings,
+    pub filling: usize,
+    pub operations: Vec<Operation>,
+    /// Whether a map without a limit does the same.
+    pub fits_a_map: bool,
+}
+
+impl Trace {
+    pub fn counted(&self) -> usize {
+        self.operations.len() - self.filling
+    }
+}
+
+/// The finalizer of splitmix64, which spreads numbers.
+pub fn spread(number: u64) -> u64 {
+    let mut z = number.wrapping_add(0x9E37_79B9_7F4A_7C15);
+    z = (z ^ (z >> 30)).wrapping_mul(0xBF58_476D_1CE4_E5B9);
+    z = (z ^ (z >> 27)).wrapping_mul(0x94D0_49BB_1331_11EB);
+    z ^ (z >> 31)
+}
+
+/// Numbers that look random, the same in each run.
+struct Random(u64);
+
+impl Random {
+    fn next(&mut self) -> u64 {
+        self.0 = self.0.wrapping_add(1);
+        spread(self.0)
+    }
+
+    fn below(&mut self, bound: u64) -> u64 {
+        ((u128::from(self.next()) * u128::from(bound)) >> 64) as u64
+    }
+
+    fn unit(&mut self) -> f64 {
+        (self.next() >> 11) as f64 / (1u64 << 53) as f64
+    }
+}
+
+const CALLS: usize = 2_000_000;
+const KEYS: usize = 1_000_000;
+const EXPONENT: f64 = 0.99;
+
+/// Ranks of a Zipf distribution.
+fn zipf_ranks(count: usize) -> Vec<u64> {
+    let mut total = 0.0;
+    let sums: Vec<f64> = (1..=KEYS)
+        .map(|rank| {
+            total += (rank as f64).powf(-EXPONENT);
+            total
+        })
+        .collect();
+    let mut random = Random(1);
+    (0..count)
+        .map(|_| {
+            let at = random.unit() * total;
+            sums.partition_point(|sum| *sum <= at).min(KEYS - 1) as u64
+        })
+        .collect()
+}
+
+fn operation(kind: u32, number: u64) -> Operation {
+    let key = spread(number);
+    Operation {
+        key,
+        value: key as u32,
+        kind,
+    }
+}
+
+/// An operation whose value is a weight of 1 to 16.
+fn weighed(operation: Operation) -> Operation {
+    Operation {
+        value: 1 + operation.value % 16,
+        ..operation
+    }
+}
+
+fn read_through(name: &str, settings: Settings, numbers: &[u64]) -> Trace {
+    let operations = numbers
+        .iter()
+        .map(|number| operation(READ_THROUGH, *number))
+        .map(|operation| match settings.is_weighed {
+            true => weighed(operation),
+            false => operation,
+        })
+        .collect();
+    Trace {
+        name: name.into(),
+        settings,
+        filling: 0,
+        operations,
+        fits_a_map: false,
+    }
+}
+
+/// Each look-up that misses inserts its key.
+pub fn read_through_traces() -> Vec<Trace> {
+    let ranks = zipf_ranks(CALLS);
+    let one = Settings::with_capacity(KEYS as u64 / 100);
+    let ten = Settings::with_capacity(KEYS as u64 / 10);
+    let weight = |settings: Settings| {
+        Settings {
+            capacity: settings.capacity * 17 / 2,
+            ..settings
+        }
+        .weighed()
+    };
+    let looped: Vec<u64> = (0..CALLS as u64).map(|call| call % 12_500).collect();
+    vec![
+        read_through("Zipf 1%", one, &ranks),
+        read_through("Zipf 10%", ten, &ranks),
+        read_through("Zipf 1%, both durations", one.with_durations(), &ranks),
+        read_through("Zipf 10%, both durations", ten.with_durations(), &ranks),
+        read_through("Zipf 1%, weighed", weight(one), &ranks),
+        read_through("Zipf 10%, weighed", weight(ten), &ranks),
+        read_through("loop", one, &looped),
+        read_through("scan mix", one, &scan_mix(&ranks)),
+    ]
+}
+
+/// By turns 10,000 ranks and 10,000 numbers of a loop over 50,000 other keys.
+fn scan_mix(ranks: &[u64]) -> Vec<u64> {
+    let (turn, looped) = (10_000, 50_000);
+    let mut taken = 0;
+    let mut scanned = 0;
+    let mut numbers = Vec::new();
+    while numbers.len() < CALLS {
+        if numbers.len() / turn % 2 == 0 {
+            numbers.push(ranks[taken]);
+            taken += 1;
+        } else {
+            numbers.push((KEYS + scanned % looped) as u64);
+            scanned += 1;
+        }
+    }
+    numbers
+}
+
+/// One kind of call on a full cache of so many entries.
+pub fn single_calls(entries: u64) -> Vec<Trace> {
+    let single = |name: &str, kind: u32, number: &mut dyn FnMut(u64) -> u64, fits_a_map| {
+        let filling = (0..entries).map(|number| operation(INSERT, number));
+        let calls = (0..CALLS as u64).map(|call| operation(kind, number(call)));
+        Trace {
+            name: format!("{name}, {entries}"),
+            settings: Settings::with_capacity(entries),
+            filling: entries as usize,
+            operations: filling.chain(calls).collect(),
+            fits_a_map,
+        }
+    };
+    let mut random = Random(2);
+    let mut present = |_call| random.below(entries);
+    let mut other = Random(2);
+    let mut absent = |_call| entries + other.below(entries);
+    let mut fresh = |call| entries + call;
+    vec![
+        single("get hit", GET, &mut present, true),
+        single("get miss", GET, &mut absent, true),
+        single("update", INSERT, &mut present, true),
+        single("new key into a full cache", INSERT, &mut fresh, false),
+        single("get and insert, new key", GET_AND_INSERT, &mut fresh, false),
+    ]
+}
+
+/// So many inserts, and then some look-ups a key, so that what the full cache holds is held for longest.
+pub fn held(settings: Settings, entries: u64) -> Trace {
+    let filling = (0..entries).map(|number| operation(INSERT, number));
+    let looks = (0..8 * entries).map(|call| operation(GET, call % entries));
+    Trace {
+        name: format!("{entries}"),
+        settings,
+        filling: entries as usize,
+        operations: filling.chain(looks).collect(),
+        fits_a_map: true,
+    }
+}

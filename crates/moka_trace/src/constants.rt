@@ -1,0 +1,26 @@
+//! The numbers by which a caller in C names what it wants and what became of it, and those of the hasher.
+
+/// The capacity or the duration of a cache that has none.
+pub const UNLIMITED: u64 = u64::MAX;
+
+/// An operation that looks its key up.
+pub const GET: u32 = 0;
+/// An operation that inserts its key and value; where the key has an entry, that is an update.
+pub const INSERT: u32 = 1;
+/// An operation that looks its key up, and where it isn't found, inserts it.
+pub const READ_THROUGH: u32 = 2;
+/// An operation that looks its key up, and then inserts it.
+pub const GET_AND_INSERT: u32 = 3;
+
+/// Every operation was made.
+pub const DONE: u32 = 0;
+/// Memory was refused.
+pub const OUT_OF_MEMORY: u32 = 1;
+/// An operation is of no kind that there is. Those before it were made.
+pub const UNKNOWN_KIND: u32 = 2;
+
+/// What the hasher multiplies by: an odd number of 64 bits, so that no two words of a key have one hash.
+pub(crate) const MULTIPLIER: u64 = 0x517C_C1B7_2722_0A95;
+
+/// How far the hasher rotates before it mixes a word in, so that the order of words counts.
+pub(crate) const ROTATION: u32 = 5;
