@@ -1,0 +1,113 @@
+//! One script on both sides, line by line.
+use crate::original::{self, Met, Reply, Run};
+use crate::port::Port;
+use crate::rules::{End, Rule};
+use crate::script::Script;
+
+/// What came of a script.
+#[derive(Default)]
+pub struct Outcome {
+    pub compared: u64,
+    pub equal: u64,
+    /// The rules by which a line was another than the original's.
+    pub allowed: Vec<Rule>,
+    /// Why the script ended early.
+    pub end: Option<End>,
+    /// How many lines stood behind an early end.
+    pub behind_end: u64,
+    pub met: Met,
+    pub difference: Option<Difference>,
+}
+
+/// A difference that no rule allows.
+#[derive(Clone)]
+pub struct Difference {
+    /// The number of the line in the script, counted from 1.
+    pub line: usize,
+    pub expected: String,
+    pub found: String,
+}
+
+/// Runs the script on both sides.
+pub fn outcome(script: &Script, port: &Port) -> Outcome {
+    let run = original::run(script);
+    let mut outcome = Outcome {
+        end: run.end,
+        met: run.met,
+        behind_end: (script.lines.len() + 1 - run.replies.len()) as u64,
+        ..Outcome::default()
+    };
+    match port.replies(script) {
+        Ok(found) => outcome.compare(script, &run, &found),
+        Err(error) => outcome.differ(0, "replies".to_string(), error),
+    }
+    outcome
+}
+
+impl Outcome {
+    fn compare(&mut self, script: &Script, run: &Run, found: &[String]) {
+        for (place, reply) in run.replies.iter().enumerate() {
+            let line = found.get(place).map_or("nothing", String::as_str);
+            self.compare_line(place, reply, line);
+            if self.difference.is_some() {
+                return;
+            }
+        }
+        if let Some(fault) = &run.fault {
+            self.differ(run.replies.len(), fault.clone(), line_or_nothing(found, run.replies.len()));
+        } else if found.len() != script.lines.len() + 1 {
+            let expected = format!("{} replies", script.lines.len() + 1);
+            self.differ(script.lines.len(), expected, format!("{} replies", found.len()));
+        }
+    }
+
+    fn compare_line(&mut self, place: usize, reply: &Reply, found: &str) {
+        self.compared += 1;
+        match verdict(reply, found) {
+            Verdict::Equal => self.equal += 1,
+            Verdict::Allowed(rule) => self.allowed.push(rule),
+            Verdict::Different(expected) => self.differ(place, expected, found.to_string()),
+        }
+    }
+
+    fn differ(&mut self, place: usize, expected: String, found: String) {
+        self.difference = Some(Difference {
+            line: place + 1,
+            expected,
+            found,
+        });
+    }
+}
+
+fn line_or_nothing(found: &[String], place: usize) -> String {
+    found.get(place).cloned().unwrap_or_else(|| "nothing".to_string())
+}
+
+enum Verdict {
+    Equal,
+    Allowed(Rule),
+    Different(String),
+}
+
+fn verdict(reply: &Reply, found: &str) -> Verdict {
+    match reply {
+        Reply::Words(words, rule) if words == found => rule.map_or(Verdict::Equal, Verdict::Allowed),
+        Reply::Words(words, _) => Verdict::Different(words.clone()),
+        Reply::Pairs(pairs) => verdict_on_pairs(pairs, found),
+    }
+}
+
+fn verdict_on_pairs(pairs: &[String], found: &str) -> Verdict {
+    let expected = if pairs.is_empty() { "empty".to_string() } else { pairs.join(" ") };
+    if expected == found {
+        return Verdict::Equal;
+    }
+    let mut sorted: Vec<&str> = pairs.iter().map(String::as_str).collect();
+    let mut found_sorted: Vec<&str> = found.split(' ').collect();
+    sorted.sort_unstable();
+    found_sorted.sort_unstable();
+    if sorted == found_sorted {
+        return Verdict::Allowed(Rule::OrderOfIter);
+    }
+    Verdict::Different(expected)
+}

@@ -1,0 +1,123 @@
+//! Compares the port with the original on random scripts: moka_diff PROGRAM NUMBER_OF_SCRIPTS SEED
+mod compare;
+mod keys;
+mod make;
+mod original;
+mod panics;
+mod port;
+mod random;
+mod rules;
+mod script;
+mod shrink;
+mod sketch;
+mod special;
+mod tally;
+
+use crate::compare::{outcome, Difference};
+use crate::port::Port;
+use crate::tally::{Found, Tally};
+use std::path::Path;
+use std::process::ExitCode;
+use std::sync::atomic::{AtomicU64, Ordering};
+use std::sync::Mutex;
+
+/// How many scripts are run at a time.
+const WORKERS: usize = 2;
+/// So many differences are shrunk and printed, those first that come early in their scripts. Further ones are only counted.
+const PRINTED: usize = 5;
+
+fn main() -> ExitCode {
+    let words: Vec<String> = std::env::args().skip(1).collect();
+    let Some((program, scripts, seed)) = arguments(&words) else {
+        eprintln!("usage: moka_diff PROGRAM NUMBER_OF_SCRIPTS SEED");
+        return ExitCode::from(2);
+    };
+    panics::keep_panics();
+    println!("seed                    {seed}");
+    let work = Work::new(Port::new(Path::new(program)), scripts, seed);
+    std::thread::scope(|scope| {
+        for _ in 0..WORKERS {
+            scope.spawn(|| work.run());
+        }
+    });
+    work.print()
+}
+
+fn arguments(words: &[String]) -> Option<(&str, u64, u64)> {
+    let [program, scripts, seed] = words else {
+        return None;
+    };
+    Some((program, scripts.parse().ok()?, seed.parse().ok()?))
+}
+
+/// The scripts, and what came of them so far.
+struct Work {
+    port: Port,
+    scripts: u64,
+    seed: u64,
+    next: AtomicU64,
+    tally: Mutex<Tally>,
+    /// The unexplained differences, each with the number of its script.
+    found: Mutex<Vec<(u64, Difference)>>,
+}
+
+impl Work {
+    fn new(port: Port, scripts: u64, seed: u64) -> Work {
+        Work {
+            port,
+            scripts,
+            seed,
+            next: AtomicU64::new(0),
+            tally: Mutex::default(),
+            found: Mutex::default(),
+        }
+    }
+
+    /// Takes script after script until all are taken.
+    fn run(&self) {
+        let mut tally = Tally::default();
+        loop {
+            let number = self.next.fetch_add(1, Ordering::Relaxed);
+            if number >= self.scripts {
+                break;
+            }
+            self.run_script(number, &mut tally);
+        }
+        self.tally.lock().expect("no worker panics").merge(&tally);
+    }
+
+    fn run_script(&self, number: u64, tally: &mut Tally) {
+        let script = make::script(self.seed, number);
+        let outcome = outcome(&script, &self.port);
+        tally.add(&outcome);
+        if let Some(difference) = outcome.difference {
+            self.found.lock().expect("no worker panics").push((number, difference));
+        }
+    }
+
+    /// Prints the sums and the differences. The status is 1 where there are some.
+    fn print(self) -> ExitCode {
+        self.tally.lock().expect("no worker panics").print();
+        let mut found = self.found.lock().expect("no worker panics").clone();
+        println!("unexplained differences {}", found.len());
+        found.sort_by_key(|(number, difference)| (difference.line, *number));
+        for (number, difference) in found.iter().take(PRINTED) {
+            self.shrunk(*number, difference).print();
+        }
+        if found.is_empty() {
+            ExitCode::SUCCESS
+        } else {
+            ExitCode::FAILURE
+        }
+    }
+
+    fn shrunk(&self, number: u64, difference: &Difference) -> Found {
+        let script = make::script(self.seed, number);
+        let (script, difference) = shrink::shrunk(&script, difference, &self.port);
+        Found {
+            number,
+            script,
+            difference,
+        }
+    }
+}

@@ -1,0 +1,56 @@
+//! Panics of the original, which are kept instead of printed.
+use std::cell::RefCell;
+use std::panic::{catch_unwind, set_hook, AssertUnwindSafe, PanicHookInfo};
+
+/// What a panic said, and in which file.
+#[derive(Clone)]
+pub struct Panic {
+    pub text: String,
+    pub file: String,
+}
+
+impl Panic {
+    /// Whether a subtraction went below 0 in the file.
+    pub fn is_subtraction_in(&self, file: &str) -> bool {
+        self.text.contains("attempt to subtract with overflow") && self.file.ends_with(file)
+    }
+}
+
+thread_local! {
+    static LAST: RefCell<Option<Panic>> = const { RefCell::new(None) };
+    static IS_KEPT: RefCell<bool> = const { RefCell::new(false) };
+}
+
+/// From here on panics inside `caught` are kept. Others are printed.
+pub fn keep_panics() {
+    let printed = std::panic::take_hook();
+    set_hook(Box::new(move |info| {
+        if IS_KEPT.with(|is_kept| *is_kept.borrow()) {
+            LAST.with(|last| *last.borrow_mut() = Some(panic_of(info)));
+        } else {
+            printed(info);
+        }
+    }));
+}
+
+/// What the call answers, or its panic.
+pub fn caught<T>(call: impl FnOnce() -> T) -> Result<T, Panic> {
+    IS_KEPT.with(|is_kept| *is_kept.borrow_mut() = true);
+    let answer = catch_unwind(AssertUnwindSafe(call));
+    IS_KEPT.with(|is_kept| *is_kept.borrow_mut() = false);
+    answer.map_err(|_| LAST.with(|last| last.borrow_mut().take()).unwrap_or_else(unknown))
+}
+
+fn panic_of(info: &PanicHookInfo<'_>) -> Panic {
+    Panic {
+        text: info.to_string(),
+        file: info.location().map_or(String::new(), |location| location.file().to_string()),
+    }
+}
+
+fn unknown() -> Panic {
+    Panic {
+        text: "a panic without a word".to_string(),
+        file: String::new(),
+    }
+}

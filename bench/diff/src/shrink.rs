@@ -1,0 +1,90 @@
+//! The shortest script that still differs, as far as dropping lines leads.
+use crate::compare::{outcome, Difference};
+use crate::port::Port;
+use crate::script::{Line, Script};
+
+/// At most so many shorter scripts are tried.
+const TRIES: u64 = 2000;
+
+/// Drops lines, and the moments of the others, while some unexplained difference stays.
+pub fn shrunk(script: &Script, difference: &Difference, port: &Port) -> (Script, Difference) {
+    let mut shrinking = Shrinking {
+        port,
+        script: script.clone(),
+        difference: difference.clone(),
+        tries: TRIES,
+    };
+    shrinking.cut_behind_difference();
+    let mut step = shrinking.script.lines.len();
+    while step > 0 {
+        let is_shorter = shrinking.drop_by(step);
+        // The shortest step is taken until no line can be dropped.
+        if step > 1 || !is_shorter {
+            step /= 2;
+        }
+    }
+    shrinking.forget_moments();
+    (shrinking.script, shrinking.difference)
+}
+
+struct Shrinking<'a> {
+    port: &'a Port,
+    script: Script,
+    difference: Difference,
+    tries: u64,
+}
+
+impl Shrinking<'_> {
+    /// Takes the script instead, if it differs.
+    fn take(&mut self, script: Script) -> bool {
+        if self.tries == 0 {
+            return false;
+        }
+        self.tries -= 1;
+        let Some(difference) = outcome(&script, self.port).difference else {
+            return false;
+        };
+        self.script = script;
+        self.difference = difference;
+        true
+    }
+
+    fn take_lines(&mut self, lines: Vec<Line>) -> bool {
+        let script = Script {
+            lines,
+            ..self.script.clone()
+        };
+        self.take(script)
+    }
+
+    fn cut_behind_difference(&mut self) {
+        // The first line is the script's settings, so line n is the call with place n - 2.
+        let kept = self.difference.line.saturating_sub(1);
+        if 0 < kept && kept < self.script.lines.len() {
+            let lines = self.script.lines[..kept].to_vec();
+            self.take_lines(lines);
+        }
+    }
+
+    /// Drops so many lines at a time, wherever the difference stays. Says whether some were dropped.
+    fn drop_by(&mut self, step: usize) -> bool {
+        let mut is_shorter = false;
+        let mut from = 0;
+        while from < self.script.lines.len() {
+            let mut lines = self.script.lines.clone();
+            lines.drain(from..(from + step).min(lines.len()));
+            if self.take_lines(lines) {
+                is_shorter = true;
+            } else {
+                from += step;
+            }
+        }
+        is_shorter
+    }
+
+    fn forget_moments(&mut self) {
+        let mut lines = self.script.lines.clone();
+        lines.iter_mut().for_each(|line| line.moment = 0);
+        self.take_lines(lines);
+    }
+}
