@@ -147,6 +147,7 @@ impl<K: Eq + Drop, V: Drop, A: Allocator + Clone + Drop> Store<K, V, A> {
         requires { IsSome (lookup (nat_eq id) self.old.nodes) }
         ensures { Touches K.eq self.old id now self.new }
     {
+        // No id stands twice.
         let _ = self.deques.len();
         self.deques.touch(id, now);
     }
@@ -156,6 +157,7 @@ impl<K: Eq + Drop, V: Drop, A: Allocator + Clone + Drop> Store<K, V, A> {
         requires { IsSome (lookup (nat_eq id) self.old.nodes) }
         ensures { Updates K.eq self.old id update self.new }
     {
+        // No id stands twice.
         let _ = self.deques.len();
         self.deques.update(id, update);
     }
@@ -176,6 +178,7 @@ impl<K: Eq + Drop, V: Drop, A: Allocator + Clone + Drop> Store<K, V, A> {
         requires { IsSome (lookup (nat_eq id) self.old.nodes) }
         ensures { Removes K.eq self.old id self.new }
     {
+        // No id stands twice.
         let _ = self.deques.len();
         let hash = self.deques.get(id).hash;
         self.index.remove(id.number(), hash);

@@ -8,6 +8,8 @@ pub mod constants;
 mod hasher;
 mod operation;
 mod player;
+#[cfg(test)]
+mod tests;
 mod weigher;
 
 use crate::constants::{DONE, OUT_OF_MEMORY, UNKNOWN_KIND, UNLIMITED};
