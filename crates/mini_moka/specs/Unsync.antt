@@ -11,4 +11,7 @@ pub use Rattle.moka_unsync.specs.Step
 pub use Rattle.moka_unsync.specs.Runs
 pub use Rattle.moka_unsync.specs.Laws
 pub use Rattle.moka_unsync.specs.PlainMap
+pub use Rattle.moka_unsync.specs.History
+pub use Rattle.moka_unsync.specs.Removal
+pub use Rattle.moka_unsync.specs.Excluded
 pub use Rattle.moka_unsync.specs.CacheLends

@@ -166,7 +166,7 @@ module _ {K V S W : Type 0} (keys : Keys K S) (laws : IsEquivalence keys.eq) (we
   once-runs old new (request ∷ requests) answers (answer, rest, next, is, step, run) once =
       once-runs next new requests rest run (once-step old next request answer step once)
 
-  none_stand : StandOnce {V = V} keys.eq []
+  pub none_stand : StandOnce {V = V} keys.eq []
   unfolding IsDistinct
   none_stand = tt
 

@@ -40,14 +40,14 @@ module _ {K : Type 0} (eq : K → K → Bool) where
 -- ---- sums
 
 module _ {K V : Type 0} where
-  total-cons : (e : Entry K V) (es : List (Entry K V)) → total_weight (e ∷ es) ≡ e.weight + total_weight es
+  pub total-cons : (e : Entry K V) (es : List (Entry K V)) → total_weight (e ∷ es) ≡ e.weight + total_weight es
   total-cons e es = sum_by-cons (λ e. e.weight) e es
 
   total-push : (e : Entry K V) (es : List (Entry K V)) → total_weight (es ++ e ∷ []) ≡ total_weight es + e.weight
   total-push e es = sum_by_push (λ e. e.weight) es e
 
   -- what passes a test weighs no more than all
-  total-filter : (p : Entry K V → Bool) (es : List (Entry K V)) → total_weight (filter p es) ≤ total_weight es
+  pub total-filter : (p : Entry K V → Bool) (es : List (Entry K V)) → total_weight (filter p es) ≤ total_weight es
   total-filter p [] = grind (arith)
   total-filter p (e ∷ es) =
       elim (cases_Bool (p e)) [
@@ -164,7 +164,7 @@ prefix_parts {X = X} weight (suc n) (x ∷ xs) prefix h =
 
 module _ {K V : Type 0} where
   -- what is found is there
-  found_there : (policy : Policy) (now : ℕ) (o : Option (Entry K V)) (used : Entry K V) → unexpired policy now o ≡ Some used → o ≡ Some used
+  pub found_there : (policy : Policy) (now : ℕ) (o : Option (Entry K V)) (used : Entry K V) → unexpired policy now o ≡ Some used → o ≡ Some used
   found_there policy now None used h = absurd (false≢true (ap is_some h))
   found_there policy now (Some e) used h =
       elim (cases_Bool (is_expired policy now e)) [

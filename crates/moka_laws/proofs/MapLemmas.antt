@@ -125,7 +125,7 @@ value_of true x y = refl
 value_of false x y = refl
 
 -- what two leave
-gone_either : {X : Type 0} (a b : Bool) (x : Option X) → cond b None (cond a None x) ≡ cond (a || b) None x
+pub gone_either : {X : Type 0} (a b : Bool) (x : Option X) → cond b None (cond a None x) ≡ cond (a || b) None x
 gone_either true true x = refl
 gone_either true false x = refl
 gone_either false true x = refl
@@ -245,7 +245,7 @@ module _ {K V : Type 0} where
 -- ---- what a step does
 
 -- a value tells as much as its entry
-told_by_value : {K V : Type 0} (o : Option (Entry K V)) → is_some o ≡ is_some (option_map (λ e. e.value) o)
+pub told_by_value : {K V : Type 0} (o : Option (Entry K V)) → is_some o ≡ is_some (option_map (λ e. e.value) o)
 told_by_value None = refl
 told_by_value (Some e) = refl
 

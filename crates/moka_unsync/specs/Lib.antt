@@ -10,6 +10,9 @@ pub use Rattle.moka_machine.specs.Step
 pub mod Runs
 pub use Rattle.moka_laws.specs.Laws
 pub use Rattle.moka_laws.specs.PlainMap
+pub use Rattle.moka_history.specs.History
+pub use Rattle.moka_history.specs.Removal
+pub use Rattle.moka_history.specs.Excluded
 pub mod CacheLends
 -- inside
 pub mod Cached

@@ -5,5 +5,6 @@ pub mod builder;
 pub mod cache;
 pub mod runs;
 
+pub use moka_history::history;
 pub use moka_laws::laws;
 pub use moka_machine::{constants, entry};

@@ -1,0 +1,3 @@
+pub mod HistoryLemmas
+pub mod RemovalLemmas
+pub mod ExcludedLemmas

@@ -1,0 +1,3 @@
+pub mod History
+pub mod Removal
+pub mod Excluded
