@@ -2,9 +2,11 @@
 #![tactic(auto)]
 
 pub mod common;
+mod errors;
 pub mod script;
 pub mod sync;
 pub mod unsync;
 
 pub use common::Policy;
+pub use errors::Error;
 pub use moka_grammar::laws;

@@ -1,4 +1,4 @@
 //! The cache that threads share.
 pub mod recorded;
 
-pub use moka_sync::{engine, laws};
+pub use moka_sync::{constants, engine, laws};

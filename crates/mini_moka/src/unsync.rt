@@ -1,6 +1,5 @@
 //! The cache for one thread.
 pub use moka_unsync::builder::CacheBuilder;
 pub use moka_unsync::cache::{Cache, Iter};
-pub use moka_unsync::history;
-pub use moka_unsync::laws;
 pub use moka_unsync::runs::{Call, Reply, run};
+pub use moka_unsync::{constants, history, laws};

@@ -1,12 +1,27 @@
 //! Moments, which callers hand in, and when an entry is expired.
-ghost use Rattle.std.specs.Prelude.{◌≡◌, ◌+◌, nat_le, option_map};
+ghost use Rattle.std.specs.Prelude.{◌≡◌, ◌+◌, ◌-◌, ◌*◌, ◌^◌, min, nat_le, option_map};
 ghost use Rattle.std.specs.Duration.{as_nanos};
 ghost use Rattle.moka_base.specs.Moment.{idle_expired, live_expired};
 
 use std::marker::Model;
 use std::time::Duration;
 
-/// A moment, in nanoseconds from a start of the caller's choice. No call reads a clock: what was first can be handed in last.
+/// A moment, in nanoseconds from a start of the caller's choice. No call reads a clock: what was first can be handed in last. The last moment is
+/// 2^64 - 1 nanoseconds after the start, more than 584 years.
+///
+/// Where std's `Instant` is what a clock said, this one is a number, so tests and replays choose their moments:
+///
+/// ```
+/// let noon = Instant::from_secs(12 * 60 * 60);
+/// let later = noon.after(Duration::from_millis(1_500));
+/// ```
+///
+/// By a running clock the start is a moment of std's, `started = std::time::Instant::now(clock)?`, and each call is handed the time since then:
+///
+/// ```
+/// let since = self.started.elapsed(clock)?;
+/// Ok(Instant::from_secs(0).after(since))
+/// ```
 #[derive(Clone, Copy, Debug, PartialEq, Eq, PartialOrd, Ord, Hash)]
 pub struct Instant {
     nanos: u64,
@@ -28,6 +43,34 @@ impl Instant {
         ensures { result ≡ nanos }
     {
         Instant { nanos }
+    }
+
+    /// The moment `secs` seconds after the start, or the last moment where that is later.
+    pub fn from_secs(secs: u64) -> Instant
+        ensures { result ≡ min (secs * 1_000_000_000) (2 ^ 64 - 1) }
+    {
+        Instant {
+            nanos: secs.saturating_mul(1_000_000_000),
+        }
+    }
+
+    /// The moment `millis` milliseconds after the start, or the last moment where that is later.
+    pub fn from_millis(millis: u64) -> Instant
+        ensures { result ≡ min (millis * 1_000_000) (2 ^ 64 - 1) }
+    {
+        Instant {
+            nanos: millis.saturating_mul(1_000_000),
+        }
+    }
+
+    /// The moment that much later, or the last moment where that is later.
+    pub fn after(self, duration: Duration) -> Instant
+        ensures { result ≡ min (self + as_nanos duration) (2 ^ 64 - 1) }
+    {
+        let nanos = u128::from(self.nanos) + duration.as_nanos();
+        Instant {
+            nanos: u64::try_from(nanos).unwrap_or(u64::MAX),
+        }
     }
 
     /// How many nanoseconds after the start it is.

@@ -4,6 +4,7 @@
 pub mod calling;
 #[cfg(test)]
 mod faults;
+pub mod pages;
 #[cfg(test)]
 mod record;
 #[cfg(test)]

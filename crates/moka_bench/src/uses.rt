@@ -1,17 +1,17 @@
 //! The examples of the README, proved to be safe and to return, and run by tests, which compare what they give: they have no contracts.
 use mini_moka::common::time::Instant;
-use mini_moka::common::{BuildError, FixedState, Shared};
+use mini_moka::common::{FixedState, Shared};
 use mini_moka::sync::engine::{Call, Core, Reply};
 use mini_moka::sync::recorded::Record;
-use mini_moka::unsync;
 use mini_moka::unsync::Cache;
+use mini_moka::{Error, unsync};
 use std::alloc::Global;
 use std::rc::Rc;
 use std::time::Duration;
 
 /// Inserts a pair into a cache that keeps a record, and looks the key up.
-pub fn remember(alloc: Global, key: u64, value: u32) -> Result<Option<u32>, BuildError> {
-    let now = Instant::from_nanos(0);
+pub fn remember(alloc: Global, key: u64, value: u32) -> Result<Option<u32>, Error> {
+    let now = Instant::from_secs(0);
     let core: Core<u64, u32> = Core::new(alloc, FixedState::new())?;
     let mut record = Record::new(alloc, core);
     let key = Shared::new(alloc, key)?;
@@ -21,50 +21,49 @@ pub fn remember(alloc: Global, key: u64, value: u32) -> Result<Option<u32>, Buil
         value,
         now,
     };
-    if !matches!(record.apply(insert), Ok(Reply::Done)) {
-        return Err(BuildError::OutOfMemory);
-    }
-    match record.apply(Call::Get { key, now }) {
-        Ok(Reply::Found(Some(value))) => Ok(Some(*value.get())),
+    let _done = record.apply(insert)?;
+    match record.apply(Call::Get { key, now })? {
+        Reply::Found(Some(value)) => Ok(Some(*value.get())),
         _ => Ok(None),
     }
 }
 
 /// Whether a text is found five seconds after it was inserted, and ten.
-pub fn found_within_ten_seconds(alloc: Global) -> Result<(bool, bool), BuildError> {
+pub fn found_within_ten_seconds(alloc: Global) -> Result<(bool, bool), Error> {
     let mut cache: Cache<u64, String> = Cache::builder(alloc)
         .max_capacity(100)
         .time_to_live(Duration::from_secs(10))
         .build()?;
     let text = String::from_str(alloc, "alice")?;
-    cache
-        .insert(7, text, Instant::from_nanos(0))
-        .map_err(|_| BuildError::OutOfMemory)?;
-    let early = cache.get(&7, Instant::from_nanos(5_000_000_000)).is_some();
-    let late = cache.get(&7, Instant::from_nanos(10_000_000_000)).is_some();
+    cache.insert(7, text, Instant::from_secs(0))?;
+    let early = cache.get(&7, Instant::from_secs(5)).is_some();
+    let late = cache.get(&7, Instant::from_secs(10)).is_some();
     Ok((early, late))
 }
 
+/// How many milliseconds after midnight a second and a half after noon is.
+pub fn millis_after_noon() -> u64 {
+    let noon = Instant::from_secs(12 * 60 * 60);
+    let later = noon.after(Duration::from_millis(1_500));
+    later.nanos() / 1_000_000
+}
+
 /// What the text weighs in a cache that counts the bytes of its texts.
-pub fn weight_in_bytes(alloc: Global, text: String) -> Result<u64, BuildError> {
+pub fn weight_in_bytes(alloc: Global, text: String) -> Result<u64, Error> {
     let mut cache = Cache::builder(alloc)
         .max_capacity(1_000_000)
         .weigher(|_key: &u64, value: &String| u32::try_from(value.len()).unwrap_or(u32::MAX))
         .build()?;
-    cache
-        .insert(7, text, Instant::from_nanos(0))
-        .map_err(|_| BuildError::OutOfMemory)?;
+    cache.insert(7, text, Instant::from_secs(0))?;
     Ok(cache.weighted_size())
 }
 
 /// What is found of a key that stays and of one that is invalidated, and how many keys are left of those below 32.
-pub fn left_of_64(alloc: Global) -> Result<(bool, bool, usize), BuildError> {
-    let now = Instant::from_nanos(0);
+pub fn left_of_64(alloc: Global) -> Result<(bool, bool, usize), Error> {
+    let now = Instant::from_secs(0);
     let mut cache: Cache<u64, u32> = Cache::new(alloc, 10_000)?;
     for key in 0..64 {
-        cache
-            .insert(key, 1, now)
-            .map_err(|_| BuildError::OutOfMemory)?;
+        cache.insert(key, 1, now)?;
     }
     cache.invalidate(&7, now);
     cache.invalidate_entries_if(|key: &u64, _value: &u32| *key >= 32);
@@ -75,13 +74,11 @@ pub fn left_of_64(alloc: Global) -> Result<(bool, bool, usize), BuildError> {
 }
 
 /// The key of the least recently used one of three entries, of which the first is looked up.
-pub fn least_recently_used(alloc: Global) -> Result<Option<u64>, BuildError> {
-    let now = Instant::from_nanos(0);
+pub fn least_recently_used(alloc: Global) -> Result<Option<u64>, Error> {
+    let now = Instant::from_secs(0);
     let mut cache: Cache<u64, u32> = Cache::new(alloc, 100)?;
     for key in 0..3 {
-        cache
-            .insert(key, 1, now)
-            .map_err(|_| BuildError::OutOfMemory)?;
+        cache.insert(key, 1, now)?;
     }
     let _ = cache.get(&0, now);
     let mut pairs = cache.iter(now);
@@ -90,8 +87,8 @@ pub fn least_recently_used(alloc: Global) -> Result<Option<u64>, BuildError> {
 }
 
 /// How many entries there are after a list of calls, which is what its last call asks.
-pub fn count_after_calls(alloc: Global) -> Result<Option<u64>, BuildError> {
-    let now = Instant::from_nanos(0);
+pub fn count_after_calls(alloc: Global) -> Result<Option<u64>, Error> {
+    let now = Instant::from_secs(0);
     let value = Rc::new(alloc, 10)?;
     let calls = vec![in alloc;
         unsync::Call::Insert { key: 7, value, now },
@@ -121,6 +118,11 @@ mod tests {
     fn a_text_is_found_until_its_time_is_over(rt: HostRuntime) -> Result<(), Fail> {
         assert_eq!(rt; found_within_ten_seconds(rt.alloc())?, (true, false));
         Ok(())
+    }
+
+    #[test]
+    fn a_moment_is_so_much_later(rt: HostRuntime) {
+        assert_eq!(rt; millis_after_noon(), 43_201_500);
     }
 
     #[test]

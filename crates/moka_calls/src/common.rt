@@ -21,6 +21,22 @@ fn an_entry_is_expired_from_the_end_of_its_time_on(rt: HostRuntime) {
 }
 
 #[test]
+fn a_moment_is_so_much_later_and_stops_at_the_last(rt: HostRuntime) {
+    let second = Instant::from_secs(1);
+    assert_eq!(rt;
+        second.after(Duration::from_millis(500)),
+        Instant::from_millis(1_500)
+    );
+    assert_eq!(rt;
+        Instant::from_millis(1_500),
+        Instant::from_nanos(1_500_000_000)
+    );
+    let last = Instant::from_nanos(u64::MAX);
+    assert_eq!(rt; Instant::from_secs(u64::MAX), last);
+    assert_eq!(rt; second.after(Duration::MAX), last);
+}
+
+#[test]
 fn the_longest_time_never_wraps(rt: HostRuntime) {
     let longest = Some(Duration::MAX);
     let last = Instant::from_nanos(u64::MAX);

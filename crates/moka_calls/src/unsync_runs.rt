@@ -3,6 +3,7 @@ use crate::heap::blocks_of;
 use linked_list_allocator::LocalHeap;
 use moka_common::error::OutOfMemory;
 use moka_common::time::Instant;
+use moka_unsync::builder::CacheBuilder;
 use moka_unsync::cache::Cache;
 use moka_unsync::runs::{Call, Reply, run};
 use std::alloc::{AllocError, Allocator, Global};
@@ -23,6 +24,36 @@ fn debug_texts(alloc: Global) -> Result<String, Fail> {
         texts.push_str(&debug_text(alloc, &cache)?)?;
     }
     Ok(texts)
+}
+
+#[test]
+fn what_is_set_is_shown(rt: HostRuntime) -> Result<(), Fail> {
+    let builder: CacheBuilder<u64, u32> = CacheBuilder::new(rt.alloc(), 3);
+    let text = format!(in rt.alloc(); "{builder:?}")?;
+    let limits = "max_capacity: Some(3), time_to_live: None, time_to_idle: None";
+    let whole = format!(in rt.alloc();
+        "CacheBuilder {{ {limits}, initial_capacity: 0, is_weighed: false }}"
+    )?;
+    assert!(rt; text == whole);
+    let cache = builder.build()?;
+    let text = format!(in rt.alloc(); "{:?}", cache.iter(start()))?;
+    let whole = format!(in rt.alloc();
+        "Iter {{ policy: Policy {{ {limits} }}, now: Instant {{ nanos: 0 }}, .. }}"
+    )?;
+    assert!(rt; text == whole);
+    Ok(())
+}
+
+#[test]
+fn calls_and_replies_are_shown(rt: HostRuntime) -> Result<(), Fail> {
+    let call: Call<u64, u32> = Call::Get {
+        key: 7,
+        now: start(),
+    };
+    let reply: Reply<u32> = Reply::Number(1);
+    let text = format!(in rt.alloc(); "{call:?} {reply:?}")?;
+    assert!(rt; text.as_str() == "Get { key: 7, now: Instant { nanos: 0 } } Number(1)");
+    Ok(())
 }
 
 fn debug_text(alloc: Global, cache: &Cache<u64, &str>) -> Result<String, AllocError> {

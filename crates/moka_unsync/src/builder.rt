@@ -2,6 +2,8 @@
 ghost use Rattle.std.specs.Prelude.{◌≡◌, true, None, Some, IfErr, IfOk};
 ghost use Rattle.moka_unsync.specs.Builder.{IsBuilt, new_builder, refusal_of};
 
+mod debug;
+
 use crate::cache::{Cache, Parts};
 use moka_base::error::BuildError;
 use moka_base::hash::FixedState;

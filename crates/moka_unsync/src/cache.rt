@@ -47,12 +47,10 @@ pub(crate) struct Parts<S: Drop, W: Drop> {
 /// limit, each time a batch of `EVICTION_BATCH_SIZE` entries at most. No read gives an expired entry that remained.
 ///
 /// ```
-/// let now = Instant::from_nanos(0);
+/// let now = Instant::from_secs(0);
 /// let mut cache: Cache<u64, u32> = Cache::new(alloc, 10_000)?;
 /// for key in 0..64 {
-///     cache
-///         .insert(key, 1, now)
-///         .map_err(|_| BuildError::OutOfMemory)?;
+///     cache.insert(key, 1, now)?;
 /// }
 /// cache.invalidate(&7, now);
 /// cache.invalidate_entries_if(|key: &u64, _value: &u32| *key >= 32);
@@ -335,8 +333,8 @@ impl<
     /// Puts the value at the key, as the most recent entry in both orders. Where the key is there already, its entry keeps the first key object.
     /// A new entry for which there is no room may be rejected by the admission policy, which is `Ok` as well.
     ///
-    /// Room is made first: where memory is refused for it, nothing was expired, evicted, weighed or stored, and key and value are dropped. The
-    /// weigher is asked once otherwise.
+    /// Room is made first, for an update too, which may need none in the end: where memory is refused for it, nothing was expired, evicted, weighed
+    /// or stored, an entry at the key keeps its value, and the key and value that were handed in are dropped. The weigher is asked once otherwise.
     pub fn insert(&mut self, key: K, value: V, now: Instant) -> Result<(), InsertError>
         requires ready { W.ready self.old.weigher }
         ensures step { OnOk result (IsInserted (keys_by K.Hash S.BuildHasher S.Hasher.Hasher)

@@ -13,7 +13,7 @@ use std::hash::{BuildHasher, Hash};
 use std::rc::Rc;
 
 /// A call of a cache, which `run` makes. A value is shared, so that a reply can have it beside the cache.
-#[derive(Drop)]
+#[derive(Debug, Drop)]
 pub enum Call<K: Drop, V: Drop, A: Allocator + Drop = Global> {
     Get {
         key: K,
@@ -38,7 +38,7 @@ pub enum Call<K: Drop, V: Drop, A: Allocator + Drop = Global> {
 }
 
 /// What a call replies to `run`.
-#[derive(Drop)]
+#[derive(Debug, Drop)]
 pub enum Reply<V: Drop, A: Allocator + Drop = Global> {
     Found(Option<Rc<V, A>>),
     Bool(bool),

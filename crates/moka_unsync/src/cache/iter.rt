@@ -9,6 +9,7 @@ use moka_base::time::Instant;
 use moka_store::expire::is_expired;
 use moka_store::store::Entries;
 use std::alloc::{Allocator, Global};
+use std::fmt::{Debug, Formatter, Result, Write};
 use std::marker::Model;
 
 /// An iterator over a cache's unexpired entries, in order of use, least recently used first. A contract sees the pairs that are left.
@@ -63,5 +64,15 @@ impl<'a, K: Drop, V: Drop, A: Allocator> Iterator for Iter<'a, K, V, A> {
             }
         }
         None
+    }
+}
+
+/// It shows what it tests entries by: those that are left can't be looked at without taking them.
+impl<'a, K: Drop, V: Drop, A: Allocator> Debug for Iter<'a, K, V, A> {
+    fn fmt<T: Write>(&self, f: &mut Formatter<T>) -> Result {
+        f.debug_struct("Iter")
+            .field("policy", &self.policy)
+            .field("now", &self.now)
+            .finish_non_exhaustive()
     }
 }
