@@ -1,10 +1,13 @@
 //! Callers of the public types, each proved to meet a contract of its own, whose words all come from `mini_moka`.
-ghost use Rattle.std.specs.Prelude.{◌≡◌, ◌+◌, Some, Ok, IfOk, IfSome, IsTrue, false, slice_get};
+ghost use Rattle.std.specs.Prelude.{◌≡◌, ◌+◌, List, Some, Ok, IfOk, IfSome, IsTrue, false, map, reverse, slice_get};
 ghost use Rattle.std.specs.Map.{values_of};
 ghost use Rattle.mini_moka.specs.Common.Keys.{keys_by};
 ghost use Rattle.mini_moka.specs.Common.Weight.{unit_weighs};
 ghost use Rattle.mini_moka.specs.Common.Sketch.{after_increment, estimate};
+ghost use Rattle.mini_moka.specs.Unsync.CacheState.{new_cache};
+ghost use Rattle.mini_moka.specs.Unsync.History.{IsCurrent, Transition, exchanges};
 ghost use Rattle.mini_moka.specs.Unsync.Lookup.{is_contained};
+ghost use Rattle.mini_moka.specs.Unsync.Runs.{request_of};
 ghost use Rattle.mini_moka.specs.Unsync.Iterate.{pairs_at};
 ghost use Rattle.mini_moka.specs.Sync.WholeCall.{IsWholeCall};
 ghost use Rattle.mini_moka.specs.Replay.{Replays};
@@ -15,14 +18,16 @@ ghost use Rattle.mini_moka.specs.ScriptRun.{EndsSo};
 use mini_moka::common::deque::Deque;
 use mini_moka::common::frequency_sketch::FrequencySketch;
 use mini_moka::common::time::Instant;
-use mini_moka::common::{BuildError, OutOfMemory, Policy, Shared};
-use mini_moka::script;
+use mini_moka::common::{BuildError, OutOfMemory, Policy, Shared, Weigh};
 use mini_moka::script::{End, Script, Sink, Source, Text};
 use mini_moka::sync::engine::{Call, Core, Reply};
 use mini_moka::sync::recorded::{NotRecorded, Record};
 use mini_moka::unsync::Cache;
+use mini_moka::unsync::history::{hits_are_current, runs_have_a_history};
+use mini_moka::{script, unsync};
 use std::alloc::{Allocator, Global};
 use std::hash::{BuildHasher, Hash};
+use std::rc::Rc;
 use std::time::Duration;
 
 /// Removes the entry of a key, and says whether it was there, unexpired. What was counted stays.
@@ -72,6 +77,32 @@ pub fn first_pair(cache: &Cache<u64, u32>, now: Instant) -> Option<(u64, u32)>
 {
     let (key, value) = cache.iter(now).next()?;
     Some((*key, *value))
+}
+
+/// Makes a list of calls on a cache as it was built, and then looks a key up. What is found is what these calls wrote there last, and fresh.
+pub fn is_found_after<
+    K: Eq + Hash + Drop,
+    V: Drop,
+    S: BuildHasher + Drop,
+    W: Weigh<K, Rc<V>> + Drop,
+>(
+    alloc: Global,
+    cache: &mut Cache<K, Rc<V>, S, W>,
+    calls: Vec<unsync::Call<K, V>>,
+    key: &K,
+    now: Instant,
+) -> Result<bool, OutOfMemory>
+    requires ready { W.ready cache.old.weigher }
+    requires built { cache.old ≡ new_cache cache.old.settings cache.old.weigher }
+    ensures { IfOk result (λ found. IsTrue found → (past : List (Transition K (Rc V Global) S W)) × (value : Rc V Global)
+        × (map (λ call. call.request) past ≡ reverse (map request_of calls.items))
+        × IsCurrent (keys_by K.Hash S.BuildHasher S.Hasher.Hasher) cache.old.settings.policy now (exchanges past) key.now value) }
+{
+    let _replies = unsync::run(alloc, cache, calls)?;
+    let found = cache.get(key, now).is_some();
+    runs_have_a_history::<K, Rc<V>, S, W>();
+    hits_are_current::<K, Rc<V>, S, W>();
+    Ok(found)
 }
 
 /// Counts a use, and estimates how often the hash was used of late.
@@ -155,6 +186,17 @@ pub fn has_ended<I: Source, O: Sink>(alloc: Global, source: &mut I, sink: &mut O
 mod tests {
     use super::*;
     use std::test::Fail;
+
+    #[test]
+    fn what_a_list_of_calls_wrote_is_found(rt: HostRuntime) -> Result<(), Fail> {
+        let alloc = rt.alloc();
+        let now = Instant::from_secs(0);
+        let value = Rc::new(alloc, 10)?;
+        let calls = vec![in alloc; unsync::Call::Insert { key: 7, value, now }]?;
+        let mut cache: Cache<u64, Rc<u32>> = Cache::new(alloc, 100)?;
+        assert!(rt; is_found_after(alloc, &mut cache, calls, &7, now)?);
+        Ok(())
+    }
 
     #[test]
     fn what_is_taken_out_was_there_once(rt: HostRuntime) -> Result<(), Fail> {
