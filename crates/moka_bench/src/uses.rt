@@ -106,6 +106,7 @@ pub fn count_after_calls(alloc: Global) -> Result<Option<u64>, Error> {
 #[cfg(test)]
 mod tests {
     use super::*;
+    use mini_moka::common::BuildError;
     use std::test::Fail;
 
     #[test]
@@ -117,6 +118,14 @@ mod tests {
     #[test]
     fn a_text_is_found_until_its_time_is_over(rt: HostRuntime) -> Result<(), Fail> {
         assert_eq!(rt; found_within_ten_seconds(rt.alloc())?, (true, false));
+        Ok(())
+    }
+
+    #[test]
+    fn an_error_has_the_text_of_its_cause(rt: HostRuntime) -> Result<(), Fail> {
+        let build = Error::from(BuildError::TimeToLiveTooLong);
+        let texts = format!(in rt.alloc(); "{build}, {}", Error::OutOfMemory)?;
+        assert!(rt; texts.as_str() == "time_to_live is longer than 1000 years, out of memory");
         Ok(())
     }
 
