@@ -1,3 +1,5 @@
 pub mod HistoryLemmas
+pub mod TiedLemmas
+pub mod CauseLemmas
 pub mod RemovalLemmas
 pub mod ExcludedLemmas
