@@ -30,17 +30,19 @@ fn debug_texts(alloc: Global) -> Result<String, Fail> {
 fn what_is_set_is_shown(rt: HostRuntime) -> Result<(), Fail> {
     let builder: CacheBuilder<u64, u32> = CacheBuilder::new(rt.alloc(), 3);
     let text = format!(in rt.alloc(); "{builder:?}")?;
-    let limits = "max_capacity: Some(3), time_to_live: None, time_to_idle: None";
-    let whole = format!(in rt.alloc();
-        "CacheBuilder {{ {limits}, initial_capacity: 0, is_weighed: false }}"
-    )?;
-    assert!(rt; text == whole);
-    let cache = builder.build()?;
+    let set =
+        "CacheBuilder { max_capacity: Some(3), time_to_live: None, time_to_idle: None, initial_capacity: 0, is_weighed: false }";
+    assert!(rt; text.as_str() == set);
+    Ok(())
+}
+
+#[test]
+fn an_iterator_shows_its_moment(rt: HostRuntime) -> Result<(), Fail> {
+    let cache: Cache<u64, u32> = Cache::new(rt.alloc(), 3)?;
     let text = format!(in rt.alloc(); "{:?}", cache.iter(start()))?;
-    let whole = format!(in rt.alloc();
-        "Iter {{ policy: Policy {{ {limits} }}, now: Instant {{ nanos: 0 }}, .. }}"
-    )?;
-    assert!(rt; text == whole);
+    let limits = "Policy { max_capacity: Some(3), time_to_live: None, time_to_idle: None }";
+    assert!(rt; text.as_str().contains(limits));
+    assert!(rt; text.as_str().ends_with("now: Instant { nanos: 0 }, .. }"));
     Ok(())
 }
 
