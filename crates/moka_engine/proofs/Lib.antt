@@ -1,0 +1,4 @@
+pub mod ListLemmas
+pub mod TicketLemmas
+pub mod OrdersLemmas
+pub mod PartsLemmas

@@ -1,0 +1,11 @@
+//! The cache that threads share as a machine: the definitions of each step that its callers and its maintenance take, on which the code and
+//! the laws both stand, and the types that both name.
+#![tactic(auto)]
+
+pub mod call;
+pub mod constants;
+pub mod event;
+pub mod operation;
+pub mod place;
+pub mod ticket;
+pub mod weigh;
