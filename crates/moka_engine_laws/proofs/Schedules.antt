@@ -467,6 +467,17 @@ read_log_full = refl
 read_log_has_room : replies late (after_misses 383) ≡ some 7 ∷ Done ∷ Done ∷ Done ∷ some 7 ∷ []
 read_log_has_room = refl
 
+-- ---- invalidations of all
+
+-- an earlier moment shows nothing again, and an entry of the same moment stays
+abbrev cleared : List Line
+cleared = Once (Insert 0 0 7 5) 1 ∷ push 0 ++ Once (InvalidateAll 5) 0 ∷ Once (Get 0 0 6) 0 ∷ push 0 ++ Once (InvalidateAll 6) 0
+    ∷ Once (InvalidateAll 3) 0
+    ∷ Once (Contains 0 6) 0 ∷ Once (Get 0 0 6) 0 ∷ []
+
+greatest_moment : replies cleared (core_with None false 0) ≡ Done ∷ Done ∷ Done ∷ some 7 ∷ Done ∷ Done ∷ Done ∷ BoolReply false ∷ none ∷ []
+greatest_moment = refl
+
 -- ---- whole calls of one caller, each with its moment
 
 -- a maintenance where one is due
