@@ -1,5 +1,6 @@
--- A turn that meets one shard is the turn of the whole core.
+-- A turn that meets the part that it needs is the turn of the whole core.
 use Rattle.std.proofs.Common.{◌≡◌, ◌≢◌, ℕ, suc, ◌+◌, ◌<◌, Bool, false, cond, List, [], ◌∷◌, ◌++◌, map, length, get_or, Option, None, refl}
+use Rattle.std.proofs.Common.{true}
 use Rattle.std.proofs.Common.{sym, ◌∙◌, ap, arith, inl, inr, append_assoc}
 use Rattle.std.proofs.Math.ListN.{set}
 use Rattle.std.specs.List.{All}
@@ -10,6 +11,15 @@ use Rattle.moka_engine.specs.Ticket.{same_ticket, shard_of}
 use Rattle.moka_engine.specs.Entry.{Entry, entry_of}
 use Rattle.moka_engine.specs.Turn.Plan.{Change, Stays, Becomes, Leaves, Outcome, after_change, AtEntry, after_plan}
 use Rattle.moka_engine.specs.Turn.Turn.{after_turn}
+use Rattle.moka_base.specs.Settings.{Settings}
+use Rattle.moka_engine.specs.declared.operation.Read.{Read}
+use Rattle.moka_engine.specs.declared.operation.Read.TheVariants.{Hit, Miss}
+use Rattle.moka_engine.specs.declared.operation.Write.{Write}
+use Rattle.moka_engine.specs.declared.operation.Write.TheVariants.{Upsert, Remove}
+use Rattle.moka_engine.specs.Place as place
+use Rattle.moka_engine.specs.Place.{Place}
+use Rattle.moka_engine.specs.Turn.Turn.{turn_at}
+use Rattle.moka_engine.specs.Parts.{TurnsAlone, TurnsWithReads, TurnsWithWrites, need_of}
 use Rattle.moka_engine.specs.CoreState.{Maintenance}
 use Rattle.moka_engine.specs.MapStep.{AddsEntry}
 use Rattle.moka_engine.specs.Parts.{ShardState, Parts, entries_of, AreShardsFrom, shard_after, core_of, parts_after, TurnsWithShard}
@@ -178,3 +188,48 @@ module _ {K V S : Type 0} where
       })) own
       ∙ ap (λ s. core_of (record parts { shards = set parts.shards number s; maintenance = end.maintenance })) (sym turns.shard)
       ∙ ap (λ m. core_of (record parts { shards = set parts.shards number new_shard; maintenance = m })) (sym turns.maintenance)
+
+  -- a turn that needs nothing is that of the whole core
+  pub turn_alone : (parts : Parts K V S) (refused : Bool) (new : Maintenance)
+      → TurnsAlone K V parts.settings parts.valid_after refused parts.maintenance new
+      → after_turn refused (core_of parts) ≡ core_of (record parts { maintenance = new })
+  turn_alone parts refused new turns = ap (λ plan. after_plan plan (core_of parts)) turns
+
+  -- so is one that meets the read log
+  pub turn_with_reads : (parts : Parts K V S) (refused : Bool) (new : Maintenance) (log : List Read)
+      → TurnsWithReads K V parts.settings parts.valid_after refused parts.maintenance new parts.read_log log
+      → after_turn refused (core_of parts) ≡ core_of (record parts { read_log = log; maintenance = new })
+  turn_with_reads parts refused new log turns =
+      ap (λ plan. after_plan plan (core_of parts)) turns.is
+      ∙ ap (λ (end : Maintenance × List Read). core_of (record parts { read_log = end.1; maintenance = end.0 })) (sym turns.ends)
+
+  -- and one that meets the write log
+  pub turn_with_writes : (parts : Parts K V S) (refused : Bool) (new : Maintenance) (log : List Write)
+      → TurnsWithWrites K V parts.settings parts.valid_after refused parts.maintenance new parts.write_log log
+      → after_turn refused (core_of parts) ≡ core_of (record parts { write_log = log; maintenance = new })
+  turn_with_writes parts refused new log turns =
+      ap (λ plan. after_plan plan (core_of parts)) turns.is
+      ∙ ap (λ (end : Maintenance × List Write). core_of (record parts { write_log = end.1; maintenance = end.0 })) (sym turns.ends)
+
+-- what a turn needs is known before memory is asked
+pub need_unread : (K V : Type 0) {S : Type 0} (settings : Settings S) (valid_after : ℕ) (p : Place) (m : Maintenance)
+    → need_of (turn_at {K = K} {V = V} settings valid_after true p m) ≡ need_of (turn_at {K = K} {V = V} settings valid_after false p m)
+need_unread K V settings valid_after (place.Apply work (Upsert t)) m = refl
+need_unread K V settings valid_after (place.Apply work (Remove t)) m = refl
+need_unread K V settings valid_after (place.ReadApply work (Hit t moment)) m = refl
+need_unread K V settings valid_after (place.ReadApply work (Miss hash)) m = refl
+need_unread K V settings valid_after place.Idle m = refl
+need_unread K V settings valid_after (place.ReadCount round) m = refl
+need_unread K V settings valid_after (place.Reads work) m = refl
+need_unread K V settings valid_after (place.WriteCount round) m = refl
+need_unread K V settings valid_after (place.Writes work) m = refl
+need_unread K V settings valid_after (place.Scan work c tally seen) m = refl
+need_unread K V settings valid_after (place.Removing work c tally skipped left) m = refl
+need_unread K V settings valid_after (place.Enter work c skipped) m = refl
+need_unread K V settings valid_after (place.Sketch round) m = refl
+need_unread K V settings valid_after (place.MoreReads round) m = refl
+need_unread K V settings valid_after (place.MoreWrites round) m = refl
+need_unread K V settings valid_after (place.ExpireWrite turns) m = refl
+need_unread K V settings valid_after (place.ExpireAccess turns) m = refl
+need_unread K V settings valid_after (place.Evict turns) m = refl
+need_unread K V settings valid_after (place.Publish turns) m = refl
