@@ -7,6 +7,8 @@ use moka_common::shared::Shared;
 use moka_common::time::Instant;
 use moka_common::weigh::UnitWeight;
 use moka_sync::engine::{Call, Core, Reply, Shard};
+use moka_sync::parts::logs::{Read, ReadLog, WriteLog};
+use moka_sync::parts::pending::{Operation, PendingOperations};
 use std::alloc::Global;
 use std::hash::BuildHasher;
 use std::test::Fail;
@@ -135,5 +137,39 @@ fn errors_have_their_texts(rt: HostRuntime) -> Result<(), Fail> {
     ] {
         assert_eq!(rt; error.to_string(rt.alloc())?.as_str(), text);
     }
+    Ok(())
+}
+
+/// A log takes memory once, and then as much as it holds.
+#[test]
+fn logs_hold_384_operations(rt: HostRuntime) -> Result<(), Fail> {
+    let alloc = rt.alloc();
+    let mut reads = ReadLog::new(alloc)?;
+    let mut writes = WriteLog::new(alloc)?;
+    assert!(rt; writes.pop().is_none());
+    for hash in 0..384u64 {
+        assert!(rt; reads.push(Read::Miss { hash }).is_ok());
+    }
+    assert!(rt; reads.push(Read::Miss { hash: 384 }).is_err());
+    assert!(rt; matches!(reads.pop(), Some(Read::Miss { hash: 0 })));
+    assert_eq!(rt; (reads.len(), writes.len()), (383, 0));
+    Ok(())
+}
+
+#[test]
+fn a_caller_takes_what_it_has_pending(rt: HostRuntime) -> Result<(), Fail> {
+    let mut pending = PendingOperations::new(rt.alloc(), 1)?;
+    assert_eq!(rt; (pending.of(7).is_some(), pending.room()), (false, 1));
+    if pending.of(7).is_none() && pending.room() > 0 {
+        pending.put(7, Operation::Reading(Read::Miss { hash: 5 }));
+    }
+    assert!(rt; pending.of(8).is_none());
+    assert!(rt;
+        matches!(
+            pending.take(7),
+            Some(Operation::Reading(Read::Miss { hash: 5 }))
+        )
+    );
+    assert!(rt; pending.of(7).is_none());
     Ok(())
 }

@@ -3,3 +3,4 @@ pub mod CoreLemmas
 pub mod FindLemmas
 pub mod ShardLemmas
 pub mod ShardsLemmas
+pub mod PendingLemmas
