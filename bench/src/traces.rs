@@ -137,6 +137,62 @@ fn zipf_ranks(count: usize) -> Vec<u64> {
         .collect()
 }
 
+/// A Zipf distribution over any number of ranks, without a table: by rejection-inversion (Hörmann and Derflinger, 1996).
+struct Zipf {
+    ranks: f64,
+    from: f64,
+    to: f64,
+    near: f64,
+}
+
+impl Zipf {
+    fn new(ranks: u64) -> Zipf {
+        let ranks = ranks as f64;
+        Zipf {
+            ranks,
+            from: Zipf::area(1.5) - 1.0,
+            to: Zipf::area(ranks + 0.5),
+            near: 2.0 - Zipf::place(Zipf::area(2.5) - 2f64.powf(-EXPONENT)),
+        }
+    }
+
+    /// The area below the distribution's hat from 1 on.
+    fn area(rank: f64) -> f64 {
+        (rank.powf(1.0 - EXPONENT) - 1.0) / (1.0 - EXPONENT)
+    }
+
+    /// Where the area is so much.
+    fn place(area: f64) -> f64 {
+        (1.0 + area * (1.0 - EXPONENT)).powf(1.0 / (1.0 - EXPONENT))
+    }
+
+    fn next(&self, random: &mut Random) -> u64 {
+        loop {
+            let area = self.to + random.unit() * (self.from - self.to);
+            let place = Zipf::place(area);
+            let rank = place.round().clamp(1.0, self.ranks);
+            if rank - place <= self.near || area >= Zipf::area(rank + 0.5) - rank.powf(-EXPONENT) {
+                return rank as u64 - 1;
+            }
+        }
+    }
+}
+
+/// Look-ups that insert what they miss, by a Zipf distribution over a hundred times as many keys as the cache has room for, two for each entry and
+/// two millions at least.
+pub fn growing(entries: u64) -> Trace {
+    let zipf = Zipf::new(100 * entries);
+    let mut random = Random(1);
+    let ranks: Vec<u64> = (0..CALLS.max(2 * entries as usize))
+        .map(|_| zipf.next(&mut random))
+        .collect();
+    read_through(
+        &format!("Zipf 1%, {entries}"),
+        Settings::with_capacity(entries),
+        &ranks,
+    )
+}
+
 fn operation(kind: u32, number: u64) -> Operation {
     let key = spread(number);
     Operation {

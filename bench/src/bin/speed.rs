@@ -1,9 +1,9 @@
 //! How long a call takes on each side: `speed [PART] [REPEATS]`, where PART is `zipf`, `single` or `all`.
-use moka_trace_bench::port::{self, Outcome};
-use moka_trace_bench::rust_sides::{self, Side};
+use moka_trace_bench::port::Outcome;
+use moka_trace_bench::rust_sides;
 use moka_trace_bench::table;
+use moka_trace_bench::timing::{time_original, time_port, time_side, Player};
 use moka_trace_bench::traces::{self, Operation, Settings, Trace};
-use std::hint::black_box;
 use std::process::ExitCode;
 use std::time::Instant;
 
@@ -35,26 +35,6 @@ impl Least {
         };
         (self.whole - filling) / trace.counted() as f64
     }
-}
-
-type Player = fn(&Settings, &[Operation]) -> (f64, Outcome);
-
-/// The port's time has the making and the dropping of the cache in it.
-fn time_port(settings: &Settings, operations: &[Operation]) -> (f64, Outcome) {
-    let start = Instant::now();
-    let outcome = port::play(settings, operations);
-    (start.elapsed().as_nanos() as f64, black_box(outcome))
-}
-
-/// The time of the operations alone.
-fn time_side<S: Side>(mut side: S, operations: &[Operation]) -> (f64, Outcome) {
-    let start = Instant::now();
-    let outcome = rust_sides::play(&mut side, operations);
-    (start.elapsed().as_nanos() as f64, black_box(outcome))
-}
-
-fn time_original(settings: &Settings, operations: &[Operation]) -> (f64, Outcome) {
-    time_side(rust_sides::original(settings), operations)
 }
 
 fn time_lru(settings: &Settings, operations: &[Operation]) -> (f64, Outcome) {
