@@ -69,6 +69,9 @@ stored_insert weighs old new key value now answers inserted = record {
   weight = inserted.weight;
   weigher = inserted.weigher;
   refused = inserted.refused;
+  capacity = inserted.capacity;
+  grown = inserted.grown;
+  kept = inserted.kept;
   weighed = answers old.weigher inserted.weigher inserted.weight inserted.weighed;
   small = inserted.small;
   step = inserted.step;
@@ -150,7 +153,7 @@ module _ (options : CacheOptions) (policy : Limits) (limits : HasLimits policy o
   -- the cache is new and of these settings, where the script is weighed so
   abbrev IsFirst : (weighed : Bool) → ScriptCache (WeigherOf weighed) → Type 0
   IsFirst weighed cache = HasLimits cache.settings.policy options ×
-      (cache ≡ new_cache (record { hash_state = record {}; policy = cache.settings.policy; is_weighed = weighed }) cache.weigher)
+      (cache ≡ new_cache (record { hash_state = record {}; policy = cache.settings.policy; is_weighed = weighed }) cache.weigher cache.capacity)
 
   -- the reply lines are those of the cache
   abbrev AreOf : {W : Type 0} → ScriptCache W → List ℕ → Type 0
@@ -167,10 +170,10 @@ module _ (options : CacheOptions) (policy : Limits) (limits : HasLimits policy o
   -- a cache that is built answers the lines
   pub built : {T E : Type 0} (text_of : T → List ℕ) (result : Result T E) (weighed : Bool) (weigher : WeigherOf weighed)
       (cache : ScriptCache (WeigherOf weighed)) → weighed ≡ options.weighed
-      → policy_fault ≡ None → cache ≡ new_cache (record { hash_state = record {}; policy = policy; is_weighed = weighed }) weigher
+      → policy_fault ≡ None → cache ≡ new_cache (record { hash_state = record {}; policy = policy; is_weighed = weighed }) weigher cache.capacity
       → IfOk result (λ t. AreOf cache (text_of t)) → IfOk result (λ t. AreUnsyncReplyLines options lines (text_of t))
   built text_of result weighed weigher cache is fine new answers =
-      let first : IsFirst weighed (new_cache (record { hash_state = record {}; policy = policy; is_weighed = weighed }) weigher) =
+      let first : IsFirst weighed (new_cache (record { hash_state = record {}; policy = policy; is_weighed = weighed }) weigher cache.capacity) =
       (limits, refl) in
       IfOk-map result (λ t of. under_fault None (text_of t) fine
       (first_answers weighed (text_of t) is cache (subst (IsFirst weighed) (sym new) first) of)) answers

@@ -87,7 +87,7 @@ pub record HasLimits (policy : Policy) (options : CacheOptions) : Type 0 where
 pub record IsFirstCache {W : Type 0} (options : CacheOptions) (cache : ScriptCache W) : Type 0 where
   pub limits : HasLimits cache.settings.policy options
   pub new : cache ≡ new_cache (record { hash_state = record {}; policy = cache.settings.policy; is_weighed = options.weighed })
-      cache.weigher
+      cache.weigher cache.capacity
 
 -- what is written where the settings have this fault or none: that they are refused, and nothing more; or the reply lines
 abbrev pub AreRepliesUnder : Option BuildError → CacheOptions → List (Line (List ℕ)) → List ℕ → Type 0

@@ -5,6 +5,7 @@ pub mod constants;
 pub mod error;
 pub mod hash;
 pub mod laws;
+pub mod limits;
 pub mod policy;
 pub mod settings;
 pub mod shared;

@@ -93,7 +93,7 @@ pub fn is_found_after<
     now: Instant,
 ) -> Result<bool, OutOfMemory>
     requires ready { W.ready cache.old.weigher }
-    requires built { cache.old ≡ new_cache cache.old.settings cache.old.weigher }
+    requires built { cache.old ≡ new_cache cache.old.settings cache.old.weigher cache.old.capacity }
     ensures { IfOk result (λ found. IsTrue found → (past : List (Transition K (Rc V Global) S W)) × (value : Rc V Global)
         × (map (λ call. call.request) past ≡ reverse (map request_of calls.items))
         × IsCurrent (keys_by K.Hash S.BuildHasher S.Hasher.Hasher) cache.old.settings.policy now (exchanges past) key.now value) }

@@ -282,6 +282,17 @@ fn room_from_the_start_is_for_as_many_entries(rt: HostRuntime) -> Result<(), Fai
     Ok(())
 }
 
+// No insert takes memory, whatever was taken of the rest.
+#[test]
+fn with_room_above_the_limit_inserts_go_on(rt: HostRuntime) -> Result<(), Fail> {
+    let heap = LocalHeap::new(rt.alloc(), 8192)?;
+    let mut cache = CacheBuilder::new(&heap, 10).initial_capacity(11).build()?;
+    let blocks = blocks_of(rt.alloc(), &heap)?;
+    assert_eq!(rt; taken_by(&mut cache), MANY);
+    drop(blocks);
+    Ok(())
+}
+
 /// A cache of four places, half of them taken, whose table was refused.
 fn without_table<'a>(
     alloc: Global,

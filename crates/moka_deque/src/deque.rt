@@ -163,6 +163,20 @@ impl<T, A: Allocator> Deque<T, A> {
         }
     }
 
+    /// Makes room for `additional` more elements and no more than that, where `reserve` may make more so that room seldom has to be made.
+    pub fn reserve_exact(&mut self, additional: usize) -> Result<(), OutOfMemory>
+        ensures ok { OnOk result (additional ≤ self.new.room) }
+        ensures succeeds { additional ≤ self.old.room → IsOk result }
+        ensures had_room { additional ≤ self.old.room → self.new ≡ self.old }
+        ensures room { self.old.room ≤ self.new.room }
+        ensures unchanged { self.new ≡ record self.old { room = self.new.room } }
+    {
+        match self.list.reserve_exact(additional) {
+            Ok(()) => Ok(()),
+            Err(_) => Err(OutOfMemory),
+        }
+    }
+
     /// How many elements fit with no allocation, with those that are there. All ids are below it.
     pub fn capacity(&self) -> usize
         ensures value { result ≡ length self.now.items + self.now.room }

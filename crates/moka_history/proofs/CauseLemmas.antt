@@ -408,12 +408,12 @@ module _ {K V S W : Type 0} (keys : Keys K S) (laws : IsEquivalence keys.eq) (ke
     step-cause old new (Insert other value now) answer (inl (done, inserted)) tied found none =
         let kept = (after_look keys old now).contents in
         upkept old new (Insert other value now) now refl tied found
-        (λ stands. put-cause old new (record old { weigher = inserted.weigher; contents = kept }) other value now
+        (λ stands. put-cause old new (record old { weigher = inserted.weigher; capacity = inserted.capacity; contents = kept }) other value now
         (entry_at keys.eq other kept.entries)
         (new_entry keys old.settings.hash_state other value inserted.weight now) inserted.refused inserted.step refl refl
         (total-upkeep keys.eq old.settings.policy now old.contents) refl refl stands none)
     step-cause old new (Insert other value now) answer (inr (refused, same)) tied found none =
-        something (sym (ap (λ c. entry_at keys.eq key c.contents.entries) same) ∙ none) found
+        something (sym (ap (λ c. entry_at keys.eq key c.contents.entries) same.same) ∙ none) found
     step-cause old new (Invalidate other now) answer step tied found none =
         upkept old new (Invalidate other now) now refl tied found
         (λ stands. elim (cases_Bool (keys.eq other key)) [

@@ -240,13 +240,13 @@ module _ {K V S W : Type 0} (keys : Keys K S) (laws : IsEquivalence keys.eq) whe
         let kept = (after_look keys old now).contents in
         ap (λ a. known_after keys (Insert other value now) a (chosen_keys (Insert other value now) old.contents.entries) key
         (known key)) done
-        ∙ told-put known (record old { weigher = inserted.weigher; contents = kept }) (entry_at keys.eq other kept.entries)
+        ∙ told-put known (record old { weigher = inserted.weigher; capacity = inserted.capacity; contents = kept }) (entry_at keys.eq other kept.entries)
         (new_entry keys old.settings.hash_state other value inserted.weight now) inserted.refused
         (told-upkeep known old now told) refl key e
         (sym (ap (λ c. entry_at keys.eq key c.contents.entries) inserted.step) ∙ h)
     told-step old new (Insert other value now) answer known (inr (refused, same)) told key e h =
         ap (λ a. known_after keys (Insert other value now) a (chosen_keys (Insert other value now) old.contents.entries) key
-        (known key)) refused ∙ told key e (sym (ap (λ c. entry_at keys.eq key c.contents.entries) same) ∙ h)
+        (known key)) refused ∙ told key e (sym (ap (λ c. entry_at keys.eq key c.contents.entries) same.same) ∙ h)
     told-step old new (Invalidate other now) answer known step told key e h =
         let kept = (after_look keys old now).contents in
         let (differ, stands) =
@@ -269,28 +269,28 @@ module _ {K V S W : Type 0} (keys : Keys K S) (laws : IsEquivalence keys.eq) whe
         told key e (sym (ap (λ c. entry_at keys.eq key c.contents.entries) step.1) ∙ h)
 
     -- so from a new cache the entries have what the calls tell
-    pub told-run : (settings : Settings S) (weigher : W) (past : List (Transition K V S W)) (cache : CacheState K V S W)
-        → Leads keys weighs (new_cache settings weigher) past cache
+    pub told-run : (settings : Settings S) (weigher : W) (capacity : ℕ) (past : List (Transition K V S W)) (cache : CacheState K V S W)
+        → Leads keys weighs (new_cache settings weigher capacity) past cache
         → IsTold keys laws (λ key. last_write keys key (exchanges past)) cache.contents.entries
-    told-run settings weigher [] cache leads key e h =
+    told-run settings weigher capacity [] cache leads key e h =
         something {o = None} refl (sym (ap (λ c. entry_at keys.eq key c.contents.entries) leads) ∙ h)
-    told-run settings weigher (call ∷ earlier) cache (is, step, leads) key e h =
+    told-run settings weigher capacity (call ∷ earlier) cache (is, step, leads) key e h =
         told-step call.before call.after call.request call.answer (λ key. last_write keys key (exchanges earlier)) step
-        (told-run settings weigher earlier call.before leads) key e
+        (told-run settings weigher capacity earlier call.before leads) key e
         (ap (λ c. entry_at keys.eq key c.contents.entries) is ∙ h)
 
     -- its settings are those that it was made with
-    pub settings-run : (settings : Settings S) (weigher : W) (past : List (Transition K V S W)) (cache : CacheState K V S W)
-        → Leads keys weighs (new_cache settings weigher) past cache
+    pub settings-run : (settings : Settings S) (weigher : W) (capacity : ℕ) (past : List (Transition K V S W)) (cache : CacheState K V S W)
+        → Leads keys weighs (new_cache settings weigher capacity) past cache
         → cache.settings ≡ settings
-    settings-run settings weigher [] cache leads = ap (λ c. c.settings) leads
-    settings-run settings weigher (call ∷ earlier) cache (is, step, leads) =
+    settings-run settings weigher capacity [] cache leads = ap (λ c. c.settings) leads
+    settings-run settings weigher capacity (call ∷ earlier) cache (is, step, leads) =
         sym (ap (λ c. c.settings) is)
         ∙ (settings-step keys weighs call.before call.after call.request call.answer step
-        ∙ settings-run settings weigher earlier call.before leads)
+        ∙ settings-run settings weigher capacity earlier call.before leads)
 
     pub hits_are_current : HitsAreCurrent keys weighs
-    hits_are_current settings weigher past cache next key now value leads step =
+    hits_are_current settings weigher capacity past cache next key now value leads step =
         by (unexpired_at keys.eq cache.settings.policy now key (after_look keys cache now).contents)
         (found_there cache.settings.policy now (entry_at keys.eq key (after_look keys cache now).contents.entries))
         (found_fresh cache.settings.policy now (entry_at keys.eq key (after_look keys cache now).contents.entries))
@@ -304,27 +304,27 @@ module _ {K V S W : Type 0} (keys : Keys K S) (laws : IsEquivalence keys.eq) whe
         by None there fresh is = something {o = None} refl is
         by (Some used) there fresh is = (
           last_write_of used,
-          told-upkeep (λ key. last_write keys key (exchanges past)) cache now (told-run settings weigher past cache leads) key used
+          told-upkeep (λ key. last_write keys key (exchanges past)) cache now (told-run settings weigher capacity past cache leads) key used
               (there used refl),
           one_of refl is,
-          subst (λ s. is_over s.policy now (last_write_of used) ≡ false) (settings-run settings weigher past cache leads) (fresh used refl),
+          subst (λ s. is_over s.policy now (last_write_of used) ≡ false) (settings-run settings weigher capacity past cache leads) (fresh used refl),
         )
 
     -- from a new cache no key has two entries
-    once-run : (settings : Settings S) (weigher : W) (past : List (Transition K V S W)) (cache : CacheState K V S W)
-        → Leads keys weighs (new_cache settings weigher) past cache
+    once-run : (settings : Settings S) (weigher : W) (capacity : ℕ) (past : List (Transition K V S W)) (cache : CacheState K V S W)
+        → Leads keys weighs (new_cache settings weigher capacity) past cache
         → StandOnce keys.eq cache.contents.entries
-    once-run settings weigher [] cache leads = subst (λ c. StandOnce keys.eq c.contents.entries) (sym leads) (none_stand keys laws weighs)
-    once-run settings weigher (call ∷ earlier) cache (is, step, leads) =
+    once-run settings weigher capacity [] cache leads = subst (λ c. StandOnce keys.eq c.contents.entries) (sym leads) (none_stand keys laws weighs)
+    once-run settings weigher capacity (call ∷ earlier) cache (is, step, leads) =
         subst (λ c. StandOnce keys.eq c.contents.entries) is
         (once-step keys laws weighs call.before call.after call.request call.answer step
-        (once-run settings weigher earlier call.before leads))
+        (once-run settings weigher capacity earlier call.before leads))
 
     pub pairs_are_current : PairsAreCurrent keys weighs
-    pairs_are_current settings weigher past cache next now pairs leads step =
+    pairs_are_current settings weigher capacity past cache next now pairs leads step =
         All-from_recursion (λ (p : K × V). IsCurrent keys settings.policy now (exchanges past) p.0 p.1) pairs
         (subst (AllByRecursion (λ (p : K × V). IsCurrent keys settings.policy now (exchanges past) p.0 p.1)) (sym (same_pairs refl step.0))
-        (by cache.contents.entries (found-own laws cache.contents.entries (once-run settings weigher past cache leads))))
+        (by cache.contents.entries (found-own laws cache.contents.entries (once-run settings weigher capacity past cache leads))))
       where
         by : (es : List (Entry K V)) → AllByRecursion (λ e. entry_at keys.eq e.key cache.contents.entries ≡ Some e) es
             → AllByRecursion (λ (p : K × V). IsCurrent keys settings.policy now (exchanges past) p.0 p.1)
@@ -343,9 +343,9 @@ module _ {K V S W : Type 0} (keys : Keys K S) (laws : IsEquivalence keys.eq) whe
                   (sym (cond-true (not (is_expired cache.settings.policy now e)) (e ∷ fresh) fresh (ap not lives))) (
                     (
                       last_write_of e,
-                      told-run settings weigher past cache leads e.key e own.0,
+                      told-run settings weigher capacity past cache leads e.key e own.0,
                       refl,
-                      subst (λ s. is_over s.policy now (last_write_of e) ≡ false) (settings-run settings weigher past cache leads) lives,
+                      subst (λ s. is_over s.policy now (last_write_of e) ≡ false) (settings-run settings weigher capacity past cache leads) lives,
                     ),
                     by es own.1,
                   )

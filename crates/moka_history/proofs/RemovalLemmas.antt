@@ -58,7 +58,7 @@ module _ {K V S W : Type 0} (keys : Keys K S) (laws : IsEquivalence keys.eq) (we
       let kept = (after_look keys old now).contents in
       let equal : keys.eq other key ≡ true = sym (ap (λ a. is_written keys (Insert other value now) a key) done) ∙ written in
       let (l, limited, full) =
-      put-rejected (record old { weigher = inserted.weigher; contents = kept })
+      put-rejected (record old { weigher = inserted.weigher; capacity = inserted.capacity; contents = kept })
       (new_entry keys old.settings.hash_state other value inserted.weight now) inserted.refused
       (entry_at keys.eq other kept.entries) refl
       (entry_at-equal laws other key equal _ ∙ (sym (ap (λ c. entry_at keys.eq key c.contents.entries) inserted.step) ∙ none)) in
@@ -86,19 +86,19 @@ module _ {K V S W : Type 0} (keys : Keys K S) (laws : IsEquivalence keys.eq) (we
   rejected key old new WeightedSize answer step written none = absurd (false≢true written)
 
   pub entries_leave : EntriesLeaveForACause keys weighs
-  entries_leave settings weigher past call cache key e (is, step, leads) found none =
+  entries_leave settings weigher capacity past call cache key e (is, step, leads) found none =
       subst (λ c. RemovalCause keys call.before call.request c e) is
       (step-cause keys laws key e weighs call.before call.after call.request call.answer step
-      (tied-run keys laws weighs settings weigher past call.before leads) found
+      (tied-run keys laws weighs settings weigher capacity past call.before leads) found
       (ap (λ c. entry_at keys.eq key c.contents.entries) is ∙ none))
 
   -- a key without an entry is missing for a reason
-  missing-run : (settings : Settings S) (weigher : W) (past : List (Transition K V S W)) (cache : CacheState K V S W) (key : K)
-      → Leads keys weighs (new_cache settings weigher) past cache
+  missing-run : (settings : Settings S) (weigher : W) (capacity : ℕ) (past : List (Transition K V S W)) (cache : CacheState K V S W) (key : K)
+      → Leads keys weighs (new_cache settings weigher capacity) past cache
       → entry_at keys.eq key cache.contents.entries ≡ None → IsMissing keys weighs past key
-  missing-run settings weigher [] cache key leads none = tt
-  missing-run settings weigher (call ∷ earlier) cache key (is, step, leads) none =
-      by (missing-run settings weigher earlier call.before key leads) (entry_at keys.eq key call.before.contents.entries) refl
+  missing-run settings weigher capacity [] cache key leads none = tt
+  missing-run settings weigher capacity (call ∷ earlier) cache key (is, step, leads) none =
+      by (missing-run settings weigher capacity earlier call.before key leads) (entry_at keys.eq key call.before.contents.entries) refl
     where
       gone : entry_at keys.eq key call.after.contents.entries ≡ None
       gone = ap (λ c. entry_at keys.eq key c.contents.entries) is ∙ none
@@ -111,11 +111,11 @@ module _ {K V S W : Type 0} (keys : Keys K S) (laws : IsEquivalence keys.eq) (we
           inl (record {
             entry = e;
             stood = stood;
-            known = told-run keys laws weighs settings weigher earlier call.before leads key e stood;
+            known = told-run keys laws weighs settings weigher capacity earlier call.before leads key e stood;
             left = gone;
             cause =
                 step-cause keys laws key e weighs call.before call.after call.request call.answer step
-                (tied-run keys laws weighs settings weigher earlier call.before leads) stood gone;
+                (tied-run keys laws weighs settings weigher capacity earlier call.before leads) stood gone;
           })
 
       by : (entry_at keys.eq key call.before.contents.entries ≡ None → IsMissing keys weighs earlier key) → (o : Option (Entry K V))
@@ -128,12 +128,12 @@ module _ {K V S W : Type 0} (keys : Keys K S) (laws : IsEquivalence keys.eq) (we
           ]
 
   -- a get that finds nothing
-  missed : (settings : Settings S) (weigher : W) (past : List (Transition K V S W)) (call : Transition K V S W)
+  missed : (settings : Settings S) (weigher : W) (capacity : ℕ) (past : List (Transition K V S W)) (call : Transition K V S W)
       (cache : CacheState K V S W) (key : K) (now : ℕ)
-      → Leads keys weighs (new_cache settings weigher) (call ∷ past) cache → call.request ≡ Get key now → call.answer ≡ Found None
+      → Leads keys weighs (new_cache settings weigher capacity) (call ∷ past) cache → call.request ≡ Get key now → call.answer ≡ Found None
       → IsMissing keys weighs (call ∷ past) key
       ⊎ ((write : LastWrite V) × (last_write keys key (exchanges past) ≡ Some write) × (is_over settings.policy now write ≡ true))
-  missed settings weigher past call cache key now (is, step, leads) asked answered =
+  missed settings weigher capacity past call cache key now (is, step, leads) asked answered =
       by (subst (λ a. IsStep keys weighs call.before (Get key now) a call.after) answered
       (subst (λ r. IsStep keys weighs call.before r call.answer call.after) asked step))
       (entry_at keys.eq key (after_look keys call.before now).contents.entries) refl
@@ -147,7 +147,7 @@ module _ {K V S W : Type 0} (keys : Keys K S) (laws : IsEquivalence keys.eq) (we
           let none : entry_at keys.eq key call.after.contents.entries ≡ None =
           ap (λ c. entry_at keys.eq key c.contents.entries) got.1
           ∙ (ap (λ o. entry_at keys.eq key (after_use keys.eq now (unexpired call.before.settings.policy now o) kept).entries) at ∙ at) in
-          inl (missing-run settings weigher (call ∷ past) cache key (is, step, leads)
+          inl (missing-run settings weigher capacity (call ∷ past) cache key (is, step, leads)
           (sym (ap (λ c. entry_at keys.eq key c.contents.entries) is) ∙ none))
       by got (Some e) at =
           let policy = call.before.settings.policy in
@@ -158,9 +158,9 @@ module _ {K V S W : Type 0} (keys : Keys K S) (laws : IsEquivalence keys.eq) (we
                 inr (
                   last_write_of e,
                   told-upkeep keys laws (λ key. last_write keys key (exchanges past)) call.before now
-                      (told-run keys laws weighs settings weigher past call.before leads) key e at,
+                      (told-run keys laws weighs settings weigher capacity past call.before leads) key e at,
                   subst (λ s. is_over s.policy now (last_write_of e) ≡ true)
-                      (settings-run keys laws weighs settings weigher past call.before leads) expired,
+                      (settings-run keys laws weighs settings weigher capacity past call.before leads) expired,
                 )
             | inr fresh ↦ something empty (ap (option_map (λ e. e.value)) (cond-false (is_expired policy now e) None (Some e) fresh))
           ]
@@ -227,12 +227,12 @@ module _ {K V S W : Type 0} (keys : Keys K S) (laws : IsEquivalence keys.eq) (we
   absent-step key old new (Insert other value now) answer (inl (done, inserted)) written none =
       let kept = (after_look keys old now).contents in
       ap (λ c. entry_at keys.eq key c.contents.entries) inserted.step
-      ∙ absent-put (record old { weigher = inserted.weigher; contents = kept })
+      ∙ absent-put (record old { weigher = inserted.weigher; capacity = inserted.capacity; contents = kept })
       (new_entry keys old.settings.hash_state other value inserted.weight now) inserted.refused key
       (entry_at keys.eq other kept.entries) refl (sym (ap (λ a. is_written keys (Insert other value now) a key) done) ∙ written)
       (absent-upkeep old now key none)
   absent-step key old new (Insert other value now) answer (inr (refused, same)) written none =
-      ap (λ c. entry_at keys.eq key c.contents.entries) same ∙ none
+      ap (λ c. entry_at keys.eq key c.contents.entries) same.same ∙ none
   absent-step key old new (Invalidate other now) answer step written none =
       ap (λ c. entry_at keys.eq key c.contents.entries) step.1 ∙ absent-leaving keys.eq key (other ∷ [])
       (after_look keys old now).contents (absent-upkeep old now key none)
@@ -244,27 +244,27 @@ module _ {K V S W : Type 0} (keys : Keys K S) (laws : IsEquivalence keys.eq) (we
   absent-step key old new EntryCount answer step written none = ap (λ c. entry_at keys.eq key c.contents.entries) step.1 ∙ none
   absent-step key old new WeightedSize answer step written none = ap (λ c. entry_at keys.eq key c.contents.entries) step.1 ∙ none
 
-  missing-absent : (settings : Settings S) (weigher : W) (past : List (Transition K V S W)) (cache : CacheState K V S W) (key : K)
-      → Leads keys weighs (new_cache settings weigher) past cache
+  missing-absent : (settings : Settings S) (weigher : W) (capacity : ℕ) (past : List (Transition K V S W)) (cache : CacheState K V S W) (key : K)
+      → Leads keys weighs (new_cache settings weigher capacity) past cache
       → IsMissing keys weighs past key → entry_at keys.eq key cache.contents.entries ≡ None
-  missing-absent settings weigher [] cache key leads missing = ap (λ c. entry_at keys.eq key c.contents.entries) leads
-  missing-absent settings weigher (call ∷ earlier) cache key (is, step, leads) (inl rejected) =
+  missing-absent settings weigher capacity [] cache key leads missing = ap (λ c. entry_at keys.eq key c.contents.entries) leads
+  missing-absent settings weigher capacity (call ∷ earlier) cache key (is, step, leads) (inl rejected) =
       sym (ap (λ c. entry_at keys.eq key c.contents.entries) is) ∙ rejected.absent
-  missing-absent settings weigher (call ∷ earlier) cache key (is, step, leads) (inr (unwritten, inl leaves)) =
+  missing-absent settings weigher capacity (call ∷ earlier) cache key (is, step, leads) (inr (unwritten, inl leaves)) =
       sym (ap (λ c. entry_at keys.eq key c.contents.entries) is) ∙ leaves.left
-  missing-absent settings weigher (call ∷ earlier) cache key (is, step, leads) (inr (unwritten, inr missing)) =
+  missing-absent settings weigher capacity (call ∷ earlier) cache key (is, step, leads) (inr (unwritten, inr missing)) =
       sym (ap (λ c. entry_at keys.eq key c.contents.entries) is)
       ∙ absent-step key call.before call.after call.request call.answer step unwritten
-      (missing-absent settings weigher earlier call.before key leads missing)
+      (missing-absent settings weigher capacity earlier call.before key leads missing)
 
   -- a get of a key that is missing, or whose last write is over, finds nothing
-  nothing_found : (settings : Settings S) (weigher : W) (past : List (Transition K V S W)) (call : Transition K V S W)
+  nothing_found : (settings : Settings S) (weigher : W) (capacity : ℕ) (past : List (Transition K V S W)) (call : Transition K V S W)
       (cache : CacheState K V S W) (key : K) (now : ℕ)
-      → Leads keys weighs (new_cache settings weigher) (call ∷ past) cache → call.request ≡ Get key now
+      → Leads keys weighs (new_cache settings weigher capacity) (call ∷ past) cache → call.request ≡ Get key now
       → IsMissing keys weighs (call ∷ past) key
       ⊎ ((write : LastWrite V) × (last_write keys key (exchanges past) ≡ Some write) × (is_over settings.policy now write ≡ true))
       → call.answer ≡ Found None
-  nothing_found settings weigher past call cache key now (is, step, leads) asked reason =
+  nothing_found settings weigher capacity past call cache key now (is, step, leads) asked reason =
       let kept = (after_look keys call.before now).contents in
       let policy = call.before.settings.policy in
       by (subst (λ r. IsStep keys weighs call.before r call.answer call.after) asked step) (unexpired_at keys.eq policy now key kept) refl
@@ -286,26 +286,26 @@ module _ {K V S W : Type 0} (keys : Keys K S) (laws : IsEquivalence keys.eq) (we
                 use-stands keys laws key used now (Some used) kept (there used at)
                 (sym (ap (λ c. entry_at keys.eq key c.contents.entries) got.1 ∙ ap
                 (λ o. entry_at keys.eq key (after_use keys.eq now o kept).entries) at)
-                ∙ (ap (λ c. entry_at keys.eq key c.contents.entries) is ∙ missing-absent settings weigher (call ∷ past) cache key
+                ∙ (ap (λ c. entry_at keys.eq key c.contents.entries) is ∙ missing-absent settings weigher capacity (call ∷ past) cache key
                 (is, step, leads) missing))
             | inr (write, known, over) ↦
                 let same : write ≡ last_write_of used =
                 one_of known
                 (told-upkeep keys laws (λ key. last_write keys key (exchanges past)) call.before now
-                (told-run keys laws weighs settings weigher past call.before leads) key used (there used at)) in
+                (told-run keys laws weighs settings weigher capacity past call.before leads) key used (there used at)) in
                 absurd (false≢true
                 (sym (subst (λ s. is_over s.policy now (last_write_of used) ≡ false)
-                (settings-run keys laws weighs settings weigher past call.before leads) (fresh used at))
+                (settings-run keys laws weighs settings weigher capacity past call.before leads) (fresh used at))
                 ∙ (ap (is_over settings.policy now) (sym same) ∙ over)))
           ]
 
   pub misses : MissesHaveAReason keys weighs
-  misses settings weigher past call cache key now leads asked =
-      (missed settings weigher past call cache key now leads asked, nothing_found settings weigher past call cache key now leads asked)
+  misses settings weigher capacity past call cache key now leads asked =
+      (missed settings weigher capacity past call cache key now leads asked, nothing_found settings weigher capacity past call cache key now leads asked)
 
   -- an accepted insert has its entry then, or was rejected
   pub inserts : InsertsEnterOrAreRejected keys weighs
-  inserts settings weigher past call cache key value now (is, step, leads) asked done =
+  inserts settings weigher capacity past call cache key value now (is, step, leads) asked done =
       by (entry_at keys.eq key cache.contents.entries) refl
     where
       by : (o : Option (Entry K V)) → entry_at keys.eq key cache.contents.entries ≡ o
@@ -320,7 +320,7 @@ module _ {K V S W : Type 0} (keys : Keys K S) (laws : IsEquivalence keys.eq) (we
           inl (
             e,
             at,
-            one_of (told-run keys laws weighs settings weigher (call ∷ past) cache (is, step, leads) key e at)
+            one_of (told-run keys laws weighs settings weigher capacity (call ∷ past) cache (is, step, leads) key e at)
                 ((λ i. known_after keys (asked i) (done i) (chosen_keys call.request call.before.contents.entries) key known)
                 ∙ cond-true (keys.eq key key) (Some (record { value = value; written = now; used = now })) known (laws.refl key)),
           )

@@ -212,10 +212,10 @@ module _ {K V S W : Type 0} (keys : Keys K S) (laws : IsEquivalence keys.eq) (we
   tied-step old new (Insert key value now) answer (inl (done, inserted)) tied =
       let kept = (after_look keys old now).contents in
       subst Tied (sym inserted.step)
-      (tied-insert keys.eq laws (record old { weigher = inserted.weigher; contents = kept }) (entry_at keys.eq key kept.entries)
+      (tied-insert keys.eq laws (record old { weigher = inserted.weigher; capacity = inserted.capacity; contents = kept }) (entry_at keys.eq key kept.entries)
       (new_entry keys old.settings.hash_state key value inserted.weight now) inserted.refused refl
       (tied-upkeep keys.eq laws old.settings.policy now old.contents tied))
-  tied-step old new (Insert key value now) answer (inr (refused, same)) tied = subst Tied (sym same) tied
+  tied-step old new (Insert key value now) answer (inr (refused, same)) tied = subst Tied (sym same.same) tied
   tied-step old new (Invalidate key now) answer step tied =
       subst Tied (sym step.1)
       (tied-leaving keys.eq laws (key ∷ []) (after_look keys old now).contents
@@ -227,8 +227,8 @@ module _ {K V S W : Type 0} (keys : Keys K S) (laws : IsEquivalence keys.eq) (we
   tied-step old new EntryCount answer step tied = subst Tied (sym step.1) tied
   tied-step old new WeightedSize answer step tied = subst Tied (sym step.1) tied
 
-  pub tied-run : (settings : Settings S) (weigher : W) (past : List (Transition K V S W)) (cache : CacheState K V S W)
-      → Leads keys weighs (new_cache settings weigher) past cache → Tied cache
-  tied-run settings weigher [] cache leads = subst Tied (sym leads) tt
-  tied-run settings weigher (call ∷ earlier) cache (is, step, leads) =
-      subst Tied is (tied-step call.before call.after call.request call.answer step (tied-run settings weigher earlier call.before leads))
+  pub tied-run : (settings : Settings S) (weigher : W) (capacity : ℕ) (past : List (Transition K V S W)) (cache : CacheState K V S W)
+      → Leads keys weighs (new_cache settings weigher capacity) past cache → Tied cache
+  tied-run settings weigher capacity [] cache leads = subst Tied (sym leads) tt
+  tied-run settings weigher capacity (call ∷ earlier) cache (is, step, leads) =
+      subst Tied is (tied-step call.before call.after call.request call.answer step (tied-run settings weigher capacity earlier call.before leads))

@@ -123,17 +123,17 @@ module _ {K V S W : Type 0} (keys : Keys K S) (weighs : W → K → V → ℕ �
   -- from a new cache, a value that a get finds is the last one written at the key, and is current
   abbrev pub HitsAreCurrent : Type 0
   HitsAreCurrent =
-      (settings : Settings S) (weigher : W) (past : List (Transition K V S W)) (cache next : CacheState K V S W) (key : K) (now : ℕ)
+      (settings : Settings S) (weigher : W) (capacity : ℕ) (past : List (Transition K V S W)) (cache next : CacheState K V S W) (key : K) (now : ℕ)
       (value : V) →
-      Leads (new_cache settings weigher) past cache → IsStep keys weighs cache (Get key now) (Found (Some value)) next →
+      Leads (new_cache settings weigher capacity) past cache → IsStep keys weighs cache (Get key now) (Found (Some value)) next →
       IsCurrent keys settings.policy now (exchanges past) key value
 
   -- and so is each pair that an iterator gives
   abbrev pub PairsAreCurrent : Type 0
   PairsAreCurrent =
-      (settings : Settings S) (weigher : W) (past : List (Transition K V S W)) (cache next : CacheState K V S W) (now : ℕ)
+      (settings : Settings S) (weigher : W) (capacity : ℕ) (past : List (Transition K V S W)) (cache next : CacheState K V S W) (now : ℕ)
       (pairs : List (K × V)) →
-      Leads (new_cache settings weigher) past cache → IsStep keys weighs cache (Iterate now) (Pairs pairs) next →
+      Leads (new_cache settings weigher capacity) past cache → IsStep keys weighs cache (Iterate now) (Pairs pairs) next →
       All (λ p. IsCurrent keys settings.policy now (exchanges past) p.0 p.1) pairs
 
   -- a key is told to be there exactly where a get would find a value

@@ -77,18 +77,18 @@ module _ {K V S W : Type 0} (keys : Keys K S) (weighs : W → K → V → ℕ �
   -- from a new cache, an entry that stands before a call and not after it leaves for a cause
   abbrev pub EntriesLeaveForACause : Type 0
   EntriesLeaveForACause =
-      (settings : Settings S) (weigher : W) (past : List (Transition K V S W)) (call : Transition K V S W) (cache : CacheState K V S W)
+      (settings : Settings S) (weigher : W) (capacity : ℕ) (past : List (Transition K V S W)) (call : Transition K V S W) (cache : CacheState K V S W)
       (key : K) (e : Entry K V) →
-      Leads keys weighs (new_cache settings weigher) (call ∷ past) cache →
+      Leads keys weighs (new_cache settings weigher capacity) (call ∷ past) cache →
       entry_at keys.eq key call.before.contents.entries ≡ Some e → entry_at keys.eq key cache.contents.entries ≡ None →
       RemovalCause keys call.before call.request cache e
 
   -- from a new cache, after an accepted insert its value stands at the key, written then, or it was rejected
   abbrev pub InsertsEnterOrAreRejected : Type 0
   InsertsEnterOrAreRejected =
-      (settings : Settings S) (weigher : W) (past : List (Transition K V S W)) (call : Transition K V S W) (cache : CacheState K V S W)
+      (settings : Settings S) (weigher : W) (capacity : ℕ) (past : List (Transition K V S W)) (call : Transition K V S W) (cache : CacheState K V S W)
       (key : K) (value : V) (now : ℕ) →
-      Leads keys weighs (new_cache settings weigher) (call ∷ past) cache → call.request ≡ Insert key value now → call.answer ≡ Done →
+      Leads keys weighs (new_cache settings weigher capacity) (call ∷ past) cache → call.request ≡ Insert key value now → call.answer ≡ Done →
       ((e : Entry K V) × (entry_at keys.eq key cache.contents.entries ≡ Some e)
       × (last_write_of e ≡ record { value = value; written = now; used = now }))
       ⊎ IsRejected call key
@@ -96,9 +96,9 @@ module _ {K V S W : Type 0} (keys : Keys K S) (weighs : W → K → V → ℕ �
   -- from a new cache, a get finds nothing exactly where the key is missing after it for a reason, or its last write is over
   abbrev pub MissesHaveAReason : Type 0
   MissesHaveAReason =
-      (settings : Settings S) (weigher : W) (past : List (Transition K V S W)) (call : Transition K V S W) (cache : CacheState K V S W)
+      (settings : Settings S) (weigher : W) (capacity : ℕ) (past : List (Transition K V S W)) (call : Transition K V S W) (cache : CacheState K V S W)
       (key : K) (now : ℕ) →
-      Leads keys weighs (new_cache settings weigher) (call ∷ past) cache → call.request ≡ Get key now →
+      Leads keys weighs (new_cache settings weigher capacity) (call ∷ past) cache → call.request ≡ Get key now →
       (call.answer ≡ Found None)
       ↔ (IsMissing (call ∷ past) key
       ⊎ ((write : LastWrite V) × (last_write keys key (exchanges past) ≡ Some write) × (is_over settings.policy now write ≡ true)))

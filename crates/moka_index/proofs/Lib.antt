@@ -1,4 +1,3 @@
-pub mod CallerLemmas
-pub mod ChainsLemmas
-pub mod HashIndexLemmas
+pub mod CandidateLemmas
 pub mod IdsLemmas
+pub mod ProbeLemmas

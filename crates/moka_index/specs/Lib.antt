@@ -1,3 +1,3 @@
 pub mod HashIndex
 -- inside
-pub mod Chains
+pub mod Probed

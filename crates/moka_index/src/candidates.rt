@@ -1,25 +1,25 @@
 //! The iterator over the candidates of a hash.
 ghost use Rattle.std.specs.Iterator.{YieldsFirst, item_count};
 
+use crate::constants::NONE;
+use crate::slot::Slot;
 use std::marker::Model;
 
-/// An iterator over the candidates of a hash, the one that was added last first. A contract sees the ids that are left.
+/// An iterator over the candidates of a hash. A contract sees the ids that are left.
 #[derive(Drop)]
 pub struct Candidates<'a> {
-    pub(crate) links: &'a [usize],
-    pub(crate) ids: usize,
+    pub(crate) slots: &'a [Slot],
     pub(crate) at: usize,
+    pub(crate) tag: u32,
 }
 
 impl<'a> Model for Candidates<'a> {
-    ghost use Rattle.std.specs.Prelude.{ℕ, List};
-    ghost use Rattle.moka_index.specs.Chains.{chain, IsChained};
+    ghost use Rattle.std.specs.Prelude.{ℕ, List, drop};
+    ghost use Rattle.moka_index.specs.HashIndex.{tagged};
 
     ghost Value = { List ℕ };
 
-    ghost view = { λ it. chain it.links.now it.ids it.at };
-
-    ghost invariant = { λ it. IsChained it.links.now it.ids it.at };
+    ghost view = { λ it. tagged it.tag (drop it.at it.slots.now) };
 }
 
 impl<'a> Iterator for Candidates<'a> {
@@ -30,11 +30,15 @@ impl<'a> Iterator for Candidates<'a> {
     ghost remaining = { item_count (λ ids. ids) };
 
     fn next(&mut self) -> Option<usize> {
-        let id = self.at;
-        if id >= self.ids {
-            return None;
+        while let Some(slot) = self.slots.get(self.at) {
+            if slot.id == NONE {
+                return None;
+            }
+            self.at += 1;
+            if slot.tag == self.tag {
+                return Some(slot.id as usize);
+            }
         }
-        self.at = self.links[id];
-        Some(id)
+        None
     }
 }

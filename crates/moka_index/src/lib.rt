@@ -4,3 +4,5 @@
 pub mod candidates;
 pub mod constants;
 pub mod hash_index;
+pub mod slot;
+mod table;

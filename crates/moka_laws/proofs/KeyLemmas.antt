@@ -142,13 +142,13 @@ module _ {K V S W : Type 0} (keys : Keys K S) (laws : IsEquivalence keys.eq) (we
       once-remains keys.eq old.contents new.contents (looks keys weighs old new (ContainsKey key now) answer tt step).1 once
   once-step old new (Insert key value now) answer (inl (done, inserted)) once =
       let kept = (after_look keys old now).contents in
-      let asked : CacheState K V S W = record old { weigher = inserted.weigher; contents = kept } in
+      let asked : CacheState K V S W = record old { weigher = inserted.weigher; capacity = inserted.capacity; contents = kept } in
       subst (λ c. StandOnce keys.eq c.contents.entries) (sym inserted.step)
       (once-insert keys.eq laws asked (entry_at keys.eq key kept.entries)
       (new_entry keys old.settings.hash_state key value inserted.weight now) inserted.refused refl
       (once-remains keys.eq old.contents kept (remains-upkeep keys.eq old.settings.policy now old.contents) once))
   once-step old new (Insert key value now) answer (inr (refused, same)) once =
-      subst (λ c. StandOnce keys.eq c.contents.entries) (sym same) once
+      subst (λ c. StandOnce keys.eq c.contents.entries) (sym same.same) once
   once-step old new (Invalidate key now) answer step once =
       once-remains keys.eq old.contents new.contents (invalidations keys weighs old new (Invalidate key now) answer tt step).1 once
   once-step old new InvalidateAll answer step once =
@@ -172,4 +172,4 @@ module _ {K V S W : Type 0} (keys : Keys K S) (laws : IsEquivalence keys.eq) (we
 
   -- and a new cache has none
   pub keys_stand_once : KeysStandOnce keys weighs
-  keys_stand_once settings weigher requests answers cache run = once-runs (new_cache settings weigher) cache requests answers run none_stand
+  keys_stand_once settings weigher capacity requests answers cache run = once-runs (new_cache settings weigher capacity) cache requests answers run none_stand

@@ -65,7 +65,7 @@ module _ {K V : Type 0} where
       rw (cond-false (p e) (e ∷ filter p (es ++ rest)) (filter p (es ++ rest)) fail.0) (total-behind p es rest fail.1)
 
   -- entries of weight 1 weigh as much as there are
-  total-ones : (es : List (Entry K V)) → AllByRecursion (λ e. e.weight ≡ 1) es → total_weight es ≡ length es
+  pub total-ones : (es : List (Entry K V)) → AllByRecursion (λ e. e.weight ≡ 1) es → total_weight es ≡ length es
   total-ones [] ones = refl
   total-ones (e ∷ es) ones = total-cons e es ∙ ((λ i. ones.0 i + total-ones es ones.1 i) ∙ grind (arith))
 
@@ -268,7 +268,7 @@ module _ {K V S W : Type 0} (keys : Keys K S) (laws : IsEquivalence keys.eq) (we
       → IsBounded keys.eq laws limit old.contents new.contents ⊎ IsUpdate keys weighs old (Insert key value now)
   bounded_insert old new limit key value now has done =
       let kept = after_upkeep keys.eq old.settings.policy now old.contents in
-      let found = record old { weigher = done.weigher; contents = kept } in
+      let found = record old { weigher = done.weigher; capacity = done.capacity; contents = kept } in
       let entry = new_entry keys old.settings.hash_state key value done.weight now in
       elim (cases_Bool (is_some (entry_at keys.eq key kept.entries))) [
         | inl there ↦ inr (key, value, now, refl, there)
@@ -302,7 +302,7 @@ module _ {K V S W : Type 0} (keys : Keys K S) (laws : IsEquivalence keys.eq) (we
       less limit old new _ (ContainsKey key now) step.1 (total-upkeep keys.eq old.settings.policy now old.contents)
   bounded_step old new limit (Insert key value now) answer has (inl done) = bounded_insert old new limit key value now has done.1
   bounded_step old new limit (Insert key value now) answer has (inr refused) =
-      less limit old new old (Insert key value now) refused.1 (grind (arith))
+      less limit old new (record old { capacity = new.capacity }) (Insert key value now) refused.1.same (grind (arith))
   bounded_step old new limit (Invalidate key now) answer has step =
       let kept = after_upkeep keys.eq old.settings.policy now old.contents in
       less limit old new _ (Invalidate key now) step.1
@@ -416,7 +416,7 @@ module _ {K V S W : Type 0} (keys : Keys K S) (laws : IsEquivalence keys.eq) (we
       subst (IsWithin limit) (sym is)
       (record { has = ap (λ s. s.policy.max_capacity) settings ∙ within.has; ones = ones; fits = grind (arith, less, within.fits) })
 
-  within_step : (limit : ℕ) (old new : CacheState K V S W) (request : Request K V) (answer : Answer K V) → IsWithin limit old
+  pub within_step : (limit : ℕ) (old new : CacheState K V S W) (request : Request K V) (answer : Answer K V) → IsWithin limit old
       → IsStep keys weighs old request answer new → IsWithin limit new
   within_step limit old new (Get key now) answer within step =
       let policy = old.settings.policy in
@@ -432,7 +432,7 @@ module _ {K V S W : Type 0} (keys : Keys K S) (laws : IsEquivalence keys.eq) (we
       let policy = old.settings.policy in
       let kept = after_upkeep keys.eq policy now old.contents in
       let done = step.1 in
-      let found = record old { weigher = done.weigher; contents = kept } in
+      let found = record old { weigher = done.weigher; capacity = done.capacity; contents = kept } in
       subst (IsWithin limit) (sym done.step)
       (within_put limit found (new_entry keys old.settings.hash_state key value done.weight now) done.refused
       (record {
@@ -442,7 +442,8 @@ module _ {K V S W : Type 0} (keys : Keys K S) (laws : IsEquivalence keys.eq) (we
             (arith, total-upkeep keys.eq policy now old.contents, within.fits);
       })
       (each old.weigher done.weigher key value done.weight done.weighed) (entry_at keys.eq key kept.entries) refl)
-  within_step limit old new (Insert key value now) answer within (inr refused) = subst (IsWithin limit) (sym refused.1) within
+  within_step limit old new (Insert key value now) answer within (inr refused) =
+      subst (IsWithin limit) (sym refused.1.same) (record { has = within.has; ones = within.ones; fits = within.fits })
   within_step limit old new (Invalidate key now) answer within step =
       let policy = old.settings.policy in
       let kept = after_upkeep keys.eq policy now old.contents in
@@ -468,9 +469,9 @@ module _ {K V S W : Type 0} (keys : Keys K S) (laws : IsEquivalence keys.eq) (we
 -- each entry of weight 1 is counted by its weight
 pub stays_within : {K V S W : Type 0} (keys : Keys K S) → IsEquivalence keys.eq → (weighs : W → K → V → ℕ → W → Type 0)
     → StaysWithinLimit keys weighs
-stays_within keys laws weighs each settings weigher limit requests answers cache has run =
+stays_within keys laws weighs each settings weigher capacity limit requests answers cache has run =
     let within =
-    within_run keys laws weighs each limit (new_cache settings weigher) cache requests answers
+    within_run keys laws weighs each limit (new_cache settings weigher capacity) cache requests answers
     (record { has = has; ones = All-from_recursion (λ e. e.weight ≡ 1) [] tt; fits = grind (arith) }) run in
     subst (λ n. n ≤ limit) (total-ones cache.contents.entries (recursion_from_All (λ e. e.weight ≡ 1) cache.contents.entries within.ones))
     within.fits

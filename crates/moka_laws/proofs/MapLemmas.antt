@@ -276,9 +276,9 @@ module _ {K V S W : Type 0} (keys : Keys K S) (weighs : W → K → V → ℕ �
       let kept = (after_look keys old now).contents in
       let entry = new_entry keys old.settings.hash_state other value inserted.weight now in
       ap (λ c. c.settings) inserted.step
-      ∙ settings-put keys.eq (record old { weigher = inserted.weigher; contents = kept }) (entry_at keys.eq other kept.entries) entry
+      ∙ settings-put keys.eq (record old { weigher = inserted.weigher; capacity = inserted.capacity; contents = kept }) (entry_at keys.eq other kept.entries) entry
       inserted.refused
-  settings-step old new (Insert other value now) answer (inr (refused, same)) = ap (λ c. c.settings) same
+  settings-step old new (Insert other value now) answer (inr (refused, same)) = ap (λ c. c.settings) same.same
   settings-step old new (Invalidate other now) answer step = ap (λ c. c.settings) step.1
   settings-step old new InvalidateAll answer step = ap (λ c. c.settings) step.1
   settings-step old new (InvalidateEntriesIf answers) answer step = ap (λ c. c.settings) step.1
@@ -347,7 +347,7 @@ module _ {K V S W : Type 0} (keys : Keys K S) (weighs : W → K → V → ℕ �
         ap (cached_value key) step.1 ∙ ap (λ c. value_at keys key (pairs_of c.entries)) (look-same keys old unbounded now)
     values_as_map old new (Insert other value now) answer unbounded known (inl (done, inserted)) key =
         let entry = new_entry keys old.settings.hash_state other value inserted.weight now in
-        let asked : CacheState K V S W = record old { weigher = inserted.weigher } in
+        let asked : CacheState K V S W = record old { weigher = inserted.weigher; capacity = inserted.capacity } in
         let put = after_put keys.eq asked (entry_at keys.eq other old.contents.entries) entry inserted.refused in
         ap (cached_value key) inserted.step
         ∙ (ap (λ c. cached_value key

@@ -233,13 +233,13 @@ module _ {K V S W : Type 0} (keys : Keys K S) (laws : IsEquivalence keys.eq) (we
   follow-step old new (ContainsKey key now) answer step f = subst Follows (sym step.1) (follow-look old now f)
   follow-step old new (Insert key value now) answer (inl (done, inserted)) f =
       let kept = (after_look keys old now).contents in
-      let asked : CacheState K V S W = record old { weigher = inserted.weigher; contents = kept } in
+      let asked : CacheState K V S W = record old { weigher = inserted.weigher; capacity = inserted.capacity; contents = kept } in
       subst (λ s. Follow keys.eq laws (keeps_writes s.policy) new.contents)
       (sym (settings-step keys weighs old new (Insert key value now) answer (inl (done, inserted))))
       (subst (λ c. Follow keys.eq laws (keeps_writes old.settings.policy) c.contents) (sym inserted.step)
       (follow-put keys.eq laws asked (entry_at keys.eq key kept.entries)
       (new_entry keys old.settings.hash_state key value inserted.weight now) inserted.refused refl (follow-look old now f)))
-  follow-step old new (Insert key value now) answer (inr (refused, same)) f = subst Follows (sym same) f
+  follow-step old new (Insert key value now) answer (inr (refused, same)) f = subst Follows (sym same.same) f
   follow-step old new (Invalidate key now) answer step f =
       subst Follows (sym step.1)
       (follow-leaving keys.eq laws (keeps_writes old.settings.policy) (key ∷ []) (after_look keys old now).contents (follow-look old now f))
@@ -289,7 +289,7 @@ module _ {K V S W : Type 0} (keys : Keys K S) (laws : IsEquivalence keys.eq) (we
   told false contents f = f
 
   pub writes_follow_entries : WritesFollowEntries keys weighs
-  writes_follow_entries settings weigher requests answers cache run =
+  writes_follow_entries settings weigher capacity requests answers cache run =
       told (keeps_writes cache.settings.policy) cache.contents
-      (follow-runs (new_cache settings weigher) cache requests answers run
+      (follow-runs (new_cache settings weigher capacity) cache requests answers run
       (follow-clear keys.eq laws (keeps_writes settings.policy) (no_contents {K = K} {V = V})))

@@ -1,12 +1,12 @@
 -- What a contract sees of the laws of the cache, which `src/laws.rt` promises, but for those of a plain map.
-use Rattle.std.specs.Prelude.{◌≡◌, ◌<◌, ◌≤◌, ◌^◌, ℕ, Bool, true, false, List, [], All, filter, length, map, Some, IsSome, option_map}
-use Rattle.std.specs.List.{IsDistinct, find}
+use Rattle.std.specs.Prelude.{◌≡◌, ◌≢◌, ◌<◌, ◌≤◌, ◌^◌, ℕ, Bool, true, false, List, [], All, filter, length, map, Some, IsSome, option_map}
+use Rattle.std.specs.List.{AllByRecursion, IsDistinct, find}
 use Rattle.moka_base.specs.Keys.{Keys}
 use Rattle.moka_machine.specs.Contents.{Contents, entry_at, entry_keys, total_weight, write_of}
 use Rattle.moka_machine.specs.CacheState.{CacheState, new_cache}
 use Rattle.moka_base.specs.Settings.{Settings, keeps_writes}
 use Rattle.moka_machine.specs.Lookup.{after_look}
-use Rattle.moka_machine.specs.Step.{Answer, IsStep, Request, Runs, Get, ContainsKey, Insert, Invalidate, InvalidateAll, InvalidateEntriesIf, Iterate, EntryCount, WeightedSize}
+use Rattle.moka_machine.specs.Step.{Answer, IsStep, OutOfMemory, Request, Runs, Get, ContainsKey, Insert, Invalidate, InvalidateAll, InvalidateEntriesIf, Iterate, EntryCount, WeightedSize}
 
 -- ---- limits and keys
 
@@ -15,9 +15,17 @@ module _ {K V S W : Type 0} (keys : Keys K S) (weighs : W → K → V → ℕ �
   abbrev pub StaysWithinLimit : Type 0
   StaysWithinLimit =
       ((old new : W) (key : K) (value : V) (weight : ℕ) → weighs old key value weight new → weight ≡ 1) →
-      (settings : Settings S) (weigher : W) (limit : ℕ) (requests : List (Request K V)) (answers : List (Answer K V)) (cache : CacheState K V S W) →
-      settings.policy.max_capacity ≡ Some limit → Runs keys weighs (new_cache settings weigher) requests answers cache →
+      (settings : Settings S) (weigher : W) (capacity limit : ℕ) (requests : List (Request K V)) (answers : List (Answer K V)) (cache : CacheState K V S W) →
+      settings.policy.max_capacity ≡ Some limit → Runs keys weighs (new_cache settings weigher capacity) requests answers cache →
       length cache.contents.entries ≤ limit
+
+  -- from a new cache with a limit below its capacity, whose weigher weighs each entry 1, no call is refused, and the capacity stays
+  abbrev pub NeverRefuses : Type 0
+  NeverRefuses =
+      ((old new : W) (key : K) (value : V) (weight : ℕ) → weighs old key value weight new → weight ≡ 1) →
+      (settings : Settings S) (weigher : W) (capacity limit : ℕ) (requests : List (Request K V)) (answers : List (Answer K V)) (cache : CacheState K V S W) →
+      settings.policy.max_capacity ≡ Some limit → limit < capacity → Runs keys weighs (new_cache settings weigher capacity) requests answers cache →
+      AllByRecursion (λ answer. answer ≢ OutOfMemory) answers × (cache.capacity ≡ capacity)
 
   -- the call is an insert at a key that is there when it acts
   abbrev pub IsUpdate : CacheState K V S W → Request K V → Type 0
@@ -35,8 +43,8 @@ module _ {K V S W : Type 0} (keys : Keys K S) (weighs : W → K → V → ℕ �
   -- from a new cache no calls lead to a key with two entries
   abbrev pub KeysStandOnce : Type 0
   KeysStandOnce =
-      (settings : Settings S) (weigher : W) (requests : List (Request K V)) (answers : List (Answer K V)) (cache : CacheState K V S W) →
-      Runs keys weighs (new_cache settings weigher) requests answers cache → IsDistinct keys.eq (entry_keys cache.contents.entries)
+      (settings : Settings S) (weigher : W) (capacity : ℕ) (requests : List (Request K V)) (answers : List (Answer K V)) (cache : CacheState K V S W) →
+      Runs keys weighs (new_cache settings weigher capacity) requests answers cache → IsDistinct keys.eq (entry_keys cache.contents.entries)
 
 -- ---- entries and their writes
 
@@ -51,15 +59,15 @@ module _ {K V S W : Type 0} (keys : Keys K S) (weighs : W → K → V → ℕ �
   -- from a new cache all calls leave the entries' writes: with a time to live each entry's key and moment, and else none
   abbrev pub WritesFollowEntries : Type 0
   WritesFollowEntries =
-      (settings : Settings S) (weigher : W) (requests : List (Request K V)) (answers : List (Answer K V)) (cache : CacheState K V S W) →
-      Runs keys weighs (new_cache settings weigher) requests answers cache →
+      (settings : Settings S) (weigher : W) (capacity : ℕ) (requests : List (Request K V)) (answers : List (Answer K V)) (cache : CacheState K V S W) →
+      Runs keys weighs (new_cache settings weigher capacity) requests answers cache →
       AreWritesOf keys.eq (keeps_writes cache.settings.policy) cache.contents
 
   -- from a new cache each entry has its key's hash, and a weight of 32 bits
   abbrev pub EntriesAreOwn : Type 0
   EntriesAreOwn =
-      (settings : Settings S) (weigher : W) (requests : List (Request K V)) (answers : List (Answer K V)) (cache : CacheState K V S W) →
-      Runs keys weighs (new_cache settings weigher) requests answers cache →
+      (settings : Settings S) (weigher : W) (capacity : ℕ) (requests : List (Request K V)) (answers : List (Answer K V)) (cache : CacheState K V S W) →
+      Runs keys weighs (new_cache settings weigher capacity) requests answers cache →
       All (λ e. (e.hash ≡ keys.hash_of cache.settings.hash_state e.key) × (e.weight < 2 ^ 32)) cache.contents.entries
 
 -- ---- looks and invalidations

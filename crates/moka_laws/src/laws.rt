@@ -2,7 +2,7 @@
 ghost use Rattle.moka_base.specs.Keys.{keys_by};
 ghost use Rattle.std.specs.Prelude.{◌≡◌};
 ghost use Rattle.moka_machine.specs.declared.constants.TheConstants.{EVICTION_BATCH_SIZE};
-ghost use Rattle.moka_laws.specs.Laws.{EntriesAreOwn, InvalidationsKeepCounts, KeysStandOnce, LooksChangeNothing, OnlyUpdatesOutgrowLimit, StaysWithinLimit, WritesFollowEntries};
+ghost use Rattle.moka_laws.specs.Laws.{EntriesAreOwn, InvalidationsKeepCounts, KeysStandOnce, LooksChangeNothing, NeverRefuses, OnlyUpdatesOutgrowLimit, StaysWithinLimit, WritesFollowEntries};
 ghost use Rattle.moka_laws.specs.PlainMap.{RunsAsMap, StepsAsMap};
 
 use moka_base::weigh::Weigh;
@@ -11,6 +11,17 @@ use std::hash::{BuildHasher, Hash};
 /// A cache with a limit and without a weigher never has more entries than that at a call's end, whatever calls are made.
 pub fn entry_count_stays_within_the_limit<K: Eq + Hash, V, S: BuildHasher, W: Weigh<K, V>>()
     ensures { StaysWithinLimit (keys_by K.Hash S.BuildHasher S.Hasher.Hasher) W.weighs }
+{}
+
+/// A cache without a weigher that was built with room for more entries than its limit refuses no call, whatever calls are made: it takes no memory
+/// for entries after it is built.
+pub fn no_insert_is_refused_with_room_above_the_limit<
+    K: Eq + Hash,
+    V,
+    S: BuildHasher,
+    W: Weigh<K, V>,
+>()
+    ensures { NeverRefuses (keys_by K.Hash S.BuildHasher S.Hasher.Hasher) W.weighs }
 {}
 
 /// With a weigher, only an insert at a key that is there can leave more weight than it found, and more than the limit.

@@ -1,5 +1,5 @@
 -- What an insert leaves.
-use Rattle.std.specs.Prelude.{◌≡◌, ◌<◌, ◌^◌, ℕ, Bool, true, false, List, [], ◌∷◌, ◌++◌, length, Option, Some, None, if◌then◌else◌}
+use Rattle.std.specs.Prelude.{◌≡◌, ◌<◌, ◌≤◌, ◌^◌, ℕ, Bool, true, false, List, [], ◌∷◌, ◌++◌, length, Option, Some, None, if◌then◌else◌}
 use Rattle.moka_base.specs.Admission.{victims}
 use Rattle.moka_sketch.specs.Enabling.{enables_sketch, capacity_asked}
 use Rattle.moka_base.specs.Keys.{Keys}
@@ -81,12 +81,21 @@ abbrev pub new_entry : {K V S : Type 0} → Keys K S → S → K → V → ℕ �
 new_entry keys state key value weight now =
     record { key = key; value = value; hash = keys.hash_of state key; weight = weight; accessed = now; modified = now }
 
+module _ {K V S W : Type 0} where
+  -- there was no room for one more entry, and all is as it was, but that there may be another room
+  pub record IsUnchanged (old new : CacheState K V S W) : Type 0 where
+    pub full : old.capacity ≤ length old.contents.entries
+    pub same : new ≡ record old { capacity = new.capacity }
+
 module _ {K V S W : Type 0} (keys : Keys K S) where
-  -- the weigher was asked once, and the entry is put with its answer, whether or not memory refuses a table
+  -- there was room or it was made, the weigher was asked once, and the entry is put with its answer, whether or not memory refuses a table
   pub record IsInserted (weighs : W → K → V → ℕ → W → Type 0) (old : CacheState K V S W) (key : K) (value : V) (now : ℕ) (new : CacheState K V S W) : Type 0 where
     pub weight : ℕ
     pub weigher : W
     pub refused : Bool
+    pub capacity : ℕ
+    pub grown : length old.contents.entries < capacity
+    pub kept : length old.contents.entries < old.capacity → capacity ≡ old.capacity
     pub weighed : weighs old.weigher key value weight weigher
     pub small : weight < 2 ^ 32
-    pub step : new ≡ after_insert keys.eq (record old { weigher = weigher }) (new_entry keys old.settings.hash_state key value weight now) now refused
+    pub step : new ≡ after_insert keys.eq (record old { weigher = weigher; capacity = capacity }) (new_entry keys old.settings.hash_state key value weight now) now refused

@@ -11,7 +11,7 @@ use Rattle.moka_store.specs.declared.deques.Node.{Node}
 use Rattle.moka_machine.specs.Contents.{entry_at, writes_without}
 use Rattle.moka_machine.specs.Insert.{with_write}
 use Rattle.moka_store.specs.Store.{Store, Enters, Removes, Touches, Updates}
-use Rattle.moka_store.specs.Nodes.{entries_under, written_under, IsTied, IsStored, ids_of, with_write_last, without_write}
+use Rattle.moka_store.specs.Nodes.{capacity_of, entries_under, written_under, IsTied, IsStored, ids_of, room_after, room_for, with_write_last, without_write}
 use Rattle.std.proofs.lemmas.Map.{length-set_value}
 use Rattle.std.proofs.lemmas.List.{length_push}
 use Rattle.moka_deque.proofs.DequeLemmas.{length-remove, lookup-push, nat_eq-same}
@@ -24,8 +24,8 @@ use Rattle.moka_store.proofs.FindLemmas.{moved-found}
 module _ {K V : Type 0} where
   -- what a contract sees of the two deques
   abbrev pub seen : List (ℕ × Node K V) → List (ℕ × ℕ) → Bool → ℕ → ℕ → Store K V
-  seen items writes keeps room ids =
-      record { nodes = entries_under items; written = written_under items writes; keeps_writes = keeps; room = room; ids = ids }
+  seen items writes keeps capacity ids =
+      record { nodes = entries_under items; written = written_under items writes; keeps_writes = keeps; capacity = capacity; ids = ids }
 
   -- the node, used at a moment
   abbrev pub touched : Node K V → ℕ → Node K V
@@ -58,10 +58,6 @@ module _ {K V : Type 0} where
 
 -- ---- below which number the ids are
 
--- one more is no less
-pub one_more : (room more : ℕ) → more ≡ room + 1 → room ≤ more
-one_more room more is = grind (arith, is)
-
 module _ {X : Type 0} where
   -- a node that leaves gives its room back
   pub ids_removed : (items left : List (ℕ × X)) (room more id : ℕ) (x : X) → lookup (nat_eq id) items ≡ Some x
@@ -77,6 +73,37 @@ module _ {X : Type 0} where
   -- a node that is rewritten stays
   pub ids_set : (pushed : List (ℕ × X)) (less id : ℕ) (x : X) → ids_of (set_value (nat_eq id) pushed x) less ≡ ids_of pushed less
   ids_set pushed less id x = ap (λ n. n + less) (length-set_value (nat_eq id) pushed x)
+
+  -- a node that leaves gives its room back in both lists
+  pub capacity_removed : (keeps : Bool) (items left : List (ℕ × X)) (room more wroom wmore id : ℕ) (x : X) → lookup (nat_eq id) items ≡ Some x
+      → left ≡ remove_entry (nat_eq id) items → more ≡ room + 1 → (keeps ≡ true → wmore ≡ wroom + 1)
+      → capacity_of keeps left more wmore ≡ capacity_of keeps items room wroom
+  capacity_removed true items left room more wroom wmore id x stood left_is more_is wmore_is =
+      grind (arith, ap length left_is, length-remove id items (ap is_some stood), more_is, wmore_is refl)
+  capacity_removed false items left room more wroom wmore id x stood left_is more_is wmore_is =
+      omega (arith, ap length left_is, length-remove id items (ap is_some stood), more_is)
+
+  -- and a new one takes it
+  pub capacity_pushed : (keeps : Bool) (items pushed : List (ℕ × X)) (room less wroom wless : ℕ) (p : ℕ × X) → pushed ≡ items ++ p ∷ []
+      → room ≡ less + 1 → (keeps ≡ true → wroom ≡ wless + 1) → capacity_of keeps pushed less wless ≡ capacity_of keeps items room wroom
+  capacity_pushed true items pushed room less wroom wless p pushed_is room_is wroom_is =
+      grind (arith, ap length pushed_is, length_push items p, room_is, wroom_is refl)
+  capacity_pushed false items pushed room less wroom wless p pushed_is room_is wroom_is =
+      omega (arith, ap length pushed_is, length_push items p, room_is)
+
+  -- a node that is rewritten takes none
+  pub capacity_rewritten : (keeps : Bool) (items moved : List (ℕ × X)) (room wroom id : ℕ) (x y : X) → lookup (nat_eq id) items ≡ Some x
+      → moved ≡ remove_entry (nat_eq id) items ++ (id, y) ∷ [] → capacity_of keeps moved room wroom ≡ capacity_of keeps items room wroom
+  capacity_rewritten keeps items moved room wroom id x y stood moved_is =
+      let same : length moved ≡ length items =
+      omega (arith, ap length moved_is, length_push (remove_entry (nat_eq id) items) (id, y), length-remove id items (ap is_some stood)) in
+      ap (λ n. n + room_for keeps room wroom) same
+
+-- a write that stood gives its room back
+pub room_tied : (keeps : Bool) (writes : List (ℕ × ℕ)) (id room : ℕ) (o : Option ℕ) → IsTied keeps writes id o → keeps ≡ true
+    → room_after o room ≡ room + 1
+room_tied keeps writes id room None tied kept = absurd (false≢true (sym tied ∙ kept))
+room_tied keeps writes id room (Some w) tied kept = refl
 
 -- a list in which nothing is found is empty
 none_at_all : (ws : List (ℕ × ℕ)) → ((w i : ℕ) → lookup (nat_eq w) ws ≡ Some i → ⊥) → ws ≡ []
@@ -97,9 +124,9 @@ module _ {K V : Type 0} {eq : K → K → Bool} (laws : IsEquivalence eq) {keeps
     pub remove_keeps : (rest : ℕ) → rest ≡ total - n.entry.weight → IsStored eq keeps left unwritten rest
     remove_keeps rest is = rw (left_is, unwritten_is, is) (IsStored-remove laws s id n stood)
 
-    pub remove_is : (old new ids same : ℕ) → old ≤ new → same ≡ ids
+    pub remove_is : (old new ids same : ℕ) → new ≡ old → same ≡ ids
         → Removes eq (seen items writes keeps old ids) id (seen left unwritten keeps new same)
-    remove_is old new ids same room same_is =
+    remove_is old new ids same capacity same_is =
         record {
           entry = n.entry;
           stood = lookup-entries id items ∙ ap (option_map (λ n. n.entry)) stood;
@@ -108,8 +135,13 @@ module _ {K V : Type 0} {eq : K → K → Bool} (laws : IsEquivalence eq) {keeps
               ap (λ l. written_under l unwritten) left_is
               ∙ (ap (written_under (remove_entry (nat_eq id) items)) unwritten_is ∙ written-left laws s id n stood);
           keeps = refl;
-          room = room;
+          capacity = capacity;
           nodes = ap entries_under left_is ∙ entries-remove id items;
+          fewer = omega (
+            arith,
+            ap length (ap entries_under left_is ∙ entries-remove id items),
+            length-remove id (entries_under items) (ap is_some (lookup-entries id items ∙ ap (option_map (λ n. n.entry)) stood)),
+          );
           ids = same_is;
         }
 
@@ -119,8 +151,8 @@ module _ {K V : Type 0} {eq : K → K → Bool} (laws : IsEquivalence eq) {keeps
         rw moved_is (IsStored-rewrite laws s id n stood (touched n now) refl refl weight_small writes total (λ v. refl) s.written_once
         (grind (arith, weight_in_total)))
 
-    pub touch_is : (old new ids same : ℕ) → Touches eq (seen items writes keeps old ids) id now (seen moved writes keeps new same)
-    touch_is old new ids same =
+    pub touch_is : (old new ids same : ℕ) → new ≡ old → same ≡ ids → Touches eq (seen items writes keeps old ids) id now (seen moved writes keeps new same)
+    touch_is old new ids same capacity same_is =
         record {
           entry = n.entry;
           stood = lookup-entries id items ∙ ap (option_map (λ n. n.entry)) stood;
@@ -132,6 +164,8 @@ module _ {K V : Type 0} {eq : K → K → Bool} (laws : IsEquivalence eq) {keeps
               ap (λ l. values_of (entries_under l)) moved_is ∙ entries-rewrite laws s id n stood (touched n now) refl refl weight_small;
           written = ap (λ l. written_under l writes) moved_is ∙ written-touch laws s id n stood (touched n now) refl refl weight_small refl;
           keeps = refl;
+          capacity = capacity;
+          ids = same_is;
           nodes = ap entries_under moved_is ∙ nodes-rewrite id (touched n now) items;
         }
 
@@ -178,15 +212,17 @@ module _ {K V : Type 0} {eq : K → K → Bool} (laws : IsEquivalence eq) {keeps
         ∙ (written-update laws s id n stood (updated n update) refl refl fits w named
         ∙ rw ((subst (IsTied keeps writes id) named (s.tied id n stood)).0) refl))
 
-    pub update_is : (old new ids same : ℕ)
+    pub update_is : (old new ids same : ℕ) → new ≡ old → same ≡ ids
         → Updates eq (seen items writes keeps old ids) id update (seen moved rewritten keeps new same)
-    update_is old new ids same =
+    update_is old new ids same capacity same_is =
         record {
           entry = n.entry;
           stood = lookup-entries id items ∙ ap (option_map (λ n. n.entry)) stood;
           entries = ap (λ l. values_of (entries_under l)) moved_is ∙ entries-rewrite laws s id n stood (updated n update) refl refl fits;
           written = written n.write refl;
           keeps = refl;
+          capacity = capacity;
+          ids = same_is;
           nodes = ap entries_under moved_is ∙ nodes-rewrite id (updated n update) items;
         }
 
@@ -225,9 +261,9 @@ module _ {K V : Type 0} {eq : K → K → Bool} (laws : IsEquivalence eq) {keeps
     enter_keeps absent fits sum is =
         rw (named_is, written_is, is) (IsStored-enter laws s id (new_node entry (Some w)) fresh absent fits kept w refl unused)
 
-    pub enter_is : (old new ids same : ℕ) → id < same → same ≡ ids → Enters eq (seen items writes keeps old ids) entry id
+    pub enter_is : (old new ids same : ℕ) → new ≡ old → id < same → same ≡ ids → Enters eq (seen items writes keeps old ids) entry id
         (seen (set_value (nat_eq id) pushed (new_node found.entry (Some w))) written keeps new same)
-    enter_is old new ids same below same_is =
+    enter_is old new ids same capacity below same_is =
         record {
           entries = ap (λ l. values_of (entries_under l)) named_is ∙ entries-push items (id, new_node entry (Some w));
           written =
@@ -235,6 +271,7 @@ module _ {K V : Type 0} {eq : K → K → Bool} (laws : IsEquivalence eq) {keeps
               ∙ (ap (written_under (items ++ (id, new_node entry (Some w)) ∷ [])) written_is
               ∙ written-enter laws s id (new_node entry (Some w)) fresh kept w);
           keeps = refl;
+          capacity = capacity;
           nodes = ap entries_under named_is ∙ nodes-push items (id, new_node entry (Some w));
           new_id = lookup-entries id items ∙ ap (option_map (λ n. n.entry)) fresh;
           below = below;
@@ -246,13 +283,14 @@ module _ {K V : Type 0} {eq : K → K → Bool} (laws : IsEquivalence eq) {keeps
         → sum ≡ total + entry.weight → IsStored eq keeps pushed writes sum
     unkept_keeps absent fits sum is = rw (pushed_is, is) (IsStored-unkept laws s id (new_node entry None) fresh absent fits unkept refl)
 
-    pub unkept_is : (old new ids same : ℕ) → id < same → same ≡ ids
+    pub unkept_is : (old new ids same : ℕ) → new ≡ old → id < same → same ≡ ids
         → Enters eq (seen items writes keeps old ids) entry id (seen pushed writes keeps new same)
-    unkept_is old new ids same below same_is =
+    unkept_is old new ids same capacity below same_is =
         record {
           entries = ap (λ l. values_of (entries_under l)) pushed_is ∙ entries-push items (id, new_node entry None);
           written = ap (λ l. written_under l writes) pushed_is ∙ written-unkept laws s id (new_node entry None) fresh unkept;
           keeps = refl;
+          capacity = capacity;
           nodes = ap entries_under pushed_is ∙ nodes-push items (id, new_node entry None);
           new_id = lookup-entries id items ∙ ap (option_map (λ n. n.entry)) fresh;
           below = below;

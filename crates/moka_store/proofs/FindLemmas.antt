@@ -1,5 +1,5 @@
 -- Lemmas on walks through the nodes, from the front on.
-use Rattle.std.proofs.Common.{◌≡◌, ◌<◌, ◌≤◌, ℕ, Bool, true, false, cond, nat_eq, List, [], ◌∷◌, ◌++◌, length, Option, Some, None}
+use Rattle.std.proofs.Common.{◌≡◌, ◌<◌, ℕ, Bool, true, false, cond, nat_eq, List, [], ◌∷◌, ◌++◌, length, Option, Some, None}
 use Rattle.std.proofs.Common.{is_some, option_map, unwrap_or, refl, sym, ap, ◌∙◌, inl, inr, arith, subst}
 use Rattle.std.proofs.lemmas.Bool.{cases_Bool, cond_both, cond-true, cond-false, eqb-true, false≢true}
 use Rattle.std.proofs.lemmas.Map.Keys.{IsDistinct-head, IsDistinct-tail}
@@ -180,7 +180,7 @@ module _ {K V : Type 0} {eq : K → K → Bool} (laws : IsEquivalence eq) {keeps
   -- the first node is that of the front
   pub front_is : (items : List (ℕ × Node K V)) (writes : List (ℕ × ℕ)) {total : ℕ} (room ids : ℕ) → IsStored eq keeps items writes total
       → (o : Option ℕ) → o ≡ first_id items → Rattle.std.specs.Prelude.IfSome o
-      (λ id. IsFront eq (record { nodes = entries_under items; written = written_under items writes; keeps_writes = keeps; room = room; ids = ids })
+      (λ id. IsFront eq (record { nodes = entries_under items; written = written_under items writes; keeps_writes = keeps; capacity = room; ids = ids })
       id)
   front_is [] writes room ids s o h = rw h tt
   front_is (p ∷ items) writes room ids s o h =
@@ -198,7 +198,7 @@ module _ {K V : Type 0} {eq : K → K → Bool} (laws : IsEquivalence eq) {keeps
   -- the node that the first write names is the oldest
   pub oldest_is : (items : List (ℕ × Node K V)) (writes : List (ℕ × ℕ)) {total : ℕ} (room ids : ℕ) → IsStored eq keeps items writes total
       → (id : ℕ) → Some id ≡ Rattle.std.specs.Prelude.slice_get (values_of writes) 0
-      → IsOldest eq (record { nodes = entries_under items; written = written_under items writes; keeps_writes = keeps; room = room; ids = ids }) id
+      → IsOldest eq (record { nodes = entries_under items; written = written_under items writes; keeps_writes = keeps; capacity = room; ids = ids }) id
   oldest_is items [] room ids s id h = absurd (false≢true (sym (ap is_some h)))
   oldest_is items (w ∷ ws) room ids s id h =
       let named : lookup (nat_eq w.0) (w ∷ ws) ≡ Some w.1 = cond-true (nat_eq w.0 w.0) _ _ (nat_eq-same w.0) in
@@ -258,17 +258,12 @@ pub room_for-none : (keeps : Bool) → room_for keeps 0 0 ≡ 0
 room_for-none true = refl
 room_for-none false = refl
 
--- more room in both deques is more room
-pub room_for-mono : (keeps : Bool) (a b c d : ℕ) → a ≤ c → b ≤ d → room_for keeps a b ≤ room_for keeps c d
-room_for-mono true a b c d h k = grind (arith, h, k)
-room_for-mono false a b c d h k = h
-
 module _ {K V : Type 0} {eq : K → K → Bool} (laws : IsEquivalence eq) {keeps : Bool} where
   -- the node that is first in the order of writing, if there is one, is the oldest
   pub oldest_found : (items : List (ℕ × Node K V)) (writes : List (ℕ × ℕ)) {total : ℕ} (room ids : ℕ) → IsStored eq keeps items writes total
       → (o : Option ℕ) → o ≡ Rattle.std.specs.Prelude.slice_get (values_of writes) 0
       → Rattle.std.specs.Prelude.IfSome o
-      (λ id. IsOldest eq (record { nodes = entries_under items; written = written_under items writes; keeps_writes = keeps; room = room; ids = ids })
+      (λ id. IsOldest eq (record { nodes = entries_under items; written = written_under items writes; keeps_writes = keeps; capacity = room; ids = ids })
       id)
   oldest_found items writes room ids s None h = tt
   oldest_found items writes room ids s (Some id) h = oldest_is laws items writes room ids s id h

@@ -1,83 +1,34 @@
 -- Lemmas on the index of a store: what each change of the nodes leaves of it, and what it finds.
-use Rattle.std.proofs.Common.{◌≡◌, ◌⊎◌, ◌<◌, ◌≤◌, ◌∙◌, ◌++◌, ◌∷◌, ◌||◌, ℕ, Bool, true, false, cond, not, nat_eq, nat_le, List, [], All, Option, Some}
+use Rattle.std.proofs.Common.{◌≡◌, ◌⊎◌, ◌<◌, ◌≤◌, ◌∙◌, ◌++◌, ◌∷◌, ℕ, Bool, true, false, cond, nat_eq, nat_le, List, [], All, Option, Some}
 use Rattle.std.proofs.Common.{None, is_some, IsSome, IfSome, refl, sym, ap, inl, inr, arith, subst}
-use Rattle.std.proofs.lemmas.Bool.{cases_Bool, cond_both, cond-true, cond-false, eqb-true, false≢true, leb-true, le-leb}
+use Rattle.std.proofs.lemmas.Bool.{cases_Bool, cond_both, cond-true, cond-false, eqb-true, false≢true, leb-true, le-leb, or_cases, or_right}
 use Rattle.std.proofs.lemmas.Cmp.{nat_eq_equiv}
 use Rattle.std.proofs.lemmas.List.{append_assoc}
 use Rattle.std.proofs.lemmas.List.Elements.{recursion_from_All}
 use Rattle.std.proofs.lemmas.Map.Keys.{IsDistinct-head, IsDistinct-tail}
-use Rattle.std.specs.List.{IsDistinct, AllByRecursion}
+use Rattle.std.specs.List.{IsDistinct, AllByRecursion, list_any}
 use Rattle.std.specs.Map.{lookup, remove_entry, keys_of, values_of}
 use Rattle.moka_deque.specs.Deque.{first_id, next_id}
-use Rattle.moka_index.specs.HashIndex.{HashIndex, candidates, without, Adds, Removes as Unlists}
+use Rattle.moka_index.specs.HashIndex.{HashIndex, candidates, is_candidate, Adds, Removes as Unlists}
 use Rattle.moka_machine.specs.declared.entry.Entry.{Entry}
 use Rattle.moka_machine.specs.Contents.{entry_at}
-use Rattle.moka_store.specs.Indexed.{is_among, IsIndexed, indexed_room}
+use Rattle.moka_store.specs.Indexed.{IsIndexed, indexed_capacity}
 use Rattle.moka_store.specs.Store.{Store, Enters, IsFront, IsOldest, Removes, Touches, Updates}
-use Rattle.moka_deque.proofs.DequeLemmas.{lookup-push, nat_eq-same}
+use Rattle.moka_deque.proofs.DequeLemmas.{lookup-push}
 use Rattle.moka_store.proofs.NodeLemmas.{each_found, lookup-removed, lookup-rewritten, not_none, some_parts}
 use Rattle.moka_store.proofs.FindLemmas.{from_first, from_node, from_next, from_none}
 
 -- ---- ids among others
 
-or_true : (a b : Bool) → b ≡ true → (a || b) ≡ true
-or_true true b h = refl
-or_true false b h = h
-
-or_first : (a b : Bool) → a ≡ true → (a || b) ≡ true
-or_first true b h = refl
-or_first false b h = absurd (false≢true h)
-
-or_cases : (a b : Bool) → (a || b) ≡ true → (a ≡ true) ⊎ (b ≡ true)
-or_cases true b h = inl refl
-or_cases false b h = inr h
-
--- an id is among others and itself
-among_here : (id : ℕ) (ids : List ℕ) → is_among id (id ∷ ids) ≡ true
-among_here id ids = or_first (nat_eq id id) (is_among id ids) (nat_eq-same id)
+-- the id is among these
+abbrev is_among : ℕ → List ℕ → Bool
+is_among id ids = list_any (nat_eq id) ids
 
 among_behind : (id i : ℕ) (ids : List ℕ) → is_among id ids ≡ true → is_among id (i ∷ ids) ≡ true
-among_behind id i ids h = or_true (nat_eq id i) (is_among id ids) h
+among_behind id i ids h = or_right (nat_eq id i) (is_among id ids) h
 
 among_cases : (id i : ℕ) (ids : List ℕ) → is_among id (i ∷ ids) ≡ true → (nat_eq id i ≡ true) ⊎ (is_among id ids ≡ true)
 among_cases id i ids h = or_cases (nat_eq id i) (is_among id ids) h
-
--- another id stays
-among_without : (id other : ℕ) (ids : List ℕ) → nat_eq id other ≡ false → is_among other ids ≡ true
-    → is_among other (without id ids) ≡ true
-among_without id other [] differ h = h
-among_without id other (i ∷ ids) differ h =
-    elim (cases_Bool (nat_eq id i)) [
-      | inl same ↦
-          ap (is_among other) (cond-false (not (nat_eq id i)) _ _ (ap not same))
-          ∙ elim (among_cases other i ids h) [
-            | inl is ↦
-                absurd (false≢true (sym differ ∙ (ap (nat_eq id) (eqb-true other i is) ∙ same)))
-            | inr later ↦ among_without id other ids differ later
-          ]
-      | inr apart ↦
-          ap (is_among other) (cond-true (not (nat_eq id i)) _ _ (ap not apart))
-          ∙ elim (among_cases other i ids h) [
-            | inl is ↦ or_first (nat_eq other i) _ is
-            | inr later ↦ or_true (nat_eq other i) _ (among_without id other ids differ later)
-          ]
-    ]
-
--- and the id is gone
-among_left : (id other : ℕ) (ids : List ℕ) → is_among other (without id ids) ≡ true
-    → (nat_eq id other ≡ false) × (is_among other ids ≡ true)
-among_left id other [] h = absurd (false≢true h)
-among_left id other (i ∷ ids) h =
-    elim (cases_Bool (nat_eq id i)) [
-      | inl same ↦
-          let rest = among_left id other ids (sym (ap (is_among other) (cond-false (not (nat_eq id i)) _ _ (ap not same))) ∙ h) in
-          (rest.0, among_behind other i ids rest.1)
-      | inr apart ↦
-          elim (among_cases other i (without id ids) (sym (ap (is_among other) (cond-true (not (nat_eq id i)) _ _ (ap not apart))) ∙ h)) [
-            | inl is ↦ (ap (nat_eq id) (eqb-true other i is) ∙ apart, or_first (nat_eq other i) _ is)
-            | inr later ↦ let rest = among_left id other ids later in (rest.0, among_behind other i ids rest.1)
-          ]
-    ]
 
 -- ---- what each change leaves
 
@@ -106,13 +57,13 @@ module _ {K V : Type 0} {nodes : List (ℕ × Entry K V)} {index : HashIndex} (s
         found i = ap (lookup (nat_eq i)) is ∙ lookup-rewritten id i x nodes once
 
         by : (i : ℕ) (y : Entry K V) → cond (nat_eq id i) (Some x) (lookup (nat_eq i) nodes) ≡ Some y
-            → is_among i (candidates index y.hash) ≡ true
+            → is_candidate index y.hash i ≡ true
         by i y h =
             elim (cases_Bool (nat_eq id i)) [
               | inl same ↦
                   let is_x : y ≡ x = some_parts y x (sym h ∙ cond-true (nat_eq id i) _ _ same) in
-                  subst (λ n. is_among i (candidates index n) ≡ true) (sym (ap (λ z. z.hash) is_x ∙ same_hash))
-                  (subst (λ j. is_among j (candidates index e.hash) ≡ true) (eqb-true id i same) (s.listed id e stood))
+                  subst (λ n. is_candidate index n i ≡ true) (sym (ap (λ z. z.hash) is_x ∙ same_hash))
+                  (subst (λ j. is_candidate index e.hash j ≡ true) (eqb-true id i same) (s.listed id e stood))
               | inr other ↦ s.listed i y (sym (cond-false (nat_eq id i) _ _ other) ∙ h)
             ]
 
@@ -123,20 +74,23 @@ module _ {K V : Type 0} {nodes : List (ℕ × Entry K V)} {index : HashIndex} (s
         record {
           listed = λ i y h. by i y (sym (found i) ∙ h);
           standing = λ hash i h.
-              let rest = among_left id i (candidates index hash) (sym (ap (is_among i) (step.without_id hash)) ∙ h) in
-              subst (λ o. IsSome o) (sym (found i ∙ cond-false (nat_eq id i) _ _ rest.0)) (s.standing hash i rest.1);
+              elim (cases_Bool (nat_eq id i)) [
+                | inl same ↦
+                    absurd (false≢true (sym (step.gone hash) ∙ ap (is_candidate new hash) (eqb-true id i same) ∙ h))
+                | inr other ↦
+                    subst (λ o. IsSome o) (sym (found i ∙ cond-false (nat_eq id i) _ _ other))
+                    (s.standing hash i (sym (step.others hash i other) ∙ h))
+              ];
         }
       where
         found : (i : ℕ) → lookup (nat_eq i) left ≡ cond (nat_eq id i) None (lookup (nat_eq i) nodes)
         found i = ap (lookup (nat_eq i)) is ∙ lookup-removed id i nodes once
 
-        by : (i : ℕ) (y : Entry K V) → cond (nat_eq id i) None (lookup (nat_eq i) nodes) ≡ Some y → is_among i (candidates new y.hash) ≡ true
+        by : (i : ℕ) (y : Entry K V) → cond (nat_eq id i) None (lookup (nat_eq i) nodes) ≡ Some y → is_candidate new y.hash i ≡ true
         by i y h =
             elim (cases_Bool (nat_eq id i)) [
               | inl same ↦ not_none y (sym h ∙ cond-true (nat_eq id i) _ _ same)
-              | inr other ↦
-                  ap (is_among i) (step.without_id y.hash)
-                  ∙ among_without id i (candidates index y.hash) other (s.listed i y (sym (cond-false (nat_eq id i) _ _ other) ∙ h))
+              | inr other ↦ step.others y.hash i other ∙ s.listed i y (sym (cond-false (nat_eq id i) _ _ other) ∙ h)
             ]
 
   -- a new one is a candidate of its hash
@@ -153,32 +107,18 @@ module _ {K V : Type 0} {nodes : List (ℕ × Entry K V)} {index : HashIndex} (s
       found : (i : ℕ) → lookup (nat_eq i) pushed ≡ cond (nat_eq id i) (Some e) (lookup (nat_eq i) nodes)
       found i = ap (lookup (nat_eq i)) is ∙ lookup-push i id e nodes fresh
 
-      by : (i : ℕ) (y : Entry K V) → cond (nat_eq id i) (Some e) (lookup (nat_eq i) nodes) ≡ Some y → is_among i (candidates new y.hash) ≡ true
+      by : (i : ℕ) (y : Entry K V) → cond (nat_eq id i) (Some e) (lookup (nat_eq i) nodes) ≡ Some y → is_candidate new y.hash i ≡ true
       by i y h =
           elim (cases_Bool (nat_eq id i)) [
             | inl same ↦
                 let is_e : e ≡ y = some_parts e y (sym (cond-true (nat_eq id i) _ _ same) ∙ h) in
-                subst (λ z. is_among i (candidates new z.hash) ≡ true) is_e
-                (subst (λ j. is_among j (candidates new e.hash) ≡ true) (eqb-true id i same)
-                (ap (is_among id) step.under ∙ among_here id (candidates index e.hash)))
-            | inr other ↦
-                let old = s.listed i y (sym (cond-false (nat_eq id i) _ _ other) ∙ h) in
-                elim (step.others y.hash) [
-                  | inl added ↦ ap (is_among i) added ∙ among_behind i id (candidates index y.hash) old
-                  | inr kept ↦ ap (is_among i) kept ∙ old
-                ]
+                subst (λ z. is_candidate new z.hash i ≡ true) is_e
+                (subst (λ j. is_candidate new e.hash j ≡ true) (eqb-true id i same) step.under)
+            | inr other ↦ step.others y.hash i other ∙ s.listed i y (sym (cond-false (nat_eq id i) _ _ other) ∙ h)
           ]
 
-      stands : (hash i : ℕ) → nat_eq id i ≡ false → is_among i (candidates new hash) ≡ true → IsSome (lookup (nat_eq i) nodes)
-      stands hash i other h =
-          elim (step.others hash) [
-            | inl added ↦
-                elim (among_cases i id (candidates index hash) (sym (ap (is_among i) added) ∙ h)) [
-                  | inl same ↦ absurd (false≢true (sym other ∙ (nat_eq_equiv.symm id i ∙ same)))
-                  | inr later ↦ s.standing hash i later
-                ]
-            | inr kept ↦ s.standing hash i (sym (ap (is_among i) kept) ∙ h)
-          ]
+      stands : (hash i : ℕ) → nat_eq id i ≡ false → is_candidate new hash i ≡ true → IsSome (lookup (nat_eq i) nodes)
+      stands hash i other h = s.standing hash i (sym (step.others hash i other) ∙ h)
 
 -- ---- a search among candidates
 
@@ -212,7 +152,7 @@ module _ {K V : Type 0} (eq : K → K → Bool) (key : K) (nodes : List (ℕ × 
         standing = λ id h. s.standing hash id (sym (ap (is_among id) is) ∙ h);
         ahead = λ id e stands equal.
             ap (is_among id) is
-            ∙ subst (λ n. is_among id (candidates index n) ≡ true) (has_hash hash hashed id e stands equal) (s.listed id e stands);
+            ∙ subst (λ n. is_candidate index n id ≡ true) (has_hash hash hashed id e stands equal) (s.listed id e stands);
       }
 
   -- behind one of another key
@@ -289,7 +229,7 @@ module _ {K V : Type 0} (nodes : List (ℕ × Entry K V)) where
 
   -- it isn't there yet
   pub not_yet : (id : ℕ) (e : Entry K V) (index : HashIndex) → IsDistinct nat_eq (keys_of nodes) → lookup (nat_eq id) nodes ≡ Some e
-      → IsUpTo (Some id) index → (hash : ℕ) → is_among id (candidates index hash) ≡ true → ⊥
+      → IsUpTo (Some id) index → (hash : ℕ) → is_candidate index hash id ≡ true → ⊥
   not_yet id e index once stands s hash h =
       let parts : s.done ++ (id, e) ∷ from_node (next_id id nodes) nodes ≡ nodes =
       ap (λ l. s.done ++ l) (sym (from_next id e nodes once stands)) ∙ s.parts in
@@ -310,57 +250,54 @@ module _ {K V : Type 0} (nodes : List (ℕ × Entry K V)) where
 -- ---- what a contract sees
 
 module _ {K V : Type 0} where
-  -- room that is there is room of the deques, and the index has room for all ids
-  pub room_is_indexed : (deques : Store K V) (index : HashIndex) → 0 < indexed_room deques index
-      → (0 < deques.room) × (deques.ids ≤ index.ids)
-  room_is_indexed deques index h =
+  -- capacity that is there is that of the deques, and the index has room for all ids
+  pub capacity_is_indexed : (deques : Store K V) (index : HashIndex) (len : ℕ) → len < indexed_capacity deques index
+      → (len < deques.capacity) × (deques.ids ≤ index.ids)
+  capacity_is_indexed deques index len h =
       elim (cases_Bool (nat_le deques.ids index.ids)) [
-        | inl fits ↦ (subst (λ n. 0 < n) (cond-true (nat_le deques.ids index.ids) _ _ fits) h, leb-true deques.ids index.ids fits)
+        | inl fits ↦
+            (subst (λ n. len < n) (cond-true (nat_le deques.ids index.ids) _ _ fits) h, leb-true deques.ids index.ids fits)
         | inr lacks ↦
-            let none : 0 < 0 = subst (λ n. 0 < n) (cond-false (nat_le deques.ids index.ids) deques.room 0 lacks) h in absurd (omega (arith, none))
+            let none : len < 0 = subst (λ n. len < n) (cond-false (nat_le deques.ids index.ids) deques.capacity 0 lacks) h in
+            absurd (omega (arith, none))
       ]
 
-  -- where the index has room for all ids, the room is that of the deques
-  pub indexed_room-all : (deques : Store K V) (index : HashIndex) → deques.ids ≤ index.ids → indexed_room deques index ≡ deques.room
-  indexed_room-all deques index fits = cond-true (nat_le deques.ids index.ids) _ _ (le-leb deques.ids index.ids fits)
+  -- where the index has room for all ids, the capacity is that of the deques
+  pub indexed_capacity-all : (deques : Store K V) (index : HashIndex) → deques.ids ≤ index.ids
+      → indexed_capacity deques index ≡ deques.capacity
+  indexed_capacity-all deques index fits = cond-true (nat_le deques.ids index.ids) _ _ (le-leb deques.ids index.ids fits)
 
-  -- more room in the deques is more room
-  pub indexed_room-mono : (a b : Store K V) (i j : HashIndex) → b.ids ≡ a.ids → j.ids ≡ i.ids → a.room ≤ b.room
-      → indexed_room a i ≤ indexed_room b j
-  indexed_room-mono a b i j same same_index more =
-      subst (λ n. indexed_room a i ≤ cond (nat_le n j.ids) b.room 0) (sym same)
-      (subst (λ n. indexed_room a i ≤ cond (nat_le a.ids n) b.room 0) (sym same_index)
-      (cond_le (nat_le a.ids i.ids) a.room b.room more))
-    where
-      cond_le : (t : Bool) (x y : ℕ) → x ≤ y → cond t x 0 ≤ cond t y 0
-      cond_le true x y h = h
-      cond_le false x y h = omega arith
+  -- the same capacity of the deques is the same capacity
+  pub indexed_capacity-same : (a b : Store K V) (i j : HashIndex) → b.ids ≡ a.ids → j.ids ≡ i.ids → b.capacity ≡ a.capacity
+      → indexed_capacity b j ≡ indexed_capacity a i
+  indexed_capacity-same a b i j ids index capacity k = cond (nat_le (ids k) (index k)) (capacity k) 0
 
   module _ (eq : K → K → Bool) (a : Store K V) (m : ℕ) where
-    pub shown_front : (o : Option ℕ) → IfSome o (λ id. IsFront eq a id) → IfSome o (λ id. IsFront eq (record a { room = m }) id)
+    pub shown_front : (o : Option ℕ) → IfSome o (λ id. IsFront eq a id) → IfSome o (λ id. IsFront eq (record a { capacity = m }) id)
     shown_front None h = tt
     shown_front (Some id) h = record { entry = h.entry; rest = h.rest; stands = h.stands; first = h.first; alone = h.alone }
 
-    pub shown_oldest : (o : Option ℕ) → IfSome o (λ id. IsOldest eq a id) → IfSome o (λ id. IsOldest eq (record a { room = m }) id)
+    pub shown_oldest : (o : Option ℕ) → IfSome o (λ id. IsOldest eq a id) → IfSome o (λ id. IsOldest eq (record a { capacity = m }) id)
     shown_oldest None h = tt
     shown_oldest (Some id) h = record { entry = h.entry; rest = h.rest; stands = h.stands; first = h.first; alone = h.alone }
 
   module _ {eq : K → K → Bool} {a b : Store K V} {id : ℕ} (m n : ℕ) where
-    pub shown_removes : m ≤ n → Removes eq a id b → Removes eq (record a { room = m }) id (record b { room = n })
-    shown_removes more h =
+    pub shown_removes : n ≡ m → Removes eq a id b → Removes eq (record a { capacity = m }) id (record b { capacity = n })
+    shown_removes same h =
         record {
           entry = h.entry;
           stood = h.stood;
           entries = h.entries;
           written = h.written;
           keeps = h.keeps;
-          room = more;
+          capacity = same;
           nodes = h.nodes;
+          fewer = h.fewer;
           ids = h.ids;
         }
 
-    pub shown_touches : (now : ℕ) → Touches eq a id now b → Touches eq (record a { room = m }) id now (record b { room = n })
-    shown_touches now h =
+    pub shown_touches : (now : ℕ) → n ≡ m → Touches eq a id now b → Touches eq (record a { capacity = m }) id now (record b { capacity = n })
+    shown_touches now same h =
         record {
           entry = h.entry;
           stood = h.stood;
@@ -368,19 +305,31 @@ module _ {K V : Type 0} where
           entries = h.entries;
           written = h.written;
           keeps = h.keeps;
+          capacity = same;
+          ids = h.ids;
           nodes = h.nodes;
         }
 
-    pub shown_updates : (update : Entry K V) → Updates eq a id update b → Updates eq (record a { room = m }) id update (record b { room = n })
-    shown_updates update h =
-        record { entry = h.entry; stood = h.stood; entries = h.entries; written = h.written; keeps = h.keeps; nodes = h.nodes }
+    pub shown_updates : (update : Entry K V) → n ≡ m → Updates eq a id update b → Updates eq (record a { capacity = m }) id update (record b { capacity = n })
+    shown_updates update same h =
+        record {
+          entry = h.entry;
+          stood = h.stood;
+          entries = h.entries;
+          written = h.written;
+          keeps = h.keeps;
+          capacity = same;
+          ids = h.ids;
+          nodes = h.nodes;
+        }
 
-    pub shown_enters : (e : Entry K V) → Enters eq a e id b → Enters eq (record a { room = m }) e id (record b { room = n })
-    shown_enters e h =
+    pub shown_enters : (e : Entry K V) → n ≡ m → Enters eq a e id b → Enters eq (record a { capacity = m }) e id (record b { capacity = n })
+    shown_enters e same h =
         record {
           entries = h.entries;
           written = h.written;
           keeps = h.keeps;
+          capacity = same;
           nodes = h.nodes;
           new_id = h.new_id;
           below = h.below;

@@ -12,6 +12,15 @@ abbrev pub room_for : Bool → ℕ → ℕ → ℕ
 room_for true entries writes = min entries writes
 room_for false entries writes = entries
 
+-- how many entries fit, with those that are there
+abbrev pub capacity_of : {X : Type 0} → Bool → List (ℕ × X) → ℕ → ℕ → ℕ
+capacity_of keeps items entries writes = length items + room_for keeps entries writes
+
+-- the room that is left once a write is taken out, if there is one
+abbrev pub room_after : Option ℕ → ℕ → ℕ
+room_after None room = room
+room_after (Some write) room = room + 1
+
 -- the ids of nodes are below this number: as many as are there and as there is room for
 abbrev pub ids_of : {X : Type 0} → List (ℕ × X) → ℕ → ℕ
 ids_of items room = length items + room

@@ -1,17 +1,17 @@
 -- What a contract sees of the store of a cache's entries, and of each change of it.
-use Rattle.std.specs.Prelude.{◌≡◌, ◌≤◌, ◌<◌, ℕ, Bool, true, nat_eq, List, [], ◌∷◌, ◌++◌, All, Some, None}
+use Rattle.std.specs.Prelude.{◌≡◌, ◌<◌, ◌≤◌, ℕ, Bool, true, nat_eq, List, length, [], ◌∷◌, ◌++◌, All, Some, None}
 use Rattle.std.specs.Map.{lookup, remove_entry, values_of}
 use Rattle.moka_machine.specs.declared.entry.Entry.{Entry}
 use Rattle.moka_machine.specs.Contents.{Write, entry_at, entries_without, write_of, writes_without}
 use Rattle.moka_machine.specs.Insert.{with_write}
 
--- the entries in order of use, each under the id of its node; the writes in their order, if they are kept; for how many more entries there is room;
--- and a number that the ids of all nodes are below, as long as there is room
+-- the entries in order of use, each under the id of its node; the writes in their order, if they are kept; how many entries fit with no allocation;
+-- and a number that the ids of all nodes are below
 pub record Store (K V : Type 0) : Type 0 where
   pub nodes : List (ℕ × Entry K V)
   pub written : List (Write K)
   pub keeps_writes : Bool
-  pub room : ℕ
+  pub capacity : ℕ
   pub ids : ℕ
 
 module _ {K V : Type 0} where
@@ -51,8 +51,9 @@ module _ {K V : Type 0} where
       pub entries : entries_of new ≡ entries_without eq entry.key (entries_of old)
       pub written : new.written ≡ writes_without eq entry.key old.written
       pub keeps : new.keeps_writes ≡ old.keeps_writes
-      pub room : old.room ≤ new.room
+      pub capacity : new.capacity ≡ old.capacity
       pub nodes : new.nodes ≡ remove_entry (nat_eq id) old.nodes
+      pub fewer : length new.nodes ≤ length old.nodes
       pub ids : new.ids ≡ old.ids
 
     -- what it is once the entry was used at a moment
@@ -63,6 +64,8 @@ module _ {K V : Type 0} where
       pub entries : entries_of new ≡ entries_without eq entry.key (entries_of old) ++ record entry { accessed = now } ∷ []
       pub written : new.written ≡ old.written
       pub keeps : new.keeps_writes ≡ old.keeps_writes
+      pub capacity : new.capacity ≡ old.capacity
+      pub ids : new.ids ≡ old.ids
       pub nodes : new.nodes ≡ remove_entry (nat_eq id) old.nodes ++ (id, record entry { accessed = now }) ∷ []
 
     -- what it is once the entry has another's value, weight and moments
@@ -72,6 +75,8 @@ module _ {K V : Type 0} where
       pub entries : entries_of new ≡ entries_without eq entry.key (entries_of old) ++ record update { key = entry.key; hash = entry.hash } ∷ []
       pub written : new.written ≡ with_write old.keeps_writes (writes_without eq entry.key old.written) entry.key update.modified
       pub keeps : new.keeps_writes ≡ old.keeps_writes
+      pub capacity : new.capacity ≡ old.capacity
+      pub ids : new.ids ≡ old.ids
       pub nodes : new.nodes ≡ remove_entry (nat_eq id) old.nodes ++ (id, record update { key = entry.key; hash = entry.hash }) ∷ []
 
     -- what it is once a new entry has entered, under the id of a new node
@@ -79,6 +84,7 @@ module _ {K V : Type 0} where
       pub entries : entries_of new ≡ entries_of old ++ entry ∷ []
       pub written : new.written ≡ with_write old.keeps_writes old.written entry.key entry.modified
       pub keeps : new.keeps_writes ≡ old.keeps_writes
+      pub capacity : new.capacity ≡ old.capacity
       pub nodes : new.nodes ≡ old.nodes ++ (id, entry) ∷ []
       pub new_id : lookup (nat_eq id) old.nodes ≡ None
       pub below : id < new.ids

@@ -1,5 +1,5 @@
 -- What a contract sees of a batch that leaves the store, one entry after another.
-use Rattle.std.specs.Prelude.{◌≡◌, ◌≤◌, ℕ, suc, Bool, true, false, List, take, Option, option_map}
+use Rattle.std.specs.Prelude.{◌≡◌, ◌≤◌, ℕ, suc, Bool, true, false, List, length, take, Option, option_map}
 use Rattle.moka_machine.specs.Contents.{Contents, entry_keys, after_leaving}
 use Rattle.moka_store.specs.Store.{Store, entries_of}
 
@@ -13,10 +13,11 @@ module _ {K V : Type 0} where
   abbrev pub contents_of : Store K V → Contents K V
   contents_of store = record { entries = entries_of store; written = store.written }
 
-  -- the store keeps its writes or not as before, and has no less room
+  -- the store keeps its writes or not as before, and has the same capacity and no more nodes
   pub record Continues (old new : Store K V) : Type 0 where
     pub keeps : new.keeps_writes ≡ old.keeps_writes
-    pub room : old.room ≤ new.room
+    pub capacity : new.capacity ≡ old.capacity
+    pub fewer : length new.nodes ≤ length old.nodes
 
 -- the contents once as many of the least recently used entries have left
 abbrev pub after_eviction_of : {K V : Type 0} → (K → K → Bool) → ℕ → Contents K V → Contents K V

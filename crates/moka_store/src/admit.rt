@@ -1,5 +1,5 @@
 //! Which entries give way to a new one: the admission policy of TinyLFU, size-aware as in Caffeine.
-ghost use Rattle.std.specs.Prelude.{◌≡◌, ◌<◌, None, is_some};
+ghost use Rattle.std.specs.Prelude.{◌≡◌, ◌<◌, None, is_some, length};
 ghost use Rattle.moka_base.specs.Admission.{outvoted};
 ghost use Rattle.moka_base.specs.Prefix.{shortest_prefix};
 ghost use Rattle.moka_sketch.specs.Sketch.{estimate};
@@ -20,12 +20,13 @@ pub fn admit<K: Eq + Drop, V: Drop, A: Allocator + Clone + Drop>(
     sketch: &FrequencySketch<A>,
     new: Entry<K, V>,
 ) -> bool
-    requires room { 0 < store.old.room }
+    requires room { length store.old.nodes < store.old.capacity }
     requires absent { entry_at K.eq new.key (entries_of store.old) ≡ None }
     ensures value { result ≡ is_some (victims_of limit sketch.now new (contents_of store.old)) }
     ensures step { contents_of store.new ≡ after_admission K.eq store.old.keeps_writes new
         (victims_of limit sketch.now new (contents_of store.old)) (contents_of store.old) }
     ensures keeps { store.new.keeps_writes ≡ store.old.keeps_writes }
+    ensures capacity { store.new.capacity ≡ store.old.capacity }
 {
     let Some(count) = victim_count(store, limit, sketch, &new) else {
         return false;

@@ -1,17 +1,19 @@
 // The entries of a cache in order of use and in order of writing, with the total of their weights.
-ghost use Rattle.std.specs.Prelude.{◌≡◌, ◌≤◌, ◌<◌, ◌+◌, ◌-◌, ◌*◌, ◌^◌, ◌++◌, ◌∷◌, ℕ, [], length, nat_eq, IfOk, OnOk, IfSome, IsNone, IsSome, None, Some, true};
+ghost use Rattle.std.specs.Prelude.{◌≡◌, ◌≤◌, ◌<◌, ◌+◌, ◌-◌, ◌*◌, ◌^◌, ◌++◌, ◌∷◌, ℕ, [], length, nat_eq, IfOk, IsOk, OnOk, IfSome, IsNone, IsSome, None, Some, true};
 ghost use Rattle.std.specs.List.{IsDistinct};
 ghost use Rattle.std.specs.Map.{keys_of, lookup};
 ghost use Rattle.moka_deque.specs.Deque.{IsIn, first_id, next_id};
-ghost use Rattle.moka_store.specs.Nodes.{with_write_last, without_write};
+ghost use Rattle.moka_store.specs.Nodes.{room_after, with_write_last, without_write};
 ghost use Rattle.moka_base.specs.Settings.{keeps_writes};
 ghost use Rattle.moka_machine.specs.Contents.{entry_at, no_contents, total_weight, writes_without};
 ghost use Rattle.moka_store.specs.Store.{Enters, IsFront, IsOldest, Removes, Touches, Updates, entries_of};
 ghost use Rattle.moka_store.specs.Turns.{contents_of};
 
 mod entries;
+mod link;
 
 pub use entries::Entries;
+use link::Link;
 use moka_base::error::OutOfMemory;
 use moka_base::policy::Policy;
 use moka_base::time::Instant;
@@ -24,7 +26,7 @@ use std::marker::Model;
 #[derive(Drop)]
 pub(crate) struct Node<K: Drop, V: Drop> {
     entry: Entry<K, V>,
-    write: Option<NodeId>,
+    write: Link,
 }
 
 /// The entries of a cache in their orders. An entry is found by the id of its node.
@@ -38,7 +40,7 @@ pub(crate) struct Deques<K: Eq + Drop, V: Drop, A: Allocator + Clone + Drop = Gl
 
 impl<K: Eq + Drop, V: Drop, A: Allocator + Clone + Drop> Model for Deques<K, V, A> {
     ghost use Rattle.moka_store.specs.Store.{Store as StoreState};
-    ghost use Rattle.moka_store.specs.Nodes.{IsStored, entries_under, ids_of, room_for, written_under};
+    ghost use Rattle.moka_store.specs.Nodes.{IsStored, capacity_of, entries_under, ids_of, written_under};
 
     ghost Value = { StoreState K V };
 
@@ -46,7 +48,7 @@ impl<K: Eq + Drop, V: Drop, A: Allocator + Clone + Drop> Model for Deques<K, V, 
       nodes = entries_under s.order.items;
       written = written_under s.order.items s.writes.items;
       keeps_writes = s.keeps_writes;
-      room = room_for s.keeps_writes s.order.room s.writes.room;
+      capacity = capacity_of s.keeps_writes s.order.items s.order.room s.writes.room;
       ids = ids_of s.order.items s.order.room;
     } };
 
@@ -57,7 +59,7 @@ impl<K: Eq + Drop, V: Drop, A: Allocator + Clone + Drop> Deques<K, V, A> {
     /// Deques without entries. They keep the order of writing where there is a time to live.
     pub(crate) fn new(alloc: A, policy: Policy) -> Result<Self, AllocError>
         ensures { IfOk result (λ deques. deques
-            ≡ record { nodes = []; written = []; keeps_writes = keeps_writes policy; room = 0; ids = 0 }) }
+            ≡ record { nodes = []; written = []; keeps_writes = keeps_writes policy; capacity = 0; ids = 0 }) }
     {
         Ok(Deques {
             order: Deque::new(alloc.clone()?, CacheRegion::MainProbation),
@@ -67,20 +69,22 @@ impl<K: Eq + Drop, V: Drop, A: Allocator + Clone + Drop> Deques<K, V, A> {
         })
     }
 
-    /// Makes room for `additional` more entries.
-    pub(crate) fn reserve(&mut self, additional: usize) -> Result<(), OutOfMemory>
-        ensures ok { OnOk result (additional ≤ self.new.room) }
-        ensures unchanged { self.new ≡ record self.old { room = self.new.room; ids = self.new.ids } }
+    /// Makes room for `additional` more entries, and no more than that.
+    pub(crate) fn reserve_exact(&mut self, additional: usize) -> Result<(), OutOfMemory>
+        ensures ok { OnOk result (length self.new.nodes + additional ≤ self.new.capacity) }
+        ensures had_room { length self.old.nodes + additional ≤ self.old.capacity → IsOk result × (self.new ≡ self.old) }
+        ensures unchanged { self.new ≡ record self.old { capacity = self.new.capacity; ids = self.new.ids } }
     {
         if self.keeps_writes {
-            self.writes.reserve(additional)?;
+            self.writes.reserve_exact(additional)?;
         }
-        self.order.reserve(additional)
+        self.order.reserve_exact(additional)
     }
 
-    /// The ids of all nodes are below this number, as long as there is room.
+    /// The ids of all nodes are below this number.
     pub(crate) fn ids(&self) -> usize
         ensures value { result ≡ self.now.ids }
+        ensures holds_all { self.now.capacity ≤ result }
         ensures bound { (id : ℕ) → IsSome (lookup (nat_eq id) self.now.nodes) → id < result }
     {
         self.order.capacity()
@@ -168,7 +172,7 @@ impl<K: Eq + Drop, V: Drop, A: Allocator + Clone + Drop> Deques<K, V, A> {
         ensures { Updates K.eq self.old id update self.new }
     {
         let node = self.order.get(id);
-        let (weight, write) = (node.entry.weight, node.write);
+        let (weight, write) = (node.entry.weight, node.write.id());
         self.total = with_weight(&self.order, self.total - u128::from(weight), update.weight);
         rewrite(self.order.get_mut(id), update);
         self.order.move_to_back(id);
@@ -177,15 +181,20 @@ impl<K: Eq + Drop, V: Drop, A: Allocator + Clone + Drop> Deques<K, V, A> {
 
     /// A new entry, most recent in both orders. There must be room for it, and no entry of its key.
     pub(crate) fn enter(&mut self, entry: Entry<K, V>) -> NodeId
-        requires room { 0 < self.old.room }
+        requires room { length self.old.nodes < self.old.capacity }
         requires absent { entry_at K.eq entry.key (entries_of self.old) ≡ None }
         ensures { Enters K.eq self.old entry result self.new }
     {
         self.total = with_weight(&self.order, self.total, entry.weight);
-        let id = self.order.push_reserved(Node { entry, write: None });
+        let id = self.order.push_reserved(Node {
+            entry,
+            write: Link::none(),
+        });
         if self.keeps_writes {
             let write = self.writes.push_reserved(id);
-            self.order.get_mut(id).write = Some(write);
+            // All ids are below the capacity, which is a number.
+            let _ = self.writes.capacity();
+            self.order.get_mut(id).write = Link::to(write);
         }
         id
     }
@@ -226,12 +235,12 @@ fn rewrite<K: Drop, V: Drop>(node: &mut Node<K, V>, update: Entry<K, V>)
 }
 
 /// Takes a write out of the order of writing, if there is one.
-fn unlink_write<A: Allocator>(writes: &mut Deque<NodeId, A>, write: Option<NodeId>)
+fn unlink_write<A: Allocator>(writes: &mut Deque<NodeId, A>, write: Link)
     requires { IfSome write (λ w. IsIn writes.old.items w) }
     ensures items { writes.new.items ≡ without_write write writes.old.items }
-    ensures room { writes.old.room ≤ writes.new.room }
+    ensures room { writes.new.room ≡ room_after write writes.old.room }
 {
-    if let Some(write) = write {
+    if let Some(write) = write.id() {
         writes.unlink_and_drop(write);
     }
 }

@@ -7,53 +7,55 @@ ghost use Rattle.moka_machine.specs.declared.constants.TheConstants.{EVICTION_BA
 
 use crate::store::Store;
 use crate::trim::trim;
-use moka_base::policy::Policy;
-use moka_base::time::{Instant, idle_expired, live_expired};
+use moka_base::limits::Limits;
+use moka_base::time::Instant;
 use moka_machine::constants::EVICTION_BATCH_SIZE;
 use moka_machine::entry::Entry;
 use std::alloc::Allocator;
 
 /// What each call does first: expired entries leave, and entries above the limit.
+#[inline]
 pub fn upkeep<K: Eq + Drop, V: Drop, A: Allocator + Clone + Drop>(
     store: &mut Store<K, V, A>,
-    policy: &Policy,
+    limits: &Limits,
     now: Instant,
 )
-    ensures step { contents_of store.new ≡ after_upkeep K.eq policy.now now (contents_of store.old) }
+    ensures step { contents_of store.new ≡ after_upkeep K.eq limits.now now (contents_of store.old) }
     ensures kept { Continues store.old store.new }
 {
-    expire(store, policy, now);
-    trim(store, policy.max_capacity());
+    expire(store, limits, now);
+    trim(store, limits.max_capacity());
 }
 
 /// A batch leaves by time to live, and a batch by time to idle, where these are set.
+#[inline]
 fn expire<K: Eq + Drop, V: Drop, A: Allocator + Clone + Drop>(
     store: &mut Store<K, V, A>,
-    policy: &Policy,
+    limits: &Limits,
     now: Instant,
 )
-    ensures step { contents_of store.new ≡ after_expiry K.eq policy.now now (contents_of store.old) }
+    ensures step { contents_of store.new ≡ after_expiry K.eq limits.now now (contents_of store.old) }
     ensures kept { Continues store.old store.new }
 {
-    if policy.time_to_live().is_some() {
-        expire_by_write(store, policy, now);
+    if limits.has_time_to_live() {
+        expire_by_write(store, limits, now);
     }
-    if policy.time_to_idle().is_some() {
-        expire_by_use(store, policy, now);
+    if limits.has_time_to_idle() {
+        expire_by_use(store, limits, now);
     }
 }
 
 fn expire_by_write<K: Eq + Drop, V: Drop, A: Allocator + Clone + Drop>(
     store: &mut Store<K, V, A>,
-    policy: &Policy,
+    limits: &Limits,
     now: Instant,
 )
     ensures step { contents_of store.new
-        ≡ after_live_expiry K.eq policy.now now EVICTION_BATCH_SIZE (contents_of store.old) }
+        ≡ after_live_expiry K.eq limits.now now EVICTION_BATCH_SIZE (contents_of store.old) }
     ensures kept { Continues store.old store.new }
 {
     let mut left = EVICTION_BATCH_SIZE;
-    while left > 0 && expire_oldest(store, policy, now) {
+    while left > 0 && expire_oldest(store, limits, now) {
         left -= 1;
     }
 }
@@ -61,17 +63,17 @@ fn expire_by_write<K: Eq + Drop, V: Drop, A: Allocator + Clone + Drop>(
 /// The entry that was written the longest ago leaves, if it has lived too long.
 fn expire_oldest<K: Eq + Drop, V: Drop, A: Allocator + Clone + Drop>(
     store: &mut Store<K, V, A>,
-    policy: &Policy,
+    limits: &Limits,
     now: Instant,
 ) -> bool
-    ensures turn { IsTurn (after_live_expiry K.eq policy.now now)
+    ensures turn { IsTurn (after_live_expiry K.eq limits.now now)
         result (contents_of store.old) (contents_of store.new) }
     ensures kept { Continues store.old store.new }
 {
     let Some(id) = store.oldest() else {
         return false;
     };
-    if !live_expired(policy.time_to_live(), store.get(id).modified, now) {
+    if !limits.has_lived(store.get(id).modified, now) {
         return false;
     }
     store.remove(id);
@@ -80,15 +82,15 @@ fn expire_oldest<K: Eq + Drop, V: Drop, A: Allocator + Clone + Drop>(
 
 fn expire_by_use<K: Eq + Drop, V: Drop, A: Allocator + Clone + Drop>(
     store: &mut Store<K, V, A>,
-    policy: &Policy,
+    limits: &Limits,
     now: Instant,
 )
     ensures step { contents_of store.new
-        ≡ after_idle_expiry K.eq policy.now now EVICTION_BATCH_SIZE (contents_of store.old) }
+        ≡ after_idle_expiry K.eq limits.now now EVICTION_BATCH_SIZE (contents_of store.old) }
     ensures kept { Continues store.old store.new }
 {
     let mut left = EVICTION_BATCH_SIZE;
-    while left > 0 && expire_front(store, policy, now) {
+    while left > 0 && expire_front(store, limits, now) {
         left -= 1;
     }
 }
@@ -96,17 +98,17 @@ fn expire_by_use<K: Eq + Drop, V: Drop, A: Allocator + Clone + Drop>(
 /// The least recently used entry leaves, if it has been idle too long.
 fn expire_front<K: Eq + Drop, V: Drop, A: Allocator + Clone + Drop>(
     store: &mut Store<K, V, A>,
-    policy: &Policy,
+    limits: &Limits,
     now: Instant,
 ) -> bool
-    ensures turn { IsTurn (after_idle_expiry K.eq policy.now now)
+    ensures turn { IsTurn (after_idle_expiry K.eq limits.now now)
         result (contents_of store.old) (contents_of store.new) }
     ensures kept { Continues store.old store.new }
 {
     let Some(id) = store.front() else {
         return false;
     };
-    if !idle_expired(policy.time_to_idle(), store.get(id).accessed, now) {
+    if !limits.is_idle(store.get(id).accessed, now) {
         return false;
     }
     store.remove(id);
@@ -114,9 +116,9 @@ fn expire_front<K: Eq + Drop, V: Drop, A: Allocator + Clone + Drop>(
 }
 
 /// Whether an entry is expired, for either reason.
-pub fn is_expired<K: Drop, V: Drop>(policy: &Policy, entry: &Entry<K, V>, now: Instant) -> bool
-    ensures { result ≡ is_expired policy.now now entry.now }
+#[inline]
+pub fn is_expired<K: Drop, V: Drop>(limits: &Limits, entry: &Entry<K, V>, now: Instant) -> bool
+    ensures { result ≡ is_expired limits.now now entry.now }
 {
-    live_expired(policy.time_to_live(), entry.modified, now)
-        || idle_expired(policy.time_to_idle(), entry.accessed, now)
+    limits.has_lived(entry.modified, now) || limits.is_idle(entry.accessed, now)
 }

@@ -1,6 +1,6 @@
 //! The entries of a cache in order of use and in order of writing, found by the hashes of their keys. Only here is an entry found, added, changed or
 //! removed.
-ghost use Rattle.std.specs.Prelude.{◌≡◌, ◌≤◌, ◌<◌, ◌^◌, ℕ, [], length, nat_eq, IfOk, OnErr, OnOk, IfSome, IsNone, IsSome, None, Some};
+ghost use Rattle.std.specs.Prelude.{◌≡◌, ◌≤◌, ◌<◌, ◌+◌, ◌^◌, ℕ, [], length, nat_eq, IfOk, IsOk, OnErr, OnOk, IfSome, IsNone, IsSome, None, Some};
 ghost use Rattle.std.specs.List.{IsDistinct};
 ghost use Rattle.std.specs.Map.{keys_of, lookup};
 ghost use Rattle.moka_deque.specs.Deque.{first_id, next_id};
@@ -31,11 +31,11 @@ pub struct Store<K: Eq + Drop, V: Drop, A: Allocator + Clone + Drop = Global> {
 
 impl<K: Eq + Drop, V: Drop, A: Allocator + Clone + Drop> Model for Store<K, V, A> {
     ghost use Rattle.moka_store.specs.Store.{Store as StoreState};
-    ghost use Rattle.moka_store.specs.Indexed.{IsIndexed, indexed_room};
+    ghost use Rattle.moka_store.specs.Indexed.{IsIndexed, indexed_capacity};
 
     ghost Value = { StoreState K V };
 
-    ghost view = { λ s. record s.deques { room = indexed_room s.deques s.index } };
+    ghost view = { λ s. record s.deques { capacity = indexed_capacity s.deques s.index } };
 
     ghost invariant = { λ s. IsIndexed s.deques.nodes s.index };
 }
@@ -44,7 +44,7 @@ impl<K: Eq + Drop, V: Drop, A: Allocator + Clone + Drop> Store<K, V, A> {
     /// A store without entries. It keeps the order of writing where there is a time to live.
     pub fn new(alloc: A, policy: Policy) -> Result<Self, AllocError>
         ensures { IfOk result (λ store. store
-            ≡ record { nodes = []; written = []; keeps_writes = keeps_writes policy; room = 0; ids = 0 }) }
+            ≡ record { nodes = []; written = []; keeps_writes = keeps_writes policy; capacity = 0; ids = 0 }) }
     {
         Ok(Store {
             deques: Deques::new(alloc.clone()?, policy)?,
@@ -52,18 +52,24 @@ impl<K: Eq + Drop, V: Drop, A: Allocator + Clone + Drop> Store<K, V, A> {
         })
     }
 
-    /// Makes room for `additional` more entries.
-    pub fn reserve(&mut self, additional: usize) -> Result<(), OutOfMemory>
-        ensures ok { OnOk result (additional ≤ self.new.room) }
-        ensures unchanged { self.new ≡ record self.old { room = self.new.room; ids = self.new.ids } }
+    /// Makes room for `additional` more entries. Where there is too little, there is room for twice as many entries as before then, but for no
+    /// more than `most`, or for those that are there and `additional`, if they are more.
+    #[inline]
+    pub fn reserve(&mut self, additional: usize, most: usize) -> Result<(), OutOfMemory>
+        ensures ok { OnOk result (length self.new.nodes + additional ≤ self.new.capacity) }
+        ensures had_room { 0 < additional → length self.old.nodes + additional ≤ self.old.capacity → IsOk result × (self.new ≡ self.old) }
+        ensures unchanged { self.new ≡ record self.old { capacity = self.new.capacity; ids = self.new.ids } }
     {
-        let needed = self.deques.len().saturating_add(additional);
-        if needed > self.deques.ids() {
-            // The deques grow by doubling. The index grows first, so that they are as they were where memory for it is refused.
-            let doubled = self.deques.ids().saturating_mul(2);
-            index_all(&mut self.index, &self.deques, needed.max(doubled))?;
+        let (len, ids) = (self.deques.len(), self.deques.ids());
+        let needed = len.saturating_add(additional);
+        let mut more = additional;
+        if needed > ids {
+            // The index grows first, so that the deques are as they were where memory for it is refused.
+            let target = needed.max(most.min(ids.saturating_mul(2)));
+            index_all(&mut self.index, &self.deques, target)?;
+            more = additional.max(target - len);
         }
-        self.deques.reserve(additional)?;
+        self.deques.reserve_exact(more)?;
         index_all(&mut self.index, &self.deques, self.deques.ids())
     }
 
@@ -164,7 +170,7 @@ impl<K: Eq + Drop, V: Drop, A: Allocator + Clone + Drop> Store<K, V, A> {
 
     /// A new entry, most recent in both orders. There must be room for it, and no entry of its key.
     pub fn enter(&mut self, entry: Entry<K, V>)
-        requires room { 0 < self.old.room }
+        requires room { length self.old.nodes < self.old.capacity }
         requires absent { entry_at K.eq entry.key (entries_of self.old) ≡ None }
         ensures { (id : ℕ) × Enters K.eq self.old entry id self.new }
     {
@@ -187,6 +193,7 @@ impl<K: Eq + Drop, V: Drop, A: Allocator + Clone + Drop> Store<K, V, A> {
 }
 
 /// Makes room in the index for all ids below this number.
+#[inline]
 fn index_all<K: Eq + Drop, V: Drop, A: Allocator + Clone + Drop>(
     index: &mut HashIndex<A>,
     deques: &Deques<K, V, A>,
@@ -196,6 +203,7 @@ fn index_all<K: Eq + Drop, V: Drop, A: Allocator + Clone + Drop>(
     requires indexed { IsIndexed deques.now.nodes index.old }
     ensures indexed { IsIndexed deques.now.nodes index.new }
     ensures room { OnOk result (ids ≤ index.new.ids) }
+    ensures had_room { ids ≤ index.old.ids → IsOk result × (index.new ≡ index.old) }
     ensures err { OnErr result (index.new ≡ index.old) }
 {
     if ids <= index.ids() {

@@ -9,6 +9,7 @@ use moka_machine::constants::EVICTION_BATCH_SIZE;
 use std::alloc::Allocator;
 
 /// A batch leaves where the weight is above a limit.
+#[inline]
 pub fn trim<K: Eq + Drop, V: Drop, A: Allocator + Clone + Drop>(
     store: &mut Store<K, V, A>,
     limit: Option<u64>,
@@ -17,7 +18,9 @@ pub fn trim<K: Eq + Drop, V: Drop, A: Allocator + Clone + Drop>(
     ensures kept { Continues store.old store.new }
 {
     if let Some(limit) = limit {
-        trim_to(store, limit);
+        if store.weight() > u128::from(limit) {
+            trim_to(store, limit);
+        }
     }
 }
 

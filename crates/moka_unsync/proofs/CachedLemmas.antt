@@ -1,7 +1,8 @@
 -- Lemmas on what holds of a cache's parts.
-use Rattle.std.proofs.Common.{◌≡◌, ℕ, Bool, true, not, List, [], ◌∷◌, All, nat_eq, is_some, Option, Some, None, unwrap_or, sym, ap, ◌∙◌}
+use Rattle.std.proofs.Common.{◌≡◌, ℕ, Bool, true, not, List, [], ◌∷◌, All, length, nat_eq, is_some, Option, Some, None, unwrap_or, sym, ap, ◌∙◌}
 use Rattle.std.proofs.Common.{◌++◌, refl, subst, inl, inr}
 use Rattle.std.proofs.lemmas.Bool.{cases_Bool, cond-true, cond-false, false≢true}
+use Rattle.std.proofs.lemmas.List.{length-map}
 use Rattle.std.proofs.lemmas.List.Elements.{All-filter, All-weaker, All-push, All-head, All-tail, All-from_recursion}
 use Rattle.std.specs.Map.{lookup, values_of}
 use Rattle.std.specs.declared.hash.BuildHasher as builder
@@ -100,7 +101,7 @@ module _ {K V S : Type 0} {keys : Keys K S} {state : S} {policy : Policy} where
   IsCached-new none keeps = record { hashed = rw none (All-from_recursion _ [] tt); keeps = keeps }
 
   -- more room changes nothing
-  pub IsCached-room : {old new : Store K V} → IsCached keys state policy old → new ≡ record old { room = new.room; ids = new.ids }
+  pub IsCached-room : {old new : Store K V} → IsCached keys state policy old → new ≡ record old { capacity = new.capacity; ids = new.ids }
       → IsCached keys state policy new
   IsCached-room is same =
       record {
@@ -122,3 +123,7 @@ module _ {K V S : Type 0} {keys : Keys K S} {state : S} {policy : Policy} where
       by (Some victims) =
           All-push (λ e. e.hash ≡ keys.hash_of state e.key) _ new
           (All-leaving keys.eq (λ e. e.hash ≡ keys.hash_of state e.key) (entry_keys victims) (contents_of old) is.hashed) own
+
+-- there is an entry for each node
+pub length-entries : {K V : Type 0} (store : Store K V) → length (entries_of store) ≡ length store.nodes
+length-entries store = length-map store.nodes (λ p. p.1)

@@ -1,3 +1,4 @@
 pub mod CachedLemmas
 pub mod IterateLemmas
 pub mod RunLemmas
+pub mod InsertLemmas

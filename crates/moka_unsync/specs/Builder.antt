@@ -1,5 +1,5 @@
 -- What a contract sees of a builder: what was set.
-use Rattle.std.specs.Prelude.{◌≡◌, ℕ, Bool, false, Option, None, unwrap_or}
+use Rattle.std.specs.Prelude.{◌≡◌, ◌≤◌, ℕ, Bool, false, Option, None, unwrap_or}
 use Rattle.moka_base.specs.declared.error.BuildError.{BuildError}
 use Rattle.moka_base.specs.declared.error.BuildError.TheVariants.{OutOfMemory}
 use Rattle.moka_base.specs.Policy.{Policy}
@@ -22,7 +22,8 @@ new_builder limit weigher =
 abbrev pub refusal_of : {W : Type 0} → Builder W → BuildError
 refusal_of builder = unwrap_or (duration_fault (live_nanos builder.policy) (idle_nanos builder.policy)) OutOfMemory
 
--- what was set is legal, and it is a new cache of that
+-- what was set is legal, and it is a new cache of that, with at least the room that was asked for
 pub record IsBuilt {K V S W : Type 0} (builder : Builder W) (hash_state : S) (cache : CacheState K V S W) : Type 0 where
   pub legal : duration_fault (live_nanos builder.policy) (idle_nanos builder.policy) ≡ None
-  pub built : cache ≡ new_cache (record { hash_state = hash_state; policy = builder.policy; is_weighed = builder.is_weighed }) builder.weigher
+  pub built : cache ≡ new_cache (record { hash_state = hash_state; policy = builder.policy; is_weighed = builder.is_weighed }) builder.weigher cache.capacity
+  pub room : builder.initial_capacity ≤ cache.capacity

@@ -89,7 +89,8 @@ impl<K, V, W: Drop, A: Allocator + Clone + Drop> CacheBuilder<K, V, W, A> {
         CacheBuilder { policy, ..self }
     }
 
-    /// For how many entries the cache has room from the start. More are found room for as they come.
+    /// For how many entries the cache has room from the start: while it has fewer, no insert is refused. More are found room for as they come. Without
+    /// a weigher room for one more than the limit lasts for ever.
     pub fn initial_capacity(self, initial_capacity: usize) -> Self
         ensures { result ≡ record self { initial_capacity = initial_capacity } }
     {

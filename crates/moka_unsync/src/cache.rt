@@ -1,5 +1,5 @@
 //! The cache for one thread.
-ghost use Rattle.std.specs.Prelude.{◌≡◌, ◌<◌, ◌-◌, ◌^◌, Bool, List, false, length, min, None, Some, option_copied, IfErr, IfOk, OnErr, OnOk};
+ghost use Rattle.std.specs.Prelude.{◌≡◌, ◌<◌, ◌≤◌, ◌-◌, ◌^◌, Bool, List, false, length, min, None, Some, option_copied, IfErr, IfOk, OnErr, OnOk};
 ghost use Rattle.std.specs.Borrow.{sem};
 ghost use Rattle.moka_base.specs.Keys.{keys_by};
 ghost use Rattle.moka_sketch.specs.Enabling.{enables_sketch, expected_entries};
@@ -7,7 +7,7 @@ ghost use Rattle.moka_unsync.specs.Builder.{new_builder};
 ghost use Rattle.moka_machine.specs.CacheState.{new_cache};
 ghost use Rattle.moka_machine.specs.Contents.{total_weight, weighted_size};
 ghost use Rattle.moka_machine.specs.Lookup.{after_get, after_look, found_by_get, is_contained};
-ghost use Rattle.moka_machine.specs.Insert.{IsInserted, after_asking};
+ghost use Rattle.moka_machine.specs.Insert.{IsInserted, IsUnchanged, after_asking};
 ghost use Rattle.moka_machine.specs.Invalidate.{AnswersInTurn, after_invalidate, after_invalidate_all, after_invalidate_if};
 ghost use Rattle.moka_machine.specs.Iterate.{pairs_at};
 
@@ -18,6 +18,7 @@ use crate::builder::CacheBuilder;
 pub use iter::Iter;
 use moka_base::error::{BuildError, InsertError, OutOfMemory};
 use moka_base::hash::FixedState;
+use moka_base::limits::Limits;
 use moka_base::policy::Policy;
 use moka_base::time::Instant;
 use moka_base::weigh::{UnitWeight, Weigh};
@@ -81,8 +82,9 @@ pub(crate) struct Parts<S: Drop, W: Drop> {
 ///
 /// A look-up takes constant time in the mean, by an index over the hashes of the keys, as long as these are spread; keys of one hash are looked
 /// through in turn. All else in a call takes constant time for each entry that it adds or removes. Nothing but building and inserting takes
-/// memory, and an insert for which there is room takes it for the sketch's table alone. Growing doubles the room, and then adds all entries to the
-/// index anew.
+/// memory, and an insert that finds room takes it for the sketch's table alone, and can't be refused. Where there is none, room is made for twice as
+/// many entries, though without a weigher for no more than one above the limit, and all entries are added to the index anew. So a cache without a
+/// weigher whose `initial_capacity` is above its limit refuses no insert. A cache has at most 2^31 entries.
 ///
 /// # What differs from mini-moka
 ///
@@ -98,7 +100,7 @@ pub struct Cache<
     A: Allocator + Clone + Drop = Global,
 > {
     hash_state: S,
-    policy: Policy,
+    limits: Limits,
     is_weighed: bool,
     weigher: W,
     store: Store<K, V, A>,
@@ -120,15 +122,16 @@ impl<
     ghost Value = { CacheState K V S W };
 
     ghost view = { λ c. record {
-      settings = record { hash_state = c.hash_state; policy = c.policy; is_weighed = c.is_weighed };
+      settings = record { hash_state = c.hash_state; policy = c.limits; is_weighed = c.is_weighed };
       weigher = c.weigher;
       contents = contents_of c.store;
       sketch = c.sketch;
+      capacity = c.store.capacity;
     } };
 
     ghost invariant = { λ c. IsCached
         (keys_by (record { eq = K.eq; hash_input = K.hash_input }) S.BuildHasher S.Hasher.Hasher)
-        c.hash_state c.policy c.store };
+        c.hash_state c.limits c.store };
 }
 
 impl<K: Eq + Hash + Drop, V: Drop, A: Allocator + Clone + Drop> Cache<
@@ -144,7 +147,7 @@ impl<K: Eq + Hash + Drop, V: Drop, A: Allocator + Clone + Drop> Cache<
           hash_state = cache.settings.hash_state;
           policy = record { max_capacity = Some max_capacity; time_to_live = None; time_to_idle = None };
           is_weighed = false;
-        }) cache.weigher) }
+        }) cache.weigher cache.capacity) }
         ensures err { IfErr result (λ error. error ≡ BuildError.OutOfMemory) }
     {
         CacheBuilder::new(alloc, max_capacity).build()
@@ -169,15 +172,17 @@ impl<
 
     /// A cache of these parts, with no entries.
     pub(crate) fn with_parts(alloc: A, parts: Parts<S, W>) -> Result<Self, OutOfMemory>
-        ensures { IfOk result (λ cache. cache ≡ new_cache
+        ensures new { IfOk result (λ cache. cache ≡ new_cache
             (record { hash_state = parts.hash_state; policy = parts.policy; is_weighed = parts.is_weighed })
-            parts.weigher) }
+            parts.weigher cache.capacity) }
+        ensures room { IfOk result (λ cache. parts.initial_capacity ≤ cache.capacity) }
     {
+        let limits = Limits::new(parts.policy);
         let mut store = Store::new(alloc.clone()?, parts.policy)?;
-        store.reserve(parts.initial_capacity)?;
+        store.reserve(parts.initial_capacity, 0)?;
         Ok(Cache {
             hash_state: parts.hash_state,
-            policy: parts.policy,
+            limits,
             is_weighed: parts.is_weighed,
             weigher: parts.weigher,
             store,
@@ -189,7 +194,7 @@ impl<
     pub fn policy(&self) -> Policy
         ensures { result ≡ self.now.settings.policy }
     {
-        self.policy
+        self.limits.policy()
     }
 
     /// How many entries the cache has, expired ones among them that no call has removed yet. It takes constant time.
@@ -213,10 +218,10 @@ impl<
         ensures step { self.new
             ≡ after_look (keys_by K.Hash S.BuildHasher S.Hasher.Hasher) self.old now }
     {
-        upkeep(&mut self.store, &self.policy, now);
+        upkeep(&mut self.store, &self.limits, now);
         let hash = self.hash_state.hash_one(key);
         match self.store.find(key, hash) {
-            Some(id) => !is_expired(&self.policy, self.store.get(id), now),
+            Some(id) => !is_expired(&self.limits, self.store.get(id), now),
             None => false,
         }
     }
@@ -229,11 +234,11 @@ impl<
         ensures value { option_copied result
             ≡ found_by_get (keys_by K.Hash S.BuildHasher S.Hasher.Hasher) self.old key.now now }
     {
-        upkeep(&mut self.store, &self.policy, now);
+        upkeep(&mut self.store, &self.limits, now);
         let hash = self.hash_state.hash_one(key);
         self.sketch.increment(hash);
         let id = self.store.find(key, hash)?;
-        if is_expired(&self.policy, self.store.get(id), now) {
+        if is_expired(&self.limits, self.store.get(id), now) {
             return None;
         }
         self.store.touch(id, now);
@@ -247,7 +252,7 @@ impl<
     {
         let hash = self.hash_state.hash_one(key);
         let store = &mut self.store;
-        upkeep(store, &self.policy, now);
+        upkeep(store, &self.limits, now);
         remove_key(store, key, hash);
     }
 
@@ -276,14 +281,14 @@ impl<
     {
         // There are at most `usize::MAX` entries to count.
         let _ = self.store.len();
-        Iter::new(self.store.iter(), self.policy, now)
+        Iter::new(self.store.iter(), &self.limits, now)
     }
 
     /// Asks for the sketch's table, if the cache is at least half full and has none.
     fn enable_sketch(&mut self)
         ensures { (refused : Bool) × (self.new ≡ after_asking K.eq refused self.old) }
     {
-        let Some(limit) = self.policy.max_capacity() else {
+        let Some(limit) = self.limits.max_capacity() else {
             return;
         };
         if self.enables_sketch() {
@@ -298,12 +303,23 @@ impl<
         ensures { result ≡ enables_sketch self.now.settings.policy.max_capacity self.now.sketch
             (total_weight self.now.contents.entries) }
     {
-        match self.policy.max_capacity() {
+        match self.limits.max_capacity() {
             Some(limit) => {
                 self.sketch.table_len() == 0 && self.store.weight() >= u128::from(limit / 2)
             }
             None => false,
         }
+    }
+
+    /// For how many entries room is made at most, as far as more than that never come: for those of the limit, and one that is looked at.
+    fn most_entries(&self) -> usize {
+        if self.is_weighed {
+            return usize::MAX;
+        }
+        let limit = self.limits.max_capacity().unwrap_or(u64::MAX);
+        usize::try_from(limit)
+            .unwrap_or(usize::MAX)
+            .saturating_add(1)
     }
 
     /// How many entries there is room for at the present mean weight, as far as 64 bits tell.
@@ -339,14 +355,15 @@ impl<
         requires ready { W.ready self.old.weigher }
         ensures step { OnOk result (IsInserted (keys_by K.Hash S.BuildHasher S.Hasher.Hasher)
             W.weighs self.old key value now self.new) }
-        ensures err { OnErr result (self.new ≡ self.old) }
+        ensures err { OnErr result (IsUnchanged self.old self.new) }
         ensures error { IfErr result (λ error. error ≡ InsertError.OutOfMemory) }
         ensures ready { W.ready self.new.weigher }
     {
-        if self.store.reserve(1).is_err() {
+        let most = self.most_entries();
+        if self.store.reserve(1, most).is_err() {
             return Err(InsertError::OutOfMemory);
         }
-        upkeep(&mut self.store, &self.policy, now);
+        upkeep(&mut self.store, &self.limits, now);
         let entry = Entry {
             hash: self.hash_state.hash_one(&key),
             weight: self.weigher.weigh(&key, &value),
@@ -360,7 +377,7 @@ impl<
             None => {
                 if admit(
                     &mut self.store,
-                    self.policy.max_capacity(),
+                    self.limits.max_capacity(),
                     &self.sketch,
                     entry,
                 ) {

@@ -62,6 +62,16 @@ impl<T, A: Allocator> Linked<T, A> {
         self.nodes.slab.reserve(additional)
     }
 
+    pub(crate) fn reserve_exact(&mut self, additional: usize) -> Result<(), AllocError>
+        ensures ok { OnOk result (additional ≤ self.new.room) }
+        ensures succeeds { additional ≤ self.old.room → IsOk result }
+        ensures items { self.new.items ≡ self.old.items }
+        ensures had_room { additional ≤ self.old.room → self.new ≡ self.old }
+        ensures room { self.old.room ≤ self.new.room }
+    {
+        self.nodes.slab.reserve_exact(additional)
+    }
+
     pub(crate) fn capacity(&self) -> usize
         ensures value { result ≡ length self.now.items + self.now.room }
         ensures bound { (id : ℕ) → IsIn self.now.items id → id < result }

@@ -18,9 +18,10 @@ pub(crate) const NONE: usize = usize::MAX;
 
 #[derive(Drop)]
 pub(crate) struct Node<T> {
-    pub(crate) element: T,
+    // The links come first, so that linking a neighbour touches the start of its slot alone.
     pub(crate) next: usize,
     pub(crate) prev: usize,
+    pub(crate) element: T,
 }
 
 #[derive(Drop)]

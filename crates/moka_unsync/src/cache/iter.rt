@@ -4,7 +4,7 @@ ghost use Rattle.std.specs.Iterator.{at_most};
 ghost use Rattle.std.specs.Map.Iter.{TakesFirst, deref_pair};
 ghost use Rattle.moka_machine.specs.Iterate.{unexpired_pairs};
 
-use moka_base::policy::Policy;
+use moka_base::limits::Limits;
 use moka_base::time::Instant;
 use moka_store::expire::is_expired;
 use moka_store::store::Entries;
@@ -24,7 +24,7 @@ use std::marker::Model;
 #[derive(Drop)]
 pub struct Iter<'a, K: Drop, V: Drop, A: Allocator = Global> {
     entries: Entries<'a, K, V, A>,
-    policy: Policy,
+    limits: &'a Limits,
     now: Instant,
 }
 
@@ -34,17 +34,17 @@ impl<'a, K: Drop, V: Drop, A: Allocator> Model for Iter<'a, K, V, A> {
 
     ghost Value = { List (K × V) };
 
-    ghost view = { λ it. unexpired_pairs it.policy it.now it.entries };
+    ghost view = { λ it. unexpired_pairs it.limits.now it.now it.entries };
 }
 
 impl<'a, K: Drop, V: Drop, A: Allocator> Iter<'a, K, V, A> {
     /// An iterator over those of the entries that are unexpired at a moment.
-    pub(crate) fn new(entries: Entries<'a, K, V, A>, policy: Policy, now: Instant) -> Self
-        ensures { result ≡ unexpired_pairs policy now entries.entry }
+    pub(crate) fn new(entries: Entries<'a, K, V, A>, limits: &'a Limits, now: Instant) -> Self
+        ensures { result ≡ unexpired_pairs limits.now now entries.entry }
     {
         Iter {
             entries,
-            policy,
+            limits,
             now,
         }
     }
@@ -59,7 +59,7 @@ impl<'a, K: Drop, V: Drop, A: Allocator> Iterator for Iter<'a, K, V, A> {
 
     fn next(&mut self) -> Option<(&'a K, &'a V)> {
         while let Some(entry) = self.entries.next() {
-            if !is_expired(&self.policy, entry, self.now) {
+            if !is_expired(self.limits, entry, self.now) {
                 return Some((&entry.key, &entry.value));
             }
         }
@@ -71,7 +71,7 @@ impl<'a, K: Drop, V: Drop, A: Allocator> Iterator for Iter<'a, K, V, A> {
 impl<'a, K: Drop, V: Drop, A: Allocator> Debug for Iter<'a, K, V, A> {
     fn fmt<T: Write>(&self, f: &mut Formatter<T>) -> Result {
         f.debug_struct("Iter")
-            .field("policy", &self.policy)
+            .field("policy", &self.limits.policy())
             .field("now", &self.now)
             .finish_non_exhaustive()
     }

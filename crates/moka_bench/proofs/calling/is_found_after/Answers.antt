@@ -21,7 +21,7 @@ returns g c there =
       past,
       value,
       asked,
-      c.hits_are_current.ensures old.settings old.weigher past c.run.new.cache _ c.args.key.now c.args.now value
+      c.hits_are_current.ensures old.settings old.weigher old.capacity past c.run.new.cache _ c.args.key.now c.args.now value
           (subst (λ cache. Leads keys g.W.Weigh.weighs cache past c.run.new.cache) c.requires.built leads)
           (ap Found (sym found ∙ c.get.ensures.value), refl),
     )

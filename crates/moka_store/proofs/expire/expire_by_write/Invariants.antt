@@ -6,7 +6,7 @@ use Rattle.moka_store.proofs.expire.expire_by_write.Given as goal
 
 abbrev pub invariant-loop-left : goal.invariant-loop-left
 invariant-loop-left g l =
-    (after_live_expiry g.K.PartialEq.eq l.policy l.now l.left (contents_of l.store) ≡ after_live_expiry g.K.PartialEq.eq l.policy l.now
+    (after_live_expiry g.K.PartialEq.eq l.limits l.now l.left (contents_of l.store) ≡ after_live_expiry g.K.PartialEq.eq l.limits l.now
     EVICTION_BATCH_SIZE (contents_of l.fn.store)) × Continues l.fn.store l.store
 
 abbrev pub decreases-loop-left : goal.decreases-loop-left

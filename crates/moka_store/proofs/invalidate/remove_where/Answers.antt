@@ -31,7 +31,7 @@ loop-here-init g c =
       stands =
           subst (λ o. IfSome o (λ id. IsIn c.args.store.now.nodes id)) (sym c.front-here.ensures.first)
           (first_is_in c.args.store.now.nodes);
-      kept = record { keeps = refl; room = grind (Rattle.std.proofs.Common.arith) };
+      kept = record { keeps = refl; capacity = refl; fewer = grind (Rattle.std.proofs.Common.arith) };
       remaining =
           remaining_first g.K.PartialEq.eq (goal.F-step g) c.args.predicate c.args.store.now c.front-here.result c.front-here.ensures.first;
     }
@@ -50,7 +50,8 @@ loop-here-preserved-then-predicate g c =
       kept =
           record {
             keeps = c.remove.ensures.keeps ∙ was.kept.keeps;
-            room = grind (Rattle.std.proofs.Common.arith, c.remove.ensures.room, was.kept.room);
+            capacity = c.remove.ensures.capacity ∙ was.kept.capacity;
+            fewer = grind (Rattle.std.proofs.Common.arith, c.remove.ensures.fewer, was.kept.fewer);
           };
       remaining =
           remaining_left g.K.PartialEq.eq (goal.F-step g) _ _ _ _ (at g asked) (told g asked true c.if-predicate.true) c.remove.new.self

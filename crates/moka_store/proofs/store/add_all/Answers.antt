@@ -1,8 +1,7 @@
 use Rattle.std.proofs.Common.{◌≡◌, ◌∙◌, ◌<◌, length, refl, subst, sym, true}
 use Rattle.moka_deque.specs.Deque.{next_id}
-use Rattle.moka_index.proofs.IdsLemmas.{in_from_Contains}
-use Rattle.moka_index.specs.HashIndex.{candidates, Adds}
-use Rattle.moka_store.specs.Indexed.{is_among}
+use Rattle.std.proofs.lemmas.Bool.{false_from_ne_true}
+use Rattle.moka_index.specs.HashIndex.{is_candidate, Adds}
 use Rattle.moka_store.proofs.FindLemmas.{first_is_in, fewer_behind, from_node, next_is_in}
 use Rattle.moka_store.proofs.IndexLemmas.{IsUpTo, up_to_none, up_to_next, up_to_end, not_yet}
 use Rattle.moka_store.proofs.store.add_all.Goals as goal
@@ -17,12 +16,13 @@ loop-here-init g c =
 
 pub add-requires-clause-absent : goal.add-requires-clause-absent
 add-requires-clause-absent g c =
-    λ other held.
+    λ other.
     let nodes = c.args.deques.now.nodes in
-    let ids = candidates c.loop-here.index other in
-    let among = subst (λ i. is_among i ids ≡ true) c.number.ensures (in_from_Contains ids c.number.result held) in
-    not_yet nodes c.in-Some.id c.get.result.now c.loop-here.index c.len.ensures.distinct c.get.ensures
-    (subst (λ o. IsUpTo nodes o c.loop-here.index) c.in-Some.is c.loop-here.invariant.1) other among
+    let index = c.loop-here.index in
+    false_from_ne_true (is_candidate index other c.number.result) (λ held.
+    not_yet nodes c.in-Some.id c.get.result.now index c.len.ensures.distinct c.get.ensures
+    (subst (λ o. IsUpTo nodes o index) c.in-Some.is c.loop-here.invariant.1) other
+    (subst (λ i. is_candidate index other i ≡ true) c.number.ensures held))
 
 pub loop-here-smaller : goal.loop-here-smaller
 loop-here-smaller g c =

@@ -11,7 +11,8 @@ loop-left-preserved g c =
           (contents_of c.trim_front.new.store) _ c.loop-left-test.true c.loop-left.invariant.0 done.turn,
       record {
         keeps = done.kept.keeps ∙ c.loop-left.invariant.1.keeps;
-        room = grind (Rattle.std.proofs.Common.arith, done.kept.room, c.loop-left.invariant.1.room);
+        capacity = done.kept.capacity ∙ c.loop-left.invariant.1.capacity;
+        fewer = grind (Rattle.std.proofs.Common.arith, done.kept.fewer, c.loop-left.invariant.1.fewer);
       },
     )
 

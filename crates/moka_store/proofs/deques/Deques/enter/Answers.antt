@@ -1,7 +1,10 @@
-use Rattle.std.proofs.Common.{◌≡◌, ◌<◌, ◌∙◌, None, ap, is_some, subst, sym}
+use Rattle.std.proofs.Common.{◌≡◌, ◌<◌, ◌∙◌, ◌++◌, ◌+◌, ◌∷◌, [], None, ap, is_some, nat_eq, subst, sym}
 use Rattle.moka_machine.specs.Contents.{entry_at}
+use Rattle.std.proofs.lemmas.Bool.{false≢true}
+use Rattle.std.proofs.lemmas.Map.{length-set_value}
+use Rattle.moka_store.specs.Nodes.{room_for}
 use Rattle.moka_store.specs.Store.{entries_of}
-use Rattle.moka_store.proofs.ChangeLemmas.{enter_is, enter_keeps, ids_pushed, ids_set, is_pushed, unkept_is, unkept_keeps}
+use Rattle.moka_store.proofs.ChangeLemmas.{capacity_pushed, enter_is, enter_keeps, ids_pushed, ids_set, is_pushed, unkept_is, unkept_keeps}
 use Rattle.moka_store.proofs.StoreLemmas.{total_bound}
 use Rattle.moka_store.proofs.deques.Deques.enter.Goals as goal
 
@@ -10,44 +13,68 @@ with_weight-self-inside-requires g c = total_bound c.self.invariant
 
 pub get_mut-requires : goal.get_mut-requires
 get_mut-requires g c =
+    let pushed : c.push_reserved-id.new.self.items ≡ c.self.inside.order.items ++ (c.push_reserved-id.result, record { entry = c.args.entry; write = None }) ∷ [] =
+    subst (λ w. c.push_reserved-id.new.self.items ≡ c.self.inside.order.items ++ (c.push_reserved-id.result, record { entry = c.args.entry; write = w }) ∷ [])
+    c.none.ensures c.push_reserved-id.ensures.items in
     ap is_some (is_pushed g.met.K.Eq.laws c.self.invariant c.push_reserved-id.result c.args.entry c.push_reserved-id.ensures.new_id
-    c.push_reserved-id.new.self.items c.push_reserved-id.ensures.items)
+    c.push_reserved-id.new.self.items pushed)
 
 pub invariant_of-self : goal.invariant_of-self
 invariant_of-self g c =
-    enter_keeps g.met.K.Eq.laws c.self.invariant c.push_reserved-id.result c.args.entry c.push_reserved-id.ensures.new_id
-    c.push_reserved-id.new.self.items c.push_reserved-id.ensures.items
+    let pushed : c.push_reserved-id.new.self.items ≡ c.self.inside.order.items ++ (c.push_reserved-id.result, record { entry = c.args.entry; write = None }) ∷ [] =
+    subst (λ w. c.push_reserved-id.new.self.items ≡ c.self.inside.order.items ++ (c.push_reserved-id.result, record { entry = c.args.entry; write = w }) ∷ [])
+    c.none.ensures c.push_reserved-id.ensures.items in
+    rw c.to.ensures
+    (enter_keeps g.met.K.Eq.laws c.self.invariant c.push_reserved-id.result c.args.entry c.push_reserved-id.ensures.new_id
+    c.push_reserved-id.new.self.items pushed
     c.if-self.true c.push_reserved-write.result c.push_reserved-write.ensures.new_id c.get_mut.result.now c.get_mut.ensures.value
     c.push_reserved-write.new.self.items c.push_reserved-write.ensures.items
     (subst (λ v. entry_at g.K.PartialEq.eq c.args.entry.key (entries_of v) ≡ None) (sym c.self.view_is) c.requires.absent)
-    c.with_weight-self-inside.ensures.small c.with_weight-self-inside.result c.with_weight-self-inside.ensures.value
+    c.with_weight-self-inside.ensures.small c.with_weight-self-inside.result c.with_weight-self-inside.ensures.value)
 
 pub invariant_of-self-else-self : goal.invariant_of-self-else-self
 invariant_of-self-else-self g c =
+    let pushed : c.push_reserved-id.new.self.items ≡ c.self.inside.order.items ++ (c.push_reserved-id.result, record { entry = c.args.entry; write = None }) ∷ [] =
+    subst (λ w. c.push_reserved-id.new.self.items ≡ c.self.inside.order.items ++ (c.push_reserved-id.result, record { entry = c.args.entry; write = w }) ∷ [])
+    c.none.ensures c.push_reserved-id.ensures.items in
     unkept_keeps g.met.K.Eq.laws c.self.invariant c.push_reserved-id.result c.args.entry c.push_reserved-id.ensures.new_id
-    c.push_reserved-id.new.self.items c.push_reserved-id.ensures.items
+    c.push_reserved-id.new.self.items pushed
     c.if-self.false
     (subst (λ v. entry_at g.K.PartialEq.eq c.args.entry.key (entries_of v) ≡ None) (sym c.self.view_is) c.requires.absent)
     c.with_weight-self-inside.ensures.small c.with_weight-self-inside.result c.with_weight-self-inside.ensures.value
 
 pub returns-then-self : goal.returns-then-self
 returns-then-self g c =
+    let pushed : c.push_reserved-id.new.self.items ≡ c.self.inside.order.items ++ (c.push_reserved-id.result, record { entry = c.args.entry; write = None }) ∷ [] =
+    subst (λ w. c.push_reserved-id.new.self.items ≡ c.self.inside.order.items ++ (c.push_reserved-id.result, record { entry = c.args.entry; write = w }) ∷ [])
+    c.none.ensures c.push_reserved-id.ensures.items in
     rw (← c.self.view_is)
+    (rw c.to.ensures
     (enter_is g.met.K.Eq.laws c.self.invariant c.push_reserved-id.result c.args.entry c.push_reserved-id.ensures.new_id
-    c.push_reserved-id.new.self.items c.push_reserved-id.ensures.items
+    c.push_reserved-id.new.self.items pushed
     c.if-self.true c.push_reserved-write.result c.push_reserved-write.ensures.new_id c.get_mut.result.now c.get_mut.ensures.value
     c.push_reserved-write.new.self.items c.push_reserved-write.ensures.items _ _ _ _
+    (ap (λ n. n + room_for c.self.inside.keeps_writes c.push_reserved-id.new.self.room c.push_reserved-write.new.self.room)
+    (length-set_value (nat_eq c.push_reserved-id.result) c.push_reserved-id.new.self.items _)
+    ∙ capacity_pushed c.self.inside.keeps_writes c.self.inside.order.items _ _ _ _ _ _ pushed c.push_reserved-id.ensures.room
+    (λ kept. c.push_reserved-write.ensures.room))
     (subst (λ n. c.push_reserved-id.result < n) (sym (ids_set c.push_reserved-id.new.self.items c.push_reserved-id.new.self.room _ _))
     c.push_reserved-id.ensures.below)
     (ids_set c.push_reserved-id.new.self.items c.push_reserved-id.new.self.room _ _
     ∙ ids_pushed c.self.inside.order.items c.push_reserved-id.new.self.items c.self.inside.order.room c.push_reserved-id.new.self.room _
-    c.push_reserved-id.ensures.items c.push_reserved-id.ensures.room))
+    c.push_reserved-id.ensures.items c.push_reserved-id.ensures.room)))
 
 pub returns-else-self : goal.returns-else-self
 returns-else-self g c =
+    let pushed : c.push_reserved-id.new.self.items ≡ c.self.inside.order.items ++ (c.push_reserved-id.result, record { entry = c.args.entry; write = None }) ∷ [] =
+    subst (λ w. c.push_reserved-id.new.self.items ≡ c.self.inside.order.items ++ (c.push_reserved-id.result, record { entry = c.args.entry; write = w }) ∷ [])
+    c.none.ensures c.push_reserved-id.ensures.items in
     rw (← c.self.view_is)
     (unkept_is g.met.K.Eq.laws c.self.invariant c.push_reserved-id.result c.args.entry c.push_reserved-id.ensures.new_id
-    c.push_reserved-id.new.self.items c.push_reserved-id.ensures.items
-    c.if-self.false _ _ _ _ c.push_reserved-id.ensures.below
+    c.push_reserved-id.new.self.items pushed
+    c.if-self.false _ _ _ _
+    (capacity_pushed c.self.inside.keeps_writes c.self.inside.order.items _ _ _ _ _ _ pushed c.push_reserved-id.ensures.room
+    (λ kept. absurd (false≢true (sym c.if-self.false ∙ kept))))
+    c.push_reserved-id.ensures.below
     (ids_pushed c.self.inside.order.items c.push_reserved-id.new.self.items c.self.inside.order.room c.push_reserved-id.new.self.room _
     c.push_reserved-id.ensures.items c.push_reserved-id.ensures.room))

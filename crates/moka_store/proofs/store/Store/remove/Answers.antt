@@ -1,14 +1,13 @@
-use Rattle.std.proofs.Common.{Contains, subst, sym}
-use Rattle.moka_index.proofs.IdsLemmas.{Contains_from_in}
-use Rattle.moka_index.specs.HashIndex.{candidates, Removes}
-use Rattle.moka_store.proofs.IndexLemmas.{IsIndexed-remove, indexed_room-mono, shown_removes}
+use Rattle.std.proofs.Common.{◌≡◌, subst, sym, true}
+use Rattle.moka_index.specs.HashIndex.{is_candidate, Removes}
+use Rattle.moka_store.proofs.IndexLemmas.{IsIndexed-remove, indexed_capacity-same, shown_removes}
 use Rattle.moka_store.proofs.store.Store.remove.Goals as goal
 
 pub remove-requires : goal.remove-requires
 remove-requires g c =
-    let ids = candidates c.self.inside.index c.get.result.now.hash in
-    subst (Contains ids) (sym c.number.ensures)
-    (Contains_from_in ids c.args.id (c.self.invariant.listed c.args.id c.get.result.now c.get.ensures))
+    let hash = c.get.result.now.hash in
+    subst (λ i. is_candidate c.self.inside.index hash i ≡ true) (sym c.number.ensures)
+    (c.self.invariant.listed c.args.id c.get.result.now c.get.ensures)
 
 pub invariant_of-self : goal.invariant_of-self
 invariant_of-self g c =
@@ -20,5 +19,5 @@ pub returns : goal.returns
 returns g c =
     let step = c.remove-2.ensures in
     rw (← c.self.view_is)
-    (shown_removes _ _ (indexed_room-mono c.self.inside.deques c.remove-2.new.self c.self.inside.index c.remove.new.self step.ids
-    c.remove.ensures.step.ids step.room) step)
+    (shown_removes _ _ (indexed_capacity-same c.self.inside.deques c.remove-2.new.self c.self.inside.index c.remove.new.self step.ids
+    c.remove.ensures.step.ids step.capacity) step)

@@ -1,5 +1,5 @@
 use Rattle.std.proofs.Common.{refl}
-use Rattle.moka_store.proofs.IndexLemmas.{IsIndexed-rewrite, shown_touches}
+use Rattle.moka_store.proofs.IndexLemmas.{IsIndexed-rewrite, indexed_capacity-same, shown_touches}
 use Rattle.moka_store.proofs.store.Store.touch.Goals as goal
 
 pub invariant_of-self : goal.invariant_of-self
@@ -9,4 +9,5 @@ invariant_of-self g c =
     refl _ step.nodes
 
 pub returns : goal.returns
-returns g c = rw (← c.self.view_is) (shown_touches _ _ c.args.now c.touch.ensures)
+returns g c = rw (← c.self.view_is) (shown_touches _ _ c.args.now
+    (indexed_capacity-same c.self.inside.deques c.touch.new.self c.self.inside.index c.self.inside.index c.touch.ensures.ids refl c.touch.ensures.capacity) c.touch.ensures)

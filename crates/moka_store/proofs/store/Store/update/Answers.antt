@@ -1,5 +1,5 @@
 use Rattle.std.proofs.Common.{refl}
-use Rattle.moka_store.proofs.IndexLemmas.{IsIndexed-rewrite, shown_updates}
+use Rattle.moka_store.proofs.IndexLemmas.{IsIndexed-rewrite, indexed_capacity-same, shown_updates}
 use Rattle.moka_store.proofs.store.Store.update.Goals as goal
 
 pub invariant_of-self : goal.invariant_of-self
@@ -9,4 +9,5 @@ invariant_of-self g c =
     (record c.args.update { key = step.entry.key; hash = step.entry.hash }) refl _ step.nodes
 
 pub returns : goal.returns
-returns g c = rw (← c.self.view_is) (shown_updates _ _ c.args.update c.update.ensures)
+returns g c = rw (← c.self.view_is) (shown_updates _ _ c.args.update
+    (indexed_capacity-same c.self.inside.deques c.update.new.self c.self.inside.index c.self.inside.index c.update.ensures.ids refl c.update.ensures.capacity) c.update.ensures)

@@ -1,11 +1,18 @@
+use Rattle.std.proofs.Common.{◌≡◌, ◌∙◌, ◌<◌, ◌≤◌, ◌+◌, ℕ, None, ap, arith, is_some, length, rules, subst, sym, true}
+use Rattle.moka_base.specs.Settings.{keeps_writes}
+use Rattle.moka_machine.specs.CacheState.{CacheState}
+use Rattle.moka_machine.specs.Contents.{entry_at}
+use Rattle.moka_machine.specs.Upkeep.{after_upkeep}
+use Rattle.moka_store.specs.Store.{entries_of}
 use Rattle.moka_base.specs.Keys.{keys_by}
 use Rattle.moka_machine.specs.declared.entry.Entry.{Entry}
-use Rattle.moka_machine.specs.Insert.{victims_of}
+use Rattle.moka_machine.specs.Insert.{after_admission, victims_of}
 use Rattle.moka_store.specs.Turns.{contents_of}
 use Rattle.moka_unsync.specs.Cached.{IsCached}
-use Rattle.moka_unsync.proofs.CachedLemmas.{IsCached-admission, IsCached-room, IsCached-update, IsCached-upkeep, has_hash}
+use Rattle.moka_unsync.proofs.CachedLemmas.{IsCached-admission, IsCached-room, IsCached-update, IsCached-upkeep, has_hash, length-entries}
+use Rattle.moka_unsync.proofs.InsertLemmas.{gone, insert_admitted, insert_rejected, kept}
 use Rattle.moka_unsync.proofs.cache.Cache.insert.Given.{Over}
-use Rattle.moka_unsync.proofs.cache.Cache.insert.Goals.{After-admit}
+use Rattle.moka_unsync.proofs.cache.Cache.insert.Goals.{After-admit, After-upkeep}
 use Rattle.moka_unsync.proofs.cache.Cache.insert.Goals as goal
 
 pub find-requires : goal.find-requires
@@ -22,7 +29,7 @@ invariant_of-self-in-Some g c =
 -- the verdict on the new entry keeps the parts tied
 admitted : (g : Over) (c : After-admit g)
     → IsCached (keys_by (record { eq = g.K.PartialEq.eq; hash_input = g.K.Hash.hash_input }) g.S.BuildHasher g.S.Hasher.Hasher)
-    c.self.inside.hash_state c.self.inside.policy c.admit.new.store
+    c.self.inside.hash_state c.self.inside.limits c.admit.new.store
 admitted g c =
     let new : Entry g.row.K.Denot g.row.V.Denot =
     record {
@@ -42,3 +49,129 @@ invariant_of-self-then-admit g c = admitted g (goal.at.invariant_of-self-then-ad
 
 pub invariant_of-self-else-admit : goal.invariant_of-self-else-admit
 invariant_of-self-else-admit g c = admitted g (goal.at.invariant_of-self-else-admit g c).After-admit
+
+-- room was made for the entry
+its_room : (g : Over) (c : After-upkeep g) → length (entries_of c.self.inside.store) < c.reserve.new.self.capacity
+its_room g c =
+    let made : length c.reserve.new.self.nodes + 1 ≤ c.reserve.new.self.capacity = search rules in
+    omega (arith, length-entries c.self.inside.store, ap (λ s. length s.nodes) c.reserve.ensures.unchanged, made)
+
+-- and none was made where there was some
+its_capacity : (g : Over) (c : After-upkeep g) → length (entries_of c.self.inside.store) < c.self.inside.store.capacity
+    → c.reserve.new.self.capacity ≡ c.self.inside.store.capacity
+its_capacity g c fits =
+    let room : length c.self.inside.store.nodes + 1 ≤ c.self.inside.store.capacity = omega (arith, length-entries c.self.inside.store, fits) in
+    ap (λ s. s.capacity) (c.reserve.ensures.had_room (omega arith) room).1
+
+pub returns-in-Some-clause-step : goal.returns-in-Some-clause-step
+returns-in-Some-clause-step g c =
+    let made = (goal.at.returns-in-Some-clause-step g c).After-upkeep in
+    rw (← c.self.view_is)
+    (record {
+      weight = c.weigh.result;
+      weigher = c.weigh.new.self;
+      refused = true;
+      capacity = c.reserve.new.self.capacity;
+      grown = its_room g made;
+      kept = its_capacity g made;
+      weighed = search rules;
+      small = search rules;
+      step = search rules;
+    })
+
+-- the cache with its room and its weigher asked
+abbrev its_cache : (g : Over) (c : After-admit g) → CacheState g.row.K.Denot g.row.V.Denot g.row.S.Denot g.row.W.Denot
+its_cache g c = record {
+  settings = record { hash_state = c.self.inside.hash_state; policy = c.self.inside.limits; is_weighed = c.self.inside.is_weighed };
+  weigher = c.weigh.new.self;
+  contents = contents_of c.self.inside.store;
+  sketch = c.self.inside.sketch;
+  capacity = c.reserve.new.self.capacity;
+}
+
+-- the entry, with a hash
+abbrev its_entry : (g : Over) (c : After-admit g) → ℕ → Entry g.row.K.Denot g.row.V.Denot
+its_entry g c hash = record {
+  key = c.args.key;
+  value = c.args.value;
+  hash = hash;
+  weight = c.weigh.result;
+  accessed = c.args.now;
+  modified = c.args.now;
+}
+
+abbrev its_hash : (g : Over) (c : After-admit g) → ℕ
+its_hash g c =
+    (keys_by (record { eq = g.K.PartialEq.eq; hash_input = g.K.Hash.hash_input }) g.S.BuildHasher g.S.Hasher.Hasher).hash_of
+    c.self.inside.hash_state c.args.key
+
+-- the contents that upkeep leaves
+its_contents : (g : Over) (c : After-admit g)
+    → contents_of c.upkeep.new.store ≡ kept g.K.PartialEq.eq (its_cache g c) (its_entry g c (its_hash g c)) c.args.now true
+its_contents g c =
+    c.upkeep.ensures.step ∙ ap (λ s. after_upkeep g.K.PartialEq.eq c.self.inside.limits c.args.now (contents_of s)) c.reserve.ensures.unchanged
+
+its_victims : (g : Over) (c : After-admit g)
+    → victims_of c.max_capacity.result c.self.inside.sketch (its_entry g c c.hash_one.result) (contents_of c.upkeep.new.store)
+    ≡ gone g.K.PartialEq.eq (its_cache g c) (its_entry g c (its_hash g c)) c.args.now true
+its_victims g c = λ i.
+    victims_of (c.max_capacity.ensures i) c.self.inside.sketch (its_entry g c (c.hash_one.ensures i)) (its_contents g c i)
+
+its_absence : (g : Over) (c : After-admit g) → entry_at g.K.PartialEq.eq c.args.key
+    (kept g.K.PartialEq.eq (its_cache g c) (its_entry g c (its_hash g c)) c.args.now true).entries ≡ None
+its_absence g c =
+    let absent : entry_at g.K.PartialEq.eq c.args.key (entries_of c.upkeep.new.store) ≡ None = search rules in
+    subst (λ contents. entry_at g.K.PartialEq.eq c.args.key contents.entries ≡ None) (its_contents g c) absent
+
+-- and what the verdict leaves
+its_admission : (g : Over) (c : After-admit g) → contents_of c.admit.new.store
+    ≡ after_admission g.K.PartialEq.eq (keeps_writes c.self.inside.limits) (its_entry g c (its_hash g c))
+    (gone g.K.PartialEq.eq (its_cache g c) (its_entry g c (its_hash g c)) c.args.now true)
+    (kept g.K.PartialEq.eq (its_cache g c) (its_entry g c (its_hash g c)) c.args.now true)
+its_admission g c =
+    let keeps = c.upkeep.ensures.kept.keeps ∙ (ap (λ s. s.keeps_writes) c.reserve.ensures.unchanged ∙ c.self.invariant.keeps) in
+    c.admit.ensures.step
+    ∙ (λ i. after_admission g.K.PartialEq.eq (keeps i) (its_entry g c (c.hash_one.ensures i)) (its_victims g c i) (its_contents g c i))
+
+pub returns-then-admit-clause-step : goal.returns-then-admit-clause-step
+returns-then-admit-clause-step g c =
+    let made = (goal.at.returns-then-admit-clause-step g c).After-upkeep in
+    let done = (goal.at.returns-then-admit-clause-step g c).After-admit in
+    rw (← c.self.view_is)
+    (record {
+      weight = c.weigh.result;
+      weigher = c.weigh.new.self;
+      refused = c.enable_sketch.ensures.0;
+      capacity = c.reserve.new.self.capacity;
+      grown = its_room g made;
+      kept = its_capacity g made;
+      weighed = search rules;
+      small = search rules;
+      step =
+          c.enable_sketch.ensures.1
+          ∙ insert_admitted g.K.PartialEq.eq (its_cache g done) (its_entry g done (its_hash g done)) c.args.now c.enable_sketch.ensures.0
+          (its_absence g done) (contents_of c.admit.new.store) c.admit.new.store.capacity (its_admission g done)
+          (c.admit.ensures.capacity ∙ c.upkeep.ensures.kept.capacity)
+          (sym (c.admit.ensures.value ∙ ap is_some (its_victims g done)) ∙ c.if-admit.true);
+    })
+
+pub returns-else-admit-clause-step : goal.returns-else-admit-clause-step
+returns-else-admit-clause-step g c =
+    let made = (goal.at.returns-else-admit-clause-step g c).After-upkeep in
+    let done = (goal.at.returns-else-admit-clause-step g c).After-admit in
+    rw (← c.self.view_is)
+    (record {
+      weight = c.weigh.result;
+      weigher = c.weigh.new.self;
+      refused = true;
+      capacity = c.reserve.new.self.capacity;
+      grown = its_room g made;
+      kept = its_capacity g made;
+      weighed = search rules;
+      small = search rules;
+      step =
+          insert_rejected g.K.PartialEq.eq (its_cache g done) (its_entry g done (its_hash g done)) c.args.now true (its_absence g done)
+          (contents_of c.admit.new.store) c.admit.new.store.capacity (its_admission g done)
+          (c.admit.ensures.capacity ∙ c.upkeep.ensures.kept.capacity)
+          (sym (c.admit.ensures.value ∙ ap is_some (its_victims g done)) ∙ c.if-admit.false);
+    })

@@ -18,16 +18,16 @@ returns g c =
       step = (
         answers,
         told,
-        ap (λ contents. record {
+        (λ i. record {
           settings = record {
             hash_state = c.self.inside.hash_state;
-            policy = c.self.inside.policy;
-            is_weighed =
-                c.self.inside.is_weighed;
+            policy = c.self.inside.limits;
+            is_weighed = c.self.inside.is_weighed;
           };
           weigher = c.self.inside.weigher;
-          contents = contents;
+          contents = step i;
           sketch = c.self.inside.sketch;
-        }) step,
+          capacity = c.remove_where.ensures.kept.capacity i;
+        }),
       );
     })

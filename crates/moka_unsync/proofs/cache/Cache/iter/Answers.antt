@@ -8,7 +8,7 @@ returns-clause-fits g c =
     grind (
       arith,
       ap length c.new.ensures,
-      length-unexpired c.self.inside.policy c.args.now c.iter.result,
+      length-unexpired c.self.inside.limits c.args.now c.iter.result,
       ap length c.iter.ensures,
       length-values_of c.self.inside.store.nodes,
       c.len.ensures,

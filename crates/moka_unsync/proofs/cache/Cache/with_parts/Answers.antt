@@ -1,4 +1,5 @@
-use Rattle.std.proofs.Common.{◌∙◌, ap}
+use Rattle.std.proofs.Common.{◌∙◌, ap, sym}
+use Rattle.moka_base.specs.Settings.{keeps_writes}
 use Rattle.moka_store.specs.Store.{entries_of}
 use Rattle.moka_unsync.proofs.CachedLemmas.{IsCached-new}
 use Rattle.moka_unsync.proofs.cache.Cache.with_parts.Goals as goal
@@ -7,4 +8,5 @@ pub invariant_of-result : goal.invariant_of-result
 invariant_of-result g c =
     IsCached-new
     (ap entries_of (c.in_ok-reserve.ensures {u = tt}).unchanged ∙ ap entries_of (c.in_ok-store.ensures {u = tt}))
-    (ap (λ s. s.keeps_writes) (c.in_ok-reserve.ensures {u = tt}).unchanged ∙ ap (λ s. s.keeps_writes) (c.in_ok-store.ensures {u = tt}))
+    (ap (λ s. s.keeps_writes) (c.in_ok-reserve.ensures {u = tt}).unchanged ∙ ap (λ s. s.keeps_writes) (c.in_ok-store.ensures {u = tt})
+    ∙ ap keeps_writes (sym c.new-limits.ensures))

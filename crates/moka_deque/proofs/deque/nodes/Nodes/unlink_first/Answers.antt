@@ -8,8 +8,8 @@ use Rattle.moka_deque.proofs.deque.nodes.Nodes.unlink_first.Goals as goal
 
 pub returns : goal.returns
 returns g c =
-    let old = c.args.self.now in let id = c.args.id in let out = c.remove-element.ensures in let node = c.remove-element.result in
-    let mid = record old { slab = c.remove-element.new.self } in let kept = c.join.ensures.kept in
+    let old = c.args.self.now in let id = c.args.id in let out = c.remove-next.ensures in let node = c.remove-next.result in
+    let mid = record old { slab = c.remove-next.new.self } in let kept = c.join.ensures.kept in
     let was = ap (option_map (λ n. n.element)) out.value in
     let after_is : node.next ≡ next_at old id = sym (ap (λ o. link_of (λ n. n.next) old.head o id) out.value) in
     record {
