@@ -77,6 +77,7 @@ pub fn plot(entries: &[u64], lines: &[Line]) -> String {
         "middle",
         "entries",
     );
+    let mut labels: Vec<f64> = Vec::new();
     for line in lines {
         let points: Vec<String> = line
             .nanos
@@ -96,12 +97,12 @@ pub fn plot(entries: &[u64], lines: &[Line]) -> String {
             line.colour
         );
         let last = line.nanos.last().copied().unwrap_or(0.0);
-        out += &text(
-            WIDTH - RIGHT + 8.0,
-            y_of(last, most) + 4.0,
-            "start",
-            line.name,
-        );
+        let mut y = y_of(last, most) + 4.0;
+        while labels.iter().any(|label| (label - y).abs() < 14.0) {
+            y += 14.0;
+        }
+        labels.push(y);
+        out += &text(WIDTH - RIGHT + 8.0, y, "start", line.name);
     }
     out + "</svg>\n"
 }

@@ -4,6 +4,7 @@ use moka_trace_bench::rust_sides;
 use moka_trace_bench::table;
 use moka_trace_bench::timing::{time_original, time_port, time_side, Player};
 use moka_trace_bench::traces::{self, Operation, Settings, Trace};
+use std::hint::black_box;
 use std::process::ExitCode;
 use std::time::Instant;
 
