@@ -83,7 +83,7 @@ new_entry keys state key value weight now =
 
 module _ {K V S W : Type 0} where
   -- there was no room for one more entry, and all is as it was, but that there may be another room
-  pub record IsUnchanged (old new : CacheState K V S W) : Type 0 where
+  pub record IsRefused (old new : CacheState K V S W) : Type 0 where
     pub full : old.capacity ≤ length old.contents.entries
     pub same : new ≡ record old { capacity = new.capacity }
 

@@ -4,7 +4,7 @@ use Rattle.moka_base.specs.Keys.{Keys}
 use Rattle.moka_machine.specs.Contents.{weighted_size}
 use Rattle.moka_machine.specs.CacheState.{CacheState}
 use Rattle.moka_machine.specs.Lookup.{after_get, after_look, found_by_get, is_contained}
-use Rattle.moka_machine.specs.Insert.{IsInserted, IsUnchanged}
+use Rattle.moka_machine.specs.Insert.{IsInserted, IsRefused}
 use Rattle.moka_machine.specs.Invalidate.{after_invalidate, after_invalidate_all, after_invalidate_if}
 use Rattle.moka_machine.specs.Iterate.{pairs_at}
 
@@ -35,7 +35,7 @@ module _ {K V S W : Type 0} (keys : Keys K S) (weighs : W → K → V → ℕ �
   IsStep old (Get key now) answer new = (answer ≡ Found (found_by_get keys old key now)) × (new ≡ after_get keys old key now)
   IsStep old (ContainsKey key now) answer new = (answer ≡ Truth (is_contained keys old key now)) × (new ≡ after_look keys old now)
   IsStep old (Insert key value now) answer new =
-      ((answer ≡ Done) × IsInserted keys weighs old key value now new) ⊎ ((answer ≡ OutOfMemory) × IsUnchanged old new)
+      ((answer ≡ Done) × IsInserted keys weighs old key value now new) ⊎ ((answer ≡ OutOfMemory) × IsRefused old new)
   IsStep old (Invalidate key now) answer new = (answer ≡ Done) × (new ≡ after_invalidate keys old key now)
   IsStep old InvalidateAll answer new = (answer ≡ Done) × (new ≡ after_invalidate_all old)
   IsStep old (InvalidateEntriesIf answers) answer new =

@@ -7,7 +7,7 @@ ghost use Rattle.moka_unsync.specs.Builder.{new_builder};
 ghost use Rattle.moka_machine.specs.CacheState.{new_cache};
 ghost use Rattle.moka_machine.specs.Contents.{total_weight, weighted_size};
 ghost use Rattle.moka_machine.specs.Lookup.{after_get, after_look, found_by_get, is_contained};
-ghost use Rattle.moka_machine.specs.Insert.{IsInserted, IsUnchanged, after_asking};
+ghost use Rattle.moka_machine.specs.Insert.{IsInserted, IsRefused, after_asking};
 ghost use Rattle.moka_machine.specs.Invalidate.{AnswersInTurn, after_invalidate, after_invalidate_all, after_invalidate_if};
 ghost use Rattle.moka_machine.specs.Iterate.{pairs_at};
 
@@ -355,7 +355,7 @@ impl<
         requires ready { W.ready self.old.weigher }
         ensures step { OnOk result (IsInserted (keys_by K.Hash S.BuildHasher S.Hasher.Hasher)
             W.weighs self.old key value now self.new) }
-        ensures err { OnErr result (IsUnchanged self.old self.new) }
+        ensures err { OnErr result (IsRefused self.old self.new) }
         ensures error { IfErr result (λ error. error ≡ InsertError.OutOfMemory) }
         ensures ready { W.ready self.new.weigher }
     {
