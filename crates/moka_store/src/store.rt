@@ -17,6 +17,7 @@ use moka_base::error::OutOfMemory;
 use moka_base::policy::Policy;
 use moka_base::time::Instant;
 use moka_deque::deque::NodeId;
+use moka_index::constants::MOST_IDS;
 use moka_index::hash_index::HashIndex;
 use moka_machine::entry::Entry;
 use std::alloc::{AllocError, Allocator, Global};
@@ -53,7 +54,7 @@ impl<K: Eq + Drop, V: Drop, A: Allocator + Clone + Drop> Store<K, V, A> {
     }
 
     /// Makes room for `additional` more entries. Where there is too little, there is room for twice as many entries as before then, but for no
-    /// more than `most`, or for those that are there and `additional`, if they are more.
+    /// more than `most` and no more than an index has ids for, or for those that are there and `additional`, if they are more.
     #[inline]
     pub fn reserve(&mut self, additional: usize, most: usize) -> Result<(), OutOfMemory>
         ensures ok { OnOk result (length self.new.nodes + additional ≤ self.new.capacity) }
@@ -65,7 +66,7 @@ impl<K: Eq + Drop, V: Drop, A: Allocator + Clone + Drop> Store<K, V, A> {
         let mut more = additional;
         if needed > ids {
             // The index grows first, so that the deques are as they were where memory for it is refused.
-            let target = needed.max(most.min(ids.saturating_mul(2)));
+            let target = needed.max(most.min(ids.saturating_mul(2)).min(MOST_IDS));
             index_all(&mut self.index, &self.deques, target)?;
             more = additional.max(target - len);
         }
