@@ -417,7 +417,7 @@ const SETTINGS: [Row; 7] = [
 ];
 
 // Where the original answers otherwise, and where a body may be wrong at a boundary.
-const CORRECTED: [Row; 4] = [
+const CORRECTED: [Row; 5] = [
     Row {
         name: "an invalidated entry is counted no more",
         lines: "
@@ -439,6 +439,19 @@ const CORRECTED: [Row; 4] = [
             0 weight -> 7
             10 has 1 -> false
             10 weight -> 0
+        ",
+    },
+    // The original keeps the weight of what was dropped: it finds no room for 2, which was never asked for, and rejects it.
+    Row {
+        name: "what was dropped leaves its room",
+        lines: "
+            unsync max 2 -> ready
+            0 insert 0 a -> ok
+            0 insert 1 b -> ok
+            0 drop-if a -> ok
+            0 insert 2 c -> ok
+            0 has 2 -> true
+            0 iter -> 1=b 2=c
         ",
     },
     Row {
@@ -748,6 +761,33 @@ fn a_call_removes_a_hundred_entries_at_most(rt: HostRuntime) -> Result<(), Fail>
         check_script(&rt, rt.alloc(), batch.name, &script, &replies)?;
     }
     Ok(())
+}
+
+// A weighed cache asks for its sketch by the entries that it has: one of weight 2 at a limit of 2, so that 128 words are made, the fewest that
+// there are. In these 1 and 2^39 + 1 have all four counters in common, so that the `get` of the one is counted for the other, which takes the place of 0.
+// The original still counts the 128 entries that were cleared, and makes 256 words for the 129: there the two have no counter in common, and it
+// rejects the second.
+const CLEARED: Batch = Batch {
+    name: "a cleared entry is not counted where the sketch is asked for",
+    header: "unsync max 2 weighed",
+    entries: 128,
+    words: "v 0",
+    lines: "
+        0 count -> 128
+        0 clear -> ok
+        0 insert 0 a 2 -> ok
+        0 get 1 -> none
+        0 insert 549755813889 a 2 -> ok
+        0 has 549755813889 -> true
+        0 iter -> 549755813889=a
+    ",
+};
+
+#[test]
+fn a_sketch_is_asked_for_by_the_entries_that_are_left(rt: HostRuntime) -> Result<(), Fail> {
+    let batch = &CLEARED;
+    let (script, replies) = whole(rt.alloc(), batch)?;
+    check_script(&rt, rt.alloc(), batch.name, &script, &replies)
 }
 
 const SIXTEEN_OF_TWENTY: &str = "
