@@ -1,4 +1,4 @@
-/* The static library of crates/moka_trace: whole traces on a cache, in one call. */
+/* The static library of crates/moka_trace: whole traces on a cache, in one call; and whole batches on a part of one. */
 #ifndef MOKA_TRACE_H
 #define MOKA_TRACE_H
 
@@ -17,6 +17,7 @@ struct moka_trace_settings {
     uint64_t start; /* the moment of the first operation */
     uint64_t tick;  /* how much later each further one is made */
     bool is_weighed; /* whether an entry weighs its value in place of 1 */
+    bool is_std_hashed; /* whether keys are hashed by std's default hash state in place of one multiplication */
 };
 
 enum moka_trace_kind {
@@ -51,5 +52,41 @@ enum moka_trace_status {
  */
 uint32_t moka_trace_play(const struct moka_trace_settings *settings, const struct moka_trace_operation *operations,
                          size_t count, struct moka_trace_outcome *outcome);
+
+/*
+ * Makes a sketch for a capacity, counts all hashes `counts` times over, and then reads them `reads` times over. `sum` is the
+ * sum of what was read. Here and below the answer is a moka_trace_status, a sum is modulo 2^64 and stays as it was where the
+ * answer is not MOKA_TRACE_DONE, and no pointer may be null.
+ */
+uint32_t moka_trace_sketch(uint32_t capacity, const uint64_t *hashes, size_t hash_count, size_t counts, size_t reads,
+                           uint64_t *sum);
+
+enum moka_trace_list_load {
+    MOKA_TRACE_MOVE = 0, /* the picked nodes, by number, are looked for and move to the back */
+    MOKA_TRACE_FILL_AND_EMPTY = 1,
+    MOKA_TRACE_TAKE_TURNS = 2, /* of a full list the first element leaves, and enters at the back */
+};
+
+/*
+ * Makes a list with room for so many nodes, and plays a load on it `rounds` times over. `sum` is that of the elements that
+ * were met, or of the moves, and of what is left, by its order.
+ */
+uint32_t moka_trace_list(uint32_t load, size_t nodes, const size_t *picks, size_t pick_count, size_t rounds, uint64_t *sum);
+
+enum moka_trace_index_load {
+    MOKA_TRACE_FIND = 0,
+    MOKA_TRACE_FIND_AND_REPLACE = 1, /* what is found is taken out, and added again */
+};
+
+/*
+ * Makes an index in which each hash has its place in the list as id, and plays a load with all that is sought on it `rounds`
+ * times over. `sum` is that of the ids that were found. No hash may come twice.
+ */
+uint32_t moka_trace_index(uint32_t load, const uint64_t *hashes, size_t hash_count, const uint64_t *sought,
+                          size_t sought_count, size_t rounds, uint64_t *sum);
+
+/* The same by std's map from hashes to ids. */
+uint32_t moka_trace_index_by_map(uint32_t load, const uint64_t *hashes, size_t hash_count, const uint64_t *sought,
+                                 size_t sought_count, size_t rounds, uint64_t *sum);
 
 #endif

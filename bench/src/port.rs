@@ -1,4 +1,5 @@
 //! The port, by its static library.
+use crate::hand_lists::ListLoad;
 use crate::traces::{Operation, Settings};
 
 /// What a trace gave.
@@ -18,6 +19,40 @@ extern "C" {
         count: usize,
         outcome: *mut Outcome,
     ) -> u32;
+    fn moka_trace_sketch(
+        capacity: u32,
+        hashes: *const u64,
+        hash_count: usize,
+        counts: usize,
+        reads: usize,
+        sum: *mut u64,
+    ) -> u32;
+    fn moka_trace_list(
+        load: u32,
+        nodes: usize,
+        picks: *const usize,
+        pick_count: usize,
+        rounds: usize,
+        sum: *mut u64,
+    ) -> u32;
+    fn moka_trace_index(
+        load: u32,
+        hashes: *const u64,
+        hash_count: usize,
+        sought: *const u64,
+        sought_count: usize,
+        rounds: usize,
+        sum: *mut u64,
+    ) -> u32;
+    fn moka_trace_index_by_map(
+        load: u32,
+        hashes: *const u64,
+        hash_count: usize,
+        sought: *const u64,
+        sought_count: usize,
+        rounds: usize,
+        sum: *mut u64,
+    ) -> u32;
 }
 
 /// Plays the operations on a new cache, which is dropped at the end.
@@ -34,4 +69,63 @@ pub fn play(settings: &Settings, operations: &[Operation]) -> Outcome {
     };
     assert_eq!(status, 0, "the port refused a trace");
     outcome
+}
+
+/// Counts all hashes `counts` times over in a new sketch, reads them `reads` times over, and sums up what was read.
+pub fn sketch(capacity: u32, hashes: &[u64], counts: usize, reads: usize) -> u64 {
+    // Here and below all pointers are valid for the length of the call, and a slice's is never null.
+    answer(|sum| unsafe {
+        moka_trace_sketch(capacity, hashes.as_ptr(), hashes.len(), counts, reads, sum)
+    })
+}
+
+/// Plays a load on a new list with room for so many nodes.
+pub fn list(load: ListLoad, nodes: usize, picks: &[usize], rounds: usize) -> u64 {
+    answer(|sum| unsafe {
+        moka_trace_list(load as u32, nodes, picks.as_ptr(), picks.len(), rounds, sum)
+    })
+}
+
+/// What is done to an index, by the number by which the static library knows it.
+#[derive(Clone, Copy, PartialEq, Eq)]
+pub enum IndexLoad {
+    Find = 0,
+    FindAndReplace = 1,
+}
+
+/// Plays a load on a new index in which each hash has its place in the list as id.
+pub fn index(load: IndexLoad, hashes: &[u64], sought: &[u64], rounds: usize) -> u64 {
+    answer(|sum| unsafe {
+        moka_trace_index(
+            load as u32,
+            hashes.as_ptr(),
+            hashes.len(),
+            sought.as_ptr(),
+            sought.len(),
+            rounds,
+            sum,
+        )
+    })
+}
+
+/// The same by std's map.
+pub fn index_by_map(load: IndexLoad, hashes: &[u64], sought: &[u64], rounds: usize) -> u64 {
+    answer(|sum| unsafe {
+        moka_trace_index_by_map(
+            load as u32,
+            hashes.as_ptr(),
+            hashes.len(),
+            sought.as_ptr(),
+            sought.len(),
+            rounds,
+            sum,
+        )
+    })
+}
+
+/// The sum that a call leaves.
+fn answer(call: impl FnOnce(*mut u64) -> u32) -> u64 {
+    let mut sum = 0;
+    assert_eq!(call(&mut sum), 0, "the port refused a batch");
+    sum
 }

@@ -1,4 +1,4 @@
-//! The original, an LRU cache and a map without a limit, all with the hasher that the port has.
+//! The original, an LRU cache and a map without a limit, all with the hasher that the port has; the original with std's as well.
 use crate::port::Outcome;
 use crate::traces::{Operation, Settings, GET, GET_AND_INSERT, INSERT, READ_THROUGH, UNLIMITED};
 use mini_moka::unsync::Cache;
@@ -39,9 +39,14 @@ pub trait Side {
     fn weight(&self) -> u64;
 }
 
-pub type Original = Cache<u64, u64, Multiply>;
+pub type Original<S> = Cache<u64, u64, S>;
 
-pub fn original(settings: &Settings) -> Original {
+/// The original with the port's hasher.
+pub fn original(settings: &Settings) -> Original<Multiply> {
+    original_with(settings, Multiply::default())
+}
+
+pub fn original_with<S: BuildHasher + Clone>(settings: &Settings, hash_state: S) -> Original<S> {
     let mut builder = Cache::builder();
     if settings.capacity != UNLIMITED {
         builder = builder.max_capacity(settings.capacity);
@@ -55,10 +60,10 @@ pub fn original(settings: &Settings) -> Original {
     if settings.is_weighed {
         builder = builder.weigher(|_key, value| u32::try_from(*value).unwrap_or(u32::MAX));
     }
-    builder.build_with_hasher(Multiply::default())
+    builder.build_with_hasher(hash_state)
 }
 
-impl Side for Original {
+impl<S: BuildHasher + Clone> Side for Original<S> {
     fn look(&mut self, key: u64) -> Option<u64> {
         self.get(&key).copied()
     }

@@ -27,6 +27,8 @@ pub struct Settings {
     pub start: u64,
     pub tick: u64,
     pub is_weighed: bool,
+    /// Whether each side has its own std's default hash state in place of the one multiplication that all have in common.
+    pub is_std_hashed: bool,
 }
 
 impl Settings {
@@ -38,6 +40,7 @@ impl Settings {
             start: 0,
             tick: 0,
             is_weighed: false,
+            is_std_hashed: false,
         }
     }
 
@@ -62,6 +65,13 @@ impl Settings {
     pub fn weighed(self) -> Settings {
         Settings {
             is_weighed: true,
+            ..self
+        }
+    }
+
+    pub fn std_hashed(self) -> Settings {
+        Settings {
+            is_std_hashed: true,
             ..self
         }
     }
@@ -98,7 +108,7 @@ pub fn spread(number: u64) -> u64 {
 }
 
 /// Numbers that look random, the same in each run.
-struct Random(u64);
+pub struct Random(pub u64);
 
 impl Random {
     fn next(&mut self) -> u64 {
@@ -106,7 +116,7 @@ impl Random {
         spread(self.0)
     }
 
-    fn below(&mut self, bound: u64) -> u64 {
+    pub fn below(&mut self, bound: u64) -> u64 {
         ((u128::from(self.next()) * u128::from(bound)) >> 64) as u64
     }
 
@@ -138,7 +148,7 @@ fn zipf_ranks(count: usize) -> Vec<u64> {
 }
 
 /// A Zipf distribution over any number of ranks, without a table: by rejection-inversion (Hörmann and Derflinger, 1996).
-struct Zipf {
+pub struct Zipf {
     ranks: f64,
     from: f64,
     to: f64,
@@ -146,7 +156,7 @@ struct Zipf {
 }
 
 impl Zipf {
-    fn new(ranks: u64) -> Zipf {
+    pub fn new(ranks: u64) -> Zipf {
         let ranks = ranks as f64;
         Zipf {
             ranks,
@@ -166,7 +176,7 @@ impl Zipf {
         (1.0 + area * (1.0 - EXPONENT)).powf(1.0 / (1.0 - EXPONENT))
     }
 
-    fn next(&self, random: &mut Random) -> u64 {
+    pub fn next(&self, random: &mut Random) -> u64 {
         loop {
             let area = self.to + random.unit() * (self.from - self.to);
             let place = Zipf::place(area);
@@ -296,6 +306,25 @@ pub fn single_calls(entries: u64) -> Vec<Trace> {
         single("new key into a full cache", INSERT, &mut fresh, false),
         single("get and insert, new key", GET_AND_INSERT, &mut fresh, false),
     ]
+}
+
+/// Traces of which each side takes its own std's default hash state, and for each the same with the multiplication that all have in common.
+pub fn std_hashed_traces() -> Vec<Trace> {
+    let read_through = read_through_traces().into_iter().take(2);
+    let single = single_calls(10_000).into_iter().take(3);
+    read_through
+        .chain(single)
+        .flat_map(|trace| {
+            let hashed = Trace {
+                name: format!("{}, std's hash state", trace.name),
+                settings: trace.settings.std_hashed(),
+                filling: trace.filling,
+                operations: trace.operations.clone(),
+                fits_a_map: false,
+            };
+            [trace, hashed]
+        })
+        .collect()
 }
 
 /// So many inserts, and then some look-ups a key, so that what the full cache holds is held for longest.

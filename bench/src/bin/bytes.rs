@@ -1,5 +1,5 @@
 //! How many bytes an entry takes on each side.
-use moka_trace_bench::port;
+use moka_trace_bench::port::{self, IndexLoad};
 use moka_trace_bench::rust_sides::{self, Side};
 use moka_trace_bench::table;
 use moka_trace_bench::traces::{self, Settings, Trace};
@@ -202,5 +202,19 @@ fn main() {
                 map,
             ]);
         }
+    }
+    println!();
+    println!("Bytes an id of the port's index, and of std's map from hashes to ids in its place.");
+    println!();
+    table::print_head(&["Ids", "index", "map"]);
+    for ids in [10_000, 1_000_000] {
+        let hashes: Vec<u64> = (0..ids).map(traces::spread).collect();
+        let held = |play: fn(IndexLoad, &[u64], &[u64], usize) -> u64| {
+            let (held, _) = recorder::record(|| {
+                play(IndexLoad::Find, &hashes, &hashes, 20);
+            });
+            format!("{:.1}", held as f64 / ids as f64)
+        };
+        table::print_row(&[ids.to_string(), held(port::index), held(port::index_by_map)]);
     }
 }

@@ -1,8 +1,8 @@
-//! How long a call takes on each side: `speed [PART] [REPEATS]`, where PART is `zipf`, `single` or `all`.
+//! How long a call takes on each side: `speed [PART] [REPEATS]`, where PART is `zipf`, `single`, `hashers` or `all`.
 use moka_trace_bench::port::Outcome;
 use moka_trace_bench::rust_sides;
 use moka_trace_bench::table;
-use moka_trace_bench::timing::{time_original, time_port, time_side, Player};
+use moka_trace_bench::timing::{keep_memory, time_original, time_port, time_side, Player};
 use moka_trace_bench::traces::{self, Operation, Settings, Trace};
 use std::hint::black_box;
 use std::process::ExitCode;
@@ -71,7 +71,8 @@ fn measure(trace: &Trace, players: &[Option<Player>], repeats: usize) -> Vec<Opt
 
 /// Prints the row of a trace. Says whether the port gave what the original gave.
 fn print_trace(trace: &Trace, repeats: usize) -> bool {
-    let is_plain = !trace.settings.is_weighed && !trace.settings.has_durations();
+    let settings = &trace.settings;
+    let is_plain = !settings.is_weighed && !settings.has_durations() && !settings.is_std_hashed;
     let players: [Option<Player>; 4] = [
         Some(time_port),
         Some(time_original),
@@ -88,6 +89,9 @@ fn print_trace(trace: &Trace, repeats: usize) -> bool {
     let share = |outcome: Outcome| format!("{:.4}", outcome.hits as f64 / trace.counted() as f64);
     let verdict = if port == original {
         "the same".to_string()
+    } else if settings.is_std_hashed {
+        // Which hashes share a counter of the sketch is up to the hash state.
+        format!("hits of mini-moka {}", share(original))
     } else {
         format!("port {port:?}, original {original:?}")
     };
@@ -102,7 +106,7 @@ fn print_trace(trace: &Trace, repeats: usize) -> bool {
         least[2].map_or("-".into(), |least| share(least.outcome)),
         verdict,
     ]);
-    port == original
+    port == original || settings.is_std_hashed
 }
 
 /// What a reading of the clock takes: the original reads it once or twice a call where a duration is set, and the port is handed moments.
@@ -114,22 +118,6 @@ fn clock_nanos() -> f64 {
     }
     start.elapsed().as_nanos() as f64 / f64::from(readings)
 }
-
-/// Lets `malloc` keep what is freed, so that no side is charged with the first touch of a page: in the first repeat alone pages are new.
-#[cfg(target_env = "gnu")]
-fn keep_memory() {
-    use std::ffi::c_int;
-    extern "C" {
-        fn mallopt(parameter: c_int, value: c_int) -> c_int;
-    }
-    const TRIM_THRESHOLD: c_int = -1;
-    const MMAP_MAX: c_int = -4;
-    let kept = unsafe { mallopt(MMAP_MAX, 0) == 1 && mallopt(TRIM_THRESHOLD, -1) == 1 };
-    assert!(kept, "malloc can't be told to keep its memory");
-}
-
-#[cfg(not(target_env = "gnu"))]
-fn keep_memory() {}
 
 fn main() -> ExitCode {
     keep_memory();
@@ -164,6 +152,11 @@ fn main() -> ExitCode {
             for trace in traces::single_calls(entries) {
                 all_same &= print_trace(&trace, repeats);
             }
+        }
+    }
+    if part == "hashers" {
+        for trace in traces::std_hashed_traces() {
+            all_same &= print_trace(&trace, repeats);
         }
     }
     if all_same {

@@ -12,11 +12,23 @@ pub const READ_THROUGH: u32 = 2;
 /// An operation that looks its key up, and then inserts it.
 pub const GET_AND_INSERT: u32 = 3;
 
+/// A load of a list: elements picked by number are looked for, and moved to the back.
+pub const MOVE: u32 = 0;
+/// A load of a list: it is filled, and emptied from the front.
+pub const FILL_AND_EMPTY: u32 = 1;
+/// A load of a full list: its first element leaves, and one enters at the back.
+pub const TAKE_TURNS: u32 = 2;
+
+/// A load of an index: ids are found by their hashes.
+pub const FIND: u32 = 0;
+/// A load of an index: ids are found by their hashes, taken out, and added again.
+pub const FIND_AND_REPLACE: u32 = 1;
+
 /// Every operation was made.
 pub const DONE: u32 = 0;
 /// Memory was refused.
 pub const OUT_OF_MEMORY: u32 = 1;
-/// An operation is of no kind that there is. Those before it were made.
+/// An operation is of no kind that there is, or a load. What came before it was made.
 pub const UNKNOWN_KIND: u32 = 2;
 
 /// What the hasher multiplies by: an odd number of 64 bits, so that no two words of a key have one hash.
@@ -24,3 +36,6 @@ pub(crate) const MULTIPLIER: u64 = 0x517C_C1B7_2722_0A95;
 
 /// How far the hasher rotates before it mixes a word in, so that the order of words counts.
 pub(crate) const ROTATION: u32 = 5;
+
+/// What the sum of a list is multiplied by before its next element is added, so that the order counts.
+pub(crate) const ORDER: u64 = 31;

@@ -1,13 +1,16 @@
 //! Whole traces of the cache for one thread, for a caller in C: one call builds a cache, makes every operation of a trace on it, and
-//! drops it.
+//! drops it. Beside it each part of the cache has a call that makes a whole batch of its operations.
 #![tactic(auto)]
 
 ghost use Rattle.std.specs.Prelude.{◌≡◌, ◌≤◌, ◌≢◌, length, IfOk};
 
 pub mod constants;
 mod hasher;
+mod index;
+mod list;
 mod operation;
 mod player;
+mod sketch;
 #[cfg(test)]
 mod tests;
 mod weigher;
@@ -17,9 +20,11 @@ use crate::hasher::MultiplyState;
 use crate::operation::Operation;
 use crate::player::{Outcome, PlayError, play};
 use crate::weigher::WeighsItsValue;
+use moka_common::hash::FixedState;
 use moka_unsync::builder::CacheBuilder;
 use moka_unsync::cache::Cache;
 use std::alloc::Global;
+use std::hash::BuildHasher;
 use std::time::Duration;
 
 /// What a cache is built of, and when the operations are made. A capacity or a duration, in nanoseconds, that is `UNLIMITED` isn't set.
@@ -35,6 +40,8 @@ pub struct Settings {
     pub tick: u64,
     /// Whether an entry weighs its value in place of 1.
     pub is_weighed: bool,
+    /// Whether keys are hashed by std's default hash state in place of one multiplication.
+    pub is_std_hashed: bool,
 }
 
 /// Plays a trace on a new cache. What it gave is in `outcome` where the answer is `DONE`; else `outcome` is as it was.
@@ -59,7 +66,7 @@ pub extern "C" fn moka_trace_play(
     }
 }
 
-/// Plays a trace on a new cache, weighed or not.
+/// Plays a trace on a new cache, with the hash state that is set.
 fn play_once(
     alloc: Global,
     settings: &Settings,
@@ -67,14 +74,29 @@ fn play_once(
 ) -> Result<Outcome, PlayError>
     ensures { IfOk result (λ outcome. outcome.hits ≤ length operations.now) }
 {
+    if settings.is_std_hashed {
+        return play_hashed(alloc, settings, operations, FixedState::default());
+    }
+    play_hashed(alloc, settings, operations, MultiplyState)
+}
+
+/// Plays a trace on a new cache with this hash state, weighed or not.
+fn play_hashed<S: BuildHasher + Drop>(
+    alloc: Global,
+    settings: &Settings,
+    operations: &[Operation],
+    hash_state: S,
+) -> Result<Outcome, PlayError>
+    ensures { IfOk result (λ outcome. outcome.hits ≤ length operations.now) }
+{
     let builder = builder_of(alloc, settings);
     if settings.is_weighed {
         let mut cache = builder
             .weigher(WeighsItsValue)
-            .build_with_hasher(MultiplyState)?;
+            .build_with_hasher(hash_state)?;
         return play(&mut cache, operations, settings.start, settings.tick);
     }
-    let mut cache = builder.build_with_hasher(MultiplyState)?;
+    let mut cache = builder.build_with_hasher(hash_state)?;
     play(&mut cache, operations, settings.start, settings.tick)
 }
 

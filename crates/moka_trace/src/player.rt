@@ -2,12 +2,12 @@
 ghost use Rattle.std.specs.Prelude.{◌+◌, ◌≤◌, length, IfOk};
 
 use crate::constants::{GET, GET_AND_INSERT, INSERT, READ_THROUGH};
-use crate::hasher::MultiplyState;
 use crate::operation::Operation;
 use moka_common::error::{BuildError, InsertError};
 use moka_common::time::Instant;
 use moka_common::weigh::Weigh;
 use moka_unsync::cache::Cache;
+use std::hash::BuildHasher;
 
 /// What a trace gave.
 #[repr(C)]
@@ -51,8 +51,8 @@ struct Found {
 }
 
 /// Makes the operations in turn, the first at the moment `start` and each further one `tick` later.
-pub(crate) fn play<W: Weigh<u64, u64>>(
-    cache: &mut Cache<u64, u64, MultiplyState, W>,
+pub(crate) fn play<S: BuildHasher + Drop, W: Weigh<u64, u64>>(
+    cache: &mut Cache<u64, u64, S, W>,
     operations: &[Operation],
     start: u64,
     tick: u64,
@@ -78,8 +78,8 @@ pub(crate) fn play<W: Weigh<u64, u64>>(
 }
 
 /// Makes one operation.
-fn play_one<W: Weigh<u64, u64>>(
-    cache: &mut Cache<u64, u64, MultiplyState, W>,
+fn play_one<S: BuildHasher + Drop, W: Weigh<u64, u64>>(
+    cache: &mut Cache<u64, u64, S, W>,
     operation: &Operation,
     now: Instant,
     found: &mut Found,
@@ -108,8 +108,8 @@ fn play_one<W: Weigh<u64, u64>>(
 }
 
 /// Looks a key up, and says whether it was found.
-fn look<W: Weigh<u64, u64>>(
-    cache: &mut Cache<u64, u64, MultiplyState, W>,
+fn look<S: BuildHasher + Drop, W: Weigh<u64, u64>>(
+    cache: &mut Cache<u64, u64, S, W>,
     key: u64,
     now: Instant,
     found: &mut Found,

@@ -1,7 +1,13 @@
 // Traces, played as a caller in C plays them. Outcomes are worked by hand.
-use crate::constants::{DONE, GET, GET_AND_INSERT, INSERT, READ_THROUGH, UNKNOWN_KIND, UNLIMITED};
+use crate::constants::{
+    DONE, FILL_AND_EMPTY, FIND, FIND_AND_REPLACE, GET, GET_AND_INSERT, INSERT, MOVE, READ_THROUGH,
+    TAKE_TURNS, UNKNOWN_KIND, UNLIMITED,
+};
+use crate::index::{moka_trace_index, moka_trace_index_by_map};
+use crate::list::moka_trace_list;
 use crate::operation::Operation;
 use crate::player::Outcome;
+use crate::sketch::moka_trace_sketch;
 use crate::{Settings, moka_trace_play};
 use std::alloc::Global;
 
@@ -12,6 +18,7 @@ const PLAIN: Settings = Settings {
     start: 0,
     tick: 10,
     is_weighed: false,
+    is_std_hashed: false,
 };
 
 /// The status, and the outcome's hits, checksum, entries and weight, which are 9 each before the call.
@@ -68,6 +75,18 @@ fn a_weighed_entry_weighs_its_value(rt: HostRuntime) {
 }
 
 #[test]
+fn the_hash_state_changes_no_outcome(rt: HostRuntime) {
+    let hashed = Settings {
+        is_std_hashed: true,
+        ..PLAIN
+    };
+    assert_eq!(rt;
+        played(rt.alloc(), &hashed, &each_kind()),
+        (DONE, [3, 14, 2, 2])
+    );
+}
+
+#[test]
 fn a_limit_is_kept(rt: HostRuntime) {
     let limited = Settings {
         capacity: 1,
@@ -106,4 +125,55 @@ fn an_operation_of_no_kind_leaves_the_outcome(rt: HostRuntime) {
         played(rt.alloc(), &PLAIN, &strange),
         (UNKNOWN_KIND, [9, 9, 9, 9])
     );
+}
+
+/// The status, and the sum, which is 9 before the call.
+fn told_of_list(alloc: Global, load: u32, picks: &[usize], rounds: usize) -> (u32, u64) {
+    let mut sum = 9;
+    let status = moka_trace_list(alloc, load, 3, picks, rounds, &mut sum);
+    (status, sum)
+}
+
+#[test]
+fn hashes_are_counted_and_read(rt: HostRuntime) {
+    // 1 is counted four times and read twice, and 2 is counted twice: hashes that differ modulo 4 share no counter.
+    let mut sum = 9;
+    let status = moka_trace_sketch(rt.alloc(), 128, &[1, 1, 2], 2, 1, &mut sum);
+    assert_eq!(rt; (status, sum), (DONE, 10));
+}
+
+#[test]
+fn a_load_of_a_list_is_played(rt: HostRuntime) {
+    // 0 and 1 move, and 7 isn't there: two moves, and the order is 2, 0, 1.
+    assert_eq!(rt;
+        told_of_list(rt.alloc(), MOVE, &[0, 7, 1], 1),
+        (DONE, 2 + 2 * 31 * 31 + 1)
+    );
+    // Nothing is left, and 0, 1 and 2 were met in each round.
+    assert_eq!(rt; told_of_list(rt.alloc(), FILL_AND_EMPTY, &[], 2), (DONE, 6));
+    // Each has had its turn, so the order is 0, 1, 2 again.
+    assert_eq!(rt;
+        told_of_list(rt.alloc(), TAKE_TURNS, &[], 1),
+        (DONE, 3 + 31 + 2)
+    );
+    assert_eq!(rt; told_of_list(rt.alloc(), 3, &[], 1), (UNKNOWN_KIND, 9));
+}
+
+#[test]
+fn index_and_map_find_the_same(rt: HostRuntime) {
+    // 7 has the id 2 and 5 the id 0, in each of two rounds. 9 isn't there.
+    let (hashes, sought) = ([5, 6, 7], [7, 5, 9]);
+    for load in [FIND, FIND_AND_REPLACE, UNKNOWN_KIND] {
+        let expected = if load <= FIND_AND_REPLACE {
+            (DONE, 4)
+        } else {
+            (UNKNOWN_KIND, 9)
+        };
+        let mut sum = 9;
+        let status = moka_trace_index(rt.alloc(), load, &hashes, &sought, 2, &mut sum);
+        assert_eq!(rt; (status, sum), expected);
+        let mut by_map = 9;
+        let mapped = moka_trace_index_by_map(rt.alloc(), load, &hashes, &sought, 2, &mut by_map);
+        assert_eq!(rt; (mapped, by_map), expected);
+    }
 }

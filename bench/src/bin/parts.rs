@@ -1,0 +1,162 @@
+//! How long an operation of a part of the cache takes, beside what it is compared with: `parts PART [REPEATS]`, where PART is `sketch`, `list`
+//! or `index`. Where there is a `valgrind`, its count of instructions stands beside the times.
+//! `parts once PART LOAD SIDE ROUNDS` plays one side, to be watched: LOAD and SIDE are numbers from 0 on.
+use moka_trace_bench::loads::{loads_of, Load, Side};
+use moka_trace_bench::table;
+use moka_trace_bench::timing::keep_memory;
+use std::hint::black_box;
+use std::process::{Command, ExitCode};
+use std::time::Instant;
+
+const REPEATS: usize = 9;
+/// A time is that of so many rounds, less the least of one: neither the making of a part nor the first touch of its memory counts.
+const ROUNDS: usize = 5;
+
+fn main() -> ExitCode {
+    let words: Vec<String> = std::env::args().skip(1).collect();
+    let words: Vec<&str> = words.iter().map(String::as_str).collect();
+    match words.as_slice() {
+        ["once", part, load, side, rounds] => {
+            let loads = loads_of(part).expect("no part has this name");
+            let side = &loads[number(load)].sides[number(side)];
+            println!("{}", (side.play)(number(rounds)));
+            ExitCode::SUCCESS
+        }
+        [part, repeats @ ..] => match loads_of(part) {
+            Some(loads) => {
+                keep_memory();
+                print_part(
+                    part,
+                    &loads,
+                    repeats.first().map_or(REPEATS, |word| number(word)),
+                )
+            }
+            None => usage(),
+        },
+        [] => usage(),
+    }
+}
+
+fn usage() -> ExitCode {
+    eprintln!("usage: parts sketch|list|index [REPEATS]");
+    ExitCode::from(2)
+}
+
+fn number(word: &str) -> usize {
+    word.parse().expect("a number is none")
+}
+
+/// The least and the greatest of the repeats, in nanoseconds an operation.
+#[derive(Clone, Copy)]
+struct Spread {
+    least: f64,
+    greatest: f64,
+}
+
+fn print_part(part: &str, loads: &[Load], repeats: usize) -> ExitCode {
+    println!(
+        "Nanoseconds an operation, the least and the greatest of {repeats} repeats; ratios of the least; instructions by callgrind."
+    );
+    println!();
+    let names: Vec<&str> = loads[0].sides.iter().map(|side| side.name).collect();
+    let mut head = vec!["Load".to_string()];
+    head.extend(names.iter().map(|name| name.to_string()));
+    head.extend(
+        names[1..]
+            .iter()
+            .map(|name| format!("{} to {name}", names[0])),
+    );
+    head.extend(names.iter().map(|name| format!("{name}, instructions")));
+    head.push("sums".into());
+    table::print_head(&head.iter().map(String::as_str).collect::<Vec<_>>());
+    let mut all_same = true;
+    for (at, load) in loads.iter().enumerate() {
+        all_same &= print_load(part, at, load, repeats);
+    }
+    if all_same {
+        ExitCode::SUCCESS
+    } else {
+        ExitCode::FAILURE
+    }
+}
+
+/// Prints the row of a load. Says whether all sides had the same sum.
+fn print_load(part: &str, at: usize, load: &Load, repeats: usize) -> bool {
+    let spreads = measure(load, repeats);
+    let sums: Vec<u64> = load.sides.iter().map(|side| (side.play)(2)).collect();
+    let is_same = sums.iter().all(|sum| *sum == sums[0]);
+    let mut cells = vec![load.name.clone()];
+    cells.extend(
+        spreads
+            .iter()
+            .map(|spread| format!("{:.1} to {:.1}", spread.least, spread.greatest)),
+    );
+    cells.extend(
+        spreads[1..]
+            .iter()
+            .map(|other| table::ratio(spreads[0].least, other.least)),
+    );
+    cells.extend((0..load.sides.len()).map(|side| {
+        table::number(instructions(part, at, side).map(|count| count / load.operations as f64))
+    }));
+    cells.push(match is_same {
+        true => "the same".into(),
+        false => format!("{sums:?}"),
+    });
+    table::print_row(&cells);
+    is_same
+}
+
+/// The sides in turn, repeat by repeat. What one round takes at least is taken off.
+fn measure(load: &Load, repeats: usize) -> Vec<Spread> {
+    let none = Spread {
+        least: f64::INFINITY,
+        greatest: 0.0,
+    };
+    let mut wholes = vec![none; load.sides.len()];
+    let mut ones = vec![f64::INFINITY; load.sides.len()];
+    for _ in 0..repeats {
+        for (at, side) in load.sides.iter().enumerate() {
+            let whole = nanos_of(side, ROUNDS);
+            wholes[at].least = wholes[at].least.min(whole);
+            wholes[at].greatest = wholes[at].greatest.max(whole);
+            ones[at] = ones[at].min(nanos_of(side, 1));
+        }
+    }
+    let counted = ((ROUNDS - 1) * load.operations) as f64;
+    wholes
+        .iter()
+        .zip(ones)
+        .map(|(whole, one)| Spread {
+            least: (whole.least - one) / counted,
+            greatest: (whole.greatest - one) / counted,
+        })
+        .collect()
+}
+
+fn nanos_of(side: &Side, rounds: usize) -> f64 {
+    let start = Instant::now();
+    black_box((side.play)(rounds));
+    start.elapsed().as_nanos() as f64
+}
+
+/// How many instructions a round has: those of two rounds less those of one.
+fn instructions(part: &str, load: usize, side: usize) -> Option<f64> {
+    Some(collected(part, load, side, 2)? - collected(part, load, side, 1)?)
+}
+
+/// What callgrind counts of this program as it plays one side, if there is a `valgrind`.
+fn collected(part: &str, load: usize, side: usize, rounds: usize) -> Option<f64> {
+    let program = std::env::current_exe().ok()?;
+    let numbers = [load, side, rounds].map(|number| number.to_string());
+    let output = Command::new("valgrind")
+        .args(["--tool=callgrind", "--callgrind-out-file=/dev/null"])
+        .arg(program)
+        .args(["once", part])
+        .args(&numbers)
+        .output()
+        .ok()?;
+    let told = String::from_utf8_lossy(&output.stderr).into_owned();
+    let (_, count) = told.split_once("Collected : ")?;
+    count.split_whitespace().next()?.parse().ok()
+}

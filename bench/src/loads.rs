@@ -1,0 +1,162 @@
+//! Loads of the parts of a cache, each with the sides that play it: the port's first, and what it is compared with.
+use crate::hand_lists::{self, ListLoad, Plain, Tagged};
+use crate::original_sketch;
+use crate::port::{self, IndexLoad};
+use crate::traces::{spread, Random, Zipf};
+use std::rc::Rc;
+
+/// One side: it plays a load so many times over, and answers a sum that all sides must have.
+pub struct Side {
+    pub name: &'static str,
+    pub play: Box<dyn Fn(usize) -> u64>,
+}
+
+/// What is played by all sides.
+pub struct Load {
+    pub name: String,
+    /// How many operations a round has.
+    pub operations: usize,
+    pub sides: Vec<Side>,
+}
+
+fn side(name: &'static str, play: impl Fn(usize) -> u64 + 'static) -> Side {
+    Side {
+        name,
+        play: Box::new(play),
+    }
+}
+
+/// The loads of a part, if there is a part of this name.
+pub fn loads_of(part: &str) -> Option<Vec<Load>> {
+    match part {
+        "sketch" => Some(sketch_loads()),
+        "list" => Some(list_loads()),
+        "index" => Some(index_loads()),
+        _ => None,
+    }
+}
+
+/// So many hashes are counted, and then read.
+const HASHES: usize = 1 << 18;
+
+/// Counts and look-ups of the sketch, in tables of three lengths. Few keys make most counts.
+fn sketch_loads() -> Vec<Load> {
+    let zipf = Zipf::new(1 << 20);
+    let mut random = Random(3);
+    let hashes: Vec<u64> = (0..HASHES)
+        .map(|_| spread(zipf.next(&mut random)))
+        .collect();
+    let hashes = Rc::new(hashes);
+    let mut loads = Vec::new();
+    for words in [128, 16_384, 1_048_576] {
+        let (mine, theirs) = (hashes.clone(), hashes.clone());
+        loads.push(Load {
+            name: format!("increment, {words} words"),
+            operations: HASHES,
+            sides: vec![
+                side("port", move |rounds| port::sketch(words, &mine, rounds, 1)),
+                side("original", move |rounds| {
+                    original_sketch::play(words, &theirs, rounds, 1)
+                }),
+            ],
+        });
+        let (mine, theirs) = (hashes.clone(), hashes.clone());
+        loads.push(Load {
+            name: format!("frequency, {words} words"),
+            operations: HASHES,
+            sides: vec![
+                side("port", move |rounds| port::sketch(words, &mine, 1, rounds)),
+                side("original", move |rounds| {
+                    original_sketch::play(words, &theirs, 1, rounds)
+                }),
+            ],
+        });
+    }
+    loads
+}
+
+/// So many operations a round, however many nodes a list has.
+const TURNS: usize = 1_000_000;
+
+/// Moves, fillings and turns of lists of two lengths.
+fn list_loads() -> Vec<Load> {
+    let named = [
+        ("move", ListLoad::Move),
+        ("fill and empty", ListLoad::FillAndEmpty),
+        ("take turns", ListLoad::TakeTurns),
+    ];
+    let mut loads = Vec::new();
+    for nodes in [1_000, 1_000_000] {
+        let mut random = Random(4);
+        let picks: Vec<usize> = (0..TURNS)
+            .map(|_| random.below(nodes as u64) as usize)
+            .collect();
+        let picks = Rc::new(picks);
+        for (name, load) in named {
+            // A round of moves has as many as there are picks, the others one for each node.
+            let times = match load {
+                ListLoad::Move => 1,
+                _ => TURNS / nodes,
+            };
+            let (mine, plain, tagged) = (picks.clone(), picks.clone(), picks.clone());
+            loads.push(Load {
+                name: format!("{name}, {nodes}"),
+                operations: TURNS,
+                sides: vec![
+                    side("port", move |rounds| {
+                        port::list(load, nodes, &mine, times * rounds)
+                    }),
+                    side("by hand", move |rounds| {
+                        hand_lists::play::<Plain>(load, nodes, &plain, times * rounds)
+                    }),
+                    side("tagged by hand", move |rounds| {
+                        hand_lists::play::<Tagged>(load, nodes, &tagged, times * rounds)
+                    }),
+                ],
+            });
+        }
+    }
+    loads
+}
+
+/// Look-ups and replacements of ids by their hashes, in the index and in std's map, which stands in the same library.
+fn index_loads() -> Vec<Load> {
+    let mut loads = Vec::new();
+    for ids in [10_000, 1_000_000] {
+        let hash_of = |number: u64| spread(number);
+        let hashes: Vec<u64> = (0..ids).map(hash_of).collect();
+        let hashes = Rc::new(hashes);
+        let mut random = Random(5);
+        let present: Vec<u64> = (0..TURNS).map(|_| hash_of(random.below(ids))).collect();
+        let absent: Vec<u64> = (0..TURNS)
+            .map(|_| hash_of(ids + random.below(ids)))
+            .collect();
+        let (present, absent) = (Rc::new(present), Rc::new(absent));
+        let named = [
+            ("find", IndexLoad::Find, &present),
+            ("miss", IndexLoad::Find, &absent),
+            (
+                "find, take out and add",
+                IndexLoad::FindAndReplace,
+                &present,
+            ),
+        ];
+        for (name, load, sought) in named {
+            let (mine, theirs) = (hashes.clone(), hashes.clone());
+            let (sought, also_sought) = (sought.clone(), sought.clone());
+            loads.push(Load {
+                name: format!("{name}, {ids}"),
+                operations: TURNS,
+                sides: vec![
+                    side("index", move |rounds| {
+                        port::index(load, &mine, &sought, rounds)
+                    }),
+                    side("map", move |rounds| {
+                        port::index_by_map(load, &theirs, &also_sought, rounds)
+                    }),
+                ],
+            });
+        }
+    }
+    loads
+}

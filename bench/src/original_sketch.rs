@@ -1,0 +1,22 @@
+//! The original's sketch, which isn't public: the build script says where the file of the dependency is, and it is compiled as it is.
+#![allow(dead_code, unexpected_cfgs)]
+
+include!(env!("ORIGINAL_SKETCH"));
+
+/// As the port's `moka_trace_sketch`.
+pub fn play(capacity: u32, hashes: &[u64], counts: usize, reads: usize) -> u64 {
+    let mut sketch = FrequencySketch::default();
+    sketch.ensure_capacity(capacity);
+    for _ in 0..counts {
+        for hash in hashes {
+            sketch.increment(*hash);
+        }
+    }
+    let mut sum = 0u64;
+    for _ in 0..reads {
+        for hash in hashes {
+            sum = sum.wrapping_add(u64::from(sketch.frequency(*hash)));
+        }
+    }
+    sum
+}
