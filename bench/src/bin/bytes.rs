@@ -1,4 +1,5 @@
 //! How many bytes an entry takes on each side.
+use moka_trace_bench::hand_lists::ListLoad;
 use moka_trace_bench::port::{self, IndexLoad};
 use moka_trace_bench::rust_sides::{self, Side};
 use moka_trace_bench::table;
@@ -216,5 +217,18 @@ fn main() {
             format!("{:.1}", held as f64 / ids as f64)
         };
         table::print_row(&[ids.to_string(), held(port::index), held(port::index_by_map)]);
+    }
+    println!();
+    println!("Bytes a node of the port's list, whose elements are 8 bytes.");
+    println!();
+    table::print_head(&["Nodes", "port"]);
+    for nodes in [1_000, 1_000_000] {
+        let (held, _) = recorder::record(|| {
+            port::list(ListLoad::TakeTurns, nodes, &[], 10);
+        });
+        table::print_row(&[
+            nodes.to_string(),
+            format!("{:.1}", held as f64 / nodes as f64),
+        ]);
     }
 }
