@@ -66,9 +66,10 @@ module _ {K V : Type 0} where
         | inr differ ↦ rw differ (ap (λ zs. x ∷ zs) (fate-append t Leaves xs ys))
       ]
 
+module _ {K V S : Type 0} where
   module _ (t : Ticket) where
     -- nothing of the ticket in shards of higher numbers
-    none_higher : (number : ℕ) (shards : List (ShardState K V)) → AreShardsFrom number shards → shard_of t.hash < number
+    none_higher : (number : ℕ) (shards : List (ShardState K V S)) → AreShardsFrom number shards → shard_of t.hash < number
         → entry_of t (entries_of shards) ≡ None
     none_higher number [] are lower = refl
     none_higher number (s ∷ shards) are lower =
@@ -76,7 +77,7 @@ module _ {K V : Type 0} where
         find-append (λ e. same_ticket t e.ticket) s.entries (entries_of shards) (none_elsewhere t number elsewhere s.entries are.0.belong)
         ∙ none_higher (suc number) shards are.1 (omega arith)
 
-    fate_higher : (change : Change K V) (number : ℕ) (shards : List (ShardState K V)) → AreShardsFrom number shards
+    fate_higher : (change : Change K V) (number : ℕ) (shards : List (ShardState K V S)) → AreShardsFrom number shards
         → shard_of t.hash < number → after_change t change (entries_of shards) ≡ entries_of shards
     fate_higher change number [] are lower = nothing change
       where
@@ -91,7 +92,7 @@ module _ {K V : Type 0} where
         ∙ ap (λ ys. s.entries ++ ys) (fate_higher change (suc number) shards are.1 (omega arith))
 
     -- its entry stands in its shard
-    pub entry_of-shards : (number i : ℕ) (shards : List (ShardState K V)) (d : ShardState K V) → AreShardsFrom number shards
+    pub entry_of-shards : (number i : ℕ) (shards : List (ShardState K V S)) (d : ShardState K V S) → AreShardsFrom number shards
         → shard_of t.hash ≡ number + i → i < length shards
         → entry_of t (entries_of shards) ≡ entry_of t (get_or shards i d).entries
     entry_of-shards number i [] d are at below = absurd (omega arith)
@@ -103,7 +104,7 @@ module _ {K V : Type 0} where
         ∙ entry_of-shards (suc number) i shards d are.1 (omega arith) (omega arith)
 
     -- and meets its change there
-    pub fate-shards : (change : Change K V) (number i : ℕ) (shards : List (ShardState K V)) (d : ShardState K V)
+    pub fate-shards : (change : Change K V) (number i : ℕ) (shards : List (ShardState K V S)) (d : ShardState K V S)
         → AreShardsFrom number shards → shard_of t.hash ≡ number + i → i < length shards
         → after_change t change (entries_of shards)
         ≡ entries_of (set shards i (record (get_or shards i d) { entries = after_change t change (get_or shards i d).entries }))
@@ -117,15 +118,15 @@ module _ {K V : Type 0} where
         ∙ ap (λ xs. xs ++ after_change t change (entries_of shards)) (fate_elsewhere t number elsewhere change s.entries are.0.belong)
         ∙ ap (λ ys. s.entries ++ ys) (fate-shards change (suc number) i shards d are.1 (omega arith) (omega arith))
 
-  next_numbers-set : (shards : List (ShardState K V)) (i : ℕ) (d : ShardState K V) (es : List (Entry K V)) → i < length shards
-      → map (λ (s : ShardState K V). s.next_number) (set shards i (record (get_or shards i d) { entries = es }))
-      ≡ map (λ (s : ShardState K V). s.next_number) shards
+  pub next_numbers-set : (shards : List (ShardState K V S)) (i : ℕ) (d : ShardState K V S) (es : List (Entry K V)) → i < length shards
+      → map (λ (s : ShardState K V S). s.next_number) (set shards i (record (get_or shards i d) { entries = es }))
+      ≡ map (λ (s : ShardState K V S). s.next_number) shards
   next_numbers-set [] i d es below = absurd (omega arith)
   next_numbers-set (s ∷ shards) Prim.Native.Nat.zero d es below = refl
   next_numbers-set (s ∷ shards) (suc i) d es below = ap (λ ns. s.next_number ∷ ns) (next_numbers-set shards i d es (omega arith))
 
   -- one more in a shard is one more in all
-  pub AddsEntry-shards : (shards : List (ShardState K V)) (i : ℕ) (d : ShardState K V) (e : Entry K V) (new : ShardState K V)
+  pub AddsEntry-shards : (shards : List (ShardState K V S)) (i : ℕ) (d : ShardState K V S) (e : Entry K V) (new : ShardState K V S)
       → i < length shards
       → AddsEntry (get_or shards i d).entries e new.entries → AddsEntry (entries_of shards) e (entries_of (set shards i new))
   AddsEntry-shards [] i d e new below adds = absurd (omega arith)
@@ -146,7 +147,7 @@ module _ {K V : Type 0} where
 
 module _ {K V S : Type 0} where
   -- a look at a ticket's entry in its shard is the look of the whole core
-  pub look_in_shard : (parts : Parts K V S) (d : ShardState K V) (t : Ticket) (looks : Option (Entry K V) → Outcome K V)
+  pub look_in_shard : (parts : Parts K V S) (d : ShardState K V S) (t : Ticket) (looks : Option (Entry K V) → Outcome K V)
       → AreShardsFrom 0 parts.shards → shard_of t.hash < length parts.shards
       → after_plan (AtEntry t looks) (core_of parts) ≡ core_of (parts_after t looks (get_or parts.shards (shard_of t.hash) d) parts)
   look_in_shard parts d t looks are below =
@@ -169,14 +170,14 @@ module _ {K V S : Type 0} where
       (sym (next_numbers-set parts.shards i d (after_change t end.change (get_or parts.shards i d).entries) below))
 
   -- a turn with a shard is a turn of the core that the parts make up
-  pub turn_with_shard : (parts : Parts K V S) (refused : Bool) (d new_shard : ShardState K V) (new : Maintenance) (number : ℕ)
+  pub turn_with_shard : (parts : Parts K V S) (refused : Bool) (d new_shard : ShardState K V S) (new : Maintenance) (number : ℕ)
       → AreShardsFrom 0 parts.shards → number < length parts.shards → (get_or parts.shards number d).number ≡ number
       → TurnsWithShard K V parts.settings parts.valid_after refused parts.maintenance new (get_or parts.shards number d) new_shard
       → after_turn refused (core_of parts) ≡ core_of (record parts { shards = set parts.shards number new_shard; maintenance = new })
   turn_with_shard parts refused d new_shard new number are below numbered turns =
       let own : shard_of turns.ticket.hash ≡ number = turns.here ∙ numbered in
       let in_range : shard_of turns.ticket.hash < length parts.shards = omega (arith, own, below) in
-      let shard : ShardState K V = get_or parts.shards number d in
+      let shard : ShardState K V S = get_or parts.shards number d in
       let end : Outcome K V = turns.looks (entry_of turns.ticket shard.entries) in
       ap (λ l. after_plan l (core_of parts)) turns.is
       ∙ look_in_shard parts d turns.ticket turns.looks are in_range

@@ -5,6 +5,7 @@ pub mod Orders
 pub mod Place
 pub mod CoreState
 pub mod Turn
+pub mod EntryChange
 pub mod Reply
 pub mod MapStep
 pub mod Event

@@ -12,17 +12,20 @@ use Rattle.moka_engine.specs.CoreState.{CoreState, Maintenance}
 use Rattle.moka_base.specs.Settings.{Settings}
 use Rattle.moka_engine.specs.Turn.Plan.{Outcome, Plan, Alone, AtReads, AtWrites, AtEntry, after_change}
 use Rattle.moka_engine.specs.Turn.Turn.{turn_at}
+use Rattle.moka_engine.specs.declared.entry.EntryChange.{EntryChange}
+use Rattle.moka_engine.specs.EntryChange.{change_of}
 
--- a shard: its number, the number of its next ticket, and its entries
-pub record ShardState (K V : Type 0) : Type 0 where
+-- a shard: its number, the number of its next ticket, its entries, and the hash state of their keys
+pub record ShardState (K V S : Type 0) : Type 0 where
   pub number : ℕ
   pub next_number : ℕ
   pub entries : List (Entry K V)
+  pub hash_state : S
 
 -- the core in parts
 pub record Parts (K V S : Type 0) : Type 0 where
   pub settings : Settings S
-  pub shards : List (ShardState K V)
+  pub shards : List (ShardState K V S)
   pub valid_after : ℕ
   pub read_log : List Read
   pub write_log : List Write
@@ -30,53 +33,52 @@ pub record Parts (K V S : Type 0) : Type 0 where
   pub maintenance : Maintenance
   pub sync_after : Option ℕ
 
-module _ {K V : Type 0} where
+module _ {K V S : Type 0} where
   -- the entries of all shards
-  abbrev pub entries_of : List (ShardState K V) → List (Entry K V)
+  abbrev pub entries_of : List (ShardState K V S) → List (Entry K V)
   entries_of shards = flat_map (λ s. s.entries) shards
 
   -- the shard has this number, and its entries belong to it
-  pub record IsShard (number : ℕ) (shard : ShardState K V) : Type 0 where
+  pub record IsShard (number : ℕ) (shard : ShardState K V S) : Type 0 where
     pub numbered : shard.number ≡ number
     pub belong : All (λ e. shard_of e.ticket.hash ≡ number) shard.entries
 
   -- what a shard keeps by itself: keys and tickets come once, and each entry belongs to it, with its key's hash and a number given out
-  pub record IsValidShard {S : Type 0} (keys : Keys K S) (state : S) (shard : ShardState K V) : Type 0 where
+  pub record IsValidShard (keys : Keys K S) (shard : ShardState K V S) : Type 0 where
     pub keys_apart : IsDistinct keys.eq (map (λ e. e.key) shard.entries)
     pub tickets_apart : AreApart (λ e. e.ticket) shard.entries
     pub belong : All (λ e. shard_of e.ticket.hash ≡ shard.number) shard.entries
-    pub hashed : All (λ e. e.ticket.hash ≡ keys.hash_of state e.key) shard.entries
+    pub hashed : All (λ e. e.ticket.hash ≡ keys.hash_of shard.hash_state e.key) shard.entries
     pub given_out : All (λ e. e.ticket.number < shard.next_number) shard.entries
 
   -- the shards are numbered from this number on
-  abbrev pub AreShardsFrom : ℕ → List (ShardState K V) → Type 0
+  abbrev pub AreShardsFrom : ℕ → List (ShardState K V S) → Type 0
   AreShardsFrom number [] = Unit {0}
   AreShardsFrom number (shard ∷ shards) = IsShard number shard × AreShardsFrom (suc number) shards
 
   -- what a look at a ticket's entry makes of its shard
-  abbrev pub shard_after : Ticket → Outcome K V → ShardState K V → ShardState K V
+  abbrev pub shard_after : Ticket → Outcome K V → ShardState K V S → ShardState K V S
   shard_after t end shard = record shard { entries = after_change t end.change shard.entries }
 
-  module _ {S : Type 0} where
-    -- the core that the parts make up
-    abbrev pub core_of : Parts K V S → CoreState K V S
-    core_of parts = record {
-      settings = parts.settings;
-      entries = entries_of parts.shards;
-      next_numbers = map (λ s. s.next_number) parts.shards;
-      valid_after = parts.valid_after;
-      read_log = parts.read_log;
-      write_log = parts.write_log;
-      pending = parts.pending;
-      maintenance = parts.maintenance;
-      sync_after = parts.sync_after;
-    }
+  -- the core that the parts make up
+  abbrev pub core_of : Parts K V S → CoreState K V S
+  core_of parts = record {
+    settings = parts.settings;
+    entries = entries_of parts.shards;
+    next_numbers = map (λ s. s.next_number) parts.shards;
+    valid_after = parts.valid_after;
+    read_log = parts.read_log;
+    write_log = parts.write_log;
+    pending = parts.pending;
+    maintenance = parts.maintenance;
+    sync_after = parts.sync_after;
+  }
 
-    -- the parts once the shard of a ticket, given here, and the maintenance have met
-    abbrev pub parts_after : Ticket → (Option (Entry K V) → Outcome K V) → ShardState K V → Parts K V S → Parts K V S
-    parts_after t looks shard parts =
-        let end = looks (entry_of t shard.entries) in
-        record parts { shards = slice_set parts.shards (shard_of t.hash) (shard_after t end shard); maintenance = end.maintenance }
+  -- the parts once the shard of a ticket, given here, and the maintenance have met
+  abbrev pub parts_after : Ticket → (Option (Entry K V) → Outcome K V) → ShardState K V S → Parts K V S → Parts K V S
+  parts_after t looks shard parts =
+      let end = looks (entry_of t shard.entries) in
+      record parts { shards = slice_set parts.shards (shard_of t.hash) (shard_after t end shard); maintenance = end.maintenance }
 
 -- what a turn needs besides the maintenance: nothing, the read log, the write log, or the shard of a ticket
 pub data Need : Type 0 where
@@ -109,8 +111,15 @@ module _ (K V : Type 0) {S : Type 0} (settings : Settings S) (valid_after : ℕ)
     pub is : turn_at {K = K} {V = V} settings valid_after refused old.place old ≡ AtWrites looks
     pub ends : (new, new_log) ≡ looks old_log
 
+  -- a turn that looks at a ticket's entry, and makes this of it
+  pub record TurnsAtEntry (old new : Maintenance) (found : Option (Entry K V)) (change : EntryChange) : Type 0 where
+    pub ticket : Ticket
+    pub looks : Option (Entry K V) → Outcome K V
+    pub is : turn_at settings valid_after refused old.place old ≡ AtEntry ticket looks
+    pub ends : looks found ≡ record { change = change_of change; maintenance = new }
+
   -- a turn that looks at an entry under its shard
-  pub record TurnsWithShard (old new : Maintenance) (old_shard new_shard : ShardState K V) : Type 0 where
+  pub record TurnsWithShard (old new : Maintenance) (old_shard new_shard : ShardState K V S) : Type 0 where
     pub ticket : Ticket
     pub looks : Option (Entry K V) → Outcome K V
     pub is : turn_at settings valid_after refused old.place old ≡ AtEntry ticket looks

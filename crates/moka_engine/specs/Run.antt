@@ -22,6 +22,15 @@ module _ {K V S : Type 0} (keys : Keys K S) (weighs : K → V → ℕ → Type 0
     pub weighed : IsWeighed weighs event reply weight
     pub step : IsStep keys old event weight refused reply new
 
+module _ {K V S : Type 0} (keys : Keys K S) (weighs : K → V → ℕ → Type 0) where
+  -- these events with these replies lead from one core to another
+  abbrev pub RunsTo : CoreState K V S → List (Event K V) → List (Reply K V) → CoreState K V S → Type 0
+  RunsTo old [] [] new = new ≡ old
+  RunsTo old (event ∷ events) (reply ∷ replies) new =
+      (next : CoreState K V S) × Happens keys weighs old event reply next × RunsTo next events replies new
+  RunsTo old [] (reply ∷ replies) new = ⊥
+  RunsTo old (event ∷ events) [] new = ⊥
+
 -- an event with the weigher's answer, the word on memory and the reply that it got
 pub record Happening (K V : Type 0) : Type 0 where
   pub event : Event K V

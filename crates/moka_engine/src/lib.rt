@@ -4,8 +4,10 @@
 
 pub mod call;
 pub mod constants;
+pub mod entry;
 pub mod event;
 pub mod operation;
 pub mod place;
+pub mod settings;
 pub mod ticket;
 pub mod weigh;
