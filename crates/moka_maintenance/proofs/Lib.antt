@@ -1,0 +1,7 @@
+pub mod AbsentLemmas
+pub mod SendLemmas
+pub mod NextLemmas
+pub mod WalkLemmas
+pub mod ScanLemmas
+pub mod PlanLemmas
+pub mod NewLemmas

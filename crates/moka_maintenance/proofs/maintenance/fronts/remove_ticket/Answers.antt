@@ -1,0 +1,8 @@
+use Rattle.std.proofs.Common.{refl, sym}
+use Rattle.moka_orders.specs.OrdersState.{orders_of}
+use Rattle.moka_maintenance.proofs.AbsentLemmas.{without_absent}
+use Rattle.moka_maintenance.proofs.maintenance.fronts.remove_ticket.Goals as goal
+
+pub returns-in_default : goal.returns-in_default
+returns-in_default g c =
+    sym (without_absent c.args.ticket (orders_of c.args.orders.now) (c.in_default.ensures.absent refl) (c.in_default.ensures.unwritten refl))

@@ -1,0 +1,11 @@
+use Rattle.std.proofs.Common.{◌-◌}
+use Rattle.moka_engine.specs.Orders.{all_used}
+use Rattle.moka_engine.specs.Turn.Admission.{absent_of}
+use Rattle.moka_orders.specs.OrdersState.{orders_of}
+use Rattle.moka_maintenance.specs.Held.{first_seen}
+use Rattle.moka_maintenance.proofs.WalkLemmas.{IsWalked}
+use Rattle.moka_maintenance.proofs.maintenance.fronts.send_absent_back.Given as goal
+
+abbrev pub invariant-send : goal.invariant-send
+invariant-send g l =
+    IsWalked (all_used (absent_of (first_seen l.count l.initial.orders.nodes)) (orders_of l.initial.orders)) (l.count - l.counter) l.here l.orders

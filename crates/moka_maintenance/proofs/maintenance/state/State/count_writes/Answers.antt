@@ -1,0 +1,4 @@
+use Rattle.moka_maintenance.proofs.maintenance.state.State.count_writes.Goals as goal
+
+pub returns-clause-holds : goal.returns-clause-holds
+returns-clause-holds g c = c.writes_or_on-self-inside.ensures.holds _

@@ -1,0 +1,4 @@
+use Rattle.moka_maintenance.proofs.maintenance.state.State.look_for_writes.Goals as goal
+
+pub returns-clause-holds : goal.returns-clause-holds
+returns-clause-holds g c = c.after_more_writes-self-inside.ensures.holds _

@@ -1,0 +1,31 @@
+use Rattle.std.proofs.Common.{◌∙◌, nat_eq, subst, sym}
+use Rattle.std.specs.List.{IsDistinct}
+use Rattle.std.specs.Map.{keys_of}
+use Rattle.moka_maintenance.specs.Held.{Held}
+use Rattle.moka_maintenance.proofs.PlanLemmas.{scan_goes_on, scan_rejects, scan_node}
+use Rattle.moka_maintenance.proofs.maintenance.state.State.scan.Goals as goal
+
+pub returns-in_default-clause-step : goal.returns-in_default-clause-step
+returns-in_default-clause-step g c =
+    let is = sym c.next_seen.ensures ∙ c.in_default.is in
+    record {
+      ticket = c.args.scan.candidate.ticket;
+      looks = _;
+      is =
+          scan_rejects g.row.K.Denot g.row.V.Denot c.args.work c.args.self.now c.args.scan c.requires.scanning is c.requires.need.0
+          c.requires.need.1;
+      ends = sym c.reject.ensures.step;
+    }
+
+pub returns-clause-step : goal.returns-clause-step
+returns-clause-step g c =
+    let once = subst (λ (v : Held). IsDistinct nat_eq (keys_of v.orders.nodes)) c.self.view_is c.len.ensures.distinct in
+    let held = c.args.self.now in
+    let is = sym c.next_seen.ensures ∙ c.in-Some.is in
+    let node = scan_node g.row.K.Denot g.row.V.Denot c.args.work held c.args.scan c.requires.scanning once c.in-Some.id is in
+    record {
+      ticket = node.0.ticket;
+      looks = _;
+      is = scan_goes_on g.row.K.Denot g.row.V.Denot c.args.work held c.args.scan c.requires.scanning once c.in-Some.id is node.0 node.1;
+      ends = sym (c.see.ensures.step node.0 node.1);
+    }

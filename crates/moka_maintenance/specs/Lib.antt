@@ -1,0 +1,5 @@
+pub mod Need
+pub mod Published
+-- inside
+pub mod Held
+pub mod Fronts

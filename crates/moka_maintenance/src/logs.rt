@@ -1,0 +1,120 @@
+//! The two logs, in which callers leave what the maintenance is to do. Each lies in a ring whose memory is taken once.
+ghost use Rattle.std.specs.Prelude.{◌≡◌, ◌↔◌, ◌<◌, ◌≤◌, ◌==◌, ◌++◌, [], ◌∷◌, length, drop, slice_get, IfOk, IfErr, OnOk, OnErr, IsOk};
+ghost use Rattle.moka_engine.specs.declared.constants.TheConstants.{READ_LOG_SIZE, WRITE_LOG_SIZE};
+
+use circular_buffer::HeapCircularBuffer;
+use moka_base::error::OutOfMemory;
+use moka_engine::constants::{READ_LOG_SIZE, WRITE_LOG_SIZE};
+pub use moka_engine::operation::{Read, Write};
+use std::alloc::{Allocator, Global};
+use std::marker::Model;
+
+/// The reads that are to be applied, the first one first.
+#[derive(Drop)]
+pub struct ReadLog<A: Allocator + Drop = Global> {
+    reads: HeapCircularBuffer<Read, A>,
+}
+
+impl<A: Allocator + Drop> Model for ReadLog<A> {
+    ghost use Rattle.std.specs.Prelude.{◌≡◌, List};
+    ghost use Rattle.moka_engine.specs.declared.constants.TheConstants.{READ_LOG_SIZE};
+    ghost use Rattle.moka_engine.specs.declared.operation.Read.{Read as ReadState};
+
+    ghost Value = { List ReadState };
+
+    ghost view = { λ log. log.reads.items };
+
+    ghost invariant = { λ log. log.reads.capacity ≡ READ_LOG_SIZE };
+}
+
+impl<A: Allocator + Drop> ReadLog<A> {
+    /// An empty log, with room for all that it will hold.
+    pub fn new(alloc: A) -> Result<ReadLog<A>, OutOfMemory>
+        ensures { IfOk result (λ log. log ≡ []) }
+    {
+        Ok(ReadLog {
+            reads: HeapCircularBuffer::with_capacity(alloc, READ_LOG_SIZE)?,
+        })
+    }
+
+    /// How many reads it holds.
+    pub fn len(&self) -> usize
+        ensures len { result ≡ length self.now }
+        ensures within { result ≤ READ_LOG_SIZE }
+    {
+        self.reads.len()
+    }
+
+    /// Puts a read behind the others. A full log hands it back.
+    pub fn push(&mut self, read: Read) -> Result<(), Read>
+        ensures variant { IsOk result ↔ (length self.old < READ_LOG_SIZE) }
+        ensures ok { OnOk result (self.new ≡ self.old ++ read ∷ []) }
+        ensures err { OnErr result (self.new ≡ self.old) }
+        ensures value_returned { IfErr result (λ back. back ≡ read) }
+    {
+        self.reads.try_push_back(read)
+    }
+
+    /// Takes the first read.
+    pub fn pop(&mut self) -> Option<Read>
+        ensures value { result ≡ slice_get self.old 0 }
+        ensures rest { self.new ≡ drop 1 self.old }
+    {
+        self.reads.pop_front()
+    }
+}
+
+/// The writes that are to be applied, the first one first.
+#[derive(Drop)]
+pub struct WriteLog<A: Allocator + Drop = Global> {
+    writes: HeapCircularBuffer<Write, A>,
+}
+
+impl<A: Allocator + Drop> Model for WriteLog<A> {
+    ghost use Rattle.std.specs.Prelude.{◌≡◌, List};
+    ghost use Rattle.moka_engine.specs.declared.constants.TheConstants.{WRITE_LOG_SIZE};
+    ghost use Rattle.moka_engine.specs.declared.operation.Write.{Write as WriteState};
+
+    ghost Value = { List WriteState };
+
+    ghost view = { λ log. log.writes.items };
+
+    ghost invariant = { λ log. log.writes.capacity ≡ WRITE_LOG_SIZE };
+}
+
+impl<A: Allocator + Drop> WriteLog<A> {
+    /// An empty log, with room for all that it will hold.
+    pub fn new(alloc: A) -> Result<WriteLog<A>, OutOfMemory>
+        ensures { IfOk result (λ log. log ≡ []) }
+    {
+        Ok(WriteLog {
+            writes: HeapCircularBuffer::with_capacity(alloc, WRITE_LOG_SIZE)?,
+        })
+    }
+
+    /// How many writes it holds.
+    pub fn len(&self) -> usize
+        ensures len { result ≡ length self.now }
+        ensures within { result ≤ WRITE_LOG_SIZE }
+    {
+        self.writes.len()
+    }
+
+    /// Puts a write behind the others. A full log hands it back.
+    pub fn push(&mut self, write: Write) -> Result<(), Write>
+        ensures variant { IsOk result ↔ (length self.old < WRITE_LOG_SIZE) }
+        ensures ok { OnOk result (self.new ≡ self.old ++ write ∷ []) }
+        ensures err { OnErr result (self.new ≡ self.old) }
+        ensures value_returned { IfErr result (λ back. back ≡ write) }
+    {
+        self.writes.try_push_back(write)
+    }
+
+    /// Takes the first write.
+    pub fn pop(&mut self) -> Option<Write>
+        ensures value { result ≡ slice_get self.old 0 }
+        ensures rest { self.new ≡ drop 1 self.old }
+    {
+        self.writes.pop_front()
+    }
+}

@@ -1,0 +1,316 @@
+//! The maintenance of the cache that threads share: it applies what callers have left in the logs, decides which entries enter and leave, and
+//! publishes the counts. It goes on by turns, each of which needs at most one log or one entry besides it.
+ghost use Rattle.std.specs.Prelude.{◌≡◌, ◌↔◌, Bool, IfOk, IsTrue, false, length, option_copied};
+ghost use Rattle.moka_engine.specs.CoreState.{new_maintenance};
+ghost use Rattle.moka_engine.specs.Orders.{charged_weight};
+ghost use Rattle.moka_engine.specs.Parts.{NeedsNothing, NeedsReads, NeedsShard, NeedsWrites, TurnsAlone, TurnsAtEntry, TurnsWithReads, TurnsWithWrites, need_of};
+ghost use Rattle.moka_engine.specs.Place.{Idle, ReadCount, name_of};
+ghost use Rattle.moka_engine.specs.Turn.Turn.{turn_at};
+ghost use Rattle.moka_maintenance.specs.Need.{need_at_front, need_named, need_to_read, need_to_write};
+ghost use Rattle.moka_maintenance.specs.Published.{published_of};
+
+mod admission;
+mod eviction;
+mod expiry;
+mod fronts;
+mod place;
+mod publish;
+mod reads;
+mod sketch;
+mod state;
+mod writes;
+
+use crate::logs::{ReadLog, WriteLog};
+use crate::maintenance::place::Stage;
+use crate::maintenance::state::State;
+use moka_base::time::Instant;
+use moka_engine::entry::{Entry, EntryChange};
+use moka_engine::operation::{Read, Write};
+use moka_engine::place::Place;
+use moka_engine::settings::Settings;
+use moka_engine::ticket::Ticket;
+use moka_orders::orders::Orders;
+use moka_sketch::frequency_sketch::FrequencySketch;
+pub use publish::Published;
+use std::alloc::{AllocError, Allocator, Global};
+use std::marker::Model;
+
+/// What a turn needs besides the maintenance.
+#[derive(Clone, Copy, Debug)]
+pub enum Need {
+    Nothing,
+    Reads,
+    Writes,
+    /// The entry of this ticket, if it stands.
+    Entry(Ticket),
+}
+
+/// What lies behind the lock of the maintenance.
+#[derive(Drop)]
+pub struct Maintenance<A: Allocator + Clone + Drop = Global> {
+    state: State<A>,
+}
+
+impl<A: Allocator + Clone + Drop> Model for Maintenance<A> {
+    ghost use Rattle.moka_engine.specs.CoreState.{Maintenance as MaintenanceState};
+    ghost use Rattle.moka_maintenance.specs.Held.{IsAtHand, maintenance_of};
+
+    ghost Value = { MaintenanceState };
+
+    ghost view = { λ m. maintenance_of m.state };
+
+    ghost invariant = { λ m. IsAtHand m.state.orders m.state.stage };
+}
+
+impl<A: Allocator + Clone + Drop> Maintenance<A> {
+    /// A maintenance as it is built: nothing is charged, and none is under way.
+    pub fn new(alloc: A) -> Result<Self, AllocError>
+        ensures { IfOk result (λ m. m ≡ new_maintenance) }
+    {
+        Ok(Maintenance {
+            state: State {
+                orders: Orders::new(alloc.clone()?)?,
+                sketch: FrequencySketch::default(alloc),
+                stage: Stage::Idle,
+                moment: Instant::from_nanos(0),
+                published: Published {
+                    number: 0,
+                    count: 0,
+                    weight: 0,
+                },
+            },
+        })
+    }
+
+    /// How many entries are charged.
+    pub fn count(&self) -> usize
+        ensures { result ≡ length self.now.orders.access }
+    {
+        self.state.orders.len()
+    }
+
+    /// What is charged for them together.
+    pub fn charged_weight(&self) -> u128
+        ensures { result ≡ charged_weight self.now.orders }
+    {
+        self.state.orders.charged_weight()
+    }
+
+    /// What was published last.
+    pub fn published(&self) -> Published
+        ensures { published_of result ≡ self.now.published }
+    {
+        self.state.published
+    }
+
+    /// Whether nothing has been done with it.
+    pub fn is_new(&self) -> bool
+        ensures { IsTrue result ↔ (self.now ≡ new_maintenance) }
+    {
+        self.state.is_new()
+    }
+
+    /// Where it is.
+    pub fn place(&self) -> Place
+        ensures { result ≡ name_of self.now.place }
+    {
+        self.state.stage.name()
+    }
+
+    /// What the next turn needs.
+    pub fn need<K: Drop, V: Drop, S: Drop>(
+        &self,
+        settings: &Settings<S, A>,
+        valid_after: Instant,
+    ) -> Need
+        ensures { need_named result
+            ≡ need_of (turn_at {K = K} {V = V} settings.now valid_after false self.now.place self.now) }
+    {
+        match self.state.stage {
+            Stage::Idle | Stage::Sketch { .. } | Stage::Publish { .. } => Need::Nothing,
+            Stage::ReadCount { .. } | Stage::Reads { .. } | Stage::MoreReads { .. } => Need::Reads,
+            Stage::WriteCount { .. } | Stage::Writes { .. } | Stage::MoreWrites { .. } =>
+                Need::Writes,
+            Stage::ReadApply { read, .. } => need_of_read(read),
+            Stage::Apply { write, .. } => need_of_write(write),
+            Stage::Scanning { scan, .. } => self.state.need_of_scan::<K, V>(scan),
+            Stage::Removing { removal, .. } => self.state.need_of_removal::<K, V>(removal),
+            Stage::Enter { candidate, .. } => Need::Entry(candidate.ticket),
+            Stage::ExpireWrite { turns } => need_of_front(self.state.write_front(settings, turns)),
+            Stage::ExpireAccess { turns } => need_of_front(
+                self.state.access_front(settings, valid_after, turns),
+            ),
+            Stage::Evict { turns } => need_of_front(self.state.eviction_front(settings, turns)),
+        }
+    }
+
+    /// A maintenance begins, where none is under way: `place` tells.
+    pub fn begin(&mut self, now: Instant)
+        requires { self.old.place ≡ Idle }
+        ensures { self.new ≡ record self.old { place = ReadCount 1; moment = now } }
+    {
+        self.state.moment = now;
+        self.state.stage = Stage::ReadCount { round: 1 };
+    }
+
+    /// A turn that needs the read log.
+    pub fn turn_with_reads<K: Drop, V: Drop, S: Drop>(
+        &mut self,
+        settings: &Settings<S, A>,
+        valid_after: Instant,
+        log: &mut ReadLog<A>,
+    )
+        requires { need_of (turn_at {K = K} {V = V} settings.now valid_after false self.old.place self.old)
+            ≡ NeedsReads }
+        ensures { (refused : Bool)
+            × TurnsWithReads K V settings.now valid_after refused self.old self.new log.old log.new }
+    {
+        let _ = settings;
+        let _ = valid_after;
+        match self.state.stage {
+            Stage::ReadCount { round } => self.state.count_reads(round, log.len()),
+            Stage::Reads { work } => self.state.take_read(work, log),
+            Stage::MoreReads { round } => self.state.look_for_reads(round, log.len()),
+            _ => {}
+        }
+    }
+
+    /// A turn that needs the write log.
+    pub fn turn_with_writes<K: Drop, V: Drop, S: Drop>(
+        &mut self,
+        settings: &Settings<S, A>,
+        valid_after: Instant,
+        log: &mut WriteLog<A>,
+    )
+        requires { need_of (turn_at {K = K} {V = V} settings.now valid_after false self.old.place self.old)
+            ≡ NeedsWrites }
+        ensures { (refused : Bool)
+            × TurnsWithWrites K V settings.now valid_after refused self.old self.new log.old log.new }
+    {
+        let _ = settings;
+        let _ = valid_after;
+        match self.state.stage {
+            Stage::WriteCount { round } => self.state.count_writes(round, log.len()),
+            Stage::Writes { work } => self.state.take_write(work, log),
+            Stage::MoreWrites { round } => self.state.look_for_writes(round, log.len()),
+            _ => {}
+        }
+    }
+
+    /// A turn that needs nothing besides.
+    pub fn turn_alone<K: Drop, V: Drop, S: Drop>(
+        &mut self,
+        settings: &Settings<S, A>,
+        valid_after: Instant,
+    )
+        requires { need_of (turn_at {K = K} {V = V} settings.now valid_after false self.old.place self.old)
+            ≡ NeedsNothing }
+        ensures { (refused : Bool)
+            × TurnsAlone K V settings.now valid_after refused self.old self.new }
+    {
+        let _ = valid_after;
+        match self.state.stage {
+            Stage::ReadApply { work, read } => {
+                if let Read::Miss { hash } = read {
+                    self.state.apply_miss(work, hash);
+                }
+            }
+            Stage::Apply { work, write } => {
+                if let Write::Remove { ticket } = write {
+                    self.state.apply_removal(work, ticket);
+                }
+            }
+            Stage::Scanning { work, scan } => self.state.admit(work, scan),
+            Stage::Removing { work, removal } => self.state.skip_absent::<K, V>(work, removal),
+            Stage::Sketch { round } => self.state.ask_for_sketch(settings, round),
+            Stage::ExpireWrite { .. } => self.state.stage = Stage::ExpireAccess { turns: 0 },
+            Stage::ExpireAccess { .. } => self.state.stage = Stage::Evict { turns: 0 },
+            Stage::Evict { turns } => self.state.stage = Stage::Publish { turns },
+            Stage::Publish { .. } => self.state.publish(),
+            _ => {}
+        }
+    }
+
+    /// A turn that needs the entry of a ticket, which is given where it stands. What becomes of it is for the owner of the entry to do.
+    pub fn turn_at_entry<K: Drop, V: Drop, S: Drop>(
+        &mut self,
+        settings: &Settings<S, A>,
+        valid_after: Instant,
+        found: Option<&Entry<K, V, A>>,
+    ) -> EntryChange
+        requires { (t : Ticket)
+            × (need_of (turn_at {K = K} {V = V} settings.now valid_after false self.old.place self.old) ≡ NeedsShard t) }
+        ensures { (refused : Bool)
+            × TurnsAtEntry K V settings.now valid_after refused self.old self.new (option_copied found.entry) result }
+    {
+        match self.state.stage {
+            Stage::ReadApply { work, read } => match read {
+                Read::Hit { ticket, moment } => {
+                    self.state.apply_hit(work, ticket);
+                    EntryChange::Touched(moment)
+                }
+                Read::Miss { .. } => EntryChange::Stays,
+            },
+            Stage::Apply { work, write } => self
+                .state
+                .apply_write(settings, valid_after, work, write, found),
+            Stage::Scanning { work, scan } => self.state.scan(work, scan, found),
+            Stage::Removing { work, removal } => self.state.remove(work, removal, found),
+            Stage::Enter {
+                work,
+                candidate,
+                skipped,
+            } => self.state.enter(settings, work, candidate, skipped, found),
+            Stage::ExpireWrite { turns } => match self.state.write_front(settings, turns) {
+                Some(ticket) => self
+                    .state
+                    .expire_write(settings, valid_after, turns, ticket, found),
+                None => EntryChange::Stays,
+            },
+            Stage::ExpireAccess { turns } => match self
+                .state
+                .access_front(settings, valid_after, turns)
+            {
+                Some(ticket) => self
+                    .state
+                    .expire_access(settings, valid_after, turns, ticket, found),
+                None => EntryChange::Stays,
+            },
+            Stage::Evict { turns } => match self.state.eviction_front(settings, turns) {
+                Some(ticket) => self.state.evict(turns, ticket, found),
+                None => EntryChange::Stays,
+            },
+            _ => EntryChange::Stays,
+        }
+    }
+}
+
+/// What a read needs to be applied.
+fn need_of_read(read: Read) -> Need
+    ensures { result ≡ need_to_read read }
+{
+    match read {
+        Read::Hit { ticket, .. } => Need::Entry(ticket),
+        Read::Miss { .. } => Need::Nothing,
+    }
+}
+
+/// What a write needs to be applied.
+fn need_of_write(write: Write) -> Need
+    ensures { result ≡ need_to_write write }
+{
+    match write {
+        Write::Upsert { ticket } => Need::Entry(ticket),
+        Write::Remove { .. } => Need::Nothing,
+    }
+}
+
+/// What a turn at a front needs: its entry, or nothing where there is none.
+fn need_of_front(front: Option<Ticket>) -> Need
+    ensures { result ≡ need_at_front front }
+{
+    match front {
+        Some(ticket) => Need::Entry(ticket),
+        None => Need::Nothing,
+    }
+}

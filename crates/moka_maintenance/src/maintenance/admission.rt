@@ -1,0 +1,369 @@
+// The turns that decide whether an entry enters: the scan, the removals and the entering.
+ghost use Rattle.std.specs.Prelude.{◌≡◌, ◌≤◌, ◌<◌, ◌+◌, ◌^◌, ℕ, [], ◌∷◌, ◌++◌, None, Some, drop, is_some, length, map, option_copied, option_map};
+ghost use Rattle.moka_engine.specs.declared.constants.TheConstants.{MAX_ABSENT, MAX_ROUNDS};
+ghost use Rattle.moka_base.specs.Settings.{keeps_writes};
+ghost use Rattle.moka_deque.specs.Deque.{first_id};
+ghost use Rattle.moka_engine.specs.Turn.Plan.{Alone, gone_to, moved_on};
+ghost use Rattle.moka_engine.specs.Parts.{NeedsNothing, NeedsShard, need_of};
+ghost use Rattle.moka_maintenance.specs.declared.maintenance.place.Work.{Work};
+ghost use Rattle.moka_maintenance.specs.Need.{need_named};
+ghost use Rattle.moka_engine.specs.Orders.{without_node};
+ghost use Rattle.moka_engine.specs.Turn.Admission.{after_entering, after_finding, after_rejection, after_seeing, after_victim, is_admitted, is_decided, next_seen, removing_or_enter};
+ghost use Rattle.moka_orders.specs.OrdersState.{AtNode, orders_of};
+ghost use Rattle.moka_maintenance.specs.Held.{IsAtHand, IsEntering, IsRemoving, IsScanning, LooksAt, candidate_of, first_seen, first_tickets, maintenance_of, next_id_if, outcome_of, removal_plan, scan_plan, stage_of_removal, tally_of, work_of};
+
+use crate::maintenance::Need;
+use crate::maintenance::fronts::{send_absent_back, send_back};
+use crate::maintenance::place::{Candidate, Removal, Scan, Stage, Tally, Work};
+use crate::maintenance::state::State;
+use crate::maintenance::writes::writes_or_on;
+use moka_deque::deque::NodeId;
+use moka_engine::constants::MAX_ABSENT;
+use moka_engine::entry::{Entry, EntryChange};
+use moka_engine::settings::Settings;
+use moka_engine::ticket::Ticket;
+use std::alloc::{Allocator, Global};
+
+impl Tally {
+    /// Whether what was found decides: the present ones weigh enough, or are used more, or too many in a row were absent.
+    fn decides(&self, candidate: &Candidate) -> bool
+        ensures { result ≡ is_decided (candidate_of candidate.now) (tally_of self.now) }
+    {
+        u64::from(candidate.weight) <= self.weight
+            || u32::from(candidate.estimate) < self.estimate
+            || MAX_ABSENT <= self.absent
+    }
+
+    /// Whether the candidate is admitted: the present ones weigh enough, and it is used more than all of them together.
+    pub(crate) fn admits(&self, candidate: &Candidate) -> bool
+        ensures { result ≡ is_admitted (candidate_of candidate.now) (tally_of self.now) }
+    {
+        u64::from(candidate.weight) <= self.weight && self.estimate < u32::from(candidate.estimate)
+    }
+}
+
+impl Scan {
+    /// The node that it looks at next: none where it has ended.
+    pub(crate) fn next_seen(&self) -> Option<NodeId>
+        ensures { result ≡ next_id_if (is_decided (candidate_of self.now.candidate) (tally_of self.now.tally)) self.now.next }
+    {
+        if self.tally.decides(&self.candidate) {
+            return None;
+        }
+        self.next
+    }
+}
+
+/// The stage where victims are left, or none.
+fn removing_or_enter(work: Work, removal: Removal) -> Stage
+    ensures { result ≡ stage_of_removal work removal }
+{
+    if removal.left == 0 {
+        return Stage::Enter {
+            work,
+            candidate: removal.candidate,
+            skipped: removal.skipped,
+        };
+    }
+    Stage::Removing { work, removal }
+}
+
+impl<A: Allocator + Clone + Drop> State<A> {
+    /// A scan that hasn't ended looks at the next node.
+    pub(crate) fn see<K: Drop, V: Drop>(
+        &mut self,
+        work: Work,
+        scan: Scan,
+        id: NodeId,
+        found: Option<&Entry<K, V, A>>,
+    )
+        requires round { work.round ≤ MAX_ROUNDS }
+        requires scanning { IsScanning self.old.orders scan }
+        requires next { next_id_if (is_decided (candidate_of scan.candidate) (tally_of scan.tally)) scan.next ≡ Some id }
+        ensures step { AtNode self.old.orders id (λ n. outcome_of EntryChange.Stays self.new
+            ≡ after_seeing (work_of work) (candidate_of scan.candidate) (tally_of scan.tally) (first_seen scan.seen self.old.orders.nodes)
+            n.ticket (maintenance_of self.old) (option_copied found.entry)) }
+        ensures holds { IsAtHand self.new.orders self.new.stage }
+    {
+        // There are fewer nodes than 2^64.
+        let _ = self.orders.len();
+        let ticket = self.orders.get(id).ticket;
+        let tally = self.with_found(scan.tally, ticket, found);
+        let next = self.orders.next(id);
+        self.orders.mark(id, found.is_some());
+        self.stage = Stage::Scanning {
+            work,
+            scan: Scan {
+                candidate: scan.candidate,
+                tally,
+                seen: scan.seen + 1,
+                next,
+            },
+        };
+    }
+
+    /// What a scan has found once it has looked at one more entry.
+    fn with_found<K: Drop, V: Drop>(
+        &self,
+        tally: Tally,
+        ticket: Ticket,
+        found: Option<&Entry<K, V, A>>,
+    ) -> Tally
+        requires small { (tally.weight < 2 ^ 32) × (tally.estimate < 2 ^ 8) × (tally.absent < MAX_ABSENT) }
+        ensures { tally_of result ≡ after_finding self.now.sketch ticket (tally_of tally) (option_copied found.entry) }
+    {
+        let Some(entry) = found else {
+            return Tally {
+                weight: tally.weight,
+                estimate: tally.estimate,
+                absent: tally.absent + 1,
+            };
+        };
+        Tally {
+            weight: tally.weight + u64::from(entry.weight()),
+            estimate: tally.estimate + u32::from(self.sketch.frequency(ticket.hash)),
+            absent: 0,
+        }
+    }
+
+    /// The candidate is rejected: its entry leaves, and the nodes that were absent go to the back.
+    pub(crate) fn reject<K: Drop, V: Drop>(
+        &mut self,
+        work: Work,
+        scan: Scan,
+        found: Option<&Entry<K, V, A>>,
+    ) -> EntryChange
+        requires round { work.round ≤ MAX_ROUNDS }
+        requires scanning { IsScanning self.old.orders scan }
+        ensures step { outcome_of result self.new
+            ≡ after_rejection (work_of work) (first_seen scan.seen self.old.orders.nodes) (maintenance_of self.old) (option_copied found.entry) }
+        ensures holds { IsAtHand self.new.orders self.new.stage }
+    {
+        let _ = found;
+        send_absent_back(&mut self.orders, scan.seen);
+        self.stage = writes_or_on(work);
+        EntryChange::Leaves
+    }
+
+    /// The candidate is admitted: what was seen is to be removed.
+    pub(crate) fn admit(&mut self, work: Work, scan: Scan)
+        requires round { work.round ≤ MAX_ROUNDS }
+        requires scanning { IsScanning self.old.orders scan }
+        ensures step { maintenance_of self.new ≡ gone_to (removing_or_enter (work_of work) (candidate_of scan.candidate) (tally_of scan.tally) []
+            (first_seen scan.seen self.old.orders.nodes)) (maintenance_of self.old) }
+        ensures holds { IsAtHand self.new.orders self.new.stage }
+    {
+        self.stage = removing_or_enter(
+            work,
+            Removal {
+                candidate: scan.candidate,
+                tally: scan.tally,
+                skipped: 0,
+                left: scan.seen,
+                next: self.orders.front(),
+            },
+        );
+    }
+
+    /// The next node stays, as its entry was absent or has left since.
+    pub(crate) fn skip(&mut self, work: Work, removal: Removal, id: NodeId)
+        requires round { work.round ≤ MAX_ROUNDS }
+        requires removing { IsRemoving self.old.orders removal }
+        requires left { 0 < removal.left }
+        requires next { removal.next ≡ Some id }
+        ensures step { AtNode self.old.orders id (λ n. maintenance_of self.new
+            ≡ gone_to (removing_or_enter (work_of work) (candidate_of removal.candidate) (tally_of removal.tally)
+            (first_tickets removal.skipped self.old.orders.nodes ++ n.ticket ∷ [])
+            (drop 1 (first_seen removal.left (drop removal.skipped self.old.orders.nodes)))) (maintenance_of self.old)) }
+        ensures holds { IsAtHand self.new.orders self.new.stage }
+    {
+        // There are fewer nodes than 2^64.
+        let _ = self.orders.len();
+        self.stage = removing_or_enter(
+            work,
+            Removal {
+                candidate: removal.candidate,
+                tally: removal.tally,
+                skipped: removal.skipped + 1,
+                left: removal.left - 1,
+                next: self.orders.next(id),
+            },
+        );
+    }
+
+    /// The next node leaves with its entry.
+    fn remove_next(&mut self, work: Work, removal: Removal, id: NodeId)
+        requires round { work.round ≤ MAX_ROUNDS }
+        requires removing { IsRemoving self.old.orders removal }
+        requires left { 0 < removal.left }
+        requires next { removal.next ≡ Some id }
+        ensures step { AtNode self.old.orders id (λ n. maintenance_of self.new
+            ≡ moved_on (maintenance_of self.old) (without_node n.ticket (orders_of self.old.orders))
+            (removing_or_enter (work_of work) (candidate_of removal.candidate) (tally_of removal.tally)
+            (first_tickets removal.skipped self.old.orders.nodes)
+            (drop 1 (first_seen removal.left (drop removal.skipped self.old.orders.nodes))))) }
+        ensures holds { IsAtHand self.new.orders self.new.stage }
+    {
+        let _ = self.orders.len();
+        let next = self.orders.next(id);
+        self.orders.remove(id);
+        self.stage = removing_or_enter(
+            work,
+            Removal {
+                candidate: removal.candidate,
+                tally: removal.tally,
+                skipped: removal.skipped,
+                left: removal.left - 1,
+                next,
+            },
+        );
+    }
+
+    /// The turn of a victim: it leaves where it still stands, and else is skipped.
+    pub(crate) fn remove_victim<K: Drop, V: Drop>(
+        &mut self,
+        work: Work,
+        removal: Removal,
+        id: NodeId,
+        found: Option<&Entry<K, V, A>>,
+    ) -> EntryChange
+        requires round { work.round ≤ MAX_ROUNDS }
+        requires removing { IsRemoving self.old.orders removal }
+        requires left { 0 < removal.left }
+        requires next { removal.next ≡ Some id }
+        ensures step { AtNode self.old.orders id (λ n. outcome_of result self.new
+            ≡ after_victim (work_of work) (candidate_of removal.candidate) (tally_of removal.tally)
+            (first_tickets removal.skipped self.old.orders.nodes) (record { ticket = n.ticket; is_present = n.is_present })
+            (drop 1 (first_seen removal.left (drop removal.skipped self.old.orders.nodes))) (maintenance_of self.old) (option_copied found.entry)) }
+        ensures holds { IsAtHand self.new.orders self.new.stage }
+    {
+        if found.is_none() {
+            self.skip(work, removal, id);
+            return EntryChange::Stays;
+        }
+        self.remove_next(work, removal, id);
+        EntryChange::Leaves
+    }
+
+    /// The candidate enters with its weight now, if it still stands, and the skipped nodes go to the back.
+    pub(crate) fn enter<K: Drop, V: Drop, S: Drop>(
+        &mut self,
+        settings: &Settings<S, A>,
+        work: Work,
+        candidate: Candidate,
+        skipped: usize,
+        found: Option<&Entry<K, V, A>>,
+    ) -> EntryChange
+        requires round { work.round ≤ MAX_ROUNDS }
+        requires entering { IsEntering self.old.orders candidate skipped }
+        ensures step { outcome_of result self.new
+            ≡ after_entering (keeps_writes settings.now.policy) (work_of work) (candidate_of candidate)
+            (first_tickets skipped self.old.orders.nodes) (maintenance_of self.old) (option_copied found.entry) }
+        ensures holds { IsAtHand self.new.orders self.new.stage }
+    {
+        let Some(entry) = found else {
+            send_back(&mut self.orders, skipped);
+            self.stage = writes_or_on(work);
+            return EntryChange::Stays;
+        };
+        self.orders
+            .enter(candidate.ticket, entry.weight(), settings.limits());
+        send_back(&mut self.orders, skipped);
+        self.stage = writes_or_on(work);
+        EntryChange::UpsertDone
+    }
+
+    /// What a scan needs: the entry of the next node, or that of a candidate that is rejected.
+    pub(crate) fn need_of_scan<K: Drop, V: Drop>(&self, scan: Scan) -> Need
+        requires { IsScanning self.now.orders scan }
+        ensures { (work : Work) → need_named result ≡ need_of (scan_plan {K = K} {V = V} work scan self.now) }
+    {
+        // No id stands twice.
+        let _ = self.orders.len();
+        if let Some(id) = scan.next_seen() {
+            return Need::Entry(self.orders.get(id).ticket);
+        }
+        if scan.tally.admits(&scan.candidate) {
+            return Need::Nothing;
+        }
+        Need::Entry(scan.candidate.ticket)
+    }
+
+    /// The turn of a scan that needs an entry.
+    pub(crate) fn scan<K: Drop, V: Drop>(
+        &mut self,
+        work: Work,
+        scan: Scan,
+        found: Option<&Entry<K, V, A>>,
+    ) -> EntryChange
+        requires round { work.round ≤ MAX_ROUNDS }
+        requires scanning { IsScanning self.old.orders scan }
+        requires need { (t : Ticket) × (need_of (scan_plan {K = K} {V = V} work scan self.old) ≡ NeedsShard t) }
+        ensures step { LooksAt (scan_plan work scan self.old) (option_copied found.entry) result self.new }
+        ensures holds { IsAtHand self.new.orders self.new.stage }
+    {
+        // No id stands twice.
+        let _ = self.orders.len();
+        let Some(id) = scan.next_seen() else {
+            return self.reject(work, scan, found);
+        };
+        self.see(work, scan, id, found);
+        EntryChange::Stays
+    }
+
+    /// What the removals need: the entry of the next node, where it was present.
+    pub(crate) fn need_of_removal<K: Drop, V: Drop>(&self, removal: Removal) -> Need
+        requires left { 0 < removal.left }
+        requires removing { IsRemoving self.now.orders removal }
+        ensures { (work : Work) → need_named result ≡ need_of (removal_plan {K = K} {V = V} work removal self.now) }
+    {
+        // No id stands twice.
+        let _ = self.orders.len();
+        let Some(id) = removal.next else {
+            return Need::Nothing;
+        };
+        let node = self.orders.get(id);
+        if node.is_present {
+            return Need::Entry(node.ticket);
+        }
+        Need::Nothing
+    }
+
+    /// The turn of the removals where the next node was absent.
+    pub(crate) fn skip_absent<K: Drop, V: Drop>(&mut self, work: Work, removal: Removal)
+        requires round { work.round ≤ MAX_ROUNDS }
+        requires left { 0 < removal.left }
+        requires removing { IsRemoving self.old.orders removal }
+        requires need { need_of (removal_plan {K = K} {V = V} work removal self.old) ≡ NeedsNothing }
+        ensures step { removal_plan {K = K} {V = V} work removal self.old ≡ Alone (maintenance_of self.new) }
+        ensures holds { IsAtHand self.new.orders self.new.stage }
+    {
+        // No id stands twice.
+        let _ = self.orders.len();
+        if let Some(id) = removal.next {
+            self.skip(work, removal, id);
+        }
+    }
+
+    /// The turn of the removals where it was present.
+    pub(crate) fn remove<K: Drop, V: Drop>(
+        &mut self,
+        work: Work,
+        removal: Removal,
+        found: Option<&Entry<K, V, A>>,
+    ) -> EntryChange
+        requires round { work.round ≤ MAX_ROUNDS }
+        requires left { 0 < removal.left }
+        requires removing { IsRemoving self.old.orders removal }
+        requires need { (t : Ticket) × (need_of (removal_plan {K = K} {V = V} work removal self.old) ≡ NeedsShard t) }
+        ensures step { LooksAt (removal_plan work removal self.old) (option_copied found.entry) result self.new }
+        ensures holds { IsAtHand self.new.orders self.new.stage }
+    {
+        // No id stands twice.
+        let _ = self.orders.len();
+        let Some(id) = removal.next else {
+            return EntryChange::Stays;
+        };
+        self.remove_victim(work, removal, id, found)
+    }
+}

@@ -1,0 +1,61 @@
+// The turns that evict entries while more is charged than the limit.
+ghost use Rattle.std.specs.Prelude.{◌≡◌, ◌<◌, ◌+◌, Some, option_copied};
+ghost use Rattle.moka_engine.specs.declared.constants.TheConstants.{SYNC_BATCH_SIZE};
+ghost use Rattle.moka_engine.specs.Turn.Expiry.{after_eviction, eviction_front};
+ghost use Rattle.moka_orders.specs.OrdersState.{orders_of};
+ghost use Rattle.moka_maintenance.specs.Fronts.{front_of};
+ghost use Rattle.moka_maintenance.specs.Held.{IsAtHand, maintenance_of, outcome_of};
+
+use crate::maintenance::fronts::{front_ticket, remove_front, renew_front, use_front};
+use crate::maintenance::place::Stage;
+use crate::maintenance::state::State;
+use crate::maintenance::writes::is_within;
+use moka_engine::constants::SYNC_BATCH_SIZE;
+use moka_engine::entry::{Entry, EntryChange};
+use moka_engine::settings::Settings;
+use moka_engine::ticket::Ticket;
+use std::alloc::{Allocator, Global};
+
+impl<A: Allocator + Clone + Drop> State<A> {
+    /// The ticket at the front of the order of use, where there is a turn at it because more is charged than the limit.
+    pub(crate) fn eviction_front<S: Drop>(
+        &self,
+        settings: &Settings<S, A>,
+        turns: usize,
+    ) -> Option<Ticket>
+        ensures { result ≡ eviction_front settings.now turns (orders_of self.now.orders) }
+    {
+        let is_full = !is_within(settings.limits(), self.orders.charged_weight());
+        if is_full && turns < SYNC_BATCH_SIZE {
+            return front_ticket(&self.orders);
+        }
+        None
+    }
+
+    /// A turn of the eviction. An entry of which an upsert is outstanding isn't evicted: it is about to be used.
+    pub(crate) fn evict<K: Drop, V: Drop>(
+        &mut self,
+        turns: usize,
+        ticket: Ticket,
+        found: Option<&Entry<K, V, A>>,
+    ) -> EntryChange
+        requires front { front_of self.old.orders ≡ Some ticket }
+        requires below { turns < SYNC_BATCH_SIZE }
+        ensures step { outcome_of result self.new
+            ≡ after_eviction turns ticket (maintenance_of self.old) (option_copied found.entry) }
+        ensures holds { IsAtHand self.new.orders self.new.stage }
+    {
+        let _ = ticket;
+        self.stage = Stage::Evict { turns: turns + 1 };
+        let Some(entry) = found else {
+            use_front(&mut self.orders);
+            return EntryChange::Stays;
+        };
+        if entry.outstanding() > 0 {
+            renew_front(&mut self.orders);
+            return EntryChange::Stays;
+        }
+        remove_front(&mut self.orders);
+        EntryChange::Leaves
+    }
+}

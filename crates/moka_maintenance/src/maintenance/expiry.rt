@@ -1,0 +1,133 @@
+// The turns at the front of an order by which entries expire.
+ghost use Rattle.std.specs.Prelude.{◌≡◌, ◌+◌, Some, option_copied};
+ghost use Rattle.moka_engine.specs.Orders.{rewritten, used};
+ghost use Rattle.moka_engine.specs.Place.{Evict, ExpireAccess, ExpireWrite};
+ghost use Rattle.moka_engine.specs.Turn.Expiry.{access_front, after_front, is_out_of_use, is_outlived, write_front};
+ghost use Rattle.moka_orders.specs.OrdersState.{orders_of};
+ghost use Rattle.moka_maintenance.specs.Fronts.{front_of};
+ghost use Rattle.moka_maintenance.specs.Held.{IsAtHand, maintenance_of, outcome_of};
+
+use crate::maintenance::fronts::{front_ticket, remove_front, remove_ticket, use_front};
+use crate::maintenance::place::Stage;
+use crate::maintenance::state::State;
+use moka_base::time::Instant;
+use moka_engine::constants::SYNC_BATCH_SIZE;
+use moka_engine::entry::{Entry, EntryChange};
+use moka_engine::settings::Settings;
+use moka_engine::ticket::Ticket;
+use std::alloc::{Allocator, Global};
+
+/// Whether the last write of an entry is too long ago.
+fn is_outlived<K: Drop, V: Drop, S: Drop, A: Allocator + Drop>(
+    settings: &Settings<S, A>,
+    valid_after: Instant,
+    now: Instant,
+    entry: &Entry<K, V, A>,
+) -> bool
+    ensures { result ≡ is_outlived settings.now valid_after now entry.now }
+{
+    settings.limits().has_lived(entry.modified(), now) || entry.modified() < valid_after
+}
+
+/// Whether the last use of an entry is too long ago.
+fn is_out_of_use<K: Drop, V: Drop, S: Drop, A: Allocator + Drop>(
+    settings: &Settings<S, A>,
+    valid_after: Instant,
+    now: Instant,
+    entry: &Entry<K, V, A>,
+) -> bool
+    ensures { result ≡ is_out_of_use settings.now valid_after now entry.now }
+{
+    settings.limits().is_idle(entry.accessed(), now) || entry.accessed() < valid_after
+}
+
+impl<A: Allocator + Clone + Drop> State<A> {
+    /// The ticket at the front of the order of writing, where there is a turn at it.
+    pub(crate) fn write_front<S: Drop>(
+        &self,
+        settings: &Settings<S, A>,
+        turns: usize,
+    ) -> Option<Ticket>
+        ensures { result ≡ write_front settings.now turns (orders_of self.now.orders) }
+    {
+        if settings.limits().has_time_to_live() && turns < SYNC_BATCH_SIZE {
+            return self.orders.oldest();
+        }
+        None
+    }
+
+    /// The ticket at the front of the order of use, where there is a turn at it because of its use.
+    pub(crate) fn access_front<S: Drop>(
+        &self,
+        settings: &Settings<S, A>,
+        valid_after: Instant,
+        turns: usize,
+    ) -> Option<Ticket>
+        ensures { result ≡ access_front settings.now valid_after turns (orders_of self.now.orders) }
+    {
+        let is_limited = settings.limits().has_time_to_idle() || valid_after.nanos() > 0;
+        if is_limited && turns < SYNC_BATCH_SIZE {
+            return front_ticket(&self.orders);
+        }
+        None
+    }
+
+    /// A turn at the front of the order of writing.
+    pub(crate) fn expire_write<K: Drop, V: Drop, S: Drop>(
+        &mut self,
+        settings: &Settings<S, A>,
+        valid_after: Instant,
+        turns: usize,
+        ticket: Ticket,
+        found: Option<&Entry<K, V, A>>,
+    ) -> EntryChange
+        requires { write_front settings.now turns (orders_of self.old.orders) ≡ Some ticket }
+        ensures step { outcome_of result self.new
+            ≡ after_front (is_outlived settings.now valid_after self.old.moment) rewritten (ExpireWrite (turns + 1)) (ExpireAccess 0)
+            ticket (maintenance_of self.old) (option_copied found.entry) }
+        ensures holds { IsAtHand self.new.orders self.new.stage }
+    {
+        let Some(entry) = found else {
+            self.orders.rewrite_oldest();
+            self.stage = Stage::ExpireWrite { turns: turns + 1 };
+            return EntryChange::Stays;
+        };
+        if is_outlived(settings, valid_after, self.moment, entry) {
+            remove_ticket(&mut self.orders, ticket);
+            self.stage = Stage::ExpireWrite { turns: turns + 1 };
+            return EntryChange::Leaves;
+        }
+        self.stage = Stage::ExpireAccess { turns: 0 };
+        EntryChange::Stays
+    }
+
+    /// A turn at the front of the order of use.
+    pub(crate) fn expire_access<K: Drop, V: Drop, S: Drop>(
+        &mut self,
+        settings: &Settings<S, A>,
+        valid_after: Instant,
+        turns: usize,
+        ticket: Ticket,
+        found: Option<&Entry<K, V, A>>,
+    ) -> EntryChange
+        requires { access_front settings.now valid_after turns (orders_of self.old.orders) ≡ Some ticket }
+        ensures step { outcome_of result self.new
+            ≡ after_front (is_out_of_use settings.now valid_after self.old.moment) used (ExpireAccess (turns + 1)) (Evict 0)
+            ticket (maintenance_of self.old) (option_copied found.entry) }
+        ensures holds { IsAtHand self.new.orders self.new.stage }
+    {
+        let _ = ticket;
+        let Some(entry) = found else {
+            use_front(&mut self.orders);
+            self.stage = Stage::ExpireAccess { turns: turns + 1 };
+            return EntryChange::Stays;
+        };
+        if is_out_of_use(settings, valid_after, self.moment, entry) {
+            remove_front(&mut self.orders);
+            self.stage = Stage::ExpireAccess { turns: turns + 1 };
+            return EntryChange::Leaves;
+        }
+        self.stage = Stage::Evict { turns: 0 };
+        EntryChange::Stays
+    }
+}

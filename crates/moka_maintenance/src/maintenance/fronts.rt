@@ -1,0 +1,118 @@
+// Changes of the orders at a ticket, and at their fronts.
+ghost use Rattle.std.specs.Prelude.{◌≡◌, ◌≤◌, ◌<◌, length, IfSome, false, true};
+ghost use Rattle.moka_engine.specs.Orders.{all_used, renewed, used, without_node};
+ghost use Rattle.moka_engine.specs.Turn.Admission.{absent_of};
+ghost use Rattle.moka_deque.specs.Deque.{IsIn, moved_to_back, next_id};
+ghost use Rattle.moka_orders.specs.OrdersState.{AtNode, orders_of};
+ghost use Rattle.moka_maintenance.specs.Fronts.{IsSent, front_of};
+ghost use Rattle.moka_maintenance.specs.Held.{first_seen, first_tickets};
+
+use moka_deque::deque::NodeId;
+use moka_engine::ticket::Ticket;
+use moka_orders::orders::Orders;
+use std::alloc::{Allocator, Global};
+
+/// The ticket's node, if there is one, becomes the most recently used one.
+pub(crate) fn use_ticket<A: Allocator + Clone + Drop>(orders: &mut Orders<A>, ticket: Ticket)
+    ensures { orders_of orders.new ≡ used ticket (orders_of orders.old) }
+{
+    if let Some(id) = orders.find(ticket) {
+        orders.use_node(id);
+    }
+}
+
+/// The ticket's node leaves, if there is one.
+pub(crate) fn remove_ticket<A: Allocator + Clone + Drop>(orders: &mut Orders<A>, ticket: Ticket)
+    ensures { orders_of orders.new ≡ without_node ticket (orders_of orders.old) }
+{
+    if let Some(id) = orders.find(ticket) {
+        orders.remove(id);
+    }
+}
+
+/// The ticket of the least recently used node.
+pub(crate) fn front_ticket<A: Allocator + Clone + Drop>(orders: &Orders<A>) -> Option<Ticket>
+    ensures { result ≡ front_of orders.now }
+{
+    let id = orders.front()?;
+    Some(orders.get(id).ticket)
+}
+
+/// The least recently used node becomes the most recently used one.
+pub(crate) fn use_front<A: Allocator + Clone + Drop>(orders: &mut Orders<A>)
+    ensures { IfSome (front_of orders.old) (λ t. orders_of orders.new ≡ used t (orders_of orders.old)) }
+{
+    if let Some(id) = orders.front() {
+        orders.use_node(id);
+    }
+}
+
+/// It becomes the most recent one in both orders.
+pub(crate) fn renew_front<A: Allocator + Clone + Drop>(orders: &mut Orders<A>)
+    ensures { IfSome (front_of orders.old) (λ t. orders_of orders.new ≡ renewed t (orders_of orders.old)) }
+{
+    if let Some(id) = orders.front() {
+        orders.renew(id);
+    }
+}
+
+/// It leaves.
+pub(crate) fn remove_front<A: Allocator + Clone + Drop>(orders: &mut Orders<A>)
+    ensures { IfSome (front_of orders.old) (λ t. orders_of orders.new ≡ without_node t (orders_of orders.old)) }
+{
+    if let Some(id) = orders.front() {
+        orders.remove(id);
+    }
+}
+
+/// The least recently used node, of which there is one, goes to the back.
+fn send_front<A: Allocator + Clone + Drop>(orders: &mut Orders<A>)
+    requires { 0 < length orders.old.nodes }
+    ensures { IsSent orders.old orders.new }
+{
+    if let Some(id) = orders.front() {
+        orders.use_node(id);
+    }
+}
+
+/// So many nodes go from the front to the back, one after another.
+pub(crate) fn send_back<A: Allocator + Clone + Drop>(orders: &mut Orders<A>, count: usize)
+    requires { count ≤ length orders.old.nodes }
+    ensures { orders_of orders.new ≡ all_used (first_tickets count orders.old.nodes) (orders_of orders.old) }
+{
+    'send: for _ in 0..count {
+        send_front(orders);
+    }
+}
+
+/// A node that a scan has marked as absent goes to the back. Which node stood behind it.
+fn send_if_absent<A: Allocator + Clone + Drop>(orders: &mut Orders<A>, id: NodeId) -> Option<NodeId>
+    requires { IsIn orders.old.nodes id }
+    ensures next { result ≡ next_id id orders.old.nodes }
+    ensures stays { AtNode orders.old id (λ n. n.is_present ≡ true → orders.new ≡ orders.old) }
+    ensures moved { AtNode orders.old id (λ n. n.is_present ≡ false → orders.new.nodes ≡ moved_to_back id orders.old.nodes) }
+    ensures sends { AtNode orders.old id (λ n. n.is_present ≡ false → orders_of orders.new ≡ used n.ticket (orders_of orders.old)) }
+{
+    let next = orders.next(id);
+    let is_present = orders.get(id).is_present;
+    if !is_present {
+        orders.use_node(id);
+    }
+    next
+}
+
+/// Of so many nodes from the front on, those that a scan has marked as absent go to the back, one after another.
+pub(crate) fn send_absent_back<A: Allocator + Clone + Drop>(orders: &mut Orders<A>, count: usize)
+    requires { count ≤ length orders.old.nodes }
+    ensures { orders_of orders.new ≡ all_used (absent_of (first_seen count orders.old.nodes)) (orders_of orders.old) }
+{
+    // No id stands twice.
+    let _ = orders.len();
+    let mut here = orders.front();
+    'send: for _ in 0..count {
+        let Some(id) = here else {
+            return;
+        };
+        here = send_if_absent(orders, id);
+    }
+}

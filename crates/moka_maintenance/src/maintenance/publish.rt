@@ -1,0 +1,33 @@
+// The end of a maintenance: the counts are published.
+ghost use Rattle.std.specs.Prelude.{◌≡◌};
+ghost use Rattle.moka_engine.specs.Place.{Idle};
+ghost use Rattle.moka_engine.specs.Turn.Turn.{next_published};
+ghost use Rattle.moka_maintenance.specs.Held.{IsAtHand, maintenance_of};
+
+use crate::maintenance::place::Stage;
+use crate::maintenance::state::State;
+use std::alloc::{Allocator, Global};
+
+/// What a maintenance has published last: how often one has, and the count and the weight that were charged then, as far as 64 bits tell.
+#[derive(Clone, Copy, Debug, PartialEq, Eq)]
+pub struct Published {
+    pub number: u64,
+    pub count: usize,
+    pub weight: u64,
+}
+
+impl<A: Allocator + Clone + Drop> State<A> {
+    /// The counts are published, and the maintenance ends.
+    pub(crate) fn publish(&mut self)
+        ensures step { maintenance_of self.new
+            ≡ record (maintenance_of self.old) { place = Idle; published = next_published (maintenance_of self.old) } }
+        ensures holds { IsAtHand self.new.orders self.new.stage }
+    {
+        self.published = Published {
+            number: self.published.number.saturating_add(1),
+            count: self.orders.len(),
+            weight: u64::try_from(self.orders.charged_weight()).unwrap_or(u64::MAX),
+        };
+        self.stage = Stage::Idle;
+    }
+}

@@ -1,0 +1,103 @@
+// The turns that take and apply reads.
+ghost use Rattle.std.specs.Prelude.{◌≡◌, ◌≤◌};
+ghost use Rattle.moka_engine.specs.declared.constants.TheConstants.{MAX_ROUNDS};
+ghost use Rattle.moka_engine.specs.Orders.{used};
+ghost use Rattle.moka_engine.specs.Turn.Plan.{gone_to, moved_on, reads_or_on};
+ghost use Rattle.moka_engine.specs.Turn.Apply.{after_miss};
+ghost use Rattle.moka_engine.specs.Turn.Turn.{after_more_reads, after_read_taken};
+ghost use Rattle.moka_orders.specs.OrdersState.{orders_of};
+ghost use Rattle.moka_maintenance.specs.Held.{IsAtHand, IsPlain, maintenance_of, work_of};
+
+use crate::logs::ReadLog;
+use crate::maintenance::fronts::use_ticket;
+use crate::maintenance::place::{Stage, Work};
+use crate::maintenance::state::State;
+use moka_engine::constants::{FLUSH_POINT, MAX_ROUNDS};
+use moka_engine::ticket::Ticket;
+use std::alloc::{Allocator, Global};
+
+/// The stage after an operation, where so many reads are left.
+fn reads_or_on(work: Work) -> Stage
+    requires { work.round ≤ MAX_ROUNDS }
+    ensures { IsPlain result (reads_or_on (work_of work)) }
+{
+    if work.left == 0 {
+        return Stage::WriteCount { round: work.round };
+    }
+    Stage::Reads { work }
+}
+
+/// The stage once the read log was looked at behind a round.
+fn after_more_reads(round: usize, len: usize) -> Stage
+    requires { round ≤ MAX_ROUNDS }
+    ensures { IsPlain result (after_more_reads round len) }
+{
+    if round == MAX_ROUNDS {
+        return Stage::ExpireWrite { turns: 0 };
+    }
+    if len >= FLUSH_POINT {
+        return Stage::ReadCount { round: round + 1 };
+    }
+    Stage::MoreWrites { round }
+}
+
+impl<A: Allocator + Clone + Drop> State<A> {
+    /// As many reads are applied in this round as the log has.
+    pub(crate) fn count_reads(&mut self, round: usize, len: usize)
+        requires { round ≤ MAX_ROUNDS }
+        ensures step { maintenance_of self.new
+            ≡ gone_to (reads_or_on (record { round = round; left = len })) (maintenance_of self.old) }
+        ensures holds { IsAtHand self.new.orders self.new.stage }
+    {
+        self.stage = reads_or_on(Work { round, left: len });
+    }
+
+    /// The first read leaves the log.
+    pub(crate) fn take_read(&mut self, work: Work, log: &mut ReadLog<A>)
+        requires round { work.round ≤ MAX_ROUNDS }
+        requires holds { IsAtHand self.old.orders self.old.stage }
+        ensures step { (maintenance_of self.new, log.new) ≡ after_read_taken (work_of work) (maintenance_of self.old) log.old }
+        ensures holds { IsAtHand self.new.orders self.new.stage }
+    {
+        if let Some(read) = log.pop() {
+            let left = work.left.saturating_sub(1);
+            self.stage = Stage::ReadApply {
+                work: Work {
+                    round: work.round,
+                    left,
+                },
+                read,
+            };
+        }
+    }
+
+    /// Many reads make another round.
+    pub(crate) fn look_for_reads(&mut self, round: usize, len: usize)
+        requires { round ≤ MAX_ROUNDS }
+        ensures step { maintenance_of self.new ≡ gone_to (after_more_reads round len) (maintenance_of self.old) }
+        ensures holds { IsAtHand self.new.orders self.new.stage }
+    {
+        self.stage = after_more_reads(round, len);
+    }
+
+    /// A miss: its hash is counted.
+    pub(crate) fn apply_miss(&mut self, work: Work, hash: u64)
+        requires { work.round ≤ MAX_ROUNDS }
+        ensures step { maintenance_of self.new ≡ after_miss (work_of work) hash (maintenance_of self.old) }
+        ensures holds { IsAtHand self.new.orders self.new.stage }
+    {
+        self.sketch.increment(hash);
+        self.stage = reads_or_on(work);
+    }
+
+    /// A hit: its hash is counted, and its node becomes the most recently used one.
+    pub(crate) fn apply_hit(&mut self, work: Work, ticket: Ticket)
+        requires { work.round ≤ MAX_ROUNDS }
+        ensures step { maintenance_of self.new ≡ moved_on (after_miss (work_of work) ticket.hash (maintenance_of self.old))
+            (used ticket (orders_of self.old.orders)) (reads_or_on (work_of work)) }
+        ensures holds { IsAtHand self.new.orders self.new.stage }
+    {
+        use_ticket(&mut self.orders, ticket);
+        self.apply_miss(work, ticket.hash);
+    }
+}

@@ -1,0 +1,67 @@
+// What lies behind the lock of the maintenance, in parts.
+ghost use Rattle.std.specs.Prelude.{◌≡◌, ◌↔◌, IsTrue};
+ghost use Rattle.moka_engine.specs.CoreState.{new_maintenance};
+ghost use Rattle.moka_maintenance.specs.Held.{maintenance_of};
+
+use crate::maintenance::place::Stage;
+use crate::maintenance::publish::Published;
+use moka_base::time::Instant;
+use moka_orders::orders::Orders;
+use moka_sketch::frequency_sketch::FrequencySketch;
+use std::alloc::{Allocator, Global};
+use std::marker::Model;
+
+/// The parts of a maintenance, and where it is. The files of this folder have its turns, one a phase.
+#[derive(Drop)]
+pub(crate) struct State<A: Allocator + Clone + Drop = Global> {
+    pub(crate) orders: Orders<A>,
+    pub(crate) sketch: FrequencySketch<A>,
+    pub(crate) stage: Stage,
+    /// The moment at which it began last.
+    pub(crate) moment: Instant,
+    pub(crate) published: Published,
+}
+
+impl<A: Allocator + Clone + Drop> Model for State<A> {
+    ghost use Rattle.moka_maintenance.specs.Held.{Held};
+    ghost use Rattle.moka_maintenance.specs.Published.{published_of};
+
+    ghost Value = { Held };
+
+    ghost view = { λ s. record {
+      orders = s.orders;
+      sketch = s.sketch;
+      stage = s.stage;
+      moment = s.moment;
+      published = published_of s.published;
+    } };
+}
+
+impl<A: Allocator + Clone + Drop> State<A> {
+    /// Whether it is as it is built.
+    pub(crate) fn is_new(&self) -> bool
+        ensures { IsTrue result ↔ (maintenance_of self.now ≡ new_maintenance) }
+    {
+        let unpublished = Published {
+            number: 0,
+            count: 0,
+            weight: 0,
+        };
+        if self.published != unpublished {
+            return false;
+        }
+        if self.moment.nanos() > 0 {
+            return false;
+        }
+        if self.sketch.table_len() > 0 {
+            return false;
+        }
+        if self.orders.len() > 0 {
+            return false;
+        }
+        if self.orders.oldest().is_some() {
+            return false;
+        }
+        matches!(self.stage, Stage::Idle)
+    }
+}

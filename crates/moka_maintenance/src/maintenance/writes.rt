@@ -1,0 +1,217 @@
+// The turns that take and apply writes.
+ghost use Rattle.std.specs.Prelude.{◌≡◌, ◌≤◌, ◌<◌, Bool, None, Some, false, option_copied};
+ghost use Rattle.moka_base.specs.Admission.{is_within};
+ghost use Rattle.moka_engine.specs.declared.constants.TheConstants.{MAX_ROUNDS};
+ghost use Rattle.moka_engine.specs.Orders.{charge_of};
+ghost use Rattle.moka_engine.specs.Turn.Plan.{gone_to, writes_or_on};
+ghost use Rattle.moka_engine.specs.Turn.Apply.{after_first_upsert, after_removal, after_upsert};
+ghost use Rattle.moka_engine.specs.Parts.{NeedsShard, need_of};
+ghost use Rattle.moka_engine.specs.Turn.Turn.{after_more_writes, after_write_taken, write_turn};
+ghost use Rattle.moka_orders.specs.OrdersState.{orders_of};
+ghost use Rattle.moka_maintenance.specs.Held.{IsAtHand, IsPlain, LooksAt, maintenance_of, outcome_of, scan_begun, work_of};
+
+use crate::logs::WriteLog;
+use crate::maintenance::fronts::remove_ticket;
+use crate::maintenance::place::{Candidate, Scan, Stage, Tally, Work};
+use crate::maintenance::state::State;
+use moka_base::limits::Limits;
+use moka_base::time::Instant;
+use moka_engine::constants::{FLUSH_POINT, MAX_ROUNDS};
+use moka_engine::entry::{Entry, EntryChange};
+use moka_engine::operation::Write;
+use moka_engine::settings::Settings;
+use moka_engine::ticket::Ticket;
+use std::alloc::{Allocator, Global};
+
+/// The stage after an operation, where so many writes are left.
+pub(crate) fn writes_or_on(work: Work) -> Stage
+    requires { work.round ≤ MAX_ROUNDS }
+    ensures { IsPlain result (writes_or_on (work_of work)) }
+{
+    if work.left == 0 {
+        return Stage::Sketch { round: work.round };
+    }
+    Stage::Writes { work }
+}
+
+/// The stage once the write log was looked at behind a round that isn't the last.
+fn after_more_writes(round: usize, len: usize) -> Stage
+    requires { round < MAX_ROUNDS }
+    ensures { IsPlain result (after_more_writes round len) }
+{
+    if len >= FLUSH_POINT {
+        return Stage::ReadCount { round: round + 1 };
+    }
+    Stage::ExpireWrite { turns: 0 }
+}
+
+/// Whether a weight is within the limit, where there is one.
+pub(crate) fn is_within(limits: &Limits, weight: u128) -> bool
+    ensures { result ≡ is_within limits.now.max_capacity weight }
+{
+    match limits.max_capacity() {
+        Some(limit) => weight <= u128::from(limit),
+        None => true,
+    }
+}
+
+impl<A: Allocator + Clone + Drop> State<A> {
+    /// As many writes are applied in this round as the log has.
+    pub(crate) fn count_writes(&mut self, round: usize, len: usize)
+        requires { round ≤ MAX_ROUNDS }
+        ensures step { maintenance_of self.new
+            ≡ gone_to (writes_or_on (record { round = round; left = len })) (maintenance_of self.old) }
+        ensures holds { IsAtHand self.new.orders self.new.stage }
+    {
+        self.stage = writes_or_on(Work { round, left: len });
+    }
+
+    /// The first write leaves the log.
+    pub(crate) fn take_write(&mut self, work: Work, log: &mut WriteLog<A>)
+        requires round { work.round ≤ MAX_ROUNDS }
+        requires holds { IsAtHand self.old.orders self.old.stage }
+        ensures step { (maintenance_of self.new, log.new) ≡ after_write_taken (work_of work) (maintenance_of self.old) log.old }
+        ensures holds { IsAtHand self.new.orders self.new.stage }
+    {
+        if let Some(write) = log.pop() {
+            let left = work.left.saturating_sub(1);
+            self.stage = Stage::Apply {
+                work: Work {
+                    round: work.round,
+                    left,
+                },
+                write,
+            };
+        }
+    }
+
+    /// Many writes make another round.
+    pub(crate) fn look_for_writes(&mut self, round: usize, len: usize)
+        requires { round < MAX_ROUNDS }
+        ensures step { maintenance_of self.new ≡ gone_to (after_more_writes round len) (maintenance_of self.old) }
+        ensures holds { IsAtHand self.new.orders self.new.stage }
+    {
+        self.stage = after_more_writes(round, len);
+    }
+
+    /// A removal: the ticket's node leaves.
+    pub(crate) fn apply_removal(&mut self, work: Work, ticket: Ticket)
+        requires { work.round ≤ MAX_ROUNDS }
+        ensures step { maintenance_of self.new ≡ after_removal (work_of work) ticket (maintenance_of self.old) }
+        ensures holds { IsAtHand self.new.orders self.new.stage }
+    {
+        remove_ticket(&mut self.orders, ticket);
+        self.stage = writes_or_on(work);
+    }
+
+    /// An upsert: it is dropped where its entry has left, and sets the charge where there is one.
+    pub(crate) fn apply_upsert<K: Drop, V: Drop, S: Drop>(
+        &mut self,
+        settings: &Settings<S, A>,
+        work: Work,
+        ticket: Ticket,
+        found: Option<&Entry<K, V, A>>,
+    ) -> EntryChange
+        requires { work.round ≤ MAX_ROUNDS }
+        ensures step { (refused : Bool) × (outcome_of result self.new
+            ≡ after_upsert settings.now refused (work_of work) ticket (maintenance_of self.old) (option_copied found.entry)) }
+        ensures holds { IsAtHand self.new.orders self.new.stage }
+    {
+        let Some(entry) = found else {
+            self.stage = writes_or_on(work);
+            return EntryChange::Stays;
+        };
+        let Some(id) = self.orders.find(ticket) else {
+            return self.apply_first_upsert(settings, work, ticket, entry);
+        };
+        self.orders.recharge(id, entry.weight());
+        self.orders.renew(id);
+        self.stage = writes_or_on(work);
+        EntryChange::UpsertDone
+    }
+
+    /// The turn of a write that needs an entry.
+    pub(crate) fn apply_write<K: Drop, V: Drop, S: Drop>(
+        &mut self,
+        settings: &Settings<S, A>,
+        valid_after: Instant,
+        work: Work,
+        write: Write,
+        found: Option<&Entry<K, V, A>>,
+    ) -> EntryChange
+        requires round { work.round ≤ MAX_ROUNDS }
+        requires need { (t : Ticket)
+            × (need_of (write_turn {K = K} {V = V} settings.now valid_after false (work_of work) write (maintenance_of self.old)) ≡ NeedsShard t) }
+        ensures step { (refused : Bool)
+            × LooksAt (write_turn settings.now valid_after refused (work_of work) write (maintenance_of self.old))
+            (option_copied found.entry) result self.new }
+        ensures holds { IsAtHand self.new.orders self.new.stage }
+    {
+        let _ = valid_after;
+        match write {
+            Write::Upsert { ticket } => self.apply_upsert(settings, work, ticket, found),
+            Write::Remove { .. } => EntryChange::Stays,
+        }
+    }
+
+    /// The upsert of an entry that isn't charged. Room for its node is made before its admission is asked.
+    fn apply_first_upsert<K: Drop, V: Drop, S: Drop>(
+        &mut self,
+        settings: &Settings<S, A>,
+        work: Work,
+        ticket: Ticket,
+        entry: &Entry<K, V, A>,
+    ) -> EntryChange
+        requires round { work.round ≤ MAX_ROUNDS }
+        requires absent { charge_of ticket (orders_of self.old.orders) ≡ None }
+        ensures step { (refused : Bool) × (outcome_of result self.new
+            ≡ after_first_upsert settings.now refused (work_of work) ticket entry.now (maintenance_of self.old)) }
+        ensures holds { IsAtHand self.new.orders self.new.stage }
+    {
+        let weight = entry.weight();
+        if self.orders.reserve(settings.limits()).is_err() {
+            self.stage = writes_or_on(work);
+            return EntryChange::Leaves;
+        }
+        let charged = self.orders.charged_weight() + u128::from(weight);
+        if is_within(settings.limits(), charged) {
+            self.orders.enter(ticket, weight, settings.limits());
+            self.stage = writes_or_on(work);
+            return EntryChange::UpsertDone;
+        }
+        if is_within(settings.limits(), u128::from(weight)) {
+            self.begin_scan(work, ticket, weight);
+            return EntryChange::Stays;
+        }
+        self.stage = writes_or_on(work);
+        EntryChange::Leaves
+    }
+
+    /// A scan decides: it has looked at no node yet.
+    fn begin_scan(&mut self, work: Work, ticket: Ticket, weight: u32)
+        requires round { work.round ≤ MAX_ROUNDS }
+        requires room { 0 < self.old.orders.room }
+        requires absent { charge_of ticket (orders_of self.old.orders) ≡ None }
+        ensures step { maintenance_of self.new
+            ≡ gone_to (scan_begun (work_of work) ticket weight self.old.sketch) (maintenance_of self.old) }
+        ensures holds { IsAtHand self.new.orders self.new.stage }
+    {
+        self.stage = Stage::Scanning {
+            work,
+            scan: Scan {
+                candidate: Candidate {
+                    ticket,
+                    weight,
+                    estimate: self.sketch.frequency(ticket.hash),
+                },
+                tally: Tally {
+                    weight: 0,
+                    estimate: 0,
+                    absent: 0,
+                },
+                seen: 0,
+                next: self.orders.front(),
+            },
+        };
+    }
+}

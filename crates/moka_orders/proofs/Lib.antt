@@ -1,0 +1,6 @@
+pub mod NodeLemmas
+pub mod TicketsLemmas
+pub mod KeptLemmas
+pub mod IndexLemmas
+pub mod RoomLemmas
+pub mod ChangeLemmas

@@ -1,0 +1,39 @@
+use Rattle.std.proofs.Common.{◌≡◌, ◌∙◌, Some, subst, sym}
+use Rattle.std.specs.Map.{values_of}
+use Rattle.moka_engine.proofs.TicketLemmas.{same_is}
+use Rattle.moka_engine.specs.Orders.{charge_of}
+use Rattle.moka_orders.specs.OrdersState.{orders_of}
+use Rattle.moka_orders.proofs.KeptLemmas.{charge_found}
+use Rattle.moka_orders.proofs.IndexLemmas.{none_ahead, IsAhead}
+use Rattle.moka_orders.proofs.orders.Orders.find.Goals as goal
+
+pub returns-then-eq-clause-found : goal.returns-then-eq-clause-found
+returns-then-eq-clause-found g c =
+    let node = c.get.result.now in
+    let is : node.ticket ≡ c.args.ticket = same_is node.ticket c.args.ticket (sym c.eq.ensures ∙ c.if-eq.true) in
+    let items = c.self.inside.access.items in
+    rw (← c.self.view_is) (record {
+      node = node;
+      stands = c.get.ensures;
+      of_ticket = is;
+      charge =
+          subst (λ t.
+          charge_of t (record { access = Rattle.moka_orders.specs.OrdersState.access_of items; write = values_of c.self.inside.writes.items })
+          ≡ Some node.charge) is
+          (charge_found c.self.invariant.0 c.from_number-id.result node c.get.ensures (values_of c.self.inside.writes.items));
+    })
+
+pub returns-clause-absent : goal.returns-clause-absent
+returns-clause-absent g c =
+    rw (← c.self.view_is)
+    (λ _. none_ahead c.args.ticket c.self.inside.access.items c.self.invariant.0.once
+    (subst (IsAhead c.args.ticket c.self.inside.access.items) c.in-None.ensures.steps.0 c.loop-number.invariant.2)
+    (values_of c.self.inside.writes.items))
+
+pub returns-clause-unwritten : goal.returns-clause-unwritten
+returns-clause-unwritten g c =
+    rw (← c.self.view_is)
+    (λ _. Rattle.moka_orders.proofs.KeptLemmas.ticket_unwritten c.self.invariant.0 c.args.ticket (values_of c.self.inside.writes.items)
+    (none_ahead c.args.ticket c.self.inside.access.items c.self.invariant.0.once
+    (subst (IsAhead c.args.ticket c.self.inside.access.items) c.in-None.ensures.steps.0 c.loop-number.invariant.2)
+    (values_of c.self.inside.writes.items)))

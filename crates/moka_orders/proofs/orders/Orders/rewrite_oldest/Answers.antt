@@ -1,0 +1,14 @@
+use Rattle.moka_orders.proofs.ChangeLemmas.{node_in, seen, moved_indexed, moved_is, moved_orders, set_is, recharged_orders, marked_orders, rewritten_orders, removed_orders, set_indexed, write_in, rewritten_kept, entered_orders, values-push, front_items}
+use Rattle.moka_orders.proofs.KeptLemmas.{IsKept-oldest}
+use Rattle.moka_orders.proofs.orders.Orders.rewrite_oldest.Goals as goal
+
+pub invariant_of-self : goal.invariant_of-self
+invariant_of-self g c =
+    let old = c.self.inside in
+    rw (c.move_front_to_back.ensures, front_items old.writes) (IsKept-oldest c.self.invariant.0, c.self.invariant.1)
+
+pub returns-clause-orders : goal.returns-clause-orders
+returns-clause-orders g c =
+    let old = c.self.inside in
+    rw (← c.self.view_is, c.move_front_to_back.ensures)
+    (Rattle.moka_orders.proofs.ChangeLemmas.oldest_orders old.writes c.self.invariant.0)

@@ -1,0 +1,4 @@
+pub mod OrdersState
+-- inside
+pub mod Kept
+pub mod Indexed

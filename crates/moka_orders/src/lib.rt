@@ -1,0 +1,4 @@
+//! What the cache that threads share charges for its entries, in order of use and in order of writing.
+#![tactic(auto)]
+
+pub mod orders;

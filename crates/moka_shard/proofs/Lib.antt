@@ -1,0 +1,3 @@
+pub mod SlotListLemmas
+pub mod SlotLemmas
+pub mod PairLemmas

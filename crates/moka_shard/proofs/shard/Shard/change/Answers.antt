@@ -1,0 +1,57 @@
+use Rattle.std.proofs.Common.{ap, refl, set, Some, sym}
+use Rattle.moka_engine.specs.Entry.{touched, with_upsert_done}
+use Rattle.moka_engine.specs.Turn.Plan.{Becomes}
+use Rattle.moka_shard.specs.Shard.{state_of}
+use Rattle.moka_shard.proofs.SlotLemmas.{change_at, changed-is, leaves, nothing_changes, rewritten}
+use Rattle.moka_shard.proofs.shard.Shard.change.Goals as goal
+
+pub returns-in_default : goal.returns-in_default
+returns-in_default g c =
+    rw c.in_default.is
+    (record {
+      step = λ t found. ap (λ es. record (state_of c.args.self.now) { entries = es }) (sym (nothing_changes t _ _ (sym found)));
+    })
+
+pub invariant_of-self : goal.invariant_of-self
+invariant_of-self g c =
+    rw c.touch.ensures (rewritten _ c.self.invariant c.in-Some.slot c.index_mut.result.now c.index_mut.ensures.value _ refl refl)
+
+pub invariant_of-self-in-UpsertDone : goal.invariant_of-self-in-UpsertDone
+invariant_of-self-in-UpsertDone g c =
+    rw c.finish_upsert.ensures
+    (rewritten _ c.self-in-UpsertDone.invariant c.in-Some.slot c.index_mut-in-UpsertDone.result.now c.index_mut-in-UpsertDone.ensures.value _ refl
+    refl)
+
+pub returns-in-Touched : goal.returns-in-Touched
+returns-in-Touched g c =
+    let e = c.index_mut.result.now in
+    let here = c.index_mut.ensures.value in
+    let f = touched c.in-Touched.moment in
+    rw (c.in-Some.is, c.in-Touched.is, ← c.self.view_is)
+    (record {
+      step =
+          λ t found.
+          change_at _ _ c.self.invariant.0 c.in-Some.slot e here t (Becomes f)
+          (set c.self.inside.slots.slots c.in-Some.slot (Some c.touch.new.self)) found
+          (rw c.touch.ensures (sym (changed-is _ c.self.invariant.0 c.in-Some.slot e here f)));
+    })
+
+pub returns-in-UpsertDone : goal.returns-in-UpsertDone
+returns-in-UpsertDone g c =
+    let e = c.index_mut-in-UpsertDone.result.now in
+    let here = c.index_mut-in-UpsertDone.ensures.value in
+    let f = with_upsert_done in
+    rw (c.in-Some.is, c.in-UpsertDone.is, ← c.self-in-UpsertDone.view_is)
+    (record {
+      step =
+          λ t found.
+          change_at _ _ c.self-in-UpsertDone.invariant.0 c.in-Some.slot e here t (Becomes f)
+          (set c.self-in-UpsertDone.inside.slots.slots c.in-Some.slot (Some c.finish_upsert.new.self)) found
+          (rw c.finish_upsert.ensures (sym (changed-is _ c.self-in-UpsertDone.invariant.0 c.in-Some.slot e here f)));
+    })
+
+pub returns-in-Leaves : goal.returns-in-Leaves
+returns-in-Leaves g c =
+    let some = rw c.in-Some.is at c.requires.found in
+    rw (c.in-Some.is, c.in-Leaves.is)
+    (record { step = λ t found. leaves _ _ _ c.remove.result t some c.remove.ensures.step found })

@@ -1,0 +1,7 @@
+use Rattle.moka_shard.proofs.SlotLemmas.{IsAhead}
+use Rattle.moka_shard.proofs.shard.Shard.find.Given as goal
+
+abbrev pub invariant-loop-slot : goal.invariant-loop-slot
+invariant-loop-slot g l =
+    (goal.iterator-loop-slot g).can_next l.slot-iterator × (goal.iterator-loop-slot g).is_finite l.slot-iterator
+    × IsAhead (λ e. g.K.PartialEq.eq l.key e.key) l.self-inside.slots.slots l.slot-iterator

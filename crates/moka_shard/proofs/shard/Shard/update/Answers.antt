@@ -1,0 +1,26 @@
+use Rattle.std.proofs.Common.{◌∙◌, ap, Ok, refl, set, Some, subst}
+use Rattle.moka_shard.proofs.SlotLemmas.{rewritten, update_at}
+use Rattle.moka_shard.proofs.shard.Shard.update.Goals as goal
+
+pub invariant_of-self-2 : goal.invariant_of-self-2
+invariant_of-self-2 g c =
+    rw c.update.ensures
+    (rewritten _ c.self.invariant c.args.slot c.index_mut-entry.result.now c.index_mut-entry.ensures.value _ refl refl)
+
+pub returns : goal.returns
+returns g c =
+    let weighs = g.W.WeighShared.weighs c.args.weigher.now in
+    let weight = c.weigh-weight.result in
+    let weighed : weighs c.args.key c.args.value weight =
+    subst (λ k. weighs k c.args.value weight) c.get.ensures
+    (subst (λ v. weighs c.get.result.now v weight) c.get-2.ensures c.weigh-weight.ensures.weight) in
+    rw (← c.self.view_is)
+    (record {
+      step = (
+        c.weigh-weight.result,
+        weighed,
+        update_at _ _ c.self.invariant.0 c.args.slot c.index_mut-entry.result.now c.index_mut-entry.ensures.value 0 c.args.key c.args.value
+            c.weigh-weight.result c.args.now _ (set c.self.inside.slots.slots c.args.slot (Some c.update.new.self)) (λ full. c.if-outstanding.false (c.outstanding.ensures ∙ full)) (ap Ok (c.ticket.ensures ∙ ap (λ e. e.ticket) c.update.ensures))
+            (ap (λ e. set c.self.inside.slots.slots c.args.slot (Some e)) c.update.ensures),
+      );
+    })

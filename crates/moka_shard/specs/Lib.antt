@@ -1,0 +1,4 @@
+pub mod Shard
+pub mod ShardStep
+-- inside
+pub mod Slots

@@ -1,0 +1,4 @@
+//! One shard of the map of the cache that threads share.
+#![tactic(auto)]
+
+pub mod shard;

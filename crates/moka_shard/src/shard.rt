@@ -1,0 +1,396 @@
+//! One shard of the map: the entries whose hashes belong to it, in the slots of a slab, found by the hashes of their keys.
+ghost use Rattle.std.specs.Prelude.{◌≡◌, ◌≢◌, ◌≤◌, ℕ, Bool, false, [], Some, None, IfSome, IfOk, OnOk, OnErr, IsSome, IsErr, IsTrue, IsFalse, is_some, length, option_map, option_copied};
+ghost use Rattle.slab.specs.Slab.{HasRoomFor};
+ghost use Rattle.moka_base.specs.Keys.{keys_by};
+ghost use Rattle.moka_index.specs.HashIndex.{candidates};
+ghost use Rattle.moka_engine.specs.EntryChange.{change_of};
+ghost use Rattle.moka_engine.specs.Entry.{entry_at, entry_of};
+ghost use Rattle.moka_engine.specs.Parts.{IsValidShard};
+ghost use Rattle.moka_engine.specs.Ticket.{shard_of};
+ghost use Rattle.moka_engine.specs.declared.ticket.Ticket.{Ticket};
+ghost use Rattle.moka_engine.specs.Turn.Plan.{after_change};
+ghost use Rattle.moka_shard.specs.Shard.{entries_in, entry_found, entry_in, state_of, unexpired};
+ghost use Rattle.moka_shard.specs.ShardStep.{IsInsert, IsInvalidation, pairs_at};
+ghost use Rattle.moka_shard.specs.Slots.{IsIndexed};
+
+use moka_base::error::{InsertError, OutOfMemory};
+use moka_base::hash::FixedState;
+use moka_base::shared::Shared;
+use moka_base::time::Instant;
+use moka_engine::constants::{MAX_OUTSTANDING, NO_TICKET};
+use moka_engine::entry::{Entry, EntryChange};
+use moka_engine::settings::Settings;
+use moka_engine::ticket::Ticket;
+use moka_engine::weigh::WeighShared;
+use moka_index::hash_index::HashIndex;
+use slab::Slab;
+use std::alloc::{Allocator, Global};
+use std::hash::{BuildHasher, Hash};
+use std::marker::Model;
+
+/// One shard of the map. It gives out the ticket numbers of its entries.
+#[derive(Drop)]
+pub struct Shard<
+    K: Eq + Hash + Drop,
+    V: Drop,
+    S: BuildHasher + Drop = FixedState,
+    A: Allocator + Clone + Drop = Global,
+> {
+    number: usize,
+    next_number: u64,
+    slots: Slab<Entry<K, V, A>, A>,
+    index: HashIndex<A>,
+    hash_state: Shared<S, A>,
+}
+
+impl<K: Eq + Hash + Drop, V: Drop, S: BuildHasher + Drop, A: Allocator + Clone + Drop> Model
+    for Shard<K, V, S, A> {
+    ghost use Rattle.moka_base.specs.Keys.{keys_by};
+    ghost use Rattle.moka_shard.specs.Shard.{Shard as ShardValue};
+    ghost use Rattle.moka_shard.specs.Slots.{AreSlots, IsIndexed};
+
+    ghost Value = { ShardValue K V S };
+
+    ghost view = { λ s. record {
+      number = s.number;
+      next_number = s.next_number;
+      slots = s.slots.slots;
+      hash_state = s.hash_state;
+    } };
+
+    ghost invariant = { λ s. AreSlots
+        (keys_by (record { eq = K.eq; hash_input = K.hash_input }) S.BuildHasher S.Hasher.Hasher)
+        s.hash_state s.number s.next_number s.slots.slots × IsIndexed s.slots.slots s.index };
+}
+
+impl<K: Eq + Hash + Drop, V: Drop, S: BuildHasher + Drop, A: Allocator + Clone + Drop> Shard<
+    K,
+    V,
+    S,
+    A,
+> {
+    /// A shard with no entries and room for `capacity` of them, which gives out the numbers from `next_number` on.
+    pub fn new(
+        alloc: A,
+        number: usize,
+        next_number: u64,
+        capacity: usize,
+        hash_state: Shared<S, A>,
+    ) -> Result<Self, OutOfMemory>
+        ensures { IfOk result (λ shard. state_of shard ≡
+            record { number = number; next_number = next_number; entries = []; hash_state = hash_state }) }
+    {
+        let slots = Slab::with_capacity(alloc.clone()?, capacity)?;
+        let mut index = HashIndex::new(alloc);
+        index.clear_for(slots.capacity())?;
+        Ok(Shard {
+            number,
+            next_number,
+            slots,
+            index,
+            hash_state,
+        })
+    }
+
+    /// How many entries there are.
+    pub fn len(&self) -> usize
+        ensures len { result ≡ length (state_of self.now).entries }
+
+        // What holds of every shard: keys and tickets come once, and each entry belongs here.
+        ensures valid { IsValidShard (keys_by K.Hash S.BuildHasher S.Hasher.Hasher) (state_of self.now) }
+    {
+        self.slots.len()
+    }
+
+    /// The number that the next new entry's ticket has.
+    pub fn next_number(&self) -> u64
+        ensures { result ≡ self.now.next_number }
+    {
+        self.next_number
+    }
+
+    /// The slot of the entry of a key, whose hash it is.
+    pub fn find(&self, key: &K, hash: u64) -> Option<usize>
+        requires { hash ≡ (keys_by K.Hash S.BuildHasher S.Hasher.Hasher).hash_of self.now.hash_state key.now }
+        ensures value { entry_found self.now.slots result ≡ entry_at K.eq key.now (entries_in self.now.slots) }
+        ensures found { IfSome result (λ slot. IsSome (entry_in self.now.slots slot)) }
+    {
+        for slot in self.index.candidates(hash) {
+            let entry = &self.slots[slot];
+            if entry.ticket().hash == hash && *key == *entry.key().get() {
+                return Some(slot);
+            }
+        }
+        None
+    }
+
+    /// The slot of the entry of a ticket.
+    pub fn find_ticket(&self, ticket: Ticket) -> Option<usize>
+        ensures value { entry_found self.now.slots result ≡ entry_of ticket (entries_in self.now.slots) }
+        ensures found { IfSome result (λ slot. IsSome (entry_in self.now.slots slot)) }
+    {
+        for slot in self.index.candidates(ticket.hash) {
+            if self.slots[slot].ticket() == ticket {
+                return Some(slot);
+            }
+        }
+        None
+    }
+
+    /// The entry in a slot, if a search has found one.
+    pub fn entry(&self, slot: Option<usize>) -> Option<&Entry<K, V, A>>
+        ensures { option_copied result ≡ entry_found self.now.slots slot }
+    {
+        self.slots.get(slot?)
+    }
+
+    /// The entry of a key, whose hash it is, if it counts at a moment.
+    fn unexpired(
+        &self,
+        key: &K,
+        hash: u64,
+        settings: &Settings<S, A>,
+        valid_after: Instant,
+        now: Instant,
+    ) -> Option<&Entry<K, V, A>>
+        requires { hash ≡ (keys_by K.Hash S.BuildHasher S.Hasher.Hasher).hash_of self.now.hash_state key.now }
+        ensures { option_copied result ≡ unexpired settings.now valid_after now (entry_at K.eq key.now (entries_in self.now.slots)) }
+    {
+        let entry = self.entry(self.find(key, hash))?;
+        if entry.is_expired(settings, valid_after, now) {
+            return None;
+        }
+        Some(entry)
+    }
+
+    /// Whether a key, whose hash it is, has an entry that counts at a moment.
+    pub fn contains_key(
+        &self,
+        key: &K,
+        hash: u64,
+        settings: &Settings<S, A>,
+        valid_after: Instant,
+        now: Instant,
+    ) -> bool
+        requires { hash ≡ (keys_by K.Hash S.BuildHasher S.Hasher.Hasher).hash_of self.now.hash_state key.now }
+        ensures { result ≡ is_some (unexpired settings.now valid_after now (entry_at K.eq key.now (entries_in self.now.slots))) }
+    {
+        self.unexpired(key, hash, settings, valid_after, now)
+            .is_some()
+    }
+
+    /// The value at a key, whose hash it is, shared once more, and the ticket of its entry, if that counts at a moment.
+    pub fn get(
+        &self,
+        key: &K,
+        hash: u64,
+        settings: &Settings<S, A>,
+        valid_after: Instant,
+        now: Instant,
+    ) -> Result<Option<(Shared<V, A>, Ticket)>, OutOfMemory>
+        requires { hash ≡ (keys_by K.Hash S.BuildHasher S.Hasher.Hasher).hash_of self.now.hash_state key.now }
+        ensures value { IfOk result (λ found. found ≡ option_map (λ e. (e.value, e.ticket))
+            (unexpired settings.now valid_after now (entry_at K.eq key.now (entries_in self.now.slots)))) }
+
+        // Only a copy can be refused.
+        ensures refused { IsErr result →
+            IsSome (unexpired settings.now valid_after now (entry_at K.eq key.now (entries_in self.now.slots))) }
+    {
+        let Some(entry) = self.unexpired(key, hash, settings, valid_after, now) else {
+            return Ok(None);
+        };
+        let value = entry.value().try_clone()?;
+        Ok(Some((value, entry.ticket())))
+    }
+
+    /// Puts the value at the key, whose hash it is. An equal key that is there stays, with its ticket, which is the answer; a new entry has the
+    /// next one. The weigher is asked once, and only where the insert isn't refused: room is made first.
+    pub fn insert<W: WeighShared<K, V>>(
+        &mut self,
+        hash: u64,
+        key: Shared<K, A>,
+        value: Shared<V, A>,
+        weigher: &W,
+        now: Instant,
+    ) -> Result<Ticket, InsertError>
+        requires hashed { hash ≡ (keys_by K.Hash S.BuildHasher S.Hasher.Hasher).hash_of self.old.hash_state key }
+        requires here { shard_of hash ≡ self.old.number }
+        requires ready { W.ready weigher.now }
+        ensures step { (weight : ℕ) × (refused : Bool) × OnOk result (W.weighs weigher.now key value weight)
+            × IsInsert (state_of self.old) hash key value weight now refused
+            (entry_at K.eq key (entries_in self.old.slots)) result (state_of self.new) }
+    {
+        match self.find(key.get(), hash) {
+            Some(slot) => self.update(slot, key, value, weigher, now),
+            None => self.add(hash, key, value, weigher, now),
+        }
+    }
+
+    /// Gives the entry in a slot another value.
+    fn update<W: WeighShared<K, V>>(
+        &mut self,
+        slot: usize,
+        key: Shared<K, A>,
+        value: Shared<V, A>,
+        weigher: &W,
+        now: Instant,
+    ) -> Result<Ticket, InsertError>
+        requires found { IsSome (entry_in self.old.slots slot) }
+        requires ready { W.ready weigher.now }
+        ensures step { (weight : ℕ) × OnOk result (W.weighs weigher.now key value weight)
+            × IsInsert (state_of self.old) 0 key value weight now false (entry_in self.old.slots slot) result (state_of self.new) }
+    {
+        let entry = &mut self.slots[slot];
+        if entry.outstanding() == MAX_OUTSTANDING {
+            return Err(InsertError::TicketsUsedUp);
+        }
+        let weight = weigher.weigh(key.get(), value.get());
+        entry.update(value, weight, now);
+        Ok(entry.ticket())
+    }
+
+    /// Adds the entry of a key that has none.
+    fn add<W: WeighShared<K, V>>(
+        &mut self,
+        hash: u64,
+        key: Shared<K, A>,
+        value: Shared<V, A>,
+        weigher: &W,
+        now: Instant,
+    ) -> Result<Ticket, InsertError>
+        requires absent { entry_at K.eq key (entries_in self.old.slots) ≡ None }
+        requires hashed { hash ≡ (keys_by K.Hash S.BuildHasher S.Hasher.Hasher).hash_of self.old.hash_state key }
+        requires here { shard_of hash ≡ self.old.number }
+        requires ready { W.ready weigher.now }
+        ensures step { (weight : ℕ) × (refused : Bool) × OnOk result (W.weighs weigher.now key value weight)
+            × IsInsert (state_of self.old) hash key value weight now refused None result (state_of self.new) }
+    {
+        if self.next_number == NO_TICKET {
+            return Err(InsertError::TicketsUsedUp);
+        }
+        if make_room(&mut self.slots, &mut self.index).is_err() {
+            return Err(InsertError::OutOfMemory);
+        }
+        let weight = weigher.weigh(key.get(), value.get());
+        let ticket = Ticket {
+            hash,
+            number: self.next_number,
+        };
+        let entry = Entry::new(key, value, weight, now, ticket);
+        let slot = self.slots.insert_reserved(entry);
+        self.index.add(slot, hash);
+        self.next_number += 1;
+        Ok(ticket)
+    }
+
+    /// Takes out the entry of a key, whose hash it is. The answer is its ticket.
+    pub fn invalidate(&mut self, key: &K, hash: u64) -> Option<Ticket>
+        requires { hash ≡ (keys_by K.Hash S.BuildHasher S.Hasher.Hasher).hash_of self.old.hash_state key.now }
+        ensures step { IsInvalidation (state_of self.old) (entry_at K.eq key.now (entries_in self.old.slots)) result (state_of self.new) }
+    {
+        let slot = self.find(key, hash)?;
+        Some(self.remove(slot))
+    }
+
+    /// Takes out the entry in a slot. The answer is its ticket.
+    fn remove(&mut self, slot: usize) -> Ticket
+        requires { IsSome (entry_in self.old.slots slot) }
+        ensures step { IsInvalidation (state_of self.old) (entry_in self.old.slots slot) (Some result) (state_of self.new) }
+    {
+        let entry = self.slots.remove(slot);
+        let ticket = entry.ticket();
+        self.index.remove(slot, ticket.hash);
+        ticket
+    }
+
+    /// Makes this of the entry in a slot, if a search has found one.
+    pub fn change(&mut self, slot: Option<usize>, change: EntryChange)
+        requires found { IfSome slot (λ s. IsSome (entry_in self.old.slots s)) }
+        ensures step { (t : Ticket) → entry_found self.old.slots slot ≡ entry_of t (entries_in self.old.slots)
+            → state_of self.new ≡ record (state_of self.old) { entries = after_change t (change_of change) (entries_in self.old.slots) } }
+    {
+        let Some(slot) = slot else {
+            return;
+        };
+        match change {
+            EntryChange::Stays => {}
+            EntryChange::Touched(moment) => self.slots[slot].touch(moment),
+            EntryChange::UpsertDone => self.slots[slot].finish_upsert(),
+            EntryChange::Leaves => {
+                self.remove(slot);
+            }
+        }
+    }
+
+    /// Whether a pair counts at a moment.
+    pub fn has_pairs(&self, settings: &Settings<S, A>, valid_after: Instant, now: Instant) -> bool
+        ensures some { IsTrue result → pairs_at settings.now valid_after now (state_of self.now) ≢ [] }
+        ensures none { IsFalse result → pairs_at settings.now valid_after now (state_of self.now) ≡ [] }
+    {
+        for (_, entry) in self.slots.iter() {
+            if !entry.is_expired(settings, valid_after, now) {
+                return true;
+            }
+        }
+        false
+    }
+
+    /// The pairs that count at a moment, shared once more.
+    pub fn pairs(
+        &self,
+        alloc: A,
+        settings: &Settings<S, A>,
+        valid_after: Instant,
+        now: Instant,
+    ) -> Result<Vec<(Shared<K, A>, Shared<V, A>), A>, OutOfMemory>
+        ensures value { IfOk result (λ pairs. pairs.items ≡ pairs_at settings.now valid_after now (state_of self.now)) }
+
+        // Only where there are any can it be refused.
+        ensures refused { IsErr result → pairs_at settings.now valid_after now (state_of self.now) ≢ [] }
+    {
+        let mut pairs = Vec::new(alloc);
+        for (_, entry) in self.slots.iter() {
+            if !entry.is_expired(settings, valid_after, now) {
+                pairs.push((entry.key().try_clone()?, entry.value().try_clone()?))?;
+            }
+        }
+        Ok(pairs)
+    }
+}
+
+/// Makes room for one more entry, in the slots and in the index.
+fn make_room<K: Drop, V: Drop, A: Allocator + Clone + Drop>(
+    slots: &mut Slab<Entry<K, V, A>, A>,
+    index: &mut HashIndex<A>,
+) -> Result<(), OutOfMemory>
+    requires indexed { IsIndexed slots.old.slots index.old }
+    ensures indexed { IsIndexed slots.new.slots index.new }
+    ensures unchanged { slots.new.slots ≡ slots.old.slots }
+    ensures room { OnOk result (HasRoomFor slots.new 1) }
+    ensures ids { OnOk result (slots.new.capacity ≤ index.new.ids) }
+{
+    slots.reserve(1)?;
+    let ids = slots.capacity();
+    if index.ids() < ids {
+        index.clear_for(ids)?;
+        add_all(index, slots);
+    }
+    Ok(())
+}
+
+/// Adds all slots that have an entry to an index that has none.
+fn add_all<K: Drop, V: Drop, A: Allocator + Clone + Drop>(
+    index: &mut HashIndex<A>,
+    slots: &Slab<Entry<K, V, A>, A>,
+)
+    requires bound { slots.now.capacity ≤ index.old.ids }
+    requires empty { (hash : ℕ) → candidates index.old hash ≡ [] }
+    ensures indexed { IsIndexed slots.now.slots index.new }
+    ensures ids { index.new.ids ≡ index.old.ids }
+{
+    for slot in 0..slots.capacity() {
+        if let Some(entry) = slots.get(slot) {
+            index.add(slot, entry.ticket().hash);
+        }
+    }
+}
