@@ -6,9 +6,10 @@ use moka_common::hash::FixedState;
 use moka_common::shared::Shared;
 use moka_common::time::Instant;
 use moka_common::weigh::UnitWeight;
+use moka_core::pending::{Operation, PendingOperations};
+use moka_engine::operation::Read;
+use moka_maintenance::logs::{ReadLog, WriteLog};
 use moka_sync::engine::{Call, Core, Reply, Shard};
-use moka_sync::parts::logs::{Read, ReadLog, WriteLog};
-use moka_sync::parts::pending::{Operation, PendingOperations};
 use std::alloc::Global;
 use std::hash::BuildHasher;
 use std::test::Fail;
@@ -158,9 +159,10 @@ fn logs_hold_384_operations(rt: HostRuntime) -> Result<(), Fail> {
 
 #[test]
 fn a_caller_takes_what_it_has_pending(rt: HostRuntime) -> Result<(), Fail> {
-    let mut pending = PendingOperations::new(rt.alloc(), 1)?;
-    assert_eq!(rt; (pending.of(7).is_some(), pending.room()), (false, 1));
-    if pending.of(7).is_none() && pending.room() > 0 {
+    let mut pending = PendingOperations::new(rt.alloc())?;
+    assert!(rt; pending.reserve(1).is_ok());
+    assert!(rt; pending.room() > 1);
+    if pending.of(7).is_none() && pending.room() > 1 {
         pending.put(7, Operation::Reading(Read::Miss { hash: 5 }));
     }
     assert!(rt; pending.of(8).is_none());

@@ -14,6 +14,8 @@ mod heap;
 #[cfg(test)]
 mod sketch;
 #[cfg(test)]
+mod steps;
+#[cfg(test)]
 mod unsync;
 #[cfg(test)]
 mod unsync_runs;

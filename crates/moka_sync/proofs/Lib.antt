@@ -3,4 +3,3 @@ pub mod CoreLemmas
 pub mod FindLemmas
 pub mod ShardLemmas
 pub mod ShardsLemmas
-pub mod PendingLemmas

@@ -4,8 +4,6 @@ pub mod Insert
 pub mod ShardState
 pub mod Step
 pub mod WholeCall
-pub mod Pending
 -- inside
 pub mod Find
-pub mod PendingPlace
 pub mod Shards

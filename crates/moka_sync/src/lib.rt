@@ -4,4 +4,3 @@
 pub mod constants;
 pub mod engine;
 pub mod laws;
-pub mod parts;

@@ -1,0 +1,10 @@
+pub mod ShardsLemmas
+pub mod MapLemmas
+pub mod FindLemmas
+pub mod PendingLemmas
+pub mod RoomLemmas
+pub mod FreshLemmas
+pub mod CopyLemmas
+pub mod StepLemmas
+pub mod TurnLemmas
+pub mod PlaceLemmas

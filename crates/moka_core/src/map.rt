@@ -1,0 +1,232 @@
+// The map of the core: its shards, and the settings by whose hash state keys find theirs.
+ghost use Rattle.std.specs.Prelude.{◌≡◌, ◌≢◌, ◌<◌, ℕ, Bool, false, [], map, replicate, IfOk, OnOk, IsSome, IsErr, is_some, option_map};
+ghost use Rattle.moka_base.specs.Keys.{keys_by};
+ghost use Rattle.moka_engine.specs.declared.constants.TheConstants.{SHARDS};
+ghost use Rattle.moka_engine.specs.Entry.{entry_at};
+ghost use Rattle.moka_shard.specs.Shard.{state_of, unexpired};
+ghost use Rattle.moka_engine.specs.Parts.{NeedsShard, entries_of, need_of};
+ghost use Rattle.moka_engine.specs.Turn.Turn.{turn_at};
+ghost use Rattle.moka_core.specs.MapTurn.{TurnsOnMap, TurnsOnShard};
+ghost use Rattle.moka_core.specs.MapState.{IsInserted, IsInvalidated, pairs_in};
+ghost use Rattle.moka_core.specs.Shards.{AreOwn, states_of};
+
+use crate::rows::Rows;
+use moka_base::error::{InsertError, OutOfMemory};
+use moka_base::hash::FixedState;
+use moka_base::shared::Shared;
+use moka_base::time::Instant;
+use moka_engine::constants::SHARDS;
+use moka_engine::settings::Settings;
+use moka_engine::ticket::Ticket;
+use moka_engine::weigh::WeighShared;
+use moka_maintenance::maintenance::Maintenance;
+use moka_shard::shard::Shard;
+use std::alloc::{Allocator, Global};
+use std::hash::{BuildHasher, Hash};
+use std::marker::Model;
+
+/// The entries of a core.
+#[derive(Drop)]
+pub(crate) struct Map<
+    K: Eq + Hash + Drop,
+    V: Drop,
+    S: BuildHasher + Drop = FixedState,
+    A: Allocator + Clone + Drop = Global,
+> {
+    settings: Settings<S, A>,
+    shards: Vec<Shard<K, V, S, A>, A>,
+}
+
+impl<K: Eq + Hash + Drop, V: Drop, S: BuildHasher + Drop, A: Allocator + Clone + Drop> Model
+    for Map<K, V, S, A> {
+    ghost use Rattle.moka_base.specs.Keys.{keys_by};
+    ghost use Rattle.moka_core.specs.MapState.{MapState};
+    ghost use Rattle.moka_core.specs.Shards.{AreOwn, map_in, states_of};
+
+    ghost Value = { MapState K V S };
+
+    ghost view = { λ m. map_in m.settings (states_of m.shards.items) };
+
+    ghost invariant = { λ m. AreOwn
+        (keys_by (record { eq = K.eq; hash_input = K.hash_input }) S.BuildHasher S.Hasher.Hasher)
+        m.settings.hash_state (states_of m.shards.items) };
+}
+
+impl<K: Eq + Hash + Drop, V: Drop, S: BuildHasher + Drop, A: Allocator + Clone + Drop> Map<
+    K,
+    V,
+    S,
+    A,
+> {
+    /// A map with no entries and room for `capacity` of them in each shard.
+    pub(crate) fn new(
+        alloc: A,
+        settings: Settings<S, A>,
+        capacity: usize,
+    ) -> Result<Self, OutOfMemory>
+        ensures { IfOk result (λ map. map ≡ record { settings = settings; entries = []; next_numbers = replicate SHARDS 0 }) }
+    {
+        let shards = shards_as_built(alloc, settings.hash_state(), capacity)?;
+        Ok(Map { settings, shards })
+    }
+
+    pub(crate) fn settings(&self) -> &Settings<S, A>
+        ensures { result.now ≡ self.now.settings }
+    {
+        &self.settings
+    }
+
+    /// The hash of a key.
+    pub(crate) fn hash_of(&self, key: &K) -> u64
+        ensures { result ≡ (keys_by K.Hash S.BuildHasher S.Hasher.Hasher).hash_of self.now.settings.hash_state key.now }
+    {
+        self.settings.hash_state().get().hash_one(key)
+    }
+
+    /// Whether a key has an entry that counts at a moment.
+    pub(crate) fn contains_key(&self, key: &K, valid_after: Instant, now: Instant) -> bool
+        ensures { result ≡ is_some (unexpired self.now.settings valid_after now (entry_at K.eq key.now self.now.entries)) }
+    {
+        let hash = self.hash_of(key);
+        let shard = &self.shards[(hash % SHARDS as u64) as usize];
+        shard.contains_key(key, hash, &self.settings, valid_after, now)
+    }
+
+    /// The value at a key, shared once more, and the ticket of its entry, if that counts at a moment.
+    pub(crate) fn get(
+        &self,
+        key: &K,
+        hash: u64,
+        valid_after: Instant,
+        now: Instant,
+    ) -> Result<Option<(Shared<V, A>, Ticket)>, OutOfMemory>
+        requires { hash ≡ (keys_by K.Hash S.BuildHasher S.Hasher.Hasher).hash_of self.now.settings.hash_state key.now }
+        ensures value { IfOk result (λ found. found ≡ option_map (λ e. (e.value, e.ticket))
+            (unexpired self.now.settings valid_after now (entry_at K.eq key.now self.now.entries))) }
+        ensures refused { IsErr result → IsSome (unexpired self.now.settings valid_after now (entry_at K.eq key.now self.now.entries)) }
+    {
+        let shard = &self.shards[(hash % SHARDS as u64) as usize];
+        shard.get(key, hash, &self.settings, valid_after, now)
+    }
+
+    /// Puts the value at the key. The answer is the entry's ticket.
+    pub(crate) fn insert<W: WeighShared<K, V>>(
+        &mut self,
+        key: Shared<K, A>,
+        value: Shared<V, A>,
+        weigher: &W,
+        now: Instant,
+    ) -> Result<Ticket, InsertError>
+        requires ready { W.ready weigher.now }
+        ensures step { (weight : ℕ) × (refused : Bool) × OnOk result (W.weighs weigher.now key value weight)
+            × IsInserted self.old ((keys_by K.Hash S.BuildHasher S.Hasher.Hasher).hash_of self.old.settings.hash_state key)
+            key value weight now refused (entry_at K.eq key self.old.entries) result self.new }
+    {
+        let hash = self.hash_of(key.get());
+        let shard = &mut self.shards[(hash % SHARDS as u64) as usize];
+        let ticket = shard.insert(hash, key, value, weigher, now);
+        let _ = shard.len();
+        ticket
+    }
+
+    /// The pairs of a shard that count at a moment, shared once more. Only where there are any does it take memory.
+    pub(crate) fn copy(
+        &self,
+        alloc: &A,
+        shard: usize,
+        valid_after: Instant,
+        now: Instant,
+    ) -> Result<Rows<K, V, A>, OutOfMemory>
+        requires { shard < SHARDS }
+        ensures value { IfOk result (λ rows. rows ≡ pairs_in self.now shard valid_after now) }
+        ensures refused { IsErr result → pairs_in self.now shard valid_after now ≢ [] }
+    {
+        let shard = &self.shards[shard];
+        if !shard.has_pairs(&self.settings, valid_after, now) {
+            return Ok(Rows::none());
+        }
+        let pairs = shard.pairs(alloc.clone()?, &self.settings, valid_after, now)?;
+        Ok(Rows::new(pairs))
+    }
+
+    /// Takes out the entry of a key. The answer is its ticket.
+    pub(crate) fn invalidate(&mut self, key: &K) -> Option<Ticket>
+        ensures step { IsInvalidated self.old (entry_at K.eq key.now self.old.entries) result self.new }
+    {
+        let hash = self.hash_of(key);
+        let shard = &mut self.shards[(hash % SHARDS as u64) as usize];
+        let ticket = shard.invalidate(key, hash);
+        let _ = shard.len();
+        ticket
+    }
+}
+
+impl<K: Eq + Hash + Drop, V: Drop, S: BuildHasher + Drop, A: Allocator + Clone + Drop> Map<
+    K,
+    V,
+    S,
+    A,
+> {
+    /// A turn of the maintenance that needs the entry of a ticket.
+    pub(crate) fn turn(
+        &mut self,
+        maintenance: &mut Maintenance<A>,
+        ticket: Ticket,
+        valid_after: Instant,
+    )
+        requires { need_of (turn_at {K = K} {V = V} self.old.settings valid_after false maintenance.old.place maintenance.old) ≡ NeedsShard ticket }
+        ensures { (refused : Bool) × TurnsOnMap self.old self.new valid_after refused maintenance.old maintenance.new }
+    {
+        let shard = &mut self.shards[(ticket.hash % SHARDS as u64) as usize];
+        turn_with_shard(maintenance, shard, ticket, &self.settings, valid_after);
+        let _ = shard.len();
+    }
+}
+
+/// A turn of the maintenance that needs the entry of a ticket, with the shard in which that would stand.
+fn turn_with_shard<
+    K: Eq + Hash + Drop,
+    V: Drop,
+    S: BuildHasher + Drop,
+    A: Allocator + Clone + Drop,
+>(
+    maintenance: &mut Maintenance<A>,
+    shard: &mut Shard<K, V, S, A>,
+    ticket: Ticket,
+    settings: &Settings<S, A>,
+    valid_after: Instant,
+)
+    requires { need_of (turn_at {K = K} {V = V} settings.now valid_after false maintenance.old.place maintenance.old) ≡ NeedsShard ticket }
+    ensures { (refused : Bool) × TurnsOnShard settings.now valid_after refused ticket maintenance.old maintenance.new
+        (state_of shard.old) (state_of shard.new) }
+{
+    let slot = shard.find_ticket(ticket);
+    let change = maintenance.turn_at_entry(settings, valid_after, shard.entry(slot));
+    shard.change(slot, change);
+}
+
+/// All shards of a new map, with room for `capacity` entries in each.
+fn shards_as_built<
+    K: Eq + Hash + Drop,
+    V: Drop,
+    S: BuildHasher + Drop,
+    A: Allocator + Clone + Drop,
+>(
+    alloc: A,
+    hash_state: &Shared<S, A>,
+    capacity: usize,
+) -> Result<Vec<Shard<K, V, S, A>, A>, OutOfMemory>
+    ensures own { IfOk result (λ shards.
+        AreOwn (keys_by K.Hash S.BuildHasher S.Hasher.Hasher) hash_state.now (states_of shards.items)) }
+    ensures empty { IfOk result (λ shards. entries_of (states_of shards.items) ≡ []) }
+    ensures numbers { IfOk result (λ shards. map (λ s. s.next_number) (states_of shards.items) ≡ replicate SHARDS 0) }
+{
+    let mut shards = Vec::with_capacity(alloc.clone()?, SHARDS)?;
+    for number in 0..SHARDS {
+        let shard = Shard::new(alloc.clone()?, number, 0, capacity, hash_state.try_clone()?)?;
+        // What holds of every shard.
+        let _ = shard.len();
+        shards.push(shard)?;
+    }
+    Ok(shards)
+}
