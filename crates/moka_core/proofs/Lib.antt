@@ -8,3 +8,5 @@ pub mod CopyLemmas
 pub mod StepLemmas
 pub mod TurnLemmas
 pub mod PlaceLemmas
+pub mod MaintenanceLemmas
+pub mod CallLemmas

@@ -8,7 +8,6 @@ pub record Pending : Type 0 where
   pub operations : List (ℕ × Operation)
   pub room : ℕ
 
--- there is room for an operation of the caller, beside that which is kept for the caller of whole calls
-pub record HasRoomFor (caller room : ℕ) : Type 0 where
-  pub one : 0 < room
-  pub another : caller ≢ CALLER → 1 < room
+-- there is room for an operation of the caller: that of the caller of whole calls is always kept
+abbrev pub HasRoomFor : ℕ → ℕ → Type 0
+HasRoomFor caller room = caller ≢ CALLER → 1 < room

@@ -1,30 +1,21 @@
-//! The cache without its locks: a core that takes one atomic step at a time.
-ghost use Rattle.std.specs.Prelude.{◌≡◌, ◌<◌, Bool, IfErr, IfOk, OnErr};
+//! The cache without its locks: a core that takes one atomic step at a time, or makes one whole call.
+ghost use Rattle.std.specs.Prelude.{◌≡◌, IfErr, IfOk, OnErr};
 ghost use Rattle.moka_base.specs.Keys.{keys_by};
-ghost use Rattle.moka_core.specs.Core.{KeepsRoom};
-ghost use Rattle.moka_core.specs.Pending.{HasRoomFor};
-ghost use Rattle.moka_engine.specs.CoreState.{new_core};
-ghost use Rattle.moka_engine.specs.Run.{Happens, RunsTo};
 ghost use Rattle.moka_core.specs.Core.{unlimited};
-ghost use Rattle.moka_engine.specs.Turn.Turn.{after_turn};
+ghost use Rattle.moka_engine.specs.CoreCall.{IsAtRest, IsCall};
+ghost use Rattle.moka_engine.specs.CoreState.{new_core};
+ghost use Rattle.moka_engine.specs.Run.{RunsTo};
 
-use crate::map::Map;
-use crate::pending::PendingOperations;
+use crate::machine::Machine;
 use crate::rows::Rows;
-use moka_base::error::{BuildError, InsertError, OutOfMemory};
+use moka_base::error::{BuildError, OutOfMemory};
 use moka_base::hash::FixedState;
 use moka_base::policy::Policy;
 use moka_base::shared::Shared;
-use moka_base::time::Instant;
 use moka_base::weigh::UnitWeight;
-use moka_engine::constants::SHARDS;
+use moka_engine::call::Call;
 use moka_engine::event::{Event, Reply};
-use moka_engine::operation::{Operation, Read, Write};
-use moka_engine::place::Place;
-use moka_engine::settings::Settings;
 use moka_engine::weigh::WeighShared;
-use moka_maintenance::logs::{ReadLog, WriteLog};
-use moka_maintenance::maintenance::{Maintenance, Need};
 use std::alloc::{Allocator, Global};
 use std::hash::{BuildHasher, Hash};
 use std::marker::Model;
@@ -38,15 +29,7 @@ pub struct Core<
     W: Drop = UnitWeight,
     A: Allocator + Clone + Drop = Global,
 > {
-    map: Map<K, V, S, A>,
-    weigher: W,
-    valid_after: Instant,
-    read_log: ReadLog<A>,
-    write_log: WriteLog<A>,
-    pending: PendingOperations<A>,
-    maintenance: Maintenance<A>,
-    sync_after: Option<Instant>,
-    alloc: A,
+    machine: Machine<K, V, S, W, A>,
 }
 
 impl<
@@ -56,25 +39,16 @@ impl<
     W: Drop,
     A: Allocator + Clone + Drop,
 > Model for Core<K, V, S, W, A> {
+    ghost use Rattle.moka_base.specs.Keys.{keys_by};
     ghost use Rattle.moka_core.specs.Core.{Core as CoreValue};
+    ghost use Rattle.moka_engine.specs.Consistent.{IsConsistent};
 
     ghost Value = { CoreValue K V S W };
 
-    ghost view = { λ c. record {
-      state = record {
-        settings = c.map.settings;
-        entries = c.map.entries;
-        next_numbers = c.map.next_numbers;
-        valid_after = c.valid_after;
-        read_log = c.read_log;
-        write_log = c.write_log;
-        pending = c.pending.operations;
-        maintenance = c.maintenance;
-        sync_after = c.sync_after;
-      };
-      weigher = c.weigher;
-      room = c.pending.room;
-    } };
+    ghost view = { λ c. record { state = c.machine.state; weigher = c.machine.weigher } };
+
+    ghost invariant = { λ c. IsConsistent
+        (keys_by (record { eq = K.eq; hash_input = K.hash_input }) S.BuildHasher S.Hasher.Hasher) c.machine.state };
 }
 
 /// What a core is built of, with room for `capacity` entries in each shard.
@@ -123,18 +97,8 @@ impl<
             (record { hash_state = parts.hash_state; policy = parts.policy; is_weighed = parts.is_weighed }) 0) }
         ensures weigher { IfOk result (λ core. core.weigher ≡ parts.weigher) }
     {
-        let hash_state = Shared::new(alloc.clone()?, parts.hash_state)?;
-        let settings = Settings::new(hash_state, parts.policy, parts.is_weighed);
         Ok(Core {
-            map: Map::new(alloc.clone()?, settings, parts.capacity)?,
-            weigher: parts.weigher,
-            valid_after: Instant::from_nanos(0),
-            read_log: ReadLog::new(alloc.clone()?)?,
-            write_log: WriteLog::new(alloc.clone()?)?,
-            pending: PendingOperations::new(alloc.clone()?)?,
-            maintenance: Maintenance::new(alloc.clone()?)?,
-            sync_after: None,
-            alloc,
+            machine: Machine::of_parts(alloc, parts)?,
         })
     }
 }
@@ -146,246 +110,6 @@ impl<
     W: WeighShared<K, V>,
     A: Allocator + Clone + Drop,
 > Core<K, V, S, W, A> {
-    /// An insert by a caller.
-    fn insert(
-        &mut self,
-        caller: u32,
-        key: Shared<K, A>,
-        value: Shared<V, A>,
-        now: Instant,
-    ) -> Reply<Shared<V, A>, Rows<K, V, A>>
-        requires ready { W.ready self.old.weigher }
-        requires room { HasRoomFor caller self.old.room }
-        ensures step { Happens (keys_by K.Hash S.BuildHasher S.Hasher.Hasher) (W.weighs self.old.weigher)
-            self.old.state (Event.Insert caller key value now) result self.new.state }
-        ensures kept { KeepsRoom self.old self.new }
-    {
-        if self.pending.of(caller).is_some() {
-            return Reply::NotPossible;
-        }
-        match self.map.insert(key, value, &self.weigher, now) {
-            Ok(ticket) => {
-                self.pending
-                    .put(caller, Operation::Writing(Write::Upsert { ticket }));
-                Reply::Done
-            }
-            Err(InsertError::OutOfMemory) => Reply::OutOfMemory,
-            Err(InsertError::TicketsUsedUp) => Reply::TicketsUsedUp,
-        }
-    }
-
-    /// A get by a caller.
-    fn get(&mut self, caller: u32, key: &K, now: Instant) -> Reply<Shared<V, A>, Rows<K, V, A>>
-        requires room { HasRoomFor caller self.old.room }
-        ensures step { Happens (keys_by K.Hash S.BuildHasher S.Hasher.Hasher) (W.weighs self.old.weigher)
-            self.old.state (Event.Get caller key.now now) result self.new.state }
-        ensures kept { KeepsRoom self.old self.new }
-    {
-        if self.pending.of(caller).is_some() {
-            return Reply::NotPossible;
-        }
-        let hash = self.map.hash_of(key);
-        let Ok(found) = self.map.get(key, hash, self.valid_after, now) else {
-            return Reply::OutOfMemory;
-        };
-        let Some((value, ticket)) = found else {
-            self.pending
-                .put(caller, Operation::Reading(Read::Miss { hash }));
-            return Reply::Found(None);
-        };
-        let read = Read::Hit {
-            ticket,
-            moment: now,
-        };
-        self.pending.put(caller, Operation::Reading(read));
-        Reply::Found(Some(value))
-    }
-
-    /// Whether a key has an entry that counts.
-    fn contains_key(&self, key: &K, now: Instant) -> Reply<Shared<V, A>, Rows<K, V, A>>
-        ensures step { Happens (keys_by K.Hash S.BuildHasher S.Hasher.Hasher) (W.weighs self.now.weigher)
-            self.now.state (Event.Contains key.now now) result self.now.state }
-    {
-        Reply::Bool(self.map.contains_key(key, self.valid_after, now))
-    }
-
-    /// An invalidation by a caller.
-    fn invalidate(
-        &mut self,
-        caller: u32,
-        key: &K,
-        now: Instant,
-    ) -> Reply<Shared<V, A>, Rows<K, V, A>>
-        requires room { HasRoomFor caller self.old.room }
-        ensures step { Happens (keys_by K.Hash S.BuildHasher S.Hasher.Hasher) (W.weighs self.old.weigher)
-            self.old.state (Event.Invalidate caller key.now now) result self.new.state }
-        ensures kept { KeepsRoom self.old self.new }
-    {
-        if self.pending.of(caller).is_some() {
-            return Reply::NotPossible;
-        }
-        if let Some(ticket) = self.map.invalidate(key) {
-            self.pending
-                .put(caller, Operation::Writing(Write::Remove { ticket }));
-        }
-        Reply::Done
-    }
-
-    /// Hides all entries from before a moment.
-    fn invalidate_all(&mut self, now: Instant) -> Reply<Shared<V, A>, Rows<K, V, A>>
-        ensures step { Happens (keys_by K.Hash S.BuildHasher S.Hasher.Hasher) (W.weighs self.old.weigher)
-            self.old.state (Event.InvalidateAll now) result self.new.state }
-        ensures kept { KeepsRoom self.old self.new }
-    {
-        if self.valid_after < now {
-            self.valid_after = now;
-        }
-        Reply::Done
-    }
-
-    /// Puts what a caller has pending into its log.
-    fn push(&mut self, caller: u32) -> Reply<Shared<V, A>, Rows<K, V, A>>
-        ensures step { Happens (keys_by K.Hash S.BuildHasher S.Hasher.Hasher) (W.weighs self.old.weigher)
-            self.old.state (Event.Push caller) result self.new.state }
-        ensures kept { KeepsRoom self.old self.new }
-    {
-        match self.pending.of(caller) {
-            None => Reply::NotPossible,
-            Some(Operation::Reading(read)) => {
-                let _ = self.pending.take(caller);
-                match self.read_log.push(read) {
-                    Ok(()) => Reply::Done,
-                    Err(_) => Reply::Discarded,
-                }
-            }
-            Some(Operation::Writing(write)) => {
-                if self.write_log.push(write).is_err() {
-                    return Reply::NotPossible;
-                }
-                let _ = self.pending.take(caller);
-                Reply::Done
-            }
-        }
-    }
-
-    /// Drops the read that a caller has pending.
-    fn forget(&mut self, caller: u32) -> Reply<Shared<V, A>, Rows<K, V, A>>
-        ensures step { Happens (keys_by K.Hash S.BuildHasher S.Hasher.Hasher) (W.weighs self.old.weigher)
-            self.old.state (Event.Forget caller) result self.new.state }
-        ensures kept { KeepsRoom self.old self.new }
-    {
-        let Some(Operation::Reading(_)) = self.pending.of(caller) else {
-            return Reply::NotPossible;
-        };
-        let _ = self.pending.take(caller);
-        Reply::Done
-    }
-
-    /// Copies the pairs of a shard that count.
-    fn copy(&self, shard: usize, now: Instant) -> Reply<Shared<V, A>, Rows<K, V, A>>
-        ensures step { Happens (keys_by K.Hash S.BuildHasher S.Hasher.Hasher) (W.weighs self.now.weigher)
-            self.now.state (Event.Copy shard now) result self.now.state }
-    {
-        if shard >= SHARDS {
-            return Reply::NotPossible;
-        }
-        match self.map.copy(&self.alloc, shard, self.valid_after, now) {
-            Ok(rows) => Reply::Rows(rows),
-            Err(_) => Reply::OutOfMemory,
-        }
-    }
-
-    /// A maintenance begins, where none is under way.
-    fn begin(&mut self, now: Instant) -> Reply<Shared<V, A>, Rows<K, V, A>>
-        ensures step { Happens (keys_by K.Hash S.BuildHasher S.Hasher.Hasher) (W.weighs self.old.weigher)
-            self.old.state (Event.Begin now) result self.new.state }
-        ensures kept { KeepsRoom self.old self.new }
-    {
-        if self.maintenance.place() != Place::Idle {
-            return Reply::NotPossible;
-        }
-        self.maintenance.begin(now);
-        Reply::Done
-    }
-
-    /// It takes a turn, where one is under way.
-    fn turn(&mut self) -> Reply<Shared<V, A>, Rows<K, V, A>>
-        ensures step { Happens (keys_by K.Hash S.BuildHasher S.Hasher.Hasher) (W.weighs self.old.weigher)
-            self.old.state Event.Turn result self.new.state }
-        ensures kept { KeepsRoom self.old self.new }
-    {
-        if let Place::Idle = self.maintenance.place() {
-            return Reply::NotPossible;
-        }
-        self.take_turn();
-        Reply::At(self.maintenance.place())
-    }
-
-    /// One turn of the maintenance, with what it needs.
-    fn take_turn(&mut self)
-        ensures turn { (refused : Bool) × (self.new.state ≡ after_turn refused self.old.state) }
-        ensures kept { KeepsRoom self.old self.new }
-    {
-        let settings = self.map.settings();
-        match self.maintenance.need::<K, V, S>(settings, self.valid_after) {
-            Need::Nothing => self
-                .maintenance
-                .turn_alone::<K, V, S>(settings, self.valid_after),
-            Need::Reads => self
-                .maintenance
-                .turn_with_reads::<K, V, S>(settings, self.valid_after, &mut self.read_log),
-            Need::Writes => self
-                .maintenance
-                .turn_with_writes::<K, V, S>(settings, self.valid_after, &mut self.write_log),
-            Need::Entry(ticket) => {
-                self.map
-                    .turn(&mut self.maintenance, ticket, self.valid_after)
-            }
-        }
-    }
-
-    /// What is charged.
-    fn counts(&self) -> Reply<Shared<V, A>, Rows<K, V, A>>
-        ensures step { Happens (keys_by K.Hash S.BuildHasher S.Hasher.Hasher) (W.weighs self.now.weigher)
-            self.now.state Event.Counts result self.now.state }
-    {
-        Reply::Counts {
-            count: self.maintenance.count(),
-            weight: self.maintenance.charged_weight(),
-        }
-    }
-
-    /// One atomic step.
-    fn step(
-        &mut self,
-        event: Event<Shared<K, A>, Shared<V, A>>,
-    ) -> Reply<Shared<V, A>, Rows<K, V, A>>
-        requires ready { W.ready self.old.weigher }
-        requires room { 1 < self.old.room }
-        ensures step { Happens (keys_by K.Hash S.BuildHasher S.Hasher.Hasher) (W.weighs self.old.weigher)
-            self.old.state event result self.new.state }
-        ensures kept { KeepsRoom self.old self.new }
-    {
-        match event {
-            Event::Insert {
-                caller,
-                key,
-                value,
-                now,
-            } => self.insert(caller, key, value, now),
-            Event::Get { caller, key, now } => self.get(caller, key.get(), now),
-            Event::Contains { key, now } => self.contains_key(key.get(), now),
-            Event::Invalidate { caller, key, now } => self.invalidate(caller, key.get(), now),
-            Event::InvalidateAll { now } => self.invalidate_all(now),
-            Event::Push { caller } => self.push(caller),
-            Event::Forget { caller } => self.forget(caller),
-            Event::Copy { shard, now } => self.copy(shard, now),
-            Event::Begin { now } => self.begin(now),
-            Event::Turn => self.turn(),
-            Event::Counts => self.counts(),
-        }
-    }
-
     /// Takes the steps in turn, and gives their replies. Where memory for the replies, or for what callers may have pending, is refused, no step
     /// was taken; later only an `Insert`, a `Get` or a `Copy` can be refused it.
     ///
@@ -400,13 +124,24 @@ impl<
         ensures err { OnErr result (self.new.state ≡ self.old.state) }
         ensures weigher { self.new.weigher ≡ self.old.weigher }
     {
-        let mut replies = Vec::with_capacity(self.alloc.clone()?, events.len())?;
-        let Ok(()) = self.pending.reserve(events.len()) else {
-            return Err(OutOfMemory);
-        };
-        for event in events {
-            replies.push_reserved(self.step(event));
-        }
-        Ok(replies)
+        self.machine.run(events)
+    }
+
+    /// Makes one whole call of a caller that is alone, and replies to it. Nothing may be under way: `is_at_rest` is the test. Then nothing is again.
+    ///
+    /// An insert, a get or an invalidation that finds 64 operations in its log, or comes half a second after the last maintenance, runs one: it takes the time of
+    /// what is put off, and at most that of 1,500 entries that leave. Any other call takes the time of a look-up.
+    pub fn call(
+        &mut self,
+        call: Call<Shared<K, A>, Shared<V, A>>,
+    ) -> Reply<Shared<V, A>, Rows<K, V, A>>
+        requires ready { W.ready self.old.weigher }
+        requires rest { IsAtRest self.old.state }
+        ensures step { IsCall (keys_by K.Hash S.BuildHasher S.Hasher.Hasher) (W.weighs self.old.weigher)
+            self.old.state call result self.new.state }
+        ensures rest { IsAtRest self.new.state }
+        ensures weigher { self.new.weigher ≡ self.old.weigher }
+    {
+        self.machine.call(call)
     }
 }

@@ -15,8 +15,8 @@ use Rattle.moka_engine.specs.WholeCall.{Log, OfReads, OfWrites, Turns, LastTurn,
 use Rattle.moka_engine.specs.WholeCall.{CallsContains, CallsInvalidateAll, CallsSync, CallsIter}
 
 -- whether a maintenance is due in a call that finds a log of this length: there is enough to do, or the time has come
-abbrev pub is_due : ℕ → Option ℕ → ℕ → Bool
-is_due len sync_after now = nat_le FLUSH_POINT len || option_map_or (λ due. nat_le due now) sync_after false
+abbrev pub is_due : ℕ → ℕ → Option ℕ → ℕ → Bool
+is_due len flush_point sync_after now = nat_le flush_point len || option_map_or (λ due. nat_le due now) sync_after false
 
 -- the numbers from this one on
 abbrev pub numbers_from : ℕ → ℕ → List ℕ
@@ -41,7 +41,7 @@ module _ {K V S : Type 0} where
 
   -- the call runs a maintenance where one is due, since nobody else does
   abbrev pub Decides : CoreState K V S → Log → ℕ → Bool → CoreState K V S → Type 0
-  Decides old log now runs new = (runs ≡ is_due (log_length log old) old.sync_after now) × (new ≡ scheduled runs now old)
+  Decides old log now runs new = (runs ≡ is_due (log_length log old) FLUSH_POINT old.sync_after now) × (new ≡ scheduled runs now old)
 
   -- whether the caller of whole calls has an operation pending
   abbrev pub has_pending : CoreState K V S → Bool

@@ -1,5 +1,5 @@
 -- What a contract sees of the core: its settings, the map, the logs, what callers have pending, and the maintenance.
-use Rattle.std.specs.Prelude.{ℕ, ◌||◌, Bool, nat_lt, nat_eq, List, [], ◌∷◌, ◌++◌, replicate, Option, None}
+use Rattle.std.specs.Prelude.{◌≡◌, ℕ, ◌||◌, Bool, nat_lt, nat_eq, List, [], ◌∷◌, ◌++◌, replicate, Option, None}
 use Rattle.std.specs.Map.{lookup, remove_entry}
 use Rattle.moka_base.specs.Moment.{idle_expired, live_expired}
 use Rattle.moka_base.specs.Settings.{Settings, idle_nanos, live_nanos}
@@ -62,6 +62,10 @@ new_core settings first = record {
   maintenance = new_maintenance;
   sync_after = None;
 }
+
+-- nothing has been done with a core
+abbrev pub IsNew : {K V S : Type 0} → CoreState K V S → Type 0
+IsNew core = (first : ℕ) × (core ≡ new_core core.settings first)
 
 -- whether an entry is hidden: it is from before the last invalidation of all
 abbrev pub is_hidden : {K V : Type 0} → ℕ → Entry K V → Bool

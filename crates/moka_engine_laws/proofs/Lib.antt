@@ -6,22 +6,22 @@ mod AdmissionLemmas
 mod PassLemmas
 mod TurnLemmas
 mod StepForms
-mod EventLemmas
+pub mod EventLemmas
 mod AdditionLemmas
 mod RunLemmas
 mod QueueTurnLemmas
-mod ConsistentLemmas
+pub mod ConsistentLemmas
 mod CauseLemmas
 mod QuiescentLemmas
 mod MildLemmas
 mod ValueLemmas
 mod WrittenLemmas
 mod TurnsLeftLemmas
-mod EndLemmas
+pub mod EndLemmas
 mod EmptyingLemmas
 mod EvictionLemmas
-mod CallLemmas
-mod ReturnLemmas
+pub mod CallLemmas
+pub mod ReturnLemmas
 mod InnerLemmas
 mod ReplayLemmas
 mod CalledLemmas

@@ -104,9 +104,9 @@ module _ {K V S : Type 0} (keys : Keys K S) (laws : IsEquivalence keys.eq) (weig
 
   due_returns : (operation : Operation) (log : Log) (now : ℕ) (old : Core) → Pends keys laws weighs operation old
       → (new : Core) × MaintainsIfDue Step Decides has_pending CALLER log now old new
-  due_returns operation log now old h = by (is_due (log_length log old) old.sync_after now) refl
+  due_returns operation log now old h = by (is_due (log_length log old) FLUSH_POINT old.sync_after now) refl
     where
-      by : (runs : Bool) → runs ≡ is_due (log_length log old) old.sync_after now
+      by : (runs : Bool) → runs ≡ is_due (log_length log old) FLUSH_POINT old.sync_after now
           → (new : Core) × MaintainsIfDue Step Decides has_pending CALLER log now old new
       by true is =
           let ready = scheduled_pends keys laws weighs operation true now old h in
@@ -115,7 +115,7 @@ module _ {K V S : Type 0} (keys : Keys K S) (laws : IsEquivalence keys.eq) (weig
       by false is = (old, record { runs = false; decided = old; decision = (is, refl); maintains = refl })
 
   -- a log in which nothing was due, or that was emptied, has room
-  room_left : (operation : Operation) (now : ℕ) (old new : Core) → Pends keys laws weighs operation old
+  pub room_left : (operation : Operation) (now : ℕ) (old new : Core) → Pends keys laws weighs operation old
       → MaintainsIfDue Step Decides has_pending CALLER OfWrites now old new → length new.write_log < WRITE_LOG_SIZE
   room_left operation now old new h due = by due.runs due.decision.0 due.decision.1 due.maintains
     where
@@ -124,7 +124,7 @@ module _ {K V S : Type 0} (keys : Keys K S) (laws : IsEquivalence keys.eq) (weig
       few true is none = absurd (false≢true none)
       few false is none = omega (arith, leb-false FLUSH_POINT (length old.write_log) is)
 
-      by : (runs : Bool) → runs ≡ is_due (length old.write_log) old.sync_after now → due.decided ≡ scheduled runs now old
+      by : (runs : Bool) → runs ≡ is_due (length old.write_log) FLUSH_POINT old.sync_after now → due.decided ≡ scheduled runs now old
           → MaintainsIf Step Decides has_pending CALLER runs now due.decided new → length new.write_log < WRITE_LOG_SIZE
       by false none same is =
           subst (λ c. length c.write_log < WRITE_LOG_SIZE) (sym (is ∙ same)) (few (leb FLUSH_POINT (length old.write_log)) refl none)

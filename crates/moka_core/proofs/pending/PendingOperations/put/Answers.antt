@@ -7,7 +7,7 @@ pub invariant_of-self : goal.invariant_of-self
 invariant_of-self g c =
     let old = c.self.inside.operations in
     let new = c.push_reserved.new.self in
-    let another = rw (← c.self.view_is) at c.requires.room.another in
+    let another = rw (← c.self.view_is) at c.requires.room in
     let room : vec_capacity old - vec_len old ≤ vec_capacity new - vec_len new + 1 =
     omega (arith, c.push_reserved.ensures.len, c.push_reserved.ensures.capacity) in
     rw c.push_reserved.ensures.items

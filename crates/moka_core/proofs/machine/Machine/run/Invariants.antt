@@ -3,7 +3,7 @@ use Rattle.std.specs.Vec.{vec_capacity, vec_len}
 use Rattle.std.specs.Vec.Iter.{into_iter_items}
 use Rattle.moka_base.specs.Keys.{keys_by}
 use Rattle.moka_engine.specs.Run.{RunsTo}
-use Rattle.moka_core.proofs.engine.Core.run.Given as goal
+use Rattle.moka_core.proofs.machine.Machine.run.Given as goal
 
 -- there is room for the replies to come and for what callers may have pending, and what runs from here on, runs from the start with the replies
 -- so far

@@ -2,7 +2,7 @@ use Rattle.std.proofs.Common.{◌∙◌, ap, false, refl}
 use Rattle.moka_engine.specs.declared.event.Reply.TheVariants.{Bool as BoolReply}
 use Rattle.moka_engine.specs.Entry.{entry_at}
 use Rattle.moka_core.proofs.FreshLemmas.{fresh_is_unexpired}
-use Rattle.moka_core.proofs.engine.Core.contains_key.Goals as goal
+use Rattle.moka_core.proofs.machine.Machine.contains_key.Goals as goal
 
 pub returns : goal.returns
 returns g c =

@@ -1,8 +1,8 @@
 use Rattle.std.proofs.Common.{ap, false, true, arith, is_err}
 use Rattle.moka_base.specs.Keys.{Keys, keys_by}
 use Rattle.moka_core.proofs.StepLemmas.{copied, copy_not_possible, copy_refused}
-use Rattle.moka_core.proofs.engine.Core.copy.Given.{Over}
-use Rattle.moka_core.proofs.engine.Core.copy.Goals as goal
+use Rattle.moka_core.proofs.machine.Machine.copy.Given.{Over}
+use Rattle.moka_core.proofs.machine.Machine.copy.Goals as goal
 
 -- the keys of the core
 abbrev keys : (g : Over) → Keys g.row.K.Denot g.row.S.Denot

@@ -1,0 +1,192 @@
+//! Whole calls of one caller, each a chain of steps.
+ghost use Rattle.std.specs.Prelude.{◌≡◌, ◌≢◌, true};
+ghost use Rattle.moka_base.specs.Keys.{keys_by};
+ghost use Rattle.moka_core.specs.Calls.{CoreMaintains, CorePushesRead, CorePushesWrite, MaintainsAsDue, Pends, PendsRead, PendsWrite};
+ghost use Rattle.moka_engine.specs.Consistent.{IsConsistent};
+ghost use Rattle.moka_engine.specs.CoreCall.{CoreTurns, IsAtRest, IsCall, scheduled};
+ghost use Rattle.moka_engine.specs.Place.{Idle};
+ghost use Rattle.moka_engine.specs.declared.call.Call.TheVariants as call;
+
+use crate::housekeeper::is_due;
+use crate::machine::Machine;
+use crate::rows::Rows;
+use moka_base::shared::Shared;
+use moka_base::time::Instant;
+use moka_engine::call::Call;
+use moka_engine::constants::{CALLER, FLUSH_POINT, SYNC_INTERVAL};
+use moka_engine::event::Reply;
+use moka_engine::place::Place;
+use moka_engine::weigh::WeighShared;
+use std::alloc::Allocator;
+use std::hash::{BuildHasher, Hash};
+
+impl<
+    K: Eq + Hash + Drop,
+    V: Drop,
+    S: BuildHasher + Drop,
+    W: WeighShared<K, V>,
+    A: Allocator + Clone + Drop,
+> Machine<K, V, S, W, A> {
+    /// One whole call, from rest to rest.
+    pub(crate) fn call(
+        &mut self,
+        call: Call<Shared<K, A>, Shared<V, A>>,
+    ) -> Reply<Shared<V, A>, Rows<K, V, A>>
+        requires ready { W.ready self.old.weigher }
+        requires good { IsConsistent (keys_by K.Hash S.BuildHasher S.Hasher.Hasher) self.old.state }
+        requires rest { IsAtRest self.old.state }
+        ensures step { IsCall (keys_by K.Hash S.BuildHasher S.Hasher.Hasher) (W.weighs self.old.weigher)
+            self.old.state call result self.new.state }
+        ensures weigher { self.new.weigher ≡ self.old.weigher }
+    {
+        match call {
+            Call::Insert { key, value, now } => self.call_insert(key, value, now),
+            Call::Get { key, now } => self.call_get(key.get(), now),
+            Call::Contains { key, now } => self.contains_key(key.get(), now),
+            Call::Invalidate { key, now } => self.call_invalidate(key.get(), now),
+            Call::InvalidateAll { now } => self.invalidate_all(now),
+            Call::Sync { now } => {
+                self.maintain(now);
+                Reply::Done
+            }
+            Call::Counts => self.published(),
+        }
+    }
+
+    fn call_insert(
+        &mut self,
+        key: Shared<K, A>,
+        value: Shared<V, A>,
+        now: Instant,
+    ) -> Reply<Shared<V, A>, Rows<K, V, A>>
+        requires ready { W.ready self.old.weigher }
+        requires good { IsConsistent (keys_by K.Hash S.BuildHasher S.Hasher.Hasher) self.old.state }
+        requires rest { IsAtRest self.old.state }
+        ensures step { IsCall (keys_by K.Hash S.BuildHasher S.Hasher.Hasher) (W.weighs self.old.weigher)
+            self.old.state (call.Insert key value now) result self.new.state }
+        ensures weigher { self.new.weigher ≡ self.old.weigher }
+    {
+        let reply = self.insert(CALLER, key, value, now);
+        let Reply::Done = &reply else {
+            return reply;
+        };
+        self.push_write(now);
+        reply
+    }
+
+    fn call_get(&mut self, key: &K, now: Instant) -> Reply<Shared<V, A>, Rows<K, V, A>>
+        requires good { IsConsistent (keys_by K.Hash S.BuildHasher S.Hasher.Hasher) self.old.state }
+        requires rest { IsAtRest self.old.state }
+        ensures step { IsCall (keys_by K.Hash S.BuildHasher S.Hasher.Hasher) (W.weighs self.old.weigher)
+            self.old.state (call.Get key.now now) result self.new.state }
+        ensures weigher { self.new.weigher ≡ self.old.weigher }
+    {
+        let reply = self.get(CALLER, key, now);
+        let Reply::Found(_) = &reply else {
+            return reply;
+        };
+        self.push_read(now);
+        reply
+    }
+
+    fn call_invalidate(&mut self, key: &K, now: Instant) -> Reply<Shared<V, A>, Rows<K, V, A>>
+        requires good { IsConsistent (keys_by K.Hash S.BuildHasher S.Hasher.Hasher) self.old.state }
+        requires rest { IsAtRest self.old.state }
+        ensures step { IsCall (keys_by K.Hash S.BuildHasher S.Hasher.Hasher) (W.weighs self.old.weigher)
+            self.old.state (call.Invalidate key.now now) result self.new.state }
+        ensures weigher { self.new.weigher ≡ self.old.weigher }
+    {
+        let reply = self.invalidate(CALLER, key, now);
+        let Some(_) = self.pending.of(CALLER) else {
+            return reply;
+        };
+        self.push_write(now);
+        reply
+    }
+
+    /// What was published last.
+    fn published(&self) -> Reply<Shared<V, A>, Rows<K, V, A>>
+        ensures { IsCall (keys_by K.Hash S.BuildHasher S.Hasher.Hasher) (W.weighs self.now.weigher)
+            self.now.state call.Counts result self.now.state }
+    {
+        let published = self.maintenance.published();
+        Reply::Counts {
+            count: published.count,
+            weight: u128::from(published.weight),
+        }
+    }
+
+    /// The pending read goes to its log, once a maintenance was run where one is due.
+    fn push_read(&mut self, now: Instant)
+        requires pends { PendsRead (keys_by K.Hash S.BuildHasher S.Hasher.Hasher) self.old.state }
+        ensures step { CorePushesRead (keys_by K.Hash S.BuildHasher S.Hasher.Hasher) (W.weighs self.old.weigher)
+            now self.old.state self.new.state }
+        ensures weigher { self.new.weigher ≡ self.old.weigher }
+    {
+        let reads = self.read_log.len();
+        self.maintain_if_due(reads, now);
+        let _ = self.push(CALLER);
+    }
+
+    /// The pending write goes to its log, in which a maintenance has made room.
+    fn push_write(&mut self, now: Instant)
+        requires pends { PendsWrite (keys_by K.Hash S.BuildHasher S.Hasher.Hasher) self.old.state }
+        ensures step { CorePushesWrite (keys_by K.Hash S.BuildHasher S.Hasher.Hasher) (W.weighs self.old.weigher)
+            now self.old.state self.new.state }
+        ensures weigher { self.new.weigher ≡ self.old.weigher }
+    {
+        let writes = self.write_log.len();
+        self.maintain_if_due(writes, now);
+        let _ = self.push(CALLER);
+    }
+
+    /// A whole maintenance, where the length of a log or the time makes it due.
+    fn maintain_if_due(&mut self, len: usize, now: Instant)
+        requires pends { Pends (keys_by K.Hash S.BuildHasher S.Hasher.Hasher) self.old.state }
+        ensures step { MaintainsAsDue (keys_by K.Hash S.BuildHasher S.Hasher.Hasher) (W.weighs self.old.weigher)
+            now self.old.state self.new.state len }
+        ensures weigher { self.new.weigher ≡ self.old.weigher }
+    {
+        if is_due(len, FLUSH_POINT, self.sync_after, now) {
+            self.schedule(now);
+            self.maintain(now);
+        }
+    }
+
+    /// The next maintenance is due by time a while after this moment.
+    fn schedule(&mut self, now: Instant)
+        ensures state { self.new.state ≡ scheduled true now self.old.state }
+        ensures weigher { self.new.weigher ≡ self.old.weigher }
+    {
+        let due = now.nanos().saturating_add(SYNC_INTERVAL);
+        self.sync_after = Some(Instant::from_nanos(due));
+    }
+
+    /// A whole maintenance.
+    fn maintain(&mut self, now: Instant)
+        requires good { IsConsistent (keys_by K.Hash S.BuildHasher S.Hasher.Hasher) self.old.state }
+        requires idle { self.old.state.maintenance.place ≡ Idle }
+        ensures step { CoreMaintains (keys_by K.Hash S.BuildHasher S.Hasher.Hasher) (W.weighs self.old.weigher)
+            now self.old.state self.new.state }
+        ensures weigher { self.new.weigher ≡ self.old.weigher }
+    {
+        let _ = self.begin(now);
+        self.finish();
+    }
+
+    /// Turns until no maintenance is under way.
+    fn finish(&mut self)
+        requires good { IsConsistent (keys_by K.Hash S.BuildHasher S.Hasher.Hasher) self.old.state }
+        requires busy { self.old.state.maintenance.place ≢ Idle }
+        ensures turns { CoreTurns (keys_by K.Hash S.BuildHasher S.Hasher.Hasher) (W.weighs self.old.weigher)
+            self.old.state self.new.state }
+        ensures weigher { self.new.weigher ≡ self.old.weigher }
+    {
+        loop {
+            self.take_turn();
+            if let Place::Idle = self.maintenance.place() {
+                return;
+            }
+        }
+    }
+}
