@@ -8,5 +8,6 @@ pub mod CopyLemmas
 pub mod StepLemmas
 pub mod TurnLemmas
 pub mod PlaceLemmas
+pub mod NewLemmas
 pub mod MaintenanceLemmas
 pub mod CallLemmas

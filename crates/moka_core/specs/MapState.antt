@@ -1,10 +1,10 @@
 -- What the core sees of its map, and the steps on it. No public clause cites this module.
-use Rattle.std.specs.Prelude.{◌≡◌, ℕ, ◌+◌, ◌==◌, ◌&&◌, not, Bool, true, false, List, map, filter, Option, None, Some, MatchBool, slice_index, slice_set}
+use Rattle.std.specs.Prelude.{◌≡◌, ℕ, ◌+◌, ◌==◌, ◌&&◌, not, Bool, true, false, List, [], map, filter, replicate, Option, None, Some, MatchBool, slice_index, slice_set}
 use Rattle.std.specs.Prelude.{Result, Ok, Err}
 use Rattle.moka_base.specs.Settings.{Settings}
 use Rattle.moka_base.specs.declared.error.InsertError.{InsertError}
 use Rattle.moka_base.specs.declared.error.InsertError.TheVariants.{OutOfMemory, TicketsUsedUp}
-use Rattle.moka_engine.specs.declared.constants.TheConstants.{MAX_OUTSTANDING, NO_TICKET}
+use Rattle.moka_engine.specs.declared.constants.TheConstants.{MAX_OUTSTANDING, NO_TICKET, SHARDS}
 use Rattle.moka_engine.specs.declared.ticket.Ticket.{Ticket}
 use Rattle.moka_engine.specs.Ticket.{changed, shard_of, without}
 use Rattle.moka_engine.specs.CoreState.{CoreState, is_expired}
@@ -25,6 +25,10 @@ module _ {K V S : Type 0} where
   -- a core with another map
   abbrev pub with_map : MapState K V S → CoreState K V S → CoreState K V S
   with_map new core = record core { settings = new.settings; entries = new.entries; next_numbers = new.next_numbers }
+
+  -- the map has no entry, and each shard gives out this number next
+  abbrev pub IsNewMap : ℕ → MapState K V S → Type 0
+  IsNewMap first map = (map.entries ≡ []) × (map.next_numbers ≡ replicate SHARDS first)
 
   -- the entry of a key that is not there, with the next ticket of its shard
   abbrev pub fresh_entry : MapState K V S → ℕ → K → V → ℕ → ℕ → Entry K V

@@ -32,3 +32,8 @@ module _ {K V S : Type 0} where
   abbrev pub map_in : Settings S → List (ShardState K V S) → MapState K V S
   map_in settings shards =
       record { settings = settings; entries = entries_of shards; next_numbers = map (λ s. s.next_number) shards }
+
+  -- the shard has no entry, and gives out this number next
+  pub record IsAsBuilt (number : ℕ) (shard : ShardState K V S) : Type 0 where
+    pub empty : shard.entries ≡ []
+    pub next : shard.next_number ≡ number

@@ -1,9 +1,9 @@
 //! The cache without its locks: a core that takes one atomic step at a time, or makes one whole call.
-ghost use Rattle.std.specs.Prelude.{◌≡◌, IfErr, IfOk, OnErr};
+ghost use Rattle.std.specs.Prelude.{◌≡◌, ◌↔◌, IfErr, IfOk, IsTrue, OnErr, slice_index};
 ghost use Rattle.moka_base.specs.Keys.{keys_by};
 ghost use Rattle.moka_core.specs.Core.{unlimited};
 ghost use Rattle.moka_engine.specs.CoreCall.{IsAtRest, IsCall};
-ghost use Rattle.moka_engine.specs.CoreState.{new_core};
+ghost use Rattle.moka_engine.specs.CoreState.{IsNew, new_core};
 ghost use Rattle.moka_engine.specs.Run.{RunsTo};
 
 use crate::machine::Machine;
@@ -100,6 +100,27 @@ impl<
         Ok(Core {
             machine: Machine::of_parts(alloc, parts)?,
         })
+    }
+
+    /// Whether nothing has been done with it, so that a record of its calls can begin.
+    pub fn is_new(&self) -> bool
+        ensures { IsTrue result ↔ IsNew self.now.state }
+    {
+        self.machine.is_new()
+    }
+
+    /// The number of the next ticket of the first shard.
+    pub fn first_ticket(&self) -> u64
+        ensures { result ≡ slice_index self.now.state.next_numbers 0 }
+    {
+        self.machine.first_ticket()
+    }
+
+    /// Whether nothing is under way: no maintenance, and no operation that a caller has not pushed.
+    pub fn is_at_rest(&self) -> bool
+        ensures { IsTrue result ↔ IsAtRest self.now.state }
+    {
+        self.machine.is_at_rest()
     }
 }
 

@@ -1,9 +1,10 @@
 //! What takes one atomic step at a time: the map, the logs, what is pending and the maintenance, each by itself.
-ghost use Rattle.std.specs.Prelude.{◌≡◌, ◌<◌, Bool, IfErr, IfOk, OnErr};
+ghost use Rattle.std.specs.Prelude.{◌≡◌, ◌<◌, ◌↔◌, Bool, IsTrue, slice_index, IfErr, IfOk, OnErr};
 ghost use Rattle.moka_base.specs.Keys.{keys_by};
-ghost use Rattle.moka_core.specs.Machine.{KeepsRoom};
+ghost use Rattle.moka_core.specs.Machine.{IsUntouched, KeepsRoom};
 ghost use Rattle.moka_core.specs.Pending.{HasRoomFor};
-ghost use Rattle.moka_engine.specs.CoreState.{new_core};
+ghost use Rattle.moka_engine.specs.CoreCall.{IsAtRest};
+ghost use Rattle.moka_engine.specs.CoreState.{IsNew, new_core};
 ghost use Rattle.moka_engine.specs.Run.{Happens, RunsTo};
 ghost use Rattle.moka_engine.specs.Turn.Turn.{after_turn};
 
@@ -105,6 +106,43 @@ impl<
             sync_after: None,
             alloc,
         })
+    }
+
+    /// The number of the next ticket of the first shard.
+    pub(crate) fn first_ticket(&self) -> u64
+        ensures { result ≡ slice_index self.now.state.next_numbers 0 }
+    {
+        self.map.first_ticket()
+    }
+
+    /// Whether nothing has been done with it.
+    pub(crate) fn is_new(&self) -> bool
+        ensures { IsTrue result ↔ IsNew self.now.state }
+    {
+        if !self.is_untouched() {
+            return false;
+        }
+        self.map.is_new(self.map.first_ticket())
+    }
+
+    /// Whether nothing has been done with it, but for what its map shows.
+    fn is_untouched(&self) -> bool
+        ensures { IsTrue result ↔ IsUntouched self.now.state }
+    {
+        if self.valid_after.nanos() > 0 || self.sync_after.is_some() {
+            return false;
+        }
+        if self.read_log.len() > 0 || self.write_log.len() > 0 {
+            return false;
+        }
+        self.pending.is_empty() && self.maintenance.is_new()
+    }
+
+    /// Whether nothing is under way.
+    pub(crate) fn is_at_rest(&self) -> bool
+        ensures { IsTrue result ↔ IsAtRest self.now.state }
+    {
+        self.pending.is_empty() && self.maintenance.place() == Place::Idle
     }
 }
 

@@ -1,5 +1,5 @@
 // The map of the core: its shards, and the settings by whose hash state keys find theirs.
-ghost use Rattle.std.specs.Prelude.{◌≡◌, ◌≢◌, ◌<◌, ℕ, Bool, false, [], map, replicate, IfOk, OnOk, IsSome, IsErr, is_some, option_map};
+ghost use Rattle.std.specs.Prelude.{◌≡◌, ◌≢◌, ◌<◌, ◌↔◌, ℕ, Bool, IsTrue, slice_index, false, [], map, replicate, IfOk, OnOk, IsSome, IsErr, is_some, option_map};
 ghost use Rattle.moka_base.specs.Keys.{keys_by};
 ghost use Rattle.moka_engine.specs.declared.constants.TheConstants.{SHARDS};
 ghost use Rattle.moka_engine.specs.Entry.{entry_at};
@@ -7,8 +7,9 @@ ghost use Rattle.moka_shard.specs.Shard.{state_of, unexpired};
 ghost use Rattle.moka_engine.specs.Parts.{NeedsShard, entries_of, need_of};
 ghost use Rattle.moka_engine.specs.Turn.Turn.{turn_at};
 ghost use Rattle.moka_core.specs.MapTurn.{TurnsOnMap, TurnsOnShard};
-ghost use Rattle.moka_core.specs.MapState.{IsInserted, IsInvalidated, pairs_in};
-ghost use Rattle.moka_core.specs.Shards.{AreOwn, states_of};
+ghost use Rattle.std.specs.List.{All};
+ghost use Rattle.moka_core.specs.MapState.{IsInserted, IsInvalidated, IsNewMap, pairs_in};
+ghost use Rattle.moka_core.specs.Shards.{AreOwn, IsAsBuilt, states_of};
 
 use crate::rows::Rows;
 use moka_base::error::{InsertError, OutOfMemory};
@@ -74,6 +75,20 @@ impl<K: Eq + Hash + Drop, V: Drop, S: BuildHasher + Drop, A: Allocator + Clone +
         ensures { result.now ≡ self.now.settings }
     {
         &self.settings
+    }
+
+    /// The number of the next ticket of the first shard.
+    pub(crate) fn first_ticket(&self) -> u64
+        ensures { result ≡ slice_index self.now.next_numbers 0 }
+    {
+        self.shards[0].next_number()
+    }
+
+    /// Whether there is no entry, and each shard gives out this number next.
+    pub(crate) fn is_new(&self, first: u64) -> bool
+        ensures { IsTrue result ↔ IsNewMap first self.now }
+    {
+        are_as_built(&self.shards, first)
     }
 
     /// The hash of a key.
@@ -229,4 +244,22 @@ fn shards_as_built<
         shards.push(shard)?;
     }
     Ok(shards)
+}
+
+/// Whether no shard has an entry, and each gives out this number next.
+fn are_as_built<K: Eq + Hash + Drop, V: Drop, S: BuildHasher + Drop, A: Allocator + Clone + Drop>(
+    shards: &[Shard<K, V, S, A>],
+    number: u64,
+) -> bool
+    ensures { IsTrue result ↔ All (λ shard. IsAsBuilt number (state_of shard)) shards.now }
+{
+    for shard in shards {
+        if shard.len() > 0 {
+            return false;
+        }
+        if shard.next_number() != number {
+            return false;
+        }
+    }
+    true
 }

@@ -1,5 +1,5 @@
 //! What callers have left and not pushed to a log yet.
-ghost use Rattle.std.specs.Prelude.{◌≡◌, ◌<◌, ◌≤◌, ◌+◌, ◌++◌, [], ◌∷◌, nat_eq, length, IfOk, OnOk, OnErr, IfSome, IfNone, None};
+ghost use Rattle.std.specs.Prelude.{◌≡◌, ◌↔◌, IsTrue, ◌<◌, ◌≤◌, ◌+◌, ◌++◌, [], ◌∷◌, nat_eq, length, IfOk, OnOk, OnErr, IfSome, IfNone, None};
 ghost use Rattle.std.specs.Map.{lookup, remove_entry};
 ghost use Rattle.moka_core.specs.Pending.{HasRoomFor};
 ghost use Rattle.moka_core.specs.PendingPlace.{IsPendingAt};
@@ -48,6 +48,13 @@ impl<A: Allocator + Drop> PendingOperations<A> {
     {
         self.operations.reserve(operations.saturating_add(1))?;
         Ok(())
+    }
+
+    /// Whether nothing is pending.
+    pub fn is_empty(&self) -> bool
+        ensures { IsTrue result ↔ self.now.operations ≡ [] }
+    {
+        self.operations.is_empty()
     }
 
     /// What a caller has pending.
