@@ -5,3 +5,4 @@ pub use Rattle.moka_sync.specs.Insert
 pub use Rattle.moka_sync.specs.ShardState
 pub use Rattle.moka_sync.specs.Step
 pub use Rattle.moka_sync.specs.WholeCall
+pub use Rattle.moka_sync.specs.Builder

@@ -1,4 +1,5 @@
 //! The cache that threads share.
 pub mod recorded;
 
+pub use moka_sync::builder::CacheBuilder;
 pub use moka_sync::{constants, engine, laws};

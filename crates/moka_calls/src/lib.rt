@@ -16,6 +16,8 @@ mod sketch;
 #[cfg(test)]
 mod steps;
 #[cfg(test)]
+mod sync_builder;
+#[cfg(test)]
 mod unsync;
 #[cfg(test)]
 mod unsync_runs;

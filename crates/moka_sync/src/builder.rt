@@ -1,0 +1,176 @@
+//! The builder of caches that threads share.
+ghost use Rattle.std.specs.Prelude.{◌≡◌, true, None, Some, IfErr, IfOk};
+ghost use Rattle.moka_sync.specs.Builder.{IsBuilt, new_builder, refusal_of};
+
+mod debug;
+
+use moka_base::error::BuildError;
+use moka_base::policy::Policy;
+use moka_base::settings::duration_fault;
+use moka_base::weigh::UnitWeight;
+use moka_core::engine::{Core, CoreParts};
+use moka_engine::constants::{SHARDS, WRITE_LOG_SIZE};
+use moka_engine::weigh::WeighShared;
+use std::alloc::{Allocator, Global};
+use std::hash::{BuildHasher, Hash};
+use std::marker::{Model, PhantomData};
+use std::time::Duration;
+
+/// Makes the core of a cache that threads share, with what is set. Nothing is limited that isn't set.
+///
+/// ```
+/// let core: Core<u64, String> = CacheBuilder::new(alloc, 100)
+///     .time_to_live(Duration::from_secs(10))
+///     .build_core(FixedState::new())?;
+/// ```
+///
+/// A weigher makes the capacity a weight, as of the bytes of a text. It changes nothing, since several threads may ask it at the same time:
+///
+/// ```
+/// let core = CacheBuilder::new(alloc, 1_000_000)
+///     .weigher(|_key: &u64, value: &String| u32::try_from(value.len()).unwrap_or(u32::MAX))
+///     .build_core(FixedState::new())?;
+/// ```
+///
+/// A builder takes no memory. `build_core` refuses a duration of more than 1000 years, the time to live first, an initial capacity that passes
+/// `usize::MAX` together with a log's room, and want of memory.
+#[derive(Drop)]
+pub struct CacheBuilder<K, V, W: Drop = UnitWeight, A: Allocator + Clone + Drop = Global> {
+    alloc: A,
+    policy: Policy,
+    initial_capacity: usize,
+    is_weighed: bool,
+    weigher: W,
+    entries: PhantomData<(K, V)>,
+}
+
+impl<K, V, W: Drop, A: Allocator + Clone + Drop> Model for CacheBuilder<K, V, W, A> {
+    ghost use Rattle.moka_sync.specs.Builder.{Builder};
+
+    ghost Value = { Builder W };
+
+    ghost view = { λ b. record { policy = b.policy; initial_capacity = b.initial_capacity; is_weighed = b.is_weighed; weigher = b.weigher } };
+}
+
+impl<K, V, A: Allocator + Clone + Drop> CacheBuilder<K, V, UnitWeight, A> {
+    /// A builder of caches with a limit: that many entries, or as much weight where a weigher is given.
+    pub fn new(alloc: A, max_capacity: u64) -> Self
+        ensures { result ≡ new_builder (Some max_capacity) result.weigher }
+    {
+        CacheBuilder::default(alloc).max_capacity(max_capacity)
+    }
+
+    /// A builder of caches without limits.
+    pub fn default(alloc: A) -> Self
+        ensures { result ≡ new_builder None result.weigher }
+    {
+        CacheBuilder {
+            alloc,
+            policy: Policy::new(None, None, None),
+            initial_capacity: 0,
+            is_weighed: false,
+            weigher: UnitWeight,
+            entries: PhantomData,
+        }
+    }
+}
+
+impl<K, V, W: Drop, A: Allocator + Clone + Drop> CacheBuilder<K, V, W, A> {
+    /// The most entries, or with a weigher the most weight.
+    pub fn max_capacity(self, max_capacity: u64) -> Self
+        ensures { result ≡ record self { policy = record self.policy { max_capacity = Some max_capacity } } }
+    {
+        let policy = Policy::new(
+            Some(max_capacity),
+            self.policy.time_to_live(),
+            self.policy.time_to_idle(),
+        );
+        CacheBuilder { policy, ..self }
+    }
+
+    /// For how many entries the cache has room from the start, with as many more as a log holds, in equal parts for its shards. More are found room for
+    /// as they come.
+    pub fn initial_capacity(self, initial_capacity: usize) -> Self
+        ensures { result ≡ record self { initial_capacity = initial_capacity } }
+    {
+        CacheBuilder {
+            initial_capacity,
+            ..self
+        }
+    }
+
+    /// How long an entry lives after it was last written.
+    pub fn time_to_live(self, time_to_live: Duration) -> Self
+        ensures { result ≡ record self { policy = record self.policy { time_to_live = Some time_to_live } } }
+    {
+        let policy = Policy::new(
+            self.policy.max_capacity(),
+            Some(time_to_live),
+            self.policy.time_to_idle(),
+        );
+        CacheBuilder { policy, ..self }
+    }
+
+    /// How long an entry lives after it was last read or written.
+    pub fn time_to_idle(self, time_to_idle: Duration) -> Self
+        ensures { result ≡ record self { policy = record self.policy { time_to_idle = Some time_to_idle } } }
+    {
+        let policy = Policy::new(
+            self.policy.max_capacity(),
+            self.policy.time_to_live(),
+            Some(time_to_idle),
+        );
+        CacheBuilder { policy, ..self }
+    }
+
+    /// What says how much an entry weighs: a closure, or a type with an impl of `WeighShared`. It is asked behind the lock of the
+    /// key's shard.
+    pub fn weigher<N: WeighShared<K, V>>(self, weigher: N) -> CacheBuilder<K, V, N, A>
+        ensures { result ≡ record {
+          policy = self.policy;
+          initial_capacity = self.initial_capacity;
+          is_weighed = true;
+          weigher = weigher;
+        } }
+    {
+        CacheBuilder {
+            alloc: self.alloc,
+            policy: self.policy,
+            initial_capacity: self.initial_capacity,
+            is_weighed: true,
+            weigher,
+            entries: PhantomData,
+        }
+    }
+}
+
+impl<K: Eq + Hash + Drop, V: Drop, W: Drop, A: Allocator + Clone + Drop> CacheBuilder<K, V, W, A> {
+    /// The core, with this hash state. It is refused where a duration is longer than 1000 years, where `initial_capacity` is too large, or for want
+    /// of memory.
+    pub fn build_core<S: BuildHasher + Drop>(
+        self,
+        hash_state: S,
+    ) -> Result<Core<K, V, S, W, A>, BuildError>
+        ensures ok { IfOk result (λ core. IsBuilt self hash_state core) }
+        ensures err { IfErr result (λ error. error ≡ refusal_of self) }
+    {
+        let policy = self.policy;
+        if let Some(fault) = duration_fault(policy.time_to_live(), policy.time_to_idle()) {
+            return Err(fault);
+        }
+        let Some(capacity) = self.initial_capacity.checked_add(WRITE_LOG_SIZE) else {
+            return Err(BuildError::CapacityTooLarge);
+        };
+        let core = Core::of_parts(
+            self.alloc,
+            CoreParts {
+                hash_state,
+                policy,
+                is_weighed: self.is_weighed,
+                weigher: self.weigher,
+                capacity: capacity.div_ceil(SHARDS),
+            },
+        )?;
+        Ok(core)
+    }
+}
