@@ -1,2 +1,4 @@
 pub mod DequeLemmas
 pub mod NodesLemmas
+pub mod IdLemmas
+pub mod WalkLemmas

@@ -10,7 +10,7 @@ use Rattle.moka_engine.specs.Orders.{Orders, used, all_used}
 use Rattle.moka_engine.specs.Turn.Admission.{absent_of}
 use Rattle.moka_orders.specs.declared.orders.Node.{Node}
 use Rattle.moka_orders.specs.OrdersState.{OrdersState, orders_of}
-use Rattle.moka_orders.proofs.NodeLemmas.{IsDistinct-rewritten, moved-found}
+use Rattle.moka_deque.proofs.IdLemmas.{IsDistinct-rewritten, moved-found}
 use Rattle.moka_maintenance.specs.Held.{first_seen, seen_node}
 use Rattle.moka_maintenance.proofs.NextLemmas.{IsNext, next_of, some_next}
 

@@ -14,7 +14,7 @@ use Rattle.moka_orders.specs.declared.orders.Node.{Node}
 use Rattle.moka_orders.specs.Indexed.{IsIndexed}
 use Rattle.moka_orders.specs.Kept.{IsKept, room_of, room_after, with_write_last, without_write}
 use Rattle.moka_orders.specs.OrdersState.{OrdersState, orders_of, access_of, charged}
-use Rattle.moka_orders.proofs.NodeLemmas.{lookup-rewritten, moved-found}
+use Rattle.moka_deque.proofs.IdLemmas.{lookup-rewritten, moved-found}
 use Rattle.moka_orders.proofs.IndexLemmas.{IsIndexed-rewrite}
 use Rattle.moka_orders.proofs.KeptLemmas.{IsKept-moved, IsKept-set, IsKept-rewritten, access-moved, access-set, access-same, access-removed}
 use Rattle.moka_orders.proofs.KeptLemmas.{written-moved, written-removed}

@@ -17,7 +17,8 @@ use Rattle.moka_orders.specs.declared.orders.Node.{Node}
 use Rattle.moka_orders.specs.Indexed.{IsIndexed}
 use Rattle.moka_orders.specs.OrdersState.{charged, access_of}
 use Rattle.moka_deque.proofs.DequeLemmas.{lookup-push}
-use Rattle.moka_orders.proofs.NodeLemmas.{each_found, lookup-removed, not_none, some_parts, from_first, from_node, from_next, from_none}
+use Rattle.moka_deque.proofs.IdLemmas.{each_found, lookup-removed, not_none, some_parts}
+use Rattle.moka_deque.proofs.WalkLemmas.{from_first, from_node, from_next, from_none}
 use Rattle.moka_orders.proofs.TicketsLemmas.{seen-absent}
 
 -- the id is among these

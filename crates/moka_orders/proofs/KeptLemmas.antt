@@ -19,8 +19,8 @@ use Rattle.moka_engine.proofs.TicketLemmas.{same_is, same_self}
 use Rattle.moka_orders.specs.declared.orders.Node.{Node}
 use Rattle.moka_orders.specs.Kept.{total_charge, IsTied, IsKept, without_write, with_write_last}
 use Rattle.moka_orders.specs.OrdersState.{charged, access_of}
-use Rattle.moka_orders.proofs.NodeLemmas.{each_found, lookup-removed, lookup-behind, lookup-rewritten, IsDistinct-removed, IsDistinct-pushed}
-use Rattle.moka_orders.proofs.NodeLemmas.{IsDistinct-rewritten, not_none, some_parts, moved-found}
+use Rattle.moka_deque.proofs.IdLemmas.{each_found, lookup-removed, lookup-behind, lookup-rewritten, IsDistinct-removed, IsDistinct-pushed}
+use Rattle.moka_deque.proofs.IdLemmas.{IsDistinct-rewritten, not_none, some_parts, moved-found}
 use Rattle.moka_orders.proofs.TicketsLemmas.{Agrees, map_same, seen-absent, seen-find, seen-remove, seen-moved, seen-set, seen-same}
 
 -- a ticket that is another

@@ -1,4 +1,3 @@
-pub mod NodeLemmas
 pub mod TicketsLemmas
 pub mod KeptLemmas
 pub mod IndexLemmas

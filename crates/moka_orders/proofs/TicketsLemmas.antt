@@ -5,7 +5,7 @@ use Rattle.std.proofs.lemmas.Bool.{cases_Bool, cond-true, cond-false, eqb-true}
 use Rattle.std.proofs.lemmas.Map.Keys.{IsDistinct-head, IsDistinct-tail}
 use Rattle.std.specs.List.{IsDistinct, AllByRecursion, find}
 use Rattle.std.specs.Map.{lookup, remove_entry, set_value, keys_of, values_of}
-use Rattle.moka_orders.proofs.NodeLemmas.{some_parts, not_none}
+use Rattle.moka_deque.proofs.IdLemmas.{some_parts, not_none}
 
 -- a list in which each element is as it was
 pub map_same : {X : Type 0} (xs : List X) → map (λ (x : X). x) xs ≡ xs

@@ -15,11 +15,11 @@ use Rattle.moka_store.specs.Nodes.{capacity_of, entries_under, written_under, Is
 use Rattle.std.proofs.lemmas.Map.{length-set_value}
 use Rattle.std.proofs.lemmas.List.{length_push}
 use Rattle.moka_deque.proofs.DequeLemmas.{length-remove, lookup-push, nat_eq-same}
-use Rattle.moka_store.proofs.NodeLemmas.{lookup-rewritten, IsDistinct-rewritten}
+use Rattle.moka_deque.proofs.IdLemmas.{lookup-rewritten, IsDistinct-rewritten}
 use Rattle.moka_store.proofs.StoreLemmas.{lookup-entries, entries-remove, weight-remove, others, written-left, written-touch}
 use Rattle.moka_store.proofs.StoreLemmas.{written-update, written-enter, written-unkept, entries-rewrite, entries-push, no_writes}
 use Rattle.moka_store.proofs.StoreLemmas.{set-pushed, IsStored-remove, IsStored-rewrite, IsStored-enter, IsStored-unkept, total_bound}
-use Rattle.moka_store.proofs.FindLemmas.{moved-found}
+use Rattle.moka_deque.proofs.IdLemmas.{moved-found}
 
 module _ {K V : Type 0} where
   -- what a contract sees of the two deques

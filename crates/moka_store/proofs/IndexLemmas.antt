@@ -15,8 +15,8 @@ use Rattle.moka_machine.specs.Contents.{entry_at}
 use Rattle.moka_store.specs.Indexed.{IsIndexed, indexed_capacity}
 use Rattle.moka_store.specs.Store.{Store, Enters, IsFront, IsOldest, Removes, Touches, Updates}
 use Rattle.moka_deque.proofs.DequeLemmas.{lookup-push}
-use Rattle.moka_store.proofs.NodeLemmas.{each_found, lookup-removed, lookup-rewritten, not_none, some_parts}
-use Rattle.moka_store.proofs.FindLemmas.{from_first, from_node, from_next, from_none}
+use Rattle.moka_deque.proofs.IdLemmas.{each_found, lookup-removed, lookup-rewritten, not_none, some_parts}
+use Rattle.moka_deque.proofs.WalkLemmas.{from_first, from_node, from_next, from_none}
 
 -- ---- ids among others
 

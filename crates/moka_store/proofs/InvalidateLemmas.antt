@@ -13,7 +13,7 @@ use Rattle.moka_machine.specs.Invalidate.{AnswersAt, AnswersInTurn, chosen}
 use Rattle.moka_machine.proofs.ContentsLemmas.{found_key}
 use Rattle.moka_store.specs.Store.{Store, IsFound, Removes, entries_of}
 use Rattle.moka_store.specs.Turns.{contents_of}
-use Rattle.moka_store.proofs.FindLemmas.{from_first, from_next, from_node, from_none, from_stays, next_stays}
+use Rattle.moka_deque.proofs.WalkLemmas.{from_first, from_next, from_node, from_none, from_stays, next_stays}
 
 module _ {K V : Type 0} (eq : K → K → Bool) where
   -- a key without an entry takes none with it

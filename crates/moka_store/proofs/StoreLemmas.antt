@@ -15,9 +15,11 @@ use Rattle.moka_machine.specs.Contents.{entries_without, entry_at, total_weight,
 use Rattle.moka_machine.specs.Insert.{with_write}
 use Rattle.moka_store.specs.Nodes.{entries_under, write_under, written_under, IsTied, IsStored, without_write}
 use Rattle.moka_deque.proofs.DequeLemmas.{lookup-push, nat_eq-same}
-use Rattle.moka_store.proofs.NodeLemmas.{each_found, lookup-removed, lookup-behind, lookup-rewritten, IsDistinct-removed, IsDistinct-pushed}
-use Rattle.moka_store.proofs.NodeLemmas.{IsDistinct-rewritten, others_found, filter_map-same, filter_map-without, filter_map-remove}
-use Rattle.moka_store.proofs.NodeLemmas.{map-remove, not_none, some_parts}
+use Rattle.moka_deque.proofs.IdLemmas.{each_found, lookup-removed, lookup-behind, lookup-rewritten, IsDistinct-removed, IsDistinct-pushed}
+use Rattle.moka_deque.proofs.IdLemmas.{IsDistinct-rewritten}
+use Rattle.moka_store.proofs.NodeLemmas.{others_found, filter_map-same, filter_map-without, filter_map-remove}
+use Rattle.moka_deque.proofs.IdLemmas.{not_none, some_parts}
+use Rattle.moka_store.proofs.NodeLemmas.{map-remove}
 
 module _ {K V : Type 0} where
   -- the entries under ids, seen by ids

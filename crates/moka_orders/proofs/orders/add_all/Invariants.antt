@@ -1,6 +1,6 @@
 use Rattle.std.proofs.Common.{◌≡◌, length, IfSome}
 use Rattle.moka_deque.specs.Deque.{IsIn}
-use Rattle.moka_orders.proofs.NodeLemmas.{from_node}
+use Rattle.moka_deque.proofs.WalkLemmas.{from_node}
 use Rattle.moka_orders.proofs.IndexLemmas.{IsUpTo}
 use Rattle.moka_orders.proofs.orders.add_all.Given as goal
 

@@ -2,7 +2,7 @@ use Rattle.std.proofs.Common.{◌≡◌, ◌∙◌, Bool, IfSome, false, true, o
 use Rattle.moka_deque.specs.Deque.{IsIn}
 use Rattle.moka_machine.specs.Invalidate.{AnswersAt}
 use Rattle.moka_store.specs.Turns.{contents_of}
-use Rattle.moka_store.proofs.FindLemmas.{first_is_in, next_is_in}
+use Rattle.moka_deque.proofs.WalkLemmas.{first_is_in, next_is_in}
 use Rattle.moka_store.proofs.InvalidateLemmas.{IsStop, answered, fewer_from, fewer_left, next_remains, remaining_first, remaining_kept}
 use Rattle.moka_store.proofs.InvalidateLemmas.{remaining_left, remaining_none}
 use Rattle.moka_store.proofs.invalidate.remove_where.Given.{Over}

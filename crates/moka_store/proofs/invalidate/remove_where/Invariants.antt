@@ -1,7 +1,7 @@
 use Rattle.std.proofs.Common.{length, IfSome}
 use Rattle.moka_deque.specs.Deque.{IsIn}
 use Rattle.moka_store.specs.Turns.{Continues, contents_of}
-use Rattle.moka_store.proofs.FindLemmas.{from_node}
+use Rattle.moka_deque.proofs.WalkLemmas.{from_node}
 use Rattle.moka_store.proofs.InvalidateLemmas.{Remaining, entries_from}
 use Rattle.moka_store.proofs.invalidate.remove_where.Given as goal
 

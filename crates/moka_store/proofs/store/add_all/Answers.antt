@@ -2,7 +2,7 @@ use Rattle.std.proofs.Common.{◌≡◌, ◌∙◌, ◌<◌, length, refl, subst
 use Rattle.moka_deque.specs.Deque.{next_id}
 use Rattle.std.proofs.lemmas.Bool.{false_from_ne_true}
 use Rattle.moka_index.specs.HashIndex.{is_candidate, Adds}
-use Rattle.moka_store.proofs.FindLemmas.{first_is_in, fewer_behind, from_node, next_is_in}
+use Rattle.moka_deque.proofs.WalkLemmas.{first_is_in, fewer_behind, from_node, next_is_in}
 use Rattle.moka_store.proofs.IndexLemmas.{IsUpTo, up_to_none, up_to_next, up_to_end, not_yet}
 use Rattle.moka_store.proofs.store.add_all.Goals as goal
 

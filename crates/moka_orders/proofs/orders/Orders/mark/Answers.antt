@@ -1,6 +1,6 @@
 use Rattle.std.proofs.Common.{◌∙◌, ap, arith, nat_eq, refl, sym}
 use Rattle.std.specs.Map.{set_value}
-use Rattle.moka_orders.proofs.NodeLemmas.{some_parts}
+use Rattle.moka_deque.proofs.IdLemmas.{some_parts}
 use Rattle.moka_orders.proofs.ChangeLemmas.{seen, set_is, marked_orders, set_indexed}
 use Rattle.moka_orders.proofs.KeptLemmas.{IsKept-set, charge_in_total}
 use Rattle.moka_orders.proofs.orders.Orders.mark.Goals as goal

@@ -2,7 +2,7 @@ use Rattle.std.proofs.Common.{◌≡◌, ◌∙◌, ◌-◌, ◌+◌, ap, nat_eq
 use Rattle.std.specs.Map.{set_value}
 use Rattle.moka_engine.specs.Orders.{recharged}
 use Rattle.moka_orders.specs.OrdersState.{orders_of}
-use Rattle.moka_orders.proofs.NodeLemmas.{some_parts}
+use Rattle.moka_deque.proofs.IdLemmas.{some_parts}
 use Rattle.moka_orders.proofs.ChangeLemmas.{seen, set_is, recharged_orders, set_indexed}
 use Rattle.moka_orders.proofs.KeptLemmas.{IsKept-set, charge_in_total, rest_bound}
 use Rattle.moka_orders.proofs.orders.Orders.recharge.Goals as goal

@@ -4,7 +4,7 @@ use Rattle.moka_deque.proofs.DequeLemmas.{length-remove}
 use Rattle.moka_index.specs.HashIndex.{Removes}
 use Rattle.moka_engine.specs.Orders.{without_node}
 use Rattle.moka_orders.specs.OrdersState.{orders_of}
-use Rattle.moka_orders.proofs.NodeLemmas.{some_parts}
+use Rattle.moka_deque.proofs.IdLemmas.{some_parts}
 use Rattle.moka_orders.proofs.ChangeLemmas.{seen, removed_orders}
 use Rattle.moka_orders.proofs.KeptLemmas.{IsKept-remove, charge_in_total}
 use Rattle.moka_orders.proofs.IndexLemmas.{IsIndexed-remove}

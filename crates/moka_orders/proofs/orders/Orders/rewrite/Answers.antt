@@ -2,7 +2,7 @@ use Rattle.std.proofs.Common.{◌≡◌, ◌∙◌, ap, None, Some, subst, sym}
 use Rattle.moka_engine.specs.Orders.{rewritten}
 use Rattle.moka_orders.specs.OrdersState.{orders_of}
 use Rattle.moka_orders.specs.Kept.{with_write_last}
-use Rattle.moka_orders.proofs.NodeLemmas.{some_parts}
+use Rattle.moka_deque.proofs.IdLemmas.{some_parts}
 use Rattle.moka_orders.proofs.ChangeLemmas.{seen, rewritten_orders, write_in}
 use Rattle.moka_orders.proofs.KeptLemmas.{IsKept-rewritten}
 use Rattle.moka_orders.proofs.orders.Orders.rewrite.Goals as goal

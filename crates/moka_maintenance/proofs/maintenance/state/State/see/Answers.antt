@@ -4,7 +4,7 @@ use Rattle.moka_engine.specs.Place as place
 use Rattle.moka_engine.specs.Turn.Plan.{Stays}
 use Rattle.moka_engine.specs.Turn.Admission.{after_finding, is_decided}
 use Rattle.moka_orders.specs.declared.orders.Node.{Node}
-use Rattle.moka_orders.proofs.NodeLemmas.{some_parts}
+use Rattle.moka_deque.proofs.IdLemmas.{some_parts}
 use Rattle.moka_maintenance.specs.Held.{Held, IsScanning, candidate_of, first_seen, tally_of, work_of}
 use Rattle.moka_maintenance.proofs.ScanLemmas.{next_parts, scanned_node, scanning_on, seen_more, is_some_copied}
 use Rattle.moka_maintenance.proofs.maintenance.state.State.see.Goals as goal

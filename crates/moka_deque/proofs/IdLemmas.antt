@@ -1,7 +1,7 @@
--- Lemmas on lists of nodes under ids: what is found under an id after a change, and walks from the front on.
-use Rattle.std.proofs.Common.{◌≡◌, ◌<◌, ℕ, Bool, true, false, cond, nat_eq, List, [], ◌∷◌, ◌++◌, length, Contains, Option, Some, None}
-use Rattle.std.proofs.Common.{is_some, unwrap_or, refl, sym, ap, ◌∙◌, inl, inr, subst, arith}
-use Rattle.std.proofs.lemmas.Bool.{cases_Bool, cond_both, cond-true, cond-false, eqb-true, false≢true}
+-- Lemmas on lists of elements under ids: what is found under an id after a change, and that ids stay distinct.
+use Rattle.std.proofs.Common.{◌≡◌, ℕ, Bool, true, false, cond, nat_eq, List, [], ◌∷◌, ◌++◌, Contains, Option, Some, None}
+use Rattle.std.proofs.Common.{is_some, unwrap_or, refl, sym, ap, ◌∙◌, inl, inr, subst}
+use Rattle.std.proofs.lemmas.Bool.{cases_Bool, cond_both, cond-true, cond-false, false≢true}
 use Rattle.std.proofs.lemmas.Cmp.{nat_eq_equiv}
 use Rattle.std.proofs.lemmas.Map.{lookup-remove_entry}
 use Rattle.std.proofs.lemmas.Map.Views.{lookup-from_Contains}
@@ -9,7 +9,7 @@ use Rattle.std.proofs.lemmas.Map.Keys.{IsDistinct-head, IsDistinct-tail, IsDisti
 use Rattle.std.proofs.lemmas.List.Elements.{All-weaker, All-contains_itself, recursion_from_All}
 use Rattle.std.specs.List.{IsDistinct, AllByRecursion, list_any}
 use Rattle.std.specs.Map.{lookup, remove_entry, keys_of}
-use Rattle.moka_deque.specs.Deque.{IsIn, first_id, next_id, moved_to_back}
+use Rattle.moka_deque.specs.Deque.{moved_to_back}
 use Rattle.moka_deque.proofs.DequeLemmas.{lookup-push, nat_eq-same}
 
 -- equal somethings are of equal parts
@@ -97,91 +97,7 @@ module _ {X : Type 0} where
       IsDistinct-pushed id x (remove_entry (nat_eq id) es) (IsDistinct-removed id es d)
       (lookup-removed id id es d ∙ cond-true (nat_eq id id) _ _ (nat_eq-same id))
 
-  -- the nodes from one on
-  unfoldable pub from_node : Option ℕ → List (ℕ × X) → List (ℕ × X)
-  from_node None items = []
-  from_node (Some id) [] = []
-  from_node (Some id) (e ∷ es) = cond (nat_eq id e.0) (e ∷ es) (from_node (Some id) es)
-
-  -- from the first on it is all of them
-  pub from_first : (items : List (ℕ × X)) → from_node (first_id items) items ≡ items
-  unfolding from_node
-  from_first [] = refl
-  from_first (e ∷ es) = cond-true (nat_eq e.0 e.0) _ _ (nat_eq-same e.0)
-
-  pub from_none : (items : List (ℕ × X)) → from_node None items ≡ []
-  unfolding from_node
-  from_none items = refl
-
-  -- behind another node nothing changes
-  past_head : (e : ℕ × X) (es : List (ℕ × X)) → AllByRecursion (λ k. nat_eq e.0 k ≡ false) (keys_of es) → (o : Option ℕ)
-      → Rattle.std.specs.Prelude.IfSome o (λ id. IsIn es id) → from_node o (e ∷ es) ≡ from_node o es
-  unfolding from_node
-  past_head e es apart None h = refl
-  past_head e es apart (Some id) h = cond-false (nat_eq id e.0) _ _ (differs es apart h)
-    where
-      differs : (fs : List (ℕ × X)) → AllByRecursion (λ k. nat_eq e.0 k ≡ false) (keys_of fs) → IsIn fs id → nat_eq id e.0 ≡ false
-      differs [] a k = absurd (false≢true k)
-      differs (f ∷ fs) a k =
-          elim (cases_Bool (nat_eq id f.0)) [
-            | inl same ↦ nat_eq_equiv.symm id e.0 ∙ (ap (nat_eq e.0) (eqb-true id f.0 same) ∙ a.0)
-            | inr other ↦ differs fs a.1 (ap is_some (sym (cond-false (nat_eq id f.0) (Some f.1) (lookup (nat_eq id) fs) other)) ∙ k)
-          ]
-
-  -- the first node is one of the list
-  pub first_is_in : (es : List (ℕ × X)) → Rattle.std.specs.Prelude.IfSome (first_id es) (λ id. IsIn es id)
-  first_is_in [] = tt
-  first_is_in (e ∷ es) = ap is_some (cond-true (nat_eq e.0 e.0) (Some e.1) (lookup (nat_eq e.0) es) (nat_eq-same e.0))
-
-  behind_head : (e : ℕ × X) (es : List (ℕ × X)) (o : Option ℕ) → Rattle.std.specs.Prelude.IfSome o (λ id. IsIn es id)
-      → Rattle.std.specs.Prelude.IfSome o (λ id. IsIn (e ∷ es) id)
-  behind_head e es None h = tt
-  behind_head e es (Some id) h = cond_both (nat_eq id e.0) (Some e.1) (lookup (nat_eq id) es) (λ o. is_some o ≡ true) (λ _. refl) (λ _. h)
-
-  -- the next node is one of the list
-  pub next_is_in : (id : ℕ) (items : List (ℕ × X)) → Rattle.std.specs.Prelude.IfSome (next_id id items) (λ j. IsIn items j)
-  next_is_in id [] = tt
-  next_is_in id (e ∷ es) =
-      elim (cases_Bool (nat_eq id e.0)) [
-        | inl same ↦
-            subst (λ o. Rattle.std.specs.Prelude.IfSome o (λ j. IsIn (e ∷ es) j))
-            (sym (cond-true (nat_eq id e.0) (first_id es) (next_id id es) same)) (behind_head e es (first_id es) (first_is_in es))
-        | inr other ↦
-            subst (λ o. Rattle.std.specs.Prelude.IfSome o (λ j. IsIn (e ∷ es) j))
-            (sym (cond-false (nat_eq id e.0) (first_id es) (next_id id es) other)) (behind_head e es (next_id id es) (next_is_in id es))
-      ]
-
-  -- from a node on come it and those from the next one on
-  pub from_next : (id : ℕ) (x : X) (items : List (ℕ × X)) → IsDistinct nat_eq (keys_of items) → lookup (nat_eq id) items ≡ Some x
-      → from_node (Some id) items ≡ (id, x) ∷ from_node (next_id id items) items
-  unfolding from_node
-  from_next id x [] d h = absurd (false≢true (ap is_some h))
-  from_next id x (e ∷ es) d h =
-      let apart = IsDistinct-head nat_eq e.0 (keys_of es) d in
-      elim (cases_Bool (nat_eq id e.0)) [
-        | inl same ↦
-            let value : e.1 ≡ x = ap (λ o. unwrap_or o x) (sym (cond-true (nat_eq id e.0) (Some e.1) (lookup (nat_eq id) es) same) ∙ h) in
-            cond-true (nat_eq id e.0) _ _ same
-            ∙ ap (λ (p : (ℕ × X) × List (ℕ × X)). p.0 ∷ p.1)
-            (λ i. (
-              (sym (eqb-true id e.0 same) i, value i),
-              (sym (ap (λ o. from_node o (e ∷ es)) (cond-true (nat_eq id e.0) (first_id es) (next_id id es) same)
-                  ∙ (past_head e es apart (first_id es) (first_is_in es) ∙ from_first es))) i,
-            ))
-        | inr other ↦
-            cond-false (nat_eq id e.0) _ _ other
-            ∙ (from_next id x es (IsDistinct-tail nat_eq e.0 (keys_of es) d)
-            (sym (cond-false (nat_eq id e.0) (Some e.1) (lookup (nat_eq id) es) other) ∙ h)
-            ∙ ap (λ l. (id, x) ∷ l)
-            (sym (ap (λ o. from_node o (e ∷ es)) (cond-false (nat_eq id e.0) (first_id es) (next_id id es) other)
-            ∙ past_head e es apart (next_id id es) (next_is_in id es))))
-      ]
-
-  -- behind a node fewer are left
-  pub fewer_behind : (id : ℕ) (x : X) (items : List (ℕ × X)) → IsDistinct nat_eq (keys_of items) → lookup (nat_eq id) items ≡ Some x
-      → length (from_node (next_id id items) items) < length (from_node (Some id) items)
-  fewer_behind id x items once stands = rw (from_next id x items once stands) (grind (arith))
-
+  -- one that is there, at the back
   pub moved-found : (id : ℕ) (x : X) (items : List (ℕ × X)) → lookup (nat_eq id) items ≡ Some x
       → moved_to_back id items ≡ remove_entry (nat_eq id) items ++ (id, x) ∷ []
   moved-found id x items h =
