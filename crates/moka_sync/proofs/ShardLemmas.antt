@@ -15,7 +15,7 @@ use Rattle.moka_sync.specs.Insert.{updated}
 use Rattle.moka_sync.specs.declared.constants.TheConstants.{NO_TICKET}
 use Rattle.moka_sync.specs.Find.{StandsFirst}
 use Rattle.moka_sync.specs.ShardState.{ShardState, BelongsTo, IsValidShard, InsertsHere, InsertEndsSo}
-use Rattle.moka_sync.proofs.FindLemmas.{find-behind, find-set_hit, find-set_miss, find-push_miss, find-agree, split_at_place}
+use Rattle.moka_core.proofs.FindLemmas.{find-behind, find-set_hit, find-set_miss, find-push_miss, find-agree, split_at_place}
 
 module _ {K V : Type 0} {eq : K → K → Bool} (laws : IsEquivalence eq) where
   -- equal keys have the same entry

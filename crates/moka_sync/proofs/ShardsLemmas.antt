@@ -14,7 +14,7 @@ use Rattle.moka_sync.specs.Entry.{Entry}
 use Rattle.moka_sync.specs.CoreState.{entry_at, shard_of, PutsEntry}
 use Rattle.moka_sync.specs.ShardState.{ShardState, BelongsTo}
 use Rattle.moka_sync.specs.Shards.{IsShard, AreShardsFrom, AreShards, entries_of}
-use Rattle.moka_sync.proofs.FindLemmas.{find-none_before, find-none_behind}
+use Rattle.moka_core.proofs.FindLemmas.{find-none_before, find-none_behind}
 
 module _ {K V S : Type 0} (keys : Keys K S) (state : S) where
   -- the shard at a place has its number

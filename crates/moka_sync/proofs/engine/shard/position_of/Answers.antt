@@ -1,5 +1,5 @@
 use Rattle.std.proofs.Common.{◌≡◌, true, sym, ◌∙◌, ap}
-use Rattle.moka_sync.proofs.FindLemmas.{find-take_more, find-at}
+use Rattle.moka_core.proofs.FindLemmas.{find-take_more, find-at}
 use Rattle.moka_sync.proofs.engine.shard.position_of.Goals as goal
 
 pub loop-i-preserved : goal.loop-i-preserved
