@@ -14,13 +14,27 @@ use Rattle.moka_engine.specs.Run.{Happens}
 use Rattle.moka_engine.specs.WholeCall.{CallsIter, with_pairs}
 use Rattle.moka_engine.specs.declared.call.Call.{Call}
 use Rattle.moka_engine.specs.CoreCall.{numbers_from, Decides, has_pending, IsCall, Replays}
-use Rattle.moka_engine_laws.specs.CallLaws.{CallsRest, IterationsCopy, CallsReturn, SyncsEmpty, ListsRest, ReplaysOneMore, ReplaysRest}
+use Rattle.moka_engine_laws.specs.CallLaws.{CallsRest, IterationsCopy, CallsReturn, SyncsEmpty, ListsRest, ReplaysOneMore, ReplaysRest, RunsAreHappenings}
 use Rattle.moka_engine_laws.proofs.ConsistentLemmas.{stays_consistent}
 use Rattle.moka_engine_laws.proofs.StepForms.{by_Bool}
 use Rattle.moka_engine_laws.proofs.CallLemmas.{Rests, call_rests, maintained, maintained_evicts}
 use Rattle.moka_engine_laws.proofs.ReturnLemmas.{call_returns}
 
 module _ {K V S : Type 0} (keys : Keys K S) (weighs : K → V → ℕ → Type 0) where
+  -- each step with what the weigher and memory said to it
+  pub runs_are_happenings : RunsAreHappenings keys weighs
+  runs_are_happenings old new [] [] is = ([], is, tt, refl, refl)
+  runs_are_happenings old new (event ∷ events) (reply ∷ replies) (next, step, runs) =
+      let rest = runs_are_happenings next new events replies runs in (
+        record { event = event; weight = step.weight; refused = step.refused; reply = reply } ∷ rest.0,
+        (next, step.step, rest.1),
+        (step.weighed, rest.2),
+        ap (λ es. event ∷ es) rest.3,
+        ap (λ rs. reply ∷ rs) rest.4,
+      )
+  runs_are_happenings old new [] (reply ∷ replies) none = absurd none
+  runs_are_happenings old new (event ∷ events) [] none = absurd none
+
   module _ (laws : IsEquivalence keys.eq) where
     pub calls_rest : CallsRest keys weighs
     calls_rest old new call reply good rest h = let rests =

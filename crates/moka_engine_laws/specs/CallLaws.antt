@@ -1,12 +1,14 @@
 -- What a contract sees of the laws of whole calls, which `src/laws.rt` promises.
-use Rattle.std.specs.Prelude.{◌≡◌, ◌⊎◌, ℕ, Bool, List, [], ◌∷◌, ◌++◌, Option, Some, option_map}
+use Rattle.std.specs.Prelude.{◌≡◌, ◌⊎◌, ℕ, Bool, List, [], ◌∷◌, ◌++◌, map, Option, Some, option_map}
 use Rattle.std.specs.List.{flat_map}
 use Rattle.moka_base.specs.Keys.{Keys}
 use Rattle.moka_engine.specs.declared.constants.TheConstants.{SHARDS, CALLER}
 use Rattle.moka_engine.specs.CoreState.{CoreState, new_core}
 use Rattle.moka_base.specs.Settings.{Settings}
+use Rattle.moka_engine.specs.declared.event.Event.{Event}
 use Rattle.moka_engine.specs.declared.event.Event.TheVariants as event
 use Rattle.moka_engine.specs.Reply.{Reply}
+use Rattle.moka_engine.specs.Run.{AreWeighed, Happening, Runs, RunsTo}
 use Rattle.moka_engine.specs.MapStep.{pairs_of}
 use Rattle.moka_engine.specs.declared.event.Reply.TheVariants.{Found, Rows, OutOfMemory}
 use Rattle.moka_engine.specs.Consistent.{IsConsistent, IsTrimmed}
@@ -28,6 +30,13 @@ module _ {K V : Type 0} (eq : K → K → Bool) where
   last_called key (c ∷ cs) last = last_called key cs (called_by key c.0 c.1 last)
 
 module _ {K V S : Type 0} (keys : Keys K S) (weighs : K → V → ℕ → Type 0) where
+  -- steps with their replies are a list of happenings, whose weights the weigher answered
+  abbrev pub RunsAreHappenings : Type 0
+  RunsAreHappenings =
+      (old new : CoreState K V S) (events : List (Event K V)) (replies : List (Reply K V)) → RunsTo keys weighs old events replies new →
+      (hs : List (Happening K V)) × Runs keys old hs new × AreWeighed weighs hs × (map (λ h. h.event) hs ≡ events)
+      × (map (λ h. h.reply) hs ≡ replies)
+
   -- a whole call leaves nothing under way
   abbrev pub CallsRest : Type 0
   CallsRest =

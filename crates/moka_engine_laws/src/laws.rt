@@ -6,7 +6,7 @@ ghost use Rattle.moka_engine_laws.specs.MaintenanceLaws.{AdmitsUndisturbed, Come
 ghost use Rattle.moka_engine_laws.specs.Laws.{GetsLastWritten, GetsLiveValue, IsPairedAtRest, KeepsConsistent, KeepsLastWritten, LeavesForCause, StandsOnceInserted, StandsUntilCause, StaysConsistent, StaysCounted};
 ghost use Rattle.moka_engine_laws.specs.PlainMap.{IsPlainMap};
 ghost use Rattle.moka_engine_laws.specs.Weights.{AcceptsWeighed, KeepsWeighed, RunsKeepWeighed};
-ghost use Rattle.moka_engine_laws.specs.CallLaws.{CallsGetLive, CallsKeepLastWritten, CallsRest, CallsReturn, IterationsCopy, ListsRest, ReplaysOneMore, ReplaysRest, SyncsEmpty};
+ghost use Rattle.moka_engine_laws.specs.CallLaws.{CallsGetLive, CallsKeepLastWritten, CallsRest, CallsReturn, IterationsCopy, ListsRest, ReplaysOneMore, ReplaysRest, RunsAreHappenings, SyncsEmpty};
 
 use moka_engine::weigh::WeighShared;
 use std::hash::{BuildHasher, Hash};
@@ -104,6 +104,11 @@ pub fn stored_weights_are_answers<K: Eq + Hash, V, S: BuildHasher, W: WeighShare
 /// So does any list of steps.
 pub fn stored_weights_stay_answers<K: Eq + Hash, V, S: BuildHasher, W: WeighShared<K, V>>()
     ensures { (weigher : _) → RunsKeepWeighed {V = V} (keys_by K.Hash S.BuildHasher S.Hasher.Hasher) (W.weighs weigher) }
+{}
+
+/// The list of steps that a core has run is a list of happenings, of which the laws of lists speak.
+pub fn runs_are_happenings<K: Eq + Hash, V, S: BuildHasher, W: WeighShared<K, V>>()
+    ensures { (weigher : _) → RunsAreHappenings {V = V} (keys_by K.Hash S.BuildHasher S.Hasher.Hasher) (W.weighs weigher) }
 {}
 
 /// A whole call of one caller leaves nothing under way.
