@@ -1,4 +1,12 @@
 // Recorded scripts with the replies that were worked out by hand.
+mod admission;
+mod batches;
+mod counts;
+mod due;
+mod durations;
+mod invalidation;
+mod weights;
+
 use crate::scripts::table::{Row, check_rows, check_script};
 use std::fmt::Write;
 use std::test::Fail;

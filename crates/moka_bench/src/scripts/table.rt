@@ -5,7 +5,7 @@ use std::process::Abort;
 use std::test::Fail;
 
 /// A script with its replies, side by side: a line of the script, an arrow, and the reply. A line without an arrow has no reply. Spaces in front
-/// of a line are layout.
+/// of a line are layout. A line behind `500 times` stands for so many lines, in which `#` is their number from 0 on.
 pub struct Row {
     pub name: &'static str,
     pub lines: &'static str,
@@ -13,6 +13,9 @@ pub struct Row {
 
 /// What stands between a line and its reply.
 const ARROW: &str = " -> ";
+
+/// What stands between how often a line is meant, and the line.
+const TIMES: &str = " times ";
 
 /// How a run of the script ends, whose memory is of this heap, and what it writes.
 pub fn run_in<A: Allocator + Clone + Drop>(
@@ -41,15 +44,45 @@ pub fn sides_of(alloc: Global, lines: &str) -> Result<(String, String), AllocErr
         if line.is_empty() {
             continue;
         }
-        match line.split_once(ARROW) {
-            Some((call, reply)) => {
-                push_line(&mut script, call)?;
-                push_line(&mut replies, reply)?;
+        let (times, line) = repeated(line);
+        for number in 0..times {
+            match line.split_once(ARROW) {
+                Some((call, reply)) => {
+                    push_numbered(alloc, &mut script, call, number)?;
+                    push_line(&mut replies, reply)?;
+                }
+                None => push_numbered(alloc, &mut script, line, number)?,
             }
-            None => push_line(&mut script, line)?,
         }
     }
     Ok((script, replies))
+}
+
+/// How often a line is meant, and the line.
+fn repeated(line: &str) -> (u64, &str) {
+    let Some((times, rest)) = line.split_once(TIMES) else {
+        return (1, line);
+    };
+    match times.parse() {
+        Ok(times) => (times, rest),
+        Err(_) => (1, line),
+    }
+}
+
+/// Adds a line with this number where it has a place for one.
+fn push_numbered(
+    alloc: Global,
+    text: &mut String,
+    line: &str,
+    number: u64,
+) -> Result<(), AllocError> {
+    match line.split_once("#") {
+        Some((front, back)) => {
+            let numbered = format!(in alloc; "{front}{number}{back}")?;
+            push_line(text, &numbered)
+        }
+        None => push_line(text, line),
+    }
 }
 
 fn push_line(text: &mut String, line: &str) -> Result<(), AllocError> {
