@@ -1,8 +1,8 @@
 -- The words of headers are read as those headers.
-use Rattle.std.proofs.Common.{◌≡◌, ℕ, List, [], ◌∷◌, codes, Option, Some, None, cond, refl, ap, ◌∙◌, subst, inl, inr, ◌^◌, arith}
+use Rattle.std.proofs.Common.{◌≡◌, ℕ, List, [], ◌∷◌, codes, Some, refl, ap, ◌∙◌, subst, inl, inr, ◌^◌, arith}
 use Rattle.std.specs.List.{AllByRecursion}
 use Rattle.std.specs.Str.{bytes_eq}
-use Rattle.std.proofs.lemmas.Option.{cond_some, same_Some}
+use Rattle.std.proofs.lemmas.Option.{same_Some}
 use Rattle.std.proofs.lemmas.Slice.Eq.{bytes_eq-Decides}
 use Rattle.moka_grammar.specs.declared.line.CacheHeader.{CacheHeader}
 use Rattle.moka_grammar.specs.declared.line.CacheOptions.{CacheOptions}
@@ -10,8 +10,8 @@ use Rattle.moka_grammar.specs.declared.line.Header.{Header}
 use Rattle.moka_grammar.specs.declared.line.Header.TheVariants.{Cache, Sketch}
 use Rattle.moka_grammar.specs.declared.line.Mode.{Mode}
 use Rattle.moka_grammar.specs.declared.line.Mode.TheVariants.{Recorded, Unsync}
-use Rattle.moka_grammar.specs.Grammar.{mode_word, header_words, CacheHeaderFits, HeaderFits}
-use Rattle.moka_grammar.specs.Options.{allows_options, options_words}
+use Rattle.moka_grammar.specs.Grammar.{mode_word, header_words, HeaderFits}
+use Rattle.moka_grammar.specs.Options.{OptionsFit, options_words}
 use Rattle.moka_grammar.specs.Reading.{◌>>=◌, u32_of}
 use Rattle.moka_grammar.specs.ReadingOptions.{options_of}
 use Rattle.moka_grammar.specs.ReadingLines.{mode_of, cache_header_of, header_from_words}
@@ -44,13 +44,10 @@ cache_header_of-found : (mode : Mode) (arguments : List (List ℕ)) (header : He
     → IsHeader (mode_word mode ∷ arguments) header
 unfolding cache_header_of
 cache_header_of-found mode arguments header e =
-    let allowed = λ (options : CacheOptions). cond (allows_options mode options)
-    (Some (Cache (record { mode = mode; options = options }))) None in
-    let (options, was, rest) = bind_some (options_of arguments) allowed header e in
-    let shown = cond_some (allows_options mode options) (Cache (record { mode = mode; options = options })) header rest in
+    let behind = λ (options : CacheOptions). Some (Cache (record { mode = mode; options = options })) in
+    let (options, was, shown) = bind_some (options_of arguments) behind header e in
     let found = options_of-found arguments options was in
-    subst (IsHeader (mode_word mode ∷ arguments)) shown.1
-    (ap (λ l. mode_word mode ∷ l) found.0, record { allowed = shown.0; options = found.1 })
+    subst (IsHeader (mode_word mode ∷ arguments)) (same_Some _ _ shown) (ap (λ l. mode_word mode ∷ l) found.0, found.1)
 
 -- what is read as a sketch's header is spelled so
 sketch-found : (arguments : List (List ℕ)) (header : Header) → (u32_of arguments >>= λ cap. Some (Sketch cap)) ≡ Some header
@@ -87,14 +84,14 @@ mode_word_is Unsync = IsWord-name (codes "unsync") refl
 
 -- the words of a header are words
 header_words_are : (header : Header) → HeaderFits header → AllByRecursion IsWord (header_words header)
-header_words_are (Cache header) fits = (mode_word_is header.mode, options_words_are header.options fits.options)
+header_words_are (Cache header) fits = (mode_word_is header.mode, options_words_are header.options fits)
 header_words_are (Sketch cap) fits = (IsWord-name (codes "sketch") refl, (IsWord-decimal cap (omega (arith, fits)), tt))
 
 -- the settings of a mode are read behind its name
-cache_header_of-again : (header : CacheHeader) → CacheHeaderFits header
+cache_header_of-again : (header : CacheHeader) → OptionsFit header.options
     → cache_header_of header.mode (options_words header.options) ≡ Some (Cache header)
 unfolding cache_header_of
-cache_header_of-again header fits = rw (options_again header.options fits.options, fits.allowed) refl
+cache_header_of-again header fits = rw (options_again header.options fits) refl
 
 -- the words of a cache's header are read as that header
 cache_again : (mode : Mode) (arguments : List (List ℕ)) (header : Header) → cache_header_of mode arguments ≡ Some header

@@ -1,9 +1,9 @@
 -- What a contract sees of scripts: which bytes are one, and which line is the first bad one.
-use Rattle.std.specs.Prelude.{◌≡◌, ◌≢◌, ℕ, ◌+◌, ◌^◌, ◌<◌, List, [], ◌∷◌, ◌++◌, length, codes, IsTrue, ◌⊎◌}
+use Rattle.std.specs.Prelude.{◌≡◌, ◌≢◌, ℕ, ◌+◌, ◌^◌, ◌<◌, List, [], ◌∷◌, ◌++◌, length, codes, ◌⊎◌}
 use Rattle.std.specs.List.{flat_map, AllByRecursion}
 use Rattle.std.specs.Fmt.{decimal}
 use Rattle.moka_grammar.specs.Spelling.{line_of}
-use Rattle.moka_grammar.specs.Options.{allows_options, options_words, OptionsFit}
+use Rattle.moka_grammar.specs.Options.{options_words, OptionsFit}
 use Rattle.moka_grammar.specs.Lines.{line_words, LineFits}
 use Rattle.moka_grammar.specs.SketchLines.{sketch_words, SketchFits}
 use Rattle.moka_grammar.specs.declared.line.CacheHeader.{CacheHeader}
@@ -24,14 +24,9 @@ abbrev pub header_words : Header → List (List ℕ)
 header_words (Cache header) = mode_word header.mode ∷ options_words header.options
 header_words (Sketch cap) = codes "sketch" ∷ decimal cap ∷ []
 
--- the settings are ones of the mode, and hold what can be spelled
-pub record CacheHeaderFits (header : CacheHeader) : Type 0 where
-  pub allowed : IsTrue (allows_options header.mode header.options)
-  pub options : OptionsFit header.options
-
 -- the header holds what can be spelled
 abbrev pub HeaderFits : Header → Type 0
-HeaderFits (Cache header) = CacheHeaderFits header
+HeaderFits (Cache header) = OptionsFit header.options
 HeaderFits (Sketch cap) = cap < 2 ^ 32
 
 -- ---- lines of one kind

@@ -34,10 +34,10 @@ line_words line = decimal line.now ∷ request_words line.request
 
 -- whether the request is one of a script of this mode
 abbrev pub allows : {T : Type 0} → Mode → Request T → Bool
-allows Recorded (Insert key text weight) = true
-allows Recorded (Get key) = true
-allows Recorded (ContainsKey key) = true
-allows Recorded request = false
+allows Recorded (InvalidateIf text) = false
+allows Recorded Iter = false
+allows Recorded Policy = false
+allows Recorded request = true
 allows Unsync Sync = false
 allows Unsync request = true
 

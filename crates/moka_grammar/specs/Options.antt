@@ -1,11 +1,9 @@
--- What a contract sees of the settings of a cache: how the first line of a script spells them, and which cache can be given which.
-use Rattle.std.specs.Prelude.{ℕ, ◌^◌, ◌<◌, ◌*◌, ◌&&◌, not, is_none, Bool, true, false, List, [], ◌∷◌, ◌++◌, codes, Option, Some, None, IfSome}
+-- What a contract sees of the settings of a cache: how the first line of a script spells them.
+use Rattle.std.specs.Prelude.{ℕ, ◌^◌, ◌<◌, ◌*◌, Bool, true, false, List, [], ◌∷◌, ◌++◌, codes, Option, Some, None, IfSome}
 use Rattle.std.specs.Fmt.{decimal}
 use Rattle.moka_grammar.specs.declared.line.Span.{Span}
 use Rattle.moka_grammar.specs.declared.line.Span.TheVariants.{Seconds, Nanos}
 use Rattle.moka_grammar.specs.declared.line.CacheOptions.{CacheOptions}
-use Rattle.moka_grammar.specs.declared.line.Mode.{Mode}
-use Rattle.moka_grammar.specs.declared.line.Mode.TheVariants.{Recorded, Unsync}
 
 -- how many nanoseconds a span has
 abbrev pub span_nanos : Span → ℕ
@@ -47,12 +45,3 @@ SpanFits (Nanos count) = count < 2 ^ 64
 -- the settings hold what can be spelled
 abbrev pub OptionsFit : CacheOptions → Type 0
 OptionsFit options = IfSome options.max NumberFits × IfSome options.live SpanFits × IfSome options.idle SpanFits
-
--- whether nothing is set
-abbrev pub is_empty : CacheOptions → Bool
-is_empty options = is_none options.max && is_none options.live && is_none options.idle && not options.weighed
-
--- whether a cache of this mode can be given these settings
-abbrev pub allows_options : Mode → CacheOptions → Bool
-allows_options Recorded options = is_empty options
-allows_options Unsync options = true

@@ -3,7 +3,6 @@ use Rattle.std.specs.Prelude.{ℕ, ◌^◌, List, [], ◌∷◌, codes, Option, 
 use Rattle.std.specs.Str.{bytes_eq}
 use Rattle.moka_sketch.specs.declared.constants.TheConstants.{DEPTHS}
 use Rattle.moka_grammar.specs.Lines.{allows}
-use Rattle.moka_grammar.specs.Options.{allows_options}
 use Rattle.moka_grammar.specs.Reading.{◌>>=◌, number_of, number_below, text_of, no_argument, u64_of, u32_of}
 use Rattle.moka_grammar.specs.ReadingOptions.{options_of}
 use Rattle.moka_grammar.specs.declared.line.CacheHeader.{CacheHeader}
@@ -31,7 +30,7 @@ mode_of name =
 unfoldable pub cache_header_of : Mode → List (List ℕ) → Option Header
 cache_header_of mode arguments = do
   options ← options_of arguments
-  if allows_options mode options then Some (Cache (record { mode = mode; options = options })) else None
+  Some (Cache (record { mode = mode; options = options }))
 
 -- the header of these words
 unfoldable pub header_from_words : List (List ℕ) → Option Header

@@ -2,7 +2,7 @@
 ghost use Rattle.std.specs.Prelude.{◌≡◌};
 ghost use Rattle.std.specs.Duration.{as_nanos};
 ghost use Rattle.moka_grammar.specs.Lines.{allows};
-ghost use Rattle.moka_grammar.specs.Options.{allows_options, span_nanos};
+ghost use Rattle.moka_grammar.specs.Options.{span_nanos};
 
 use crate::text::Text;
 use std::alloc::{Allocator, Global};
@@ -34,25 +34,15 @@ pub enum Mode {
 }
 
 impl Mode {
-    /// Whether a cache of this mode can be given these settings.
-    pub fn allows_options(self, options: CacheOptions) -> bool
-        ensures { result ≡ allows_options self options }
-    {
-        match self {
-            Mode::Recorded => options.is_empty(),
-            Mode::Unsync => true,
-        }
-    }
-
     /// Whether the request is one of a script of this mode.
     pub fn allows<T>(self, request: &Request<T>) -> bool
         ensures { result ≡ allows self request.now }
     {
         match (self, request) {
-            (_, Request::Insert { .. } | Request::Get { .. } | Request::ContainsKey { .. }) => true,
-            (Mode::Recorded, _) => false,
+            (Mode::Recorded, Request::InvalidateIf { .. } | Request::Iter | Request::Policy) =>
+                false,
             (Mode::Unsync, Request::Sync) => false,
-            (Mode::Unsync, _) => true,
+            _ => true,
         }
     }
 }
@@ -87,17 +77,6 @@ pub struct CacheOptions {
     pub idle: Option<Span>,
     /// Whether each insert is given the weight of its value.
     pub weighed: bool,
-}
-
-impl CacheOptions {
-    ghost use Rattle.moka_grammar.specs.Options.{is_empty};
-
-    /// Whether nothing is set.
-    pub fn is_empty(self) -> bool
-        ensures { result ≡ is_empty self }
-    {
-        self.max.is_none() && self.live.is_none() && self.idle.is_none() && !self.weighed
-    }
 }
 
 /// What is asked of a cache. `T` is how texts are held, so that a contract sees a request without an allocator.

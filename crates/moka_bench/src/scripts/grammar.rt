@@ -27,7 +27,7 @@ const EDGES: [(&str, Option<u64>); 46] = [
     ("\nrecorded\n", Some(1)),
     ("recorded\r\n", Some(1)),
     ("sync\n", Some(1)),
-    ("recorded max 3\n", Some(1)),
+    ("recorded max 3\n", None),
     ("recorded\n", None),
     ("recorded\n\n", Some(2)),
     // Spaces and line feeds.
@@ -57,7 +57,7 @@ const EDGES: [(&str, Option<u64>); 46] = [
     ("recorded\n0 insert 1 \u{e9}\n", Some(2)),
     // Words.
     ("recorded\n0 put 0\n", Some(2)),
-    ("recorded\n0 sync\n", Some(2)),
+    ("recorded\n0 sync\n", None),
     ("recorded\n0 Get 0\n", Some(2)),
     ("recorded\n0 get\n", Some(2)),
     ("recorded\n0 get 0 0\n", Some(2)),

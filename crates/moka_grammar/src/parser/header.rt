@@ -46,8 +46,5 @@ fn cache_header_of(mode: Mode, arguments: &[&[u8]]) -> Result<Header, LineError>
     ensures { Gives result (cache_header_of mode (map (λ word. word.now) arguments.now)) }
 {
     let options = options_of(arguments)?;
-    if !mode.allows_options(options) {
-        return Err(LineError::Bad);
-    }
     Ok(Header::Cache(CacheHeader { mode, options }))
 }
