@@ -1,4 +1,6 @@
+pub mod CallLemmas
 pub mod RecordLemmas
+pub mod RecordedRunLemmas
 pub mod ReplyLemmas
 pub mod RunnerLemmas
 pub mod SketchRunLemmas

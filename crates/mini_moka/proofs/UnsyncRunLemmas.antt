@@ -133,7 +133,7 @@ module _ {W : Type 0} (weighs : W → ℕ → Stored (List ℕ) → ℕ → W �
 -- ---- the first line
 
 -- where a fact leads to another it does so for what an Ok holds
-IfOk-map : {T E : Type 0} (result : Result T E) {P Q : T → Type 0} → ((value : T) → P value → Q value) → IfOk result P → IfOk result Q
+pub IfOk-map : {T E : Type 0} (result : Result T E) {P Q : T → Type 0} → ((value : T) → P value → Q value) → IfOk result P → IfOk result Q
 IfOk-map (Ok value) leads p = leads value p
 IfOk-map (Err e) leads p = tt
 

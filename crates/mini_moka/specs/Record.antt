@@ -1,23 +1,27 @@
 -- What a contract sees of a record, and what it means to apply a call to it.
 use Rattle.std.specs.Prelude.{◌≡◌, ℕ, Bool, true, List, [], ◌∷◌, ◌++◌, slice_index, Some, Result, Ok, Err, MatchBool}
-use Rattle.moka_common.specs.Weight.{unit_weighs}
 use Rattle.moka_common.specs.Keys.{Keys}
-use Rattle.moka_sync.specs.declared.engine.call.Call.{Call}
-use Rattle.moka_sync.specs.declared.engine.call.Reply.{Reply}
-use Rattle.moka_sync.specs.declared.engine.call.Reply.TheVariants.{Found, OutOfMemory}
-use Rattle.moka_sync.specs.CoreState.{CoreState}
-use Rattle.moka_sync.specs.WholeCall.{IsWholeCall}
+use Rattle.moka_engine.specs.declared.call.Call.{Call}
+use Rattle.moka_engine.specs.declared.event.Reply.TheVariants.{Found, Discarded, Rows, At, NotPossible, OutOfMemory}
+use Rattle.moka_engine.specs.Reply.{Reply}
+use Rattle.moka_engine.specs.CoreState.{CoreState}
+use Rattle.moka_engine.specs.CoreCall.{IsCall}
 use Rattle.mini_moka.specs.declared.sync.recorded.Made.{Made}
 use Rattle.mini_moka.specs.declared.sync.recorded.NotRecorded.{NotRecorded}
 
 -- the core, the first ticket number of its shards, and the calls that were made on it with their replies
-pub record Record (K V S A : Type 0) : Type 0 where
+pub record RecordState (K V S A : Type 0) : Type 0 where
   pub core : CoreState K V S
   pub first_ticket : ℕ
   pub calls : List (Made K V A)
 
+-- a record with the weigher of its core
+pub record Record (K V S W A : Type 0) : Type 0 where
+  pub state : RecordState K V S A
+  pub weigher : W
+
 -- the record of a new core
-abbrev pub new_record : {K V S A : Type 0} → CoreState K V S → Record K V S A
+abbrev pub new_record : {K V S A : Type 0} → CoreState K V S → RecordState K V S A
 new_record core = record { core = core; first_ticket = slice_index core.next_numbers 0; calls = [] }
 
 -- what memory refused: the room to write the call down, the copy of the value that is answered
@@ -25,20 +29,28 @@ pub record Memory : Type 0 where
   pub recording : Bool
   pub answer : Bool
 
+-- a whole call can be answered so: it tells of no place, no log and no shard
+abbrev pub IsAnswer : {K V : Type 0} → Reply K V → Type 0
+IsAnswer Discarded = ⊥
+IsAnswer (Rows pairs) = ⊥
+IsAnswer (At place) = ⊥
+IsAnswer NotPossible = ⊥
+IsAnswer reply = Unit {0}
+
 -- the answer to a call with this reply: where a found value can't be shared once more, that memory was refused
-abbrev pub answer_of : {V A : Type 0} → Reply V A → Bool → Reply V A
+abbrev pub answer_of : {K V : Type 0} → Reply K V → Bool → Reply K V
 answer_of (Found (Some value)) true = OutOfMemory
 answer_of reply refused = reply
 
-module _ {K V S A : Type 0} (keys : Keys K S) where
+module _ {K V S A : Type 0} (keys : Keys K S) (weighs : K → V → ℕ → Type 0) where
   -- the call was made on the core and written down with its reply
-  pub record Makes (old : Record K V S A) (call : Call K V A) (reply : Reply V A) (new : Record K V S A) : Type 0 where
-    pub made : IsWholeCall keys unit_weighs old.core call reply new.core
+  pub record Makes (old : RecordState K V S A) (call : Call K V) (reply : Reply K V) (new : RecordState K V S A) : Type 0 where
+    pub made : IsCall keys weighs old.core call reply new.core
     pub calls : new.calls ≡ old.calls ++ record { call = call; reply = reply } ∷ []
     pub first_ticket : new.first_ticket ≡ old.first_ticket
 
   -- the call is made, written down and answered; or there is no room to write it down, and nothing is done
-  abbrev pub IsApplied : Record K V S A → Call K V A → Memory → Result (Reply V A) NotRecorded → Record K V S A → Type 0
+  abbrev pub IsApplied : RecordState K V S A → Call K V → Memory → Result (Reply K V) NotRecorded → RecordState K V S A → Type 0
   IsApplied old call memory answer new = MatchBool memory.recording
       ((answer ≡ Err (record {})) × (new ≡ old))
-      ((reply : Reply V A) × Makes old call reply new × (answer ≡ Ok (answer_of reply memory.answer)))
+      ((reply : Reply K V) × Makes old call reply new × (answer ≡ Ok (answer_of reply memory.answer)))

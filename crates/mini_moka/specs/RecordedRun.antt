@@ -1,55 +1,95 @@
 -- What the replies to a recorded script are.
-use Rattle.std.specs.Prelude.{◌≡◌, ℕ, List, [], ◌∷◌, ◌++◌, Option, Some, None, Result, Ok, Err}
+use Rattle.std.specs.Prelude.{◌≡◌, ℕ, Bool, true, false, List, [], ◌∷◌, ◌++◌, Option, Some, None, option_map, Result, Ok}
+use Rattle.moka_common.specs.Weight.{unit_weighs}
+use Rattle.moka_common.specs.declared.error.BuildError.{BuildError}
+use Rattle.moka_grammar.specs.declared.line.CacheOptions.{CacheOptions}
 use Rattle.moka_grammar.specs.declared.line.Line.{Line}
 use Rattle.moka_grammar.specs.declared.line.Request.{Request}
-use Rattle.moka_grammar.specs.declared.line.Request.TheVariants.{Insert, Get, ContainsKey}
-use Rattle.moka_sync.specs.declared.engine.call.Call.{Call}
-use Rattle.moka_sync.specs.declared.engine.call.Call.TheVariants as call
-use Rattle.moka_sync.specs.declared.engine.call.Reply.{Reply as Answer}
-use Rattle.moka_sync.specs.declared.engine.call.Reply.TheVariants as answer
-use Rattle.moka_sync.specs.CoreState.{new_core, unlimited}
+use Rattle.moka_grammar.specs.declared.line.Request.TheVariants.{Insert, Get, ContainsKey, Invalidate, InvalidateAll, Sync, EntryCount, WeightedSize}
+use Rattle.moka_engine.specs.declared.call.Call.{Call}
+use Rattle.moka_engine.specs.declared.call.Call.TheVariants as call
+use Rattle.moka_engine.specs.declared.event.Reply.TheVariants as answer
+use Rattle.moka_engine.specs.Reply.{Reply as Answer}
+use Rattle.moka_engine.specs.CoreState.{new_core}
 use Rattle.mini_moka.specs.declared.script.keys.KeyState.{KeyState}
+use Rattle.mini_moka.specs.declared.script.recorded.Asked.{Asked}
+use Rattle.mini_moka.specs.declared.script.recorded.Asked.TheVariants.{Count, Weight}
+use Rattle.mini_moka.specs.declared.script.stored.Stored.{Stored}
 use Rattle.mini_moka.specs.declared.sync.recorded.NotRecorded.{NotRecorded}
-use Rattle.mini_moka.specs.Record.{Record, Memory, new_record, IsApplied}
-use Rattle.mini_moka.specs.Reply.{Reply, Ready, Done, Found, Truth, OutOfMemory, TicketsUsedUp, reply_line}
+use Rattle.mini_moka.specs.Record.{RecordState, Memory, new_record, IsApplied}
+use Rattle.mini_moka.specs.Reply.{Reply, Ready, Refused, Done, Found, Truth, Number, OutOfMemory, TicketsUsedUp, reply_line}
 use Rattle.mini_moka.specs.ScriptKeys.{script_keys}
+use Rattle.mini_moka.specs.Stored.{stored_text}
+use Rattle.mini_moka.specs.UnsyncRun.{HasLimits, options_fault}
 
 -- the call that a request makes at a moment, if it is one of a record's
-abbrev pub call_at : {A : Type 0} → ℕ → Request (List ℕ) → Option (Call ℕ (List ℕ) A)
-call_at now (Insert key text weight) = Some (call.Insert key text now)
+abbrev pub call_at : ℕ → Request (List ℕ) → Option (Call ℕ (Stored (List ℕ)))
+call_at now (Insert key text weight) = Some (call.Insert key (stored_text text weight) now)
 call_at now (Get key) = Some (call.Get key now)
 call_at now (ContainsKey key) = Some (call.Contains key now)
+call_at now (Invalidate key) = Some (call.Invalidate key now)
+call_at now InvalidateAll = Some (call.InvalidateAll now)
+call_at now Sync = Some (call.Sync now)
+call_at now EntryCount = Some call.Counts
+call_at now WeightedSize = Some call.Counts
 call_at now request = None
 
--- how the answer of a record is told: a call that was not recorded had no memory
-abbrev pub told : {A : Type 0} → Result (Answer (List ℕ) A) NotRecorded → Reply
-told (Ok answer.Done) = Done
-told (Ok (answer.Found found)) = Found found
-told (Ok (answer.Bool truth)) = Truth truth
-told (Ok answer.OutOfMemory) = OutOfMemory
-told (Ok answer.TicketsUsedUp) = TicketsUsedUp
-told (Err error) = OutOfMemory
+-- which of the numbers that were published last a request asks for
+abbrev pub asked_of : {T : Type 0} → Request T → Asked
+asked_of WeightedSize = Weight
+asked_of request = Count
 
-module _ (A : Type 0) where
+-- how the answer of a record is told: a call that was not recorded had no memory
+abbrev pub told : Asked → Result (Answer ℕ (Stored (List ℕ))) NotRecorded → Reply
+told asked (Ok answer.Done) = Done
+told asked (Ok (answer.Found found)) = Found (option_map (λ s. s.text) found)
+told asked (Ok (answer.Bool truth)) = Truth truth
+told Count (Ok (answer.Counts count weight)) = Number count
+told Weight (Ok (answer.Counts count weight)) = Number weight
+told asked (Ok answer.TicketsUsedUp) = TicketsUsedUp
+told asked other = OutOfMemory
+
+-- a record of numbers and texts, each text with its weight
+abbrev pub ScriptRecord : Type 0 → Type 0
+ScriptRecord A = RecordState ℕ (Stored (List ℕ)) KeyState A
+
+module _ (A : Type 0) (weighs : ℕ → Stored (List ℕ) → ℕ → Type 0) where
   -- what a request at a moment is answered, and the record after it, whatever memory refuses
-  abbrev pub IsAnswered : Record ℕ (List ℕ) KeyState A → ℕ → Request (List ℕ) → Reply → Record ℕ (List ℕ) KeyState A → Type 0
+  abbrev pub IsAnswered : ScriptRecord A → ℕ → Request (List ℕ) → Reply → ScriptRecord A → Type 0
   IsAnswered old now request reply new =
-      (call : Call ℕ (List ℕ) A) × (memory : Memory) × (answer : Result (Answer (List ℕ) A) NotRecorded)
-      × (call_at now request ≡ Some call) × IsApplied script_keys old call memory answer new × (reply ≡ told answer)
+      (call : Call ℕ (Stored (List ℕ))) × (memory : Memory) × (answer : Result (Answer ℕ (Stored (List ℕ))) NotRecorded)
+      × (call_at now request ≡ Some call) × IsApplied script_keys weighs old call memory answer new
+      × (reply ≡ told (asked_of request) answer)
 
   -- a line for each call, with the record's reply
-  abbrev pub AreReplies : Record ℕ (List ℕ) KeyState A → List (Line (List ℕ)) → List ℕ → Type 0
+  abbrev pub AreReplies : ScriptRecord A → List (Line (List ℕ)) → List ℕ → Type 0
   AreReplies record' [] text = text ≡ []
   AreReplies record' (line ∷ lines) text =
-      (reply : Reply) × (next : Record ℕ (List ℕ) KeyState A) × (rest : List ℕ)
+      (reply : Reply) × (next : ScriptRecord A) × (rest : List ℕ)
       × IsAnswered record' line.now line.request reply next
       × (text ≡ reply_line reply ++ rest)
       × AreReplies next lines rest
 
-  -- the record that a script begins with
-  abbrev pub first_record : Record ℕ (List ℕ) KeyState A
-  first_record = new_record (new_core (unlimited (record {})) 0)
+-- what the weigher answers, by whether the script is weighed: what is stored says its weight, or each entry weighs 1
+abbrev pub weighs_of : Bool → ℕ → Stored (List ℕ) → ℕ → Type 0
+weighs_of true key value weight = weight ≡ value.weight
+weighs_of false key value weight = unit_weighs key value weight
+
+module _ (A : Type 0) where
+  -- the record is of a new core with these settings
+  pub record IsFirstRecord (options : CacheOptions) (record' : ScriptRecord A) : Type 0 where
+    pub limits : HasLimits record'.core.settings.policy options
+    pub new : record' ≡ new_record (new_core
+        (record { hash_state = record {}; policy = record'.core.settings.policy; is_weighed = options.weighed }) 0)
+
+  -- what is written where the settings have this fault or none: that they are refused, and nothing more; or the reply lines
+  abbrev pub AreRepliesUnder : Option BuildError → CacheOptions → List (Line (List ℕ)) → List ℕ → Type 0
+  AreRepliesUnder (Some fault) options lines text = text ≡ reply_line (Refused fault)
+  AreRepliesUnder None options lines text =
+      (record' : ScriptRecord A) × (replies : List ℕ)
+      × IsFirstRecord options record' × AreReplies A (weighs_of options.weighed) record' lines replies
+      × (text ≡ reply_line Ready ++ replies)
 
   -- the reply lines of a recorded script
-  abbrev pub AreRecordedReplyLines : List (Line (List ℕ)) → List ℕ → Type 0
-  AreRecordedReplyLines lines text = (replies : List ℕ) × AreReplies first_record lines replies × (text ≡ reply_line Ready ++ replies)
+  abbrev pub AreRecordedReplyLines : CacheOptions → List (Line (List ℕ)) → List ℕ → Type 0
+  AreRecordedReplyLines options lines text = AreRepliesUnder (options_fault options) options lines text

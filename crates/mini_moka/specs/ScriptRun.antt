@@ -19,7 +19,7 @@ use Rattle.mini_moka.specs.UnsyncRun.{AreUnsyncReplyLines}
 module _ (A : Type 0) where
   -- the reply lines of a script of calls to a cache, by its mode
   abbrev pub AreCacheReplyLines : Mode → CacheHeader → List (Line (List ℕ)) → List ℕ → Type 0
-  AreCacheReplyLines Recorded header lines text = AreRecordedReplyLines A lines text
+  AreCacheReplyLines Recorded header lines text = AreRecordedReplyLines A header.options lines text
   AreCacheReplyLines Unsync header lines text = AreUnsyncReplyLines header.options lines text
 
   -- the reply lines of a script

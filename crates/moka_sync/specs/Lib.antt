@@ -1,10 +1,16 @@
-pub mod Entry
-pub mod CoreState
-pub mod Insert
-pub mod ShardState
-pub mod Step
-pub mod WholeCall
+pub use Rattle.moka_engine.specs.Ticket
+pub use Rattle.moka_engine.specs.Entry
+pub use Rattle.moka_engine.specs.Operation
+pub use Rattle.moka_engine.specs.Orders
+pub use Rattle.moka_engine.specs.Place
+pub use Rattle.moka_engine.specs.CoreState
+pub use Rattle.moka_engine.specs.Turn
+pub use Rattle.moka_engine.specs.EntryChange
+pub use Rattle.moka_engine.specs.Reply
+pub use Rattle.moka_engine.specs.MapStep
+pub use Rattle.moka_engine.specs.Event
+pub use Rattle.moka_engine.specs.Run
+pub use Rattle.moka_engine.specs.WholeCall
+pub use Rattle.moka_engine.specs.CoreCall
+pub use Rattle.moka_core.specs.Core
 pub mod Builder
--- inside
-pub mod Find
-pub mod Shards

@@ -2,6 +2,6 @@
 #![tactic(auto)]
 
 pub mod builder;
-pub mod constants;
 pub mod engine;
-pub mod laws;
+
+pub use moka_engine::constants;

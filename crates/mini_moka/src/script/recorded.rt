@@ -1,36 +1,110 @@
 // The replies to a recorded script: its calls, made on a cache that keeps a record of them.
-ghost use Rattle.std.specs.Prelude.{◌≡◌, ◌++◌, ℕ, List, Some, IfOk, OnOk, IsTrue, option_map};
+ghost use Rattle.std.specs.Prelude.{◌≡◌, ◌++◌, ℕ, List, Some, false, IfOk, OnOk, IsTrue};
 ghost use Rattle.std.specs.List.{AllByRecursion};
+ghost use Rattle.moka_engine.specs.CoreState.{IsNew};
 ghost use Rattle.moka_grammar.specs.Lines.{allows, LineFits};
-ghost use Rattle.mini_moka.specs.Record.{Memory, IsApplied};
-ghost use Rattle.mini_moka.specs.RecordedRun.{AreRecordedReplyLines, IsAnswered, call_at, first_record, told};
-ghost use Rattle.mini_moka.specs.Reply.{Reply as Told, reply_line};
+ghost use Rattle.mini_moka.specs.Record.{IsAnswer, new_record};
+ghost use Rattle.mini_moka.specs.RecordedRun.{AreRecordedReplyLines, AreReplies, IsAnswered, asked_of, call_at, told};
+ghost use Rattle.mini_moka.specs.Reply.{Ready, Reply as Told, reply_line};
 ghost use Rattle.mini_moka.specs.ReplyValue.{reply_of};
+ghost use Rattle.mini_moka.specs.UnsyncRun.{HasLimits};
 
 use crate::script::keys::KeyState;
-use crate::script::reply::{ReplyValue, push_reply};
-use crate::sync::recorded::{NotRecorded, Record};
+use crate::script::reply::{ReplyValue, push_reply, refusal};
+use crate::script::stored::{Stored, StoredWeight, stored_text};
+use crate::sync::recorded::{Answer, NotRecorded, Record, SharedCall};
 use moka_common::error::OutOfMemory;
 use moka_common::shared::Shared;
 use moka_common::time::Instant;
 use moka_common::weigh::UnitWeight;
-use moka_grammar::line::{Line, Mode, Request};
+use moka_core::engine::Core;
+use moka_engine::call::Call;
+use moka_engine::event::Reply;
+use moka_engine::weigh::WeighShared;
+use moka_grammar::line::{CacheHeader, CacheOptions, Line, Mode, Request};
 use moka_grammar::text::Text;
-use moka_sync::engine::{Call, Core, Reply};
+use moka_sync::builder::CacheBuilder;
 use std::alloc::Allocator;
 
-/// A cache that a script's calls are made on.
-type Cache<A> = Record<u64, Text<A>, KeyState, UnitWeight, A>;
+/// A builder of the caches that a script's calls are made on.
+type ScriptBuilder<A> = CacheBuilder<u64, Stored<Text<A>>, UnitWeight, A>;
 
-/// Makes the calls of the lines in turn on a new cache, and writes the replies.
+/// A cache that a script's calls are made on, before there is a record.
+type ScriptCore<W, A> = Core<u64, Stored<Text<A>>, KeyState, W, A>;
+
+/// The same with its record.
+type ScriptRecord<W, A> = Record<u64, Stored<Text<A>>, KeyState, W, A>;
+
+/// A call of a line.
+type ScriptCall<A> = SharedCall<u64, Stored<Text<A>>, A>;
+
+/// What it is answered.
+type ScriptAnswer<A> = Answer<u64, Stored<Text<A>>, A>;
+
+/// Which of the numbers that were published last a line asks for.
+#[derive(Clone, Copy, Debug, PartialEq, Eq)]
+enum Asked {
+    Count,
+    Weight,
+}
+
+/// Builds a cache with the settings, makes the calls of the lines in turn on it, and writes the replies. Where the settings are
+/// refused, that is all that is written.
 pub(super) fn recorded_replies<A: Allocator + Clone + Drop>(
     alloc: A,
+    header: CacheHeader,
     lines: Vec<Line<Text<A>>, A>,
 ) -> Result<Vec<u8, A>, OutOfMemory>
-    requires { AllByRecursion (λ line. IsTrue (allows Mode.Recorded line.request)) lines.items }
-    ensures { IfOk result (λ text. AreRecordedReplyLines A lines.items text.items) }
+    requires mode { header.mode ≡ Mode.Recorded }
+    requires lines { AllByRecursion (LineFits header) lines.items }
+    ensures { IfOk result (λ text. AreRecordedReplyLines A header.options lines.items text.items) }
 {
-    let mut cache = first_cache(alloc.clone()?)?;
+    let builder = builder_of(alloc.clone()?, header.options);
+    if header.options.weighed {
+        return match builder.weigher(StoredWeight).build_core(KeyState) {
+            Ok(core) => replies_of(alloc, core, lines),
+            Err(error) => refusal(alloc, error),
+        };
+    }
+    match builder.build_core(KeyState) {
+        Ok(core) => replies_of(alloc, core, lines),
+        Err(error) => refusal(alloc, error),
+    }
+}
+
+/// A builder with the limits of the settings.
+fn builder_of<A: Allocator + Clone + Drop>(alloc: A, options: CacheOptions) -> ScriptBuilder<A>
+    ensures limits { HasLimits result.policy options }
+    ensures capacity { result.initial_capacity ≡ 0 }
+    ensures weighed { result.is_weighed ≡ false }
+{
+    let mut builder = CacheBuilder::default(alloc);
+    if let Some(max) = options.max {
+        builder = builder.max_capacity(max);
+    }
+    if let Some(live) = options.live {
+        builder = builder.time_to_live(live.to_duration());
+    }
+    if let Some(idle) = options.idle {
+        builder = builder.time_to_idle(idle.to_duration());
+    }
+    builder
+}
+
+/// Makes the calls of the lines in turn on the cache, with a record of them, and writes the replies.
+fn replies_of<A: Allocator + Clone + Drop, W: WeighShared<u64, Stored<Text<A>>>>(
+    alloc: A,
+    core: ScriptCore<W, A>,
+    lines: Vec<Line<Text<A>>, A>,
+) -> Result<Vec<u8, A>, OutOfMemory>
+    requires ready { W.ready core.weigher }
+    requires new { IsNew core.state }
+    requires allowed { AllByRecursion (λ line. IsTrue (allows Mode.Recorded line.request)) lines.items }
+    ensures { IfOk result (λ text. (replies : List ℕ)
+        × AreReplies A (W.weighs core.weigher) (new_record core.state) lines.items replies
+        × (text.items ≡ reply_line Ready ++ replies)) }
+{
+    let mut cache = Record::new(alloc.clone()?, core);
     let mut text = Vec::new(alloc.clone()?);
     push_reply(&mut text, ReplyValue::Ready)?;
     for line in lines {
@@ -39,47 +113,56 @@ pub(super) fn recorded_replies<A: Allocator + Clone + Drop>(
     Ok(text)
 }
 
-/// The cache that a script begins with.
-fn first_cache<A: Allocator + Clone + Drop>(alloc: A) -> Result<Cache<A>, OutOfMemory>
-    ensures { IfOk result (λ cache. cache ≡ first_record A) }
-{
-    match Core::new(alloc.clone()?, KeyState) {
-        Ok(core) => Ok(Record::new(alloc, core)),
-        Err(_) => Err(OutOfMemory),
-    }
-}
-
 /// Makes the call of a line, and adds the line of its reply to the text.
-fn reply_to<A: Allocator + Clone + Drop>(
+fn reply_to<A: Allocator + Clone + Drop, W: WeighShared<u64, Stored<Text<A>>>>(
     alloc: A,
-    cache: &mut Cache<A>,
+    cache: &mut ScriptRecord<W, A>,
     text: &mut Vec<u8, A>,
     line: Line<Text<A>>,
 ) -> Result<(), OutOfMemory>
     requires { IsTrue (allows Mode.Recorded line.request) }
-    ensures { OnOk result ((reply : Told) × IsAnswered A cache.old line.now line.request reply cache.new
+    ensures step { OnOk result ((reply : Told)
+        × IsAnswered A (W.weighs cache.old.weigher) cache.old.state line.now line.request reply cache.new.state
         × (text.new.items ≡ text.old.items ++ reply_line reply)) }
+    ensures weigher { cache.new.weigher ≡ cache.old.weigher }
 {
+    let asked = asked_of(&line.request);
     let call = call_at(alloc, line)?;
     let answer = cache.apply(call);
-    push_reply(text, told(&answer))?;
+    push_reply(text, told(asked, &answer))?;
     Ok(())
+}
+
+/// Which number a line asks for, if it asks for one.
+fn asked_of<T>(request: &Request<T>) -> Asked
+    ensures { result ≡ asked_of request.now }
+{
+    match request {
+        Request::WeightedSize => Asked::Weight,
+        _ => Asked::Count,
+    }
 }
 
 /// How the answer of a record is told.
 fn told<A: Allocator + Clone + Drop>(
-    answer: &Result<Reply<Text<A>, A>, NotRecorded>,
+    asked: Asked,
+    answer: &Result<ScriptAnswer<A>, NotRecorded>,
 ) -> ReplyValue<'_>
-    ensures { reply_of result ≡ told answer.now }
+    requires { IfOk answer.now IsAnswer }
+    ensures { reply_of result ≡ told asked answer.now }
 {
     match answer {
         Ok(Reply::Done) => ReplyValue::Done,
-        Ok(Reply::Found(Some(text))) => ReplyValue::Found(Some(text.get().as_bytes())),
+        Ok(Reply::Found(Some(stored))) => ReplyValue::Found(Some(stored.get().text.as_bytes())),
         Ok(Reply::Found(None)) => ReplyValue::Found(None),
         Ok(Reply::Bool(truth)) => ReplyValue::Truth(*truth),
-        Ok(Reply::OutOfMemory) => ReplyValue::OutOfMemory,
+        Ok(Reply::Counts { count, weight }) => match asked {
+            Asked::Count => ReplyValue::Number(*count as u128),
+            Asked::Weight => ReplyValue::Number(*weight),
+        },
         Ok(Reply::TicketsUsedUp) => ReplyValue::TicketsUsedUp,
-        Err(_) => ReplyValue::OutOfMemory,
+        Ok(Reply::OutOfMemory) | Err(_) => ReplyValue::OutOfMemory,
+        Ok(Reply::Discarded | Reply::Rows(_) | Reply::At(_) | Reply::NotPossible) => unreachable!(),
     }
 }
 
@@ -87,19 +170,15 @@ fn told<A: Allocator + Clone + Drop>(
 fn call_at<A: Allocator + Clone + Drop>(
     alloc: A,
     line: Line<Text<A>>,
-) -> Result<Call<u64, Text<A>, A>, OutOfMemory>
+) -> Result<ScriptCall<A>, OutOfMemory>
     requires { IsTrue (allows Mode.Recorded line.request) }
     ensures { IfOk result (λ call. call_at line.now line.request ≡ Some call) }
 {
     let now = Instant::from_nanos(line.now);
     match line.request {
-        Request::Insert {
-            key,
-            text,
-            weight: _,
-        } => {
+        Request::Insert { key, text, weight } => {
             let key = Shared::new(alloc.clone()?, key)?;
-            let value = Shared::new(alloc, text)?;
+            let value = Shared::new(alloc, stored_text(text, weight))?;
             Ok(Call::Insert { key, value, now })
         }
         Request::Get { key } => {
@@ -110,6 +189,13 @@ fn call_at<A: Allocator + Clone + Drop>(
             let key = Shared::new(alloc, key)?;
             Ok(Call::Contains { key, now })
         }
-        _ => unreachable!(),
+        Request::Invalidate { key } => {
+            let key = Shared::new(alloc, key)?;
+            Ok(Call::Invalidate { key, now })
+        }
+        Request::InvalidateAll => Ok(Call::InvalidateAll { now }),
+        Request::Sync => Ok(Call::Sync { now }),
+        Request::EntryCount | Request::WeightedSize => Ok(Call::Counts),
+        Request::InvalidateIf { .. } | Request::Iter | Request::Policy => unreachable!(),
     }
 }

@@ -1,5 +1,5 @@
 // Replies, and how they are written.
-ghost use Rattle.std.specs.Prelude.{◌≡◌, List, [], ◌∷◌, ◌++◌, OnOk, codes, option_copied, option_map};
+ghost use Rattle.std.specs.Prelude.{◌≡◌, ◌≢◌, IfOk, List, [], ◌∷◌, ◌++◌, OnOk, codes, option_copied, option_map};
 ghost use Rattle.std.specs.Duration.{as_nanos};
 ghost use Rattle.std.specs.Fmt.{decimal};
 ghost use Rattle.std.specs.List.{flat_map};
@@ -8,7 +8,7 @@ ghost use Rattle.mini_moka.specs.Reply.{Found, Refused, limit_words, nanos_words
 ghost use Rattle.mini_moka.specs.ReplyValue.{pairs_of, reply_of};
 
 use crate::script::stored::Stored;
-use moka_common::error::BuildError;
+use moka_common::error::{BuildError, OutOfMemory};
 use moka_common::policy::Policy;
 use moka_grammar::text::Text;
 use std::alloc::{AllocError, Allocator};
@@ -24,7 +24,7 @@ pub(super) enum ReplyValue<'a> {
     Done,
     Found(Option<&'a [u8]>),
     Truth(bool),
-    Number(u64),
+    Number(u128),
     /// Keys with their texts.
     Pairs(&'a [(u64, &'a [u8])]),
     Limits(&'a Policy),
@@ -40,6 +40,21 @@ pub(super) fn found<A: Allocator + Clone + Drop>(stored: Option<&Stored<Text<A>>
         Some(stored) => ReplyValue::Found(Some(stored.text.as_bytes())),
         None => ReplyValue::Found(None),
     }
+}
+
+/// The line that says why there is no cache. Without memory for the cache there is none for the run.
+pub(super) fn refusal<A: Allocator + Clone + Drop>(
+    alloc: A,
+    error: BuildError,
+) -> Result<Vec<u8, A>, OutOfMemory>
+    ensures { IfOk result (λ text. (error ≢ BuildError.OutOfMemory) × (text.items ≡ reply_line (Refused error))) }
+{
+    if error == BuildError::OutOfMemory {
+        return Err(OutOfMemory);
+    }
+    let mut text = Vec::new(alloc);
+    push_reply(&mut text, ReplyValue::Refused(error))?;
+    Ok(text)
 }
 
 /// Adds the line of a reply to the text.
@@ -89,7 +104,7 @@ fn push_found<A: Allocator + Clone + Drop>(
 
 fn push_number<A: Allocator + Clone + Drop>(
     text: &mut Vec<u8, A>,
-    number: u64,
+    number: u128,
 ) -> Result<(), AllocError>
     ensures { OnOk result (text.new.items ≡ text.old.items ++ (decimal number ++ line_feed ∷ [])) }
 {

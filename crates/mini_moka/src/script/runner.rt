@@ -173,7 +173,7 @@ fn cache_replies<A: Allocator + Clone + Drop>(
     ensures { IfOk result (λ text. AreCacheReplyLines A header.mode header lines.items text.items) }
 {
     match header.mode {
-        Mode::Recorded => recorded_replies(alloc, lines),
+        Mode::Recorded => recorded_replies(alloc, header, lines),
         Mode::Unsync => unsync_replies(alloc, header, lines),
     }
 }

@@ -50,11 +50,11 @@ fn reply_to<A: Allocator + Clone + Drop>(
             count(sketch, hash, times);
             ReplyValue::Done
         }
-        SketchLine::Freq { hash } => ReplyValue::Number(u64::from(sketch.frequency(hash))),
+        SketchLine::Freq { hash } => ReplyValue::Number(u128::from(sketch.frequency(hash))),
         SketchLine::Index { hash, depth } => {
-            ReplyValue::Number(sketch.index_of(hash, depth) as u64)
+            ReplyValue::Number(sketch.index_of(hash, depth) as u128)
         }
-        SketchLine::Len => ReplyValue::Number(sketch.table_len() as u64),
+        SketchLine::Len => ReplyValue::Number(sketch.table_len() as u128),
         SketchLine::Ensure { cap } => match sketch.ensure_capacity(cap) {
             Ok(()) => ReplyValue::Done,
             Err(_) => ReplyValue::OutOfMemory,

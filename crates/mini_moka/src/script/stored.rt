@@ -4,6 +4,7 @@ ghost use Rattle.mini_moka.specs.Stored.{stored_text, stored_weighs};
 
 use moka_common::constants::UNIT_WEIGHT;
 use moka_common::weigh::Weigh;
+use moka_engine::weigh::WeighShared;
 use moka_grammar::text::Text;
 
 /// A text, and how much it weighs. `T` is how texts are held, as in `Request`.
@@ -33,6 +34,16 @@ impl<T> Weigh<u64, Stored<T>> for StoredWeight {
     ghost weighs = { λ old _ value weight new. (weight ≡ value.weight) × (new ≡ old) };
 
     fn weigh(&mut self, _key: &u64, value: &Stored<T>) -> u32 {
+        value.weight
+    }
+}
+
+impl<T> WeighShared<u64, Stored<T>> for StoredWeight {
+    ghost ready = { λ _. ⊤ };
+
+    ghost weighs = { λ _ _ value weight. weight ≡ value.weight };
+
+    fn weigh(&self, _key: &u64, value: &Stored<T>) -> u32 {
         value.weight
     }
 }

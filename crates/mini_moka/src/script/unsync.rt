@@ -1,18 +1,18 @@
 // The replies to a script that builds a cache for one thread: its calls, made on that cache.
-ghost use Rattle.std.specs.Prelude.{◌≡◌, ◌≢◌, ◌++◌, ℕ, Bool, List, false, is_err, IfOk, OnOk, IsTrue, map};
+ghost use Rattle.std.specs.Prelude.{◌≡◌, ◌++◌, ℕ, Bool, List, false, is_err, IfOk, OnOk, IsTrue, map};
 ghost use Rattle.std.specs.List.{AllByRecursion};
 ghost use Rattle.moka_unsync.specs.Invalidate.{after_invalidate_if};
 ghost use Rattle.moka_grammar.specs.Lines.{allows, LineFits};
-ghost use Rattle.mini_moka.specs.Reply.{Ready, Refused, Reply as Told, reply_line};
+ghost use Rattle.mini_moka.specs.Reply.{Ready, Reply as Told, reply_line};
 ghost use Rattle.mini_moka.specs.ReplyValue.{pairs_of};
 ghost use Rattle.mini_moka.specs.ScriptKeys.{script_keys};
 ghost use Rattle.mini_moka.specs.ScriptWeighers.{AnswersLine};
 ghost use Rattle.mini_moka.specs.UnsyncRun.{AreUnsyncReplies, AreUnsyncReplyLines, HasLimits, IsAnswered, have_text};
 
 use crate::script::keys::KeyState;
-use crate::script::reply::{ReplyValue, found, push_reply};
+use crate::script::reply::{ReplyValue, found, push_reply, refusal};
 use crate::script::stored::{Stored, StoredWeight, stored_text};
-use moka_common::error::{BuildError, OutOfMemory};
+use moka_common::error::OutOfMemory;
 use moka_common::time::Instant;
 use moka_common::weigh::{UnitWeight, Weigh};
 use moka_grammar::line::{CacheHeader, CacheOptions, Line, Mode, Request};
@@ -67,21 +67,6 @@ fn builder_of<A: Allocator + Clone + Drop>(alloc: A, options: CacheOptions) -> S
         builder = builder.time_to_idle(idle.to_duration());
     }
     builder
-}
-
-/// The line that says why there is no cache. Without memory for the cache there is none for the run.
-fn refusal<A: Allocator + Clone + Drop>(
-    alloc: A,
-    error: BuildError,
-) -> Result<Vec<u8, A>, OutOfMemory>
-    ensures { IfOk result (λ text. (error ≢ BuildError.OutOfMemory) × (text.items ≡ reply_line (Refused error))) }
-{
-    if error == BuildError::OutOfMemory {
-        return Err(OutOfMemory);
-    }
-    let mut text = Vec::new(alloc);
-    push_reply(&mut text, ReplyValue::Refused(error))?;
-    Ok(text)
 }
 
 /// Makes the calls of the lines in turn on the cache, and writes the replies.
@@ -152,8 +137,11 @@ fn reply_to<A: Allocator + Clone + Drop, W: Weigh<u64, Stored<Text<A>>>>(
             let pairs = pairs_of(text.allocator().clone()?, cache.iter(now))?;
             push_reply(text, ReplyValue::Pairs(&pairs))
         }
-        Request::EntryCount => push_reply(text, ReplyValue::Number(cache.entry_count())),
-        Request::WeightedSize => push_reply(text, ReplyValue::Number(cache.weighted_size())),
+        Request::EntryCount => push_reply(text, ReplyValue::Number(cache.entry_count() as u128)),
+        Request::WeightedSize => push_reply(
+            text,
+            ReplyValue::Number(cache.weighted_size() as u128),
+        ),
         Request::Policy => {
             let policy = cache.policy();
             push_reply(text, ReplyValue::Limits(&policy))

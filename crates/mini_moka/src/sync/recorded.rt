@@ -1,11 +1,16 @@
 //! A cache that keeps a record of its calls. Replayed from a new cache, the record leads to the cache as it is.
-ghost use Rattle.std.specs.Prelude.{◌≡◌, Bool};
-ghost use Rattle.mini_moka.specs.Record.{answer_of};
+ghost use Rattle.std.specs.Prelude.{◌≡◌, Bool, IfOk};
+ghost use Rattle.mini_moka.specs.Record.{IsAnswer, answer_of};
 ghost use Rattle.moka_common.specs.Keys.{keys_by};
 
 use moka_common::hash::FixedState;
+use moka_common::shared::Shared;
 use moka_common::weigh::UnitWeight;
-use moka_sync::engine::{Call, Core, Reply};
+use moka_core::engine::Core;
+use moka_core::rows::Rows;
+use moka_engine::call::Call;
+use moka_engine::event::Reply;
+use moka_engine::weigh::WeighShared;
 use std::alloc::{Allocator, Global};
 use std::hash::{BuildHasher, Hash};
 use std::marker::Model;
@@ -16,11 +21,17 @@ use thiserror::Error;
 #[error("not recorded")]
 pub struct NotRecorded;
 
+/// A call whose key and value are shared, so that it can be kept beside the entry that it makes.
+pub type SharedCall<K, V, A = Global> = Call<Shared<K, A>, Shared<V, A>>;
+
+/// What a call is answered, with the value that was found shared.
+pub type Answer<K, V, A = Global> = Reply<Shared<V, A>, Rows<K, V, A>>;
+
 /// A call that was made, and the reply that it had.
 #[derive(Drop)]
 pub struct Made<K: Drop, V: Drop, A: Allocator + Drop = Global> {
-    pub call: Call<K, V, A>,
-    pub reply: Reply<V, A>,
+    pub call: SharedCall<K, V, A>,
+    pub reply: Answer<K, V, A>,
 }
 
 /// A cache with the calls that were made on it, in their order.
@@ -29,7 +40,7 @@ pub struct Record<
     K: Eq + Hash + Drop,
     V: Drop,
     S: BuildHasher + Drop = FixedState,
-    W: Drop = UnitWeight,
+    W: WeighShared<K, V> = UnitWeight,
     A: Allocator + Clone + Drop = Global,
 > {
     core: Core<K, V, S, W, A>,
@@ -41,38 +52,44 @@ impl<
     K: Eq + Hash + Drop,
     V: Drop,
     S: BuildHasher + Drop,
-    W: Drop,
+    W: WeighShared<K, V>,
     A: Allocator + Clone + Drop,
 > Model for Record<K, V, S, W, A> {
     ghost use Rattle.moka_common.specs.Keys.{keys_by};
-    ghost use Rattle.mini_moka.specs.Record.{Record as RecordState};
+    ghost use Rattle.moka_engine.specs.CoreCall.{IsAtRest};
+    ghost use Rattle.mini_moka.specs.Record.{Record as RecordValue};
     ghost use Rattle.mini_moka.specs.Replay.{Replays};
 
-    ghost Value = { RecordState K V S A };
+    ghost Value = { RecordValue K V S W A };
 
-    ghost view = { λ r. record { core = r.core; first_ticket = r.first_ticket; calls = r.calls.items } };
+    ghost view = { λ r. record {
+      state = record { core = r.core.state; first_ticket = r.first_ticket; calls = r.calls.items };
+      weigher = r.core.weigher;
+    } };
 
-    ghost invariant = { λ r. Replays
+    ghost invariant = { λ r. W.ready r.core.weigher × IsAtRest r.core.state × Replays
         (keys_by (record { eq = K.eq; hash_input = K.hash_input }) S.BuildHasher S.Hasher.Hasher)
-        (record { core = r.core; first_ticket = r.first_ticket; calls = r.calls.items }) };
+        (W.weighs r.core.weigher)
+        (record { core = r.core.state; first_ticket = r.first_ticket; calls = r.calls.items }) };
 }
 
-impl<K: Eq + Hash + Drop, V: Drop, S: BuildHasher + Drop, A: Allocator + Clone + Drop> Record<
-    K,
-    V,
-    S,
-    UnitWeight,
-    A,
-> {
-    ghost use Rattle.std.specs.Prelude.{slice_index};
-    ghost use Rattle.moka_sync.specs.CoreState.{IsNew};
+impl<
+    K: Eq + Hash + Drop,
+    V: Drop,
+    S: BuildHasher + Drop,
+    W: WeighShared<K, V>,
+    A: Allocator + Clone + Drop,
+> Record<K, V, S, W, A> {
+    ghost use Rattle.moka_engine.specs.CoreState.{IsNew};
     ghost use Rattle.mini_moka.specs.Record.{new_record, Memory, IsApplied};
     ghost use Rattle.mini_moka.specs.Replay.{Replays};
 
     /// A record without calls, of a cache with which nothing has been done yet: `Core::is_new` is the test.
-    pub fn new(alloc: A, core: Core<K, V, S, UnitWeight, A>) -> Self
-        requires { IsNew core }
-        ensures { result ≡ new_record core }
+    pub fn new(alloc: A, core: Core<K, V, S, W, A>) -> Self
+        requires ready { W.ready core.weigher }
+        requires new { IsNew core.state }
+        ensures state { result.state ≡ new_record core.state }
+        ensures weigher { result.weigher ≡ core.weigher }
     {
         let first_ticket = core.first_ticket();
         Record {
@@ -82,11 +99,16 @@ impl<K: Eq + Hash + Drop, V: Drop, S: BuildHasher + Drop, A: Allocator + Clone +
         }
     }
 
-    /// Makes one call, writes it down with its reply, and answers the reply. It is refused before it acts.
-    pub fn apply(&mut self, call: Call<K, V, A>) -> Result<Reply<V, A>, NotRecorded>
+    /// Makes one call, writes it down with its reply, and answers the reply. It is refused before it acts. Only where the value that was found
+    /// can't be shared once more has the call been made and the answer says that memory was refused: the record has the value.
+    pub fn apply(&mut self, call: SharedCall<K, V, A>) -> Result<Answer<K, V, A>, NotRecorded>
         ensures step { (memory : Memory) ×
-            IsApplied (keys_by K.Hash S.BuildHasher S.Hasher.Hasher) self.old call memory result self.new }
-        ensures replays { Replays (keys_by K.Hash S.BuildHasher S.Hasher.Hasher) self.new }
+            IsApplied (keys_by K.Hash S.BuildHasher S.Hasher.Hasher) (W.weighs self.old.weigher)
+            self.old.state call memory result self.new.state }
+        ensures replays { Replays (keys_by K.Hash S.BuildHasher S.Hasher.Hasher) (W.weighs self.new.weigher)
+            self.new.state }
+        ensures weigher { self.new.weigher ≡ self.old.weigher }
+        ensures answer { IfOk result IsAnswer }
     {
         if self.calls.reserve(1).is_err() {
             return Err(NotRecorded);
@@ -101,33 +123,48 @@ impl<K: Eq + Hash + Drop, V: Drop, S: BuildHasher + Drop, A: Allocator + Clone +
     }
 
     /// The cache as it is now.
-    pub fn core(&self) -> &Core<K, V, S, UnitWeight, A>
-        ensures { result.now ≡ self.now.core }
+    pub fn core(&self) -> &Core<K, V, S, W, A>
+        ensures state { result.now.state ≡ self.now.state.core }
+        ensures weigher { result.now.weigher ≡ self.now.weigher }
     {
         &self.core
     }
 
     /// The calls with their replies, first to last.
     pub fn calls(&self) -> &[Made<K, V, A>]
-        ensures { result.now ≡ self.now.calls }
+        ensures { result.now ≡ self.now.state.calls }
     {
         &self.calls
     }
 
     /// The ticket number that the cache's first new entry of each shard was to get.
     pub fn first_ticket(&self) -> u64
-        ensures { result ≡ self.now.first_ticket }
+        ensures { result ≡ self.now.state.first_ticket }
     {
         self.first_ticket
     }
 }
 
 /// The reply once more, to be answered while the record keeps the first.
-fn answer_of<V: Drop, A: Allocator + Drop>(reply: &Reply<V, A>) -> Reply<V, A>
-    ensures { (refused : Bool) × (result ≡ answer_of reply.now refused) }
+fn answer_of<K: Drop, V: Drop, A: Allocator + Drop>(reply: &Answer<K, V, A>) -> Answer<K, V, A>
+    requires { IsAnswer reply.now }
+    ensures value { (refused : Bool) × (result ≡ answer_of reply.now refused) }
+    ensures answer { IsAnswer result }
 {
-    match reply.try_clone() {
-        Ok(answer) => answer,
-        Err(_) => Reply::OutOfMemory,
+    match reply {
+        Reply::Done => Reply::Done,
+        Reply::Found(None) => Reply::Found(None),
+        Reply::Found(Some(value)) => match value.try_clone() {
+            Ok(value) => Reply::Found(Some(value)),
+            Err(_) => Reply::OutOfMemory,
+        },
+        Reply::Bool(truth) => Reply::Bool(*truth),
+        Reply::Counts { count, weight } => Reply::Counts {
+            count: *count,
+            weight: *weight,
+        },
+        Reply::OutOfMemory => Reply::OutOfMemory,
+        Reply::TicketsUsedUp => Reply::TicketsUsedUp,
+        Reply::Discarded | Reply::Rows(_) | Reply::At(_) | Reply::NotPossible => unreachable!(),
     }
 }

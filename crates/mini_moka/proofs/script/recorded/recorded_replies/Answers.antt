@@ -1,23 +1,36 @@
-use Rattle.std.proofs.Common.{◌≡◌, [], ◌++◌, refl, sym, ◌∙◌, append_assoc}
-use Rattle.std.proofs.lemmas.List.{append-nil, nil_from_length}
-use Rattle.std.specs.Vec.Iter.{into_iter_items}
-use Rattle.mini_moka.specs.Reply.{reply_line}
+use Rattle.std.proofs.Common.{◌≡◌, true, false, sym, subst}
+use Rattle.moka_engine.specs.CoreState.{new_core}
+use Rattle.moka_grammar.specs.declared.line.Mode.TheVariants.{Recorded}
+use Rattle.mini_moka.proofs.UnsyncRunLemmas.{each_allowed}
+use Rattle.mini_moka.proofs.RecordedRunLemmas.{built, built_is_new}
 use Rattle.mini_moka.proofs.script.recorded.recorded_replies.Goals as goal
 
-pub loop-line-preserved : goal.loop-line-preserved
-loop-line-preserved g c =
-    let (reply, answered, text_is) = c.in_ok-reply_to.ensures in
-    let allowed = rw c.in-Some.ensures.steps.0 at c.loop-line.invariant.allowed in
-    record {
-      allowed = allowed.1;
-      answered = λ rest replies.
-          rw (text_is, append_assoc)
-          (c.loop-line.invariant.answered (reply_line reply ++ rest)
-          (rw c.in-Some.ensures.steps.0 (reply, c.reply_to.new.cache, rest, answered, refl, replies)));
-    }
+pub replies_of-requires-clause-allowed : goal.replies_of-requires-clause-allowed
+replies_of-requires-clause-allowed g c = each_allowed c.args.header Recorded c.requires.mode c.args.lines.items c.requires.lines
 
-pub returns : goal.returns
-returns g c =
-    let none : into_iter_items c.loop-line.line-iterator ≡ [] =
-    nil_from_length (into_iter_items c.loop-line.line-iterator) (sym c.loop-line.line-iterator.rest.ok.0 ∙ c.in-None.ensures.steps.0) in
-    rw append-nil at (c.loop-line.invariant.answered [] (rw none refl))
+pub replies_of-requires-clause-new : goal.replies_of-requires-clause-new
+replies_of-requires-clause-new g c = built_is_new _ _ _ c.in-Ok.ensures.ok.state
+
+pub returns-in-Ok : goal.returns-in-Ok
+returns-in-Ok g c =
+    let ok = rw c.weigher.ensures at c.in-Ok.ensures.ok in
+    built g.row.A.Denot c.args.header.options c.builder_of-builder.result.policy c.builder_of-builder.ensures.limits c.args.lines.items
+    (λ text. text.items) c.replies_of.result true c.in-Ok.core.state (sym c.if-header.true) ok.legal.durations ok.state c.replies_of.ensures
+
+pub replies_of-requires-in-Ok-build_core-clause-allowed : goal.replies_of-requires-in-Ok-build_core-clause-allowed
+replies_of-requires-in-Ok-build_core-clause-allowed g c =
+    each_allowed c.args.header Recorded c.requires.mode c.args.lines.items c.requires.lines
+
+pub replies_of-requires-in-Ok-build_core-clause-new : goal.replies_of-requires-in-Ok-build_core-clause-new
+replies_of-requires-in-Ok-build_core-clause-new g c = built_is_new _ _ _ c.in-Ok-build_core.ensures.ok.state
+
+pub returns-in-Ok-build_core : goal.returns-in-Ok-build_core
+returns-in-Ok-build_core g c =
+    let ok = c.in-Ok-build_core.ensures.ok in
+    let builder = c.builder_of-builder in
+    let new = subst (λ weighed. c.in-Ok-build_core.core.state ≡ new_core
+    (record { hash_state = record {}; policy = builder.result.policy; is_weighed = weighed }) 0)
+    builder.ensures.weighed ok.state in
+    built g.row.A.Denot c.args.header.options builder.result.policy builder.ensures.limits c.args.lines.items
+    (λ text. text.items) c.replies_of-in-Ok-build_core.result false c.in-Ok-build_core.core.state (sym c.if-header.false)
+    ok.legal.durations new c.replies_of-in-Ok-build_core.ensures

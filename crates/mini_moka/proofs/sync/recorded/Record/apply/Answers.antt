@@ -1,6 +1,7 @@
 use Rattle.std.proofs.Common.{true, false, Ok, refl, ap}
+use Rattle.mini_moka.proofs.CallLemmas.{IsCall-answer}
 use Rattle.mini_moka.proofs.RecordLemmas.{Replays-push}
-use Rattle.mini_moka.proofs.sync.recorded.Record+K+V+S+UnitWeight+A.apply.Goals as goal
+use Rattle.mini_moka.proofs.sync.recorded.Record.apply.Goals as goal
 
 pub returns-then-is_err-clause-step : goal.returns-then-is_err-clause-step
 returns-then-is_err-clause-step g c =
@@ -10,20 +11,27 @@ pub returns-in_default-clause-step : goal.returns-in_default-clause-step
 returns-in_default-clause-step g c =
     rw (← c.self.view_is, c.reserve.ensures.items) (record { recording = true; answer = false }, (refl, refl))
 
+pub answer_of-answer-requires : goal.answer_of-answer-requires
+answer_of-answer-requires g c = IsCall-answer _ _ _ _ _ _ c.call-reply.ensures.step
+
 pub invariant_of-self-2 : goal.invariant_of-self-2
 invariant_of-self-2 g c =
     let made = rw c.in-Ok.ensures at c.call-reply.ensures.step in
     let calls = rw c.reserve.ensures.items at c.push_reserved.ensures.items in
-    Replays-push _ _ _ c.args.call c.call-reply.result c.self.invariant (record { made = made; calls = calls; first_ticket = refl })
+    rw c.call-reply.ensures.weigher (
+      c.self.invariant.0,
+      c.call-reply.ensures.rest,
+      Replays-push _ _ _ _ c.args.call c.call-reply.result c.self.invariant.2 (record { made = made; calls = calls; first_ticket = refl }),
+    )
 
 pub returns-clause-replays : goal.returns-clause-replays
-returns-clause-replays g c = invariant_of-self-2 g c
+returns-clause-replays g c = (invariant_of-self-2 g c).2
 
 pub returns-clause-step : goal.returns-clause-step
 returns-clause-step g c =
     let made = rw c.in-Ok.ensures at c.call-reply.ensures.step in
     let calls = rw c.reserve.ensures.items at c.push_reserved.ensures.items in
     rw (← c.self.view_is) (
-      record { recording = false; answer = c.answer_of-answer.ensures.0 },
-      (c.call-reply.result, record { made = made; calls = calls; first_ticket = refl }, ap Ok c.answer_of-answer.ensures.1),
+      record { recording = false; answer = c.answer_of-answer.ensures.value.0 },
+      (c.call-reply.result, record { made = made; calls = calls; first_ticket = refl }, ap Ok c.answer_of-answer.ensures.value.1),
     )

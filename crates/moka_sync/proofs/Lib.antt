@@ -1,4 +1,0 @@
-pub mod CallerLemmas
-pub mod CoreLemmas
-pub mod ShardLemmas
-pub mod ShardsLemmas
