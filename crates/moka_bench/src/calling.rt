@@ -9,7 +9,7 @@ ghost use Rattle.mini_moka.specs.Unsync.History.{IsCurrent, Transition, exchange
 ghost use Rattle.mini_moka.specs.Unsync.Lookup.{is_contained};
 ghost use Rattle.mini_moka.specs.Unsync.Runs.{request_of};
 ghost use Rattle.mini_moka.specs.Unsync.Iterate.{pairs_at};
-ghost use Rattle.mini_moka.specs.Sync.WholeCall.{IsWholeCall};
+ghost use Rattle.mini_moka.specs.Sync.CoreCall.{IsAtRest, IsCall};
 ghost use Rattle.mini_moka.specs.Replay.{Replays};
 ghost use Rattle.mini_moka.specs.Grammar.{IsScript};
 ghost use Rattle.mini_moka.specs.Parsed.{script_of};
@@ -20,8 +20,8 @@ use mini_moka::common::frequency_sketch::FrequencySketch;
 use mini_moka::common::time::Instant;
 use mini_moka::common::{BuildError, OutOfMemory, Policy, Shared, Weigh};
 use mini_moka::script::{End, Script, Sink, Source, Text};
-use mini_moka::sync::engine::{Call, Core, Reply};
-use mini_moka::sync::recorded::{NotRecorded, Record};
+use mini_moka::sync::engine::Core;
+use mini_moka::sync::recorded::{Answer, NotRecorded, Record, SharedCall};
 use mini_moka::unsync::Cache;
 use mini_moka::unsync::history::{hits_are_current, runs_have_a_history};
 use mini_moka::{script, unsync};
@@ -137,20 +137,22 @@ pub fn two_owners<T: Drop>(alloc: Global, value: T) -> Result<(Shared<T>, Shared
 /// Makes one call on a core.
 pub fn call_on<K: Eq + Hash + Drop, V: Drop, S: BuildHasher + Drop>(
     core: &mut Core<K, V, S>,
-    call: Call<K, V>,
-) -> Reply<V>
-    ensures { IsWholeCall (keys_by K.Hash S.BuildHasher S.Hasher.Hasher) unit_weighs
-        core.old call result core.new }
+    call: SharedCall<K, V>,
+) -> Answer<K, V>
+    requires rest { IsAtRest core.old.state }
+    ensures { IsCall (keys_by K.Hash S.BuildHasher S.Hasher.Hasher) unit_weighs
+        core.old.state call result core.new.state }
 {
     core.call(call)
 }
 
-/// Makes one call on a recorded core, whose record still replays.
+/// Makes one call on a recorded core, whose record still replays if it did.
 pub fn record_more<K: Eq + Hash + Drop, V: Drop, S: BuildHasher + Drop>(
     recorded: &mut Record<K, V, S>,
-    call: Call<K, V>,
+    call: SharedCall<K, V>,
 ) -> Result<(), NotRecorded>
-    ensures { Replays (keys_by K.Hash S.BuildHasher S.Hasher.Hasher) recorded.new }
+    ensures { Replays (keys_by K.Hash S.BuildHasher S.Hasher.Hasher) unit_weighs recorded.old.state
+        → Replays (keys_by K.Hash S.BuildHasher S.Hasher.Hasher) unit_weighs recorded.new.state }
 {
     let _ = recorded.apply(call)?;
     Ok(())

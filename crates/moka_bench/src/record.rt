@@ -1,42 +1,138 @@
 // A record of calls.
 use mini_moka::common::time::Instant;
 use mini_moka::common::{FixedState, Shared};
+use mini_moka::sync::CacheBuilder;
 use mini_moka::sync::engine::{Call, Core, Reply};
-use mini_moka::sync::recorded::Record;
+use mini_moka::sync::recorded::{Answer, Record, SharedCall};
+use std::alloc::Global;
 use std::test::Fail;
+
+/// Which call is made.
+#[derive(Clone, Copy, Debug, PartialEq, Eq)]
+enum Name {
+    Insert,
+    Get,
+    Contains,
+    Invalidate,
+    InvalidateAll,
+    Sync,
+    Counts,
+}
+
+// The calls in turn, each a nanosecond after the last, with its key, and with what it is answered in a word and a number. Each key is
+// its own value. Worked by hand: what is counted is what the last maintenance left, and an invalidation of all hides what is older.
+const CALLS: [(Name, u64, &str, u64); 12] = [
+    (Name::Insert, 7, "done", 0),
+    (Name::Insert, 9, "done", 0),
+    (Name::Get, 7, "found", 7),
+    (Name::Get, 8, "none", 0),
+    (Name::Counts, 0, "count", 0),
+    (Name::Sync, 0, "done", 0),
+    (Name::Counts, 0, "count", 2),
+    (Name::Invalidate, 7, "done", 0),
+    (Name::Contains, 7, "false", 0),
+    (Name::Contains, 9, "true", 0),
+    (Name::InvalidateAll, 0, "done", 0),
+    (Name::Contains, 9, "false", 0),
+];
+
+/// The call of this name.
+fn call_of(
+    alloc: Global,
+    name: Name,
+    number: u64,
+    now: Instant,
+) -> Result<SharedCall<u64, u64>, Fail> {
+    let key = Shared::new(alloc, number)?;
+    Ok(match name {
+        Name::Insert => Call::Insert {
+            value: key.try_clone()?,
+            key,
+            now,
+        },
+        Name::Get => Call::Get { key, now },
+        Name::Contains => Call::Contains { key, now },
+        Name::Invalidate => Call::Invalidate { key, now },
+        Name::InvalidateAll => Call::InvalidateAll { now },
+        Name::Sync => Call::Sync { now },
+        Name::Counts => Call::Counts,
+    })
+}
+
+/// The name of a call.
+fn name_of(call: &SharedCall<u64, u64>) -> Name {
+    match call {
+        Call::Insert { .. } => Name::Insert,
+        Call::Get { .. } => Name::Get,
+        Call::Contains { .. } => Name::Contains,
+        Call::Invalidate { .. } => Name::Invalidate,
+        Call::InvalidateAll { .. } => Name::InvalidateAll,
+        Call::Sync { .. } => Name::Sync,
+        Call::Counts => Name::Counts,
+    }
+}
+
+/// An answer in a word and a number.
+fn told(answer: &Answer<u64, u64>) -> (&'static str, u64) {
+    match answer {
+        Reply::Done => ("done", 0),
+        Reply::Found(Some(value)) => ("found", *value.get()),
+        Reply::Found(None) => ("none", 0),
+        Reply::Bool(true) => ("true", 0),
+        Reply::Bool(false) => ("false", 0),
+        Reply::Counts { count, .. } => ("count", *count as u64),
+        _ => ("other", 0),
+    }
+}
 
 #[test]
 fn a_record_has_each_call_with_its_reply(rt: HostRuntime) -> Result<(), Fail> {
-    let now = Instant::from_nanos(3);
-    let core: Core<u64, u32> = Core::new(rt.alloc(), FixedState::new())?;
+    let core: Core<u64, u64> = Core::new(rt.alloc(), FixedState::new())?;
     let mut record = Record::new(rt.alloc(), core);
-    let is_new = record.core().is_new();
-    assert!(rt; is_new);
+    for (moment, (name, number, word, answer)) in CALLS.iter().enumerate() {
+        let now = Instant::from_nanos(moment as u64);
+        let call = call_of(rt.alloc(), *name, *number, now)?;
+        let reply = record.apply(call)?;
+        assert_eq!(rt; told(&reply), (*word, *answer));
+    }
+    assert_eq!(rt; record.calls().len(), CALLS.len());
+    for (made, (name, _, word, answer)) in record.calls().iter().zip(CALLS.iter()) {
+        assert_eq!(rt; name_of(&made.call), *name);
+        assert_eq!(rt; told(&made.reply), (*word, *answer));
+    }
+    Ok(())
+}
+
+#[test]
+fn a_core_is_new_until_a_call(rt: HostRuntime) -> Result<(), Fail> {
+    let core: Core<u64, u64> = Core::new(rt.alloc(), FixedState::new())?;
+    let mut record = Record::new(rt.alloc(), core);
+    assert!(rt; record.core().is_new());
     assert_eq!(rt; record.first_ticket(), 0);
-    let key = Shared::new(rt.alloc(), 7u64)?;
-    let value = Shared::new(rt.alloc(), 1u32)?;
-    let other = Shared::new(rt.alloc(), 8u64)?;
-    let copy = key.try_clone()?;
-    let inserted = record.apply(Call::Insert {
-        key: copy,
-        value,
-        now,
-    });
-    assert!(rt; matches!(&inserted, Ok(Reply::Done)));
-    let found = record.apply(Call::Get { key, now });
-    assert!(rt; matches!(&found, Ok(Reply::Found(Some(value))) if *value.get() == 1));
-    let there = record.apply(Call::Contains { key: other, now });
-    assert!(rt; matches!(&there, Ok(Reply::Bool(false))));
-    let is_new = record.core().is_new();
-    assert!(rt; !is_new);
-    let [insert, get, contains] = record.calls() else {
-        return Err("three calls".into());
-    };
-    assert!(rt; matches!(&insert.call, Call::Insert { key, .. } if *key.get() == 7));
-    assert!(rt; matches!(&insert.reply, Reply::Done));
-    assert!(rt; matches!(&get.call, Call::Get { key, .. } if *key.get() == 7));
-    assert!(rt; matches!(&get.reply, Reply::Found(Some(value)) if *value.get() == 1));
-    assert!(rt; matches!(&contains.call, Call::Contains { key, .. } if *key.get() == 8));
-    assert!(rt; matches!(&contains.reply, Reply::Bool(false)));
+    let call = call_of(rt.alloc(), Name::Insert, 7, Instant::from_nanos(0))?;
+    let reply = record.apply(call)?;
+    assert_eq!(rt; told(&reply), ("done", 0));
+    assert!(rt; !record.core().is_new());
+    Ok(())
+}
+
+/// A record of a cache that counts what its values say.
+fn weighed_count(alloc: Global) -> Result<(&'static str, u64), Fail> {
+    let core = CacheBuilder::new(alloc, 10)
+        .weigher(|_key: &u64, value: &u64| u32::try_from(*value).unwrap_or(u32::MAX))
+        .build_core(FixedState::new())?;
+    let mut record = Record::new(alloc, core);
+    let call = call_of(alloc, Name::Insert, 11, Instant::from_nanos(0))?;
+    let _ = record.apply(call)?;
+    let sync = call_of(alloc, Name::Sync, 0, Instant::from_nanos(0))?;
+    let _ = record.apply(sync)?;
+    let count = record.apply(Call::Counts)?;
+    Ok(told(&count))
+}
+
+// The value 11 weighs more than the limit.
+#[test]
+fn a_weigher_can_be_a_closure(rt: HostRuntime) -> Result<(), Fail> {
+    assert_eq!(rt; weighed_count(rt.alloc())?, ("count", 0));
     Ok(())
 }

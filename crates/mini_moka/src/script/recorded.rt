@@ -120,7 +120,8 @@ fn reply_to<A: Allocator + Clone + Drop, W: WeighShared<u64, Stored<Text<A>>>>(
     text: &mut Vec<u8, A>,
     line: Line<Text<A>>,
 ) -> Result<(), OutOfMemory>
-    requires { IsTrue (allows Mode.Recorded line.request) }
+    requires ready { W.ready cache.old.weigher }
+    requires allowed { IsTrue (allows Mode.Recorded line.request) }
     ensures step { OnOk result ((reply : Told)
         × IsAnswered A (W.weighs cache.old.weigher) cache.old.state line.now line.request reply cache.new.state
         × (text.new.items ≡ text.old.items ++ reply_line reply)) }

@@ -40,7 +40,7 @@ pub struct Record<
     K: Eq + Hash + Drop,
     V: Drop,
     S: BuildHasher + Drop = FixedState,
-    W: WeighShared<K, V> = UnitWeight,
+    W: Drop = UnitWeight,
     A: Allocator + Clone + Drop = Global,
 > {
     core: Core<K, V, S, W, A>,
@@ -52,13 +52,11 @@ impl<
     K: Eq + Hash + Drop,
     V: Drop,
     S: BuildHasher + Drop,
-    W: WeighShared<K, V>,
+    W: Drop,
     A: Allocator + Clone + Drop,
 > Model for Record<K, V, S, W, A> {
-    ghost use Rattle.moka_common.specs.Keys.{keys_by};
     ghost use Rattle.moka_engine.specs.CoreCall.{IsAtRest};
     ghost use Rattle.mini_moka.specs.Record.{Record as RecordValue};
-    ghost use Rattle.mini_moka.specs.Replay.{Replays};
 
     ghost Value = { RecordValue K V S W A };
 
@@ -67,10 +65,7 @@ impl<
       weigher = r.core.weigher;
     } };
 
-    ghost invariant = { λ r. W.ready r.core.weigher × IsAtRest r.core.state × Replays
-        (keys_by (record { eq = K.eq; hash_input = K.hash_input }) S.BuildHasher S.Hasher.Hasher)
-        (W.weighs r.core.weigher)
-        (record { core = r.core.state; first_ticket = r.first_ticket; calls = r.calls.items }) };
+    ghost invariant = { λ r. IsAtRest r.core.state };
 }
 
 impl<
@@ -86,10 +81,11 @@ impl<
 
     /// A record without calls, of a cache with which nothing has been done yet: `Core::is_new` is the test.
     pub fn new(alloc: A, core: Core<K, V, S, W, A>) -> Self
-        requires ready { W.ready core.weigher }
         requires new { IsNew core.state }
         ensures state { result.state ≡ new_record core.state }
         ensures weigher { result.weigher ≡ core.weigher }
+        ensures replays { Replays (keys_by K.Hash S.BuildHasher S.Hasher.Hasher) (W.weighs result.weigher)
+            result.state }
     {
         let first_ticket = core.first_ticket();
         Record {
@@ -102,11 +98,12 @@ impl<
     /// Makes one call, writes it down with its reply, and answers the reply. It is refused before it acts. Only where the value that was found
     /// can't be shared once more has the call been made and the answer says that memory was refused: the record has the value.
     pub fn apply(&mut self, call: SharedCall<K, V, A>) -> Result<Answer<K, V, A>, NotRecorded>
+        requires ready { W.ready self.old.weigher }
         ensures step { (memory : Memory) ×
             IsApplied (keys_by K.Hash S.BuildHasher S.Hasher.Hasher) (W.weighs self.old.weigher)
             self.old.state call memory result self.new.state }
-        ensures replays { Replays (keys_by K.Hash S.BuildHasher S.Hasher.Hasher) (W.weighs self.new.weigher)
-            self.new.state }
+        ensures replays { Replays (keys_by K.Hash S.BuildHasher S.Hasher.Hasher) (W.weighs self.old.weigher) self.old.state
+            → Replays (keys_by K.Hash S.BuildHasher S.Hasher.Hasher) (W.weighs self.new.weigher) self.new.state }
         ensures weigher { self.new.weigher ≡ self.old.weigher }
         ensures answer { IfOk result IsAnswer }
     {
@@ -121,7 +118,15 @@ impl<
         self.calls.push_reserved(Made { call, reply });
         Ok(answer)
     }
+}
 
+impl<
+    K: Eq + Hash + Drop,
+    V: Drop,
+    S: BuildHasher + Drop,
+    W: Drop,
+    A: Allocator + Clone + Drop,
+> Record<K, V, S, W, A> {
     /// The cache as it is now.
     pub fn core(&self) -> &Core<K, V, S, W, A>
         ensures state { result.now.state ≡ self.now.state.core }

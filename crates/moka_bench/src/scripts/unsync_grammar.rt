@@ -48,7 +48,7 @@ const HEADERS: [(&str, Option<u64>); 37] = [
     ("unsync max 1 tickets 1\n", Some(1)),
 ];
 
-const LINES: [(&str, Option<u64>); 43] = [
+const LINES: [(&str, Option<u64>); 45] = [
     ("unsync\n0 insert 1 a\n", None),
     ("unsync\n0 insert 1 a 1\n", Some(2)),
     ("unsync\n0 insert 1\n", Some(2)),
@@ -91,6 +91,11 @@ const LINES: [(&str, Option<u64>); 43] = [
     ("unsync weighed\n0 drop-if a 1\n", Some(2)),
     ("unsync\n0 iter 1\n", Some(2)),
     ("recorded\n0 iter\n", Some(2)),
+    ("recorded\n0 drop-if a\n", Some(2)),
+    (
+        "recorded max 1 live 2s idle 3ns weighed\n0 insert 1 a 1\n0 invalidate 1\n0 clear\n0 sync\n0 count\n0 weight\n",
+        None,
+    ),
     ("unsync\n0 get\n", Some(2)),
     ("unsync\n0 has 1 1\n", Some(2)),
     ("unsync\n0 count 1\n", Some(2)),
@@ -101,7 +106,7 @@ const LINES: [(&str, Option<u64>); 43] = [
     ("unsync\n0 count", Some(2)),
     ("unsync\n0 sync\n", Some(2)),
     ("unsync\n0 len\n", Some(2)),
-    ("recorded\n0 count\n", Some(2)),
+    ("recorded\n0 policy\n", Some(2)),
     ("unsync\n0 insert 1 a\n0 insert 2 b 2\n0 x\n", Some(3)),
     (
         "unsync weighed\n0 insert 1 a 1\n0 get 1\n0 insert 2 b\n",

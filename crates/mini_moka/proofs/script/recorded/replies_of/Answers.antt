@@ -1,4 +1,4 @@
-use Rattle.std.proofs.Common.{◌≡◌, [], ◌++◌, sym, ap, ◌∙◌, append_assoc}
+use Rattle.std.proofs.Common.{◌≡◌, [], ◌++◌, sym, ap, ◌∙◌, subst, append_assoc}
 use Rattle.std.proofs.lemmas.List.{append-nil, nil_from_length}
 use Rattle.std.specs.Vec.Iter.{into_iter_items}
 use Rattle.mini_moka.specs.Record.{new_record}
@@ -10,6 +10,7 @@ pub loop-line-init : goal.loop-line-init
 loop-line-init g c =
     let all : into_iter_items c.into_iter-line-iterator.result ≡ c.args.lines.items = c.into_iter-line-iterator.ensures.into_iter_gives.0 in
     record {
+      ready = subst g.W.WeighShared.ready (sym c.new-cache.ensures.weigher) c.requires.ready;
       weigher = c.new-cache.ensures.weigher;
       allowed = rw all c.requires.allowed;
       answered = λ rest replies. (
@@ -25,6 +26,7 @@ loop-line-preserved g c =
     let (reply, answered, text_is) = c.in_ok-reply_to.ensures.step in
     let allowed = rw c.in-Some.ensures.steps.0 at c.loop-line.invariant.allowed in
     record {
+      ready = subst g.W.WeighShared.ready (sym c.in_ok-reply_to.ensures.weigher) c.loop-line.invariant.ready;
       weigher = c.in_ok-reply_to.ensures.weigher ∙ c.loop-line.invariant.weigher;
       allowed = allowed.1;
       answered = λ rest replies.

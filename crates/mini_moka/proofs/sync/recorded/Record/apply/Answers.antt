@@ -14,18 +14,18 @@ returns-in_default-clause-step g c =
 pub answer_of-answer-requires : goal.answer_of-answer-requires
 answer_of-answer-requires g c = IsCall-answer _ _ _ _ _ _ c.call-reply.ensures.step
 
-pub invariant_of-self-2 : goal.invariant_of-self-2
-invariant_of-self-2 g c =
-    let made = rw c.in-Ok.ensures at c.call-reply.ensures.step in
-    let calls = rw c.reserve.ensures.items at c.push_reserved.ensures.items in
-    rw c.call-reply.ensures.weigher (
-      c.self.invariant.0,
-      c.call-reply.ensures.rest,
-      Replays-push _ _ _ _ c.args.call c.call-reply.result c.self.invariant.2 (record { made = made; calls = calls; first_ticket = refl }),
-    )
+pub returns-then-is_err-clause-replays : goal.returns-then-is_err-clause-replays
+returns-then-is_err-clause-replays g c = rw (← c.self.view_is, c.reserve.ensures.items) (λ replays. replays)
+
+pub returns-in_default-clause-replays : goal.returns-in_default-clause-replays
+returns-in_default-clause-replays g c = rw (← c.self.view_is, c.reserve.ensures.items) (λ replays. replays)
 
 pub returns-clause-replays : goal.returns-clause-replays
-returns-clause-replays g c = (invariant_of-self-2 g c).2
+returns-clause-replays g c =
+    let made = rw c.in-Ok.ensures at c.call-reply.ensures.step in
+    let calls = rw c.reserve.ensures.items at c.push_reserved.ensures.items in
+    rw (← c.self.view_is, c.call-reply.ensures.weigher) (λ replays.
+    Replays-push _ _ _ _ c.args.call c.call-reply.result replays (record { made = made; calls = calls; first_ticket = refl }))
 
 pub returns-clause-step : goal.returns-clause-step
 returns-clause-step g c =
