@@ -17,7 +17,8 @@ use Rattle.moka_engine.specs.Entry.{Entry, entry_at}
 use Rattle.moka_engine.specs.CoreState.{CoreState, pending_of, without_pending}
 use Rattle.moka_engine.specs.CoreCall.{Decides, has_pending, scheduled, IsCall}
 use Rattle.moka_engine.specs.Event.{IsPush, IsForgetting, IsBeginning, IsTurn, IsStep}
-use Rattle.moka_engine.specs.MapStep.{OnlyReplies, IsInsert, IsUpdate, IsAddition, fresh_entry, IsGet, IsMiss, IsHit, IsInvalidation, IsCopy, pairs_of}
+use Rattle.moka_engine.specs.MapStep.{OnlyReplies, IsInsert, IsUpdate, IsAddition, fresh_entry}
+use Rattle.moka_engine.specs.MapStep.{IsGet, IsMiss, IsHit, IsInvalidation, IsCopy, pairs_of}
 use Rattle.moka_engine.specs.Place.{is_idle}
 use Rattle.moka_engine.specs.Reply.{Reply}
 use Rattle.moka_engine.specs.Run.{Happens}
@@ -77,11 +78,13 @@ module _ {K V S : Type 0} (keys : Keys K S) where
     push : (caller : ℕ) (o : Option Operation) → IsPush keys old caller o answer new → Stays old new
     push caller None h = only reply.NotPossible h
     push caller (Some (Reading read)) h =
-        by_test _ ((answer ≡ reply.Done) × (new ≡ record old { read_log = old.read_log ++ read ∷ []; pending = without_pending caller old }))
+        by_test _
+        ((answer ≡ reply.Done) × (new ≡ record old { read_log = old.read_log ++ read ∷ []; pending = without_pending caller old }))
         ((answer ≡ reply.Discarded) × (new ≡ record old { pending = without_pending caller old }))
         (λ p. ap settings_of p.1) (λ p. ap settings_of p.1) h
     push caller (Some (Writing write)) h =
-        by_test _ ((answer ≡ reply.Done) × (new ≡ record old { write_log = old.write_log ++ write ∷ []; pending = without_pending caller old }))
+        by_test _
+        ((answer ≡ reply.Done) × (new ≡ record old { write_log = old.write_log ++ write ∷ []; pending = without_pending caller old }))
         (OnlyReplies keys old reply.NotPossible answer new) (λ p. ap settings_of p.1) (only reply.NotPossible) h
 
     forget : (caller : ℕ) (o : Option Operation) → IsForgetting keys old caller o answer new → Stays old new
@@ -135,7 +138,8 @@ module _ {K V S : Type 0} (keys : Keys K S) where
     step Counts weight refused h = ap settings_of h.1
 
   module _ (weighs : K → V → ℕ → Type 0) where
-    happens : (old new : CoreState K V S) (event : Event K V) (answer : Reply K V) → Happens keys weighs old event answer new → Stays old new
+    happens : (old new : CoreState K V S) (event : Event K V) (answer : Reply K V) → Happens keys weighs old event answer new
+        → Stays old new
     happens old new event answer h = step old new answer event h.weight h.refused h.step
 
     schedules : (runs : Bool) (now : ℕ) (core : CoreState K V S) → Stays core (scheduled runs now core)

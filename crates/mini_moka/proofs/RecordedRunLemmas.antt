@@ -15,7 +15,8 @@ use Rattle.mini_moka.specs.UnsyncRun.{HasLimits, options_fault}
 use Rattle.mini_moka.proofs.UnsyncRunLemmas.{IfOk-map}
 
 -- a core as it is built is new
-pub built_is_new : {K V S : Type 0} (core : CoreState K V S) (settings : Settings S) (first : ℕ) → core ≡ new_core settings first → IsNew core
+pub built_is_new : {K V S : Type 0} (core : CoreState K V S) (settings : Settings S) (first : ℕ) → core ≡ new_core settings first
+    → IsNew core
 built_is_new core settings first built = (first, built ∙ ap (λ s. new_core s first) (sym (ap (λ c. c.settings) built)))
 
 module _ (A : Type 0) (options : CacheOptions) (policy : Limits) (limits : HasLimits policy options) (lines : List (Line (List ℕ))) where
@@ -73,8 +74,8 @@ module _ (A : Type 0) (options : CacheOptions) (policy : Limits) (limits : HasLi
 
 module _ {W : Type 0} (A : Type 0) (weighs : W → ℕ → Stored (List ℕ) → ℕ → Type 0) where
   -- one line's reply in front of those to the others, by a weigher that stays
-  pub AreReplies-cons : (first now : W) (old next : ScriptRecord A) (line : Line (List ℕ)) (all lines : List (Line (List ℕ))) (reply : Reply)
-      (rest : List ℕ)
+  pub AreReplies-cons : (first now : W) (old next : ScriptRecord A) (line : Line (List ℕ)) (all lines : List (Line (List ℕ)))
+      (reply : Reply) (rest : List ℕ)
       → now ≡ first → all ≡ line ∷ lines → IsAnswered A (weighs now) old line.now line.request reply next
       → AreReplies A (weighs first) next lines rest → AreReplies A (weighs first) old all (reply_line reply ++ rest)
   AreReplies-cons first now old next line all lines reply rest stays is answered more =

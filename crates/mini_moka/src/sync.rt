@@ -2,4 +2,4 @@
 pub mod recorded;
 
 pub use moka_sync::builder::CacheBuilder;
-pub use moka_sync::{constants, engine};
+pub use moka_sync::{constants, engine, housekeeper};

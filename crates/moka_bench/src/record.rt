@@ -85,10 +85,18 @@ fn told(answer: &Answer<u64, u64>) -> (&'static str, u64) {
     }
 }
 
+/// A record without calls.
+fn empty_record(alloc: Global) -> Result<Record<u64, u64>, Fail> {
+    let core: Core<u64, u64> = Core::new(alloc, FixedState::new())?;
+    if !core.is_new() {
+        return Err("a new core".into());
+    }
+    Ok(Record::new(alloc, core))
+}
+
 #[test]
 fn a_record_has_each_call_with_its_reply(rt: HostRuntime) -> Result<(), Fail> {
-    let core: Core<u64, u64> = Core::new(rt.alloc(), FixedState::new())?;
-    let mut record = Record::new(rt.alloc(), core);
+    let mut record = empty_record(rt.alloc())?;
     for (moment, (name, number, word, answer)) in CALLS.iter().enumerate() {
         let now = Instant::from_nanos(moment as u64);
         let call = call_of(rt.alloc(), *name, *number, now)?;
@@ -105,8 +113,7 @@ fn a_record_has_each_call_with_its_reply(rt: HostRuntime) -> Result<(), Fail> {
 
 #[test]
 fn a_core_is_new_until_a_call(rt: HostRuntime) -> Result<(), Fail> {
-    let core: Core<u64, u64> = Core::new(rt.alloc(), FixedState::new())?;
-    let mut record = Record::new(rt.alloc(), core);
+    let mut record = empty_record(rt.alloc())?;
     assert!(rt; record.core().is_new());
     assert_eq!(rt; record.first_ticket(), 0);
     let call = call_of(rt.alloc(), Name::Insert, 7, Instant::from_nanos(0))?;
@@ -121,6 +128,9 @@ fn weighed_count(alloc: Global) -> Result<(&'static str, u64), Fail> {
     let core = CacheBuilder::new(alloc, 10)
         .weigher(|_key: &u64, value: &u64| u32::try_from(*value).unwrap_or(u32::MAX))
         .build_core(FixedState::new())?;
+    if !core.is_new() {
+        return Err("a new core".into());
+    }
     let mut record = Record::new(alloc, core);
     let call = call_of(alloc, Name::Insert, 11, Instant::from_nanos(0))?;
     let _ = record.apply(call)?;

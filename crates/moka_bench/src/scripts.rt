@@ -1,6 +1,7 @@
 // Scripts with their replies, and what is no script.
 mod grammar;
 mod recorded;
+mod schedules;
 mod sketch;
 mod table;
 mod unsync;

@@ -4,4 +4,5 @@
 pub mod builder;
 pub mod engine;
 
+pub use moka_core::housekeeper;
 pub use moka_engine::constants;

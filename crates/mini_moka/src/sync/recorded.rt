@@ -95,8 +95,8 @@ impl<
         }
     }
 
-    /// Makes one call, writes it down with its reply, and answers the reply. It is refused before it acts. Only where the value that was found
-    /// can't be shared once more has the call been made and the answer says that memory was refused: the record has the value.
+    /// Makes one call, writes it down with its reply, and answers the reply. It is refused before it acts. Only where the value that was
+    /// found can't be shared once more has the call been made and the answer says that memory was refused: the record has the value.
     pub fn apply(&mut self, call: SharedCall<K, V, A>) -> Result<Answer<K, V, A>, NotRecorded>
         requires ready { W.ready self.old.weigher }
         ensures step { (memory : Memory) ×

@@ -430,7 +430,10 @@ fn told(alloc: Global, reply: &TestReply) -> Result<String, Fail> {
 fn step(alloc: Global, core: &mut TestCore, event: TestEvent) -> Result<TestReply, Fail> {
     let events = vec![in alloc; event]?;
     let mut replies = core.run(events)?;
-    replies.pop().ok_or("a reply".into())
+    match replies.pop() {
+        Some(reply) => Ok(reply),
+        None => Err("a reply".into()),
+    }
 }
 
 /// Turns until the place is idle.
@@ -460,7 +463,10 @@ fn check_schedule(alloc: Global, row: &Row) -> Result<(), Fail> {
     for (line, want) in schedule.lines().skip(1).zip(replies.lines()) {
         let reply = reply_to(alloc, &mut core, line)?;
         if reply.as_str() != want {
-            let text = format!(in alloc; "{}: {line}: {want} was expected, and {reply} was replied", row.name)?;
+            let text = format!(in alloc;
+                "{}: {line}: {want} was expected, and {reply} was replied",
+                row.name
+            )?;
             return Err(text.into());
         }
     }

@@ -5,7 +5,7 @@ use std::process::Abort;
 use std::test::Fail;
 
 /// A script with its replies, side by side: a line of the script, an arrow, and the reply. A line without an arrow has no reply. Spaces in front
-/// of a line are layout. A line behind `500 times` stands for so many lines, in which `#` is their number from 0 on.
+/// of a line are layout. Lines behind `500 times`, with semicolons between them, stand for so many of each, in which `#` is the number from 0 on.
 pub struct Row {
     pub name: &'static str,
     pub lines: &'static str,
@@ -44,18 +44,31 @@ pub fn sides_of(alloc: Global, lines: &str) -> Result<(String, String), AllocErr
         if line.is_empty() {
             continue;
         }
-        let (times, line) = repeated(line);
+        let (times, lines) = repeated(line);
         for number in 0..times {
-            match line.split_once(ARROW) {
-                Some((call, reply)) => {
-                    push_numbered(alloc, &mut script, call, number)?;
-                    push_line(&mut replies, reply)?;
-                }
-                None => push_numbered(alloc, &mut script, line, number)?,
+            for line in lines.split("; ") {
+                push_side(alloc, &mut script, &mut replies, line, number)?;
             }
         }
     }
     Ok((script, replies))
+}
+
+/// Adds a line to the script, and its reply, if it has one, to the replies.
+fn push_side(
+    alloc: Global,
+    script: &mut String,
+    replies: &mut String,
+    line: &str,
+    number: u64,
+) -> Result<(), AllocError> {
+    match line.split_once(ARROW) {
+        Some((call, reply)) => {
+            push_numbered(alloc, script, call, number)?;
+            push_line(replies, reply)
+        }
+        None => push_numbered(alloc, script, line, number),
+    }
 }
 
 /// How often a line is meant, and the line.

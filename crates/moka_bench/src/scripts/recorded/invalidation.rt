@@ -2,7 +2,7 @@
 use crate::scripts::table::{Row, check_rows};
 use std::test::Fail;
 
-const ROWS: [Row; 12] = [
+const ROWS: [Row; 13] = [
     Row {
         name: "invalidated and inserted again before a maintenance",
         lines: "
@@ -197,6 +197,21 @@ const ROWS: [Row; 12] = [
             6 sync -> ok
             6 count -> 1
             6 get 0 -> some b
+        ",
+    },
+    Row {
+        name: "what was put off for an entry that has left is dropped",
+        lines: "
+            recorded -> ready
+            0 insert 0 a -> ok
+            0 invalidate 0 -> ok
+            0 sync -> ok
+            0 count -> 0
+            0 insert 0 b -> ok
+            0 invalidate 0 -> ok
+            0 insert 0 c -> ok
+            0 sync -> ok
+            0 count -> 1
         ",
     },
 ];

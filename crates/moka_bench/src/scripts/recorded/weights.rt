@@ -2,7 +2,7 @@
 use crate::scripts::table::{Row, check_rows};
 use std::test::Fail;
 
-const ROWS: [Row; 11] = [
+const ROWS: [Row; 12] = [
     Row {
         name: "an entry of no weight has room at the limit, and above it only with a read",
         lines: "
@@ -176,6 +176,16 @@ const ROWS: [Row; 11] = [
             18446744073709551615 sync -> ok
             0 count -> 1
             0 weight -> 4294967295
+        ",
+    },
+    Row {
+        name: "a lighter value is charged its own weight",
+        lines: "
+            recorded weighed -> ready
+            0 insert 0 a 5 -> ok
+            0 insert 0 b 2 -> ok
+            0 sync -> ok
+            0 weight -> 2
         ",
     },
 ];

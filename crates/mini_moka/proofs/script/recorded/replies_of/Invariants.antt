@@ -9,7 +9,8 @@ use Rattle.mini_moka.specs.RecordedRun.{AreReplies}
 use Rattle.mini_moka.specs.Reply.{Ready, reply_line}
 use Rattle.mini_moka.proofs.script.recorded.replies_of.Given as goal
 
--- the weigher is the core's and may be asked, the lines to come are a record's, and what answers them makes the text so far answer all lines
+-- the weigher is the core's and may be asked, the lines to come are a record's, and what answers them makes the text so far answer
+-- all lines
 abbrev pub invariant-loop-line : goal.invariant-loop-line
 invariant-loop-line g l = record {
   ready : g.W.WeighShared.ready l.cache.weigher;
