@@ -54,6 +54,13 @@ uint32_t moka_trace_play(const struct moka_trace_settings *settings, const struc
                          size_t count, struct moka_trace_outcome *outcome);
 
 /*
+ * The same with the core of the cache that threads share, by whole calls of one caller, and in the end a whole maintenance. A key is moved
+ * into memory of its own for each operation, and a value for each insert.
+ */
+uint32_t moka_trace_play_core(const struct moka_trace_settings *settings, const struct moka_trace_operation *operations,
+                              size_t count, struct moka_trace_outcome *outcome);
+
+/*
  * Makes a sketch for a capacity, counts all hashes `counts` times over, and then reads them `reads` times over. `sum` is the
  * sum of what was read. Here and below the answer is a moka_trace_status, a sum is modulo 2^64 and stays as it was where the
  * answer is not MOKA_TRACE_DONE, and no pointer may be null.

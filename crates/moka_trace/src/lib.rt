@@ -1,10 +1,12 @@
 //! Whole traces of the cache for one thread, for a caller in C: one call builds a cache, makes every operation of a trace on it, and
-//! drops it. Beside it each part of the cache has a call that makes a whole batch of its operations.
+//! drops it. Another does the same with the core of the cache that threads share. Beside them each part of the cache for one thread has a
+//! call that makes a whole batch of its operations.
 #![tactic(auto)]
 
 ghost use Rattle.std.specs.Prelude.{◌≡◌, ◌≤◌, ◌≢◌, length, IfOk};
 
 pub mod constants;
+mod core_player;
 mod hasher;
 mod index;
 mod list;

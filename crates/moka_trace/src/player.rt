@@ -1,12 +1,14 @@
 // Plays the operations of a trace on a cache.
-ghost use Rattle.std.specs.Prelude.{◌+◌, ◌≤◌, length, IfOk};
+ghost use Rattle.std.specs.Prelude.{◌+◌, ◌≡◌, ◌≤◌, length, IfOk};
 
 use crate::constants::{GET, GET_AND_INSERT, INSERT, READ_THROUGH};
 use crate::operation::Operation;
+use moka_base::error::OutOfMemory;
 use moka_common::error::{BuildError, InsertError};
 use moka_common::time::Instant;
 use moka_common::weigh::Weigh;
 use moka_unsync::cache::Cache;
+use std::alloc::{AllocError, AllocFailed};
 use std::hash::BuildHasher;
 
 /// What a trace gave.
@@ -43,11 +45,48 @@ impl From<InsertError> for PlayError {
     }
 }
 
+impl From<OutOfMemory> for PlayError {
+    fn from(_error: OutOfMemory) -> PlayError {
+        PlayError::OutOfMemory
+    }
+}
+
+impl From<AllocError> for PlayError {
+    fn from(_error: AllocError) -> PlayError {
+        PlayError::OutOfMemory
+    }
+}
+
+impl<T: Drop> From<AllocFailed<T>> for PlayError {
+    fn from(_error: AllocFailed<T>) -> PlayError {
+        PlayError::OutOfMemory
+    }
+}
+
 /// What was found so far.
 #[derive(Clone, Copy)]
-struct Found {
-    hits: u64,
-    checksum: u64,
+pub(crate) struct Found {
+    pub(crate) hits: u64,
+    pub(crate) checksum: u64,
+}
+
+impl Found {
+    pub(crate) fn nothing() -> Found
+        ensures { result.hits ≡ 0 }
+    {
+        Found {
+            hits: 0,
+            checksum: 0,
+        }
+    }
+
+    /// One more look-up has found this value.
+    pub(crate) fn add(&mut self, value: u64)
+        ensures hits { self.new.hits ≤ self.old.hits + 1 }
+    {
+        self.hits = self.hits.saturating_add(1);
+        self.checksum = self.checksum.wrapping_add(value);
+    }
 }
 
 /// Makes the operations in turn, the first at the moment `start` and each further one `tick` later.
@@ -60,10 +99,7 @@ pub(crate) fn play<S: BuildHasher + Drop, W: Weigh<u64, u64>>(
     requires { W.ready cache.old.weigher }
     ensures { IfOk result (λ outcome. outcome.hits ≤ length operations.now) }
 {
-    let mut found = Found {
-        hits: 0,
-        checksum: 0,
-    };
+    let mut found = Found::nothing();
     let mut now = start;
     for operation in operations {
         play_one(cache, operation, Instant::from_nanos(now), &mut found)?;
@@ -120,8 +156,7 @@ fn look<S: BuildHasher + Drop, W: Weigh<u64, u64>>(
 {
     match cache.get(&key, now) {
         Some(value) => {
-            found.hits = found.hits.saturating_add(1);
-            found.checksum = found.checksum.wrapping_add(*value);
+            found.add(*value);
             true
         }
         None => false,

@@ -3,6 +3,7 @@ use crate::constants::{
     DONE, FILL_AND_EMPTY, FIND, FIND_AND_REPLACE, GET, GET_AND_INSERT, INSERT, MOVE, READ_THROUGH,
     TAKE_TURNS, UNKNOWN_KIND, UNLIMITED,
 };
+use crate::core_player::moka_trace_play_core;
 use crate::index::{moka_trace_index, moka_trace_index_by_map};
 use crate::list::moka_trace_list;
 use crate::operation::Operation;
@@ -125,6 +126,19 @@ fn an_operation_of_no_kind_leaves_the_outcome(rt: HostRuntime) {
         played(rt.alloc(), &PLAIN, &strange),
         (UNKNOWN_KIND, [9, 9, 9, 9])
     );
+}
+
+#[test]
+fn each_operation_is_made_on_a_core(rt: HostRuntime) {
+    let mut outcome = Outcome {
+        hits: 9,
+        checksum: 9,
+        entries: 9,
+        weight: 9,
+    };
+    let status = moka_trace_play_core(rt.alloc(), &PLAIN, &each_kind(), &mut outcome);
+    assert_eq!(rt; (status, outcome.hits, outcome.checksum), (DONE, 3, 14));
+    assert_eq!(rt; (outcome.entries, outcome.weight), (2, 2));
 }
 
 /// The status, and the sum, which is 9 before the call.
