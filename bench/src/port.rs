@@ -19,6 +19,12 @@ extern "C" {
         count: usize,
         outcome: *mut Outcome,
     ) -> u32;
+    fn moka_trace_play_core(
+        settings: *const Settings,
+        operations: *const Operation,
+        count: usize,
+        outcome: *mut Outcome,
+    ) -> u32;
     fn moka_trace_sketch(
         capacity: u32,
         hashes: *const u64,
@@ -68,6 +74,22 @@ pub fn play(settings: &Settings, operations: &[Operation]) -> Outcome {
         )
     };
     assert_eq!(status, 0, "the port refused a trace");
+    outcome
+}
+
+/// Plays the operations on a new core of the cache that threads share, which is dropped at the end.
+pub fn play_core(settings: &Settings, operations: &[Operation]) -> Outcome {
+    let mut outcome = Outcome::default();
+    // As above.
+    let status = unsafe {
+        moka_trace_play_core(
+            settings,
+            operations.as_ptr(),
+            operations.len(),
+            &mut outcome,
+        )
+    };
+    assert_eq!(status, 0, "the core refused a trace");
     outcome
 }
 

@@ -1,6 +1,8 @@
-//! The original, an LRU cache and a map without a limit, all with the hasher that the port has; the original with std's as well.
+//! The original for one thread and for several, an LRU cache and a map without a limit, all with the hasher that the port has; the original with
+//! std's as well.
 use crate::port::Outcome;
 use crate::traces::{Operation, Settings, GET, GET_AND_INSERT, INSERT, READ_THROUGH, UNLIMITED};
+use mini_moka::sync::{Cache as SharedCache, ConcurrentCacheExt};
 use mini_moka::unsync::Cache;
 use std::hash::{BuildHasher, Hasher};
 use std::time::Duration;
@@ -35,6 +37,8 @@ impl BuildHasher for Multiply {
 pub trait Side {
     fn look(&mut self, key: u64) -> Option<u64>;
     fn put(&mut self, key: u64, value: u64);
+    /// Does what is put off, after the last operation.
+    fn finish(&mut self) {}
     fn entries(&self) -> u64;
     fn weight(&self) -> u64;
 }
@@ -70,6 +74,49 @@ impl<S: BuildHasher + Clone> Side for Original<S> {
 
     fn put(&mut self, key: u64, value: u64) {
         self.insert(key, value);
+    }
+
+    fn entries(&self) -> u64 {
+        self.entry_count()
+    }
+
+    fn weight(&self) -> u64 {
+        self.weighted_size()
+    }
+}
+
+/// The original that threads share.
+pub type SharedOriginal = SharedCache<u64, u64, Multiply>;
+
+/// The original that threads share, with the port's hasher.
+pub fn shared_original(settings: &Settings) -> SharedOriginal {
+    let mut builder = SharedCache::builder();
+    if settings.capacity != UNLIMITED {
+        builder = builder.max_capacity(settings.capacity);
+    }
+    if settings.time_to_live != UNLIMITED {
+        builder = builder.time_to_live(Duration::from_nanos(settings.time_to_live));
+    }
+    if settings.time_to_idle != UNLIMITED {
+        builder = builder.time_to_idle(Duration::from_nanos(settings.time_to_idle));
+    }
+    if settings.is_weighed {
+        builder = builder.weigher(|_key, value| u32::try_from(*value).unwrap_or(u32::MAX));
+    }
+    builder.build_with_hasher(Multiply::default())
+}
+
+impl Side for SharedOriginal {
+    fn look(&mut self, key: u64) -> Option<u64> {
+        self.get(&key)
+    }
+
+    fn put(&mut self, key: u64, value: u64) {
+        self.insert(key, value);
+    }
+
+    fn finish(&mut self) {
+        self.sync();
     }
 
     fn entries(&self) -> u64 {
@@ -150,6 +197,7 @@ pub fn play<S: Side>(side: &mut S, operations: &[Operation]) -> Outcome {
             _ => unreachable!("an operation of no kind that there is"),
         }
     }
+    side.finish();
     outcome.entries = side.entries();
     outcome.weight = side.weight();
     outcome

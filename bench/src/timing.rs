@@ -1,7 +1,7 @@
 //! How long whole traces take.
 use crate::port::{self, Outcome};
 use crate::rust_sides::{self, Side};
-use crate::traces::{Operation, Settings};
+use crate::traces::{Operation, Settings, Trace};
 use std::collections::hash_map::RandomState;
 use std::hint::black_box;
 use std::time::Instant;
@@ -29,6 +29,77 @@ pub fn time_original(settings: &Settings, operations: &[Operation]) -> (f64, Out
         return time_side(rust_sides::original_with(settings, hash_state), operations);
     }
     time_side(rust_sides::original(settings), operations)
+}
+
+/// The core's time has its making and its dropping in it.
+pub fn time_core(settings: &Settings, operations: &[Operation]) -> (f64, Outcome) {
+    let start = Instant::now();
+    let outcome = port::play_core(settings, operations);
+    (start.elapsed().as_nanos() as f64, black_box(outcome))
+}
+
+pub fn time_shared_original(settings: &Settings, operations: &[Operation]) -> (f64, Outcome) {
+    time_side(rust_sides::shared_original(settings), operations)
+}
+
+/// The least times of the repeats, in nanoseconds: of a whole trace, and of its filling alone.
+#[derive(Clone, Copy)]
+pub struct Least {
+    pub whole: f64,
+    pub filling: f64,
+    pub outcome: Outcome,
+}
+
+impl Least {
+    fn new() -> Least {
+        Least {
+            whole: f64::INFINITY,
+            filling: f64::INFINITY,
+            outcome: Outcome::default(),
+        }
+    }
+
+    pub fn a_call(&self, trace: &Trace) -> f64 {
+        let filling = if trace.filling == 0 {
+            0.0
+        } else {
+            self.filling
+        };
+        (self.whole - filling) / trace.counted() as f64
+    }
+}
+
+/// The sides in turn, repeat by repeat.
+pub fn measure(trace: &Trace, players: &[Option<Player>], repeats: usize) -> Vec<Option<Least>> {
+    let mut least: Vec<Option<Least>> = players
+        .iter()
+        .map(|player| player.map(|_| Least::new()))
+        .collect();
+    for _ in 0..repeats {
+        for (player, least) in players.iter().zip(&mut least) {
+            let (Some(player), Some(least)) = (player, least) else {
+                continue;
+            };
+            if trace.filling > 0 {
+                let (nanos, _) = player(&trace.settings, &trace.operations[..trace.filling]);
+                least.filling = least.filling.min(nanos);
+            }
+            let (nanos, outcome) = player(&trace.settings, &trace.operations);
+            least.whole = least.whole.min(nanos);
+            least.outcome = outcome;
+        }
+    }
+    least
+}
+
+/// What a reading of the clock takes: the original reads it once or twice a call where a duration is set, and the port is handed moments.
+pub fn clock_nanos() -> f64 {
+    let readings = 1_000_000;
+    let start = Instant::now();
+    for _ in 0..readings {
+        black_box(Instant::now());
+    }
+    start.elapsed().as_nanos() as f64 / f64::from(readings)
 }
 
 /// Lets `malloc` keep what is freed, so that no side is charged with the first touch of a page: in the first repeat alone pages are new.

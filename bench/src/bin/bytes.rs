@@ -1,4 +1,4 @@
-//! How many bytes an entry takes on each side.
+//! How many bytes an entry takes on each side: `bytes [sync]`, where `sync` is the core of the cache that threads share beside its original.
 use moka_trace_bench::hand_lists::ListLoad;
 use moka_trace_bench::port::{self, IndexLoad};
 use moka_trace_bench::rust_sides::{self, Side};
@@ -10,6 +10,7 @@ use std::sync::atomic::{AtomicUsize, Ordering::Relaxed};
 mod recorder {
     //! What the port asks of `malloc`: the linker leads the calls of `malloc`, `realloc` and `free` here. Only while it is on are they
     //! recorded.
+    use std::collections::HashMap;
     use std::ffi::c_void;
     use std::sync::Mutex;
     use std::time::{Duration, Instant};
@@ -20,91 +21,94 @@ mod recorder {
         fn __real_free(block: *mut c_void);
     }
 
-    const MOST_BLOCKS: usize = 64;
+    const MOST_BLOCKS: usize = 3 << 20;
 
-    #[derive(Clone, Copy)]
-    struct Block {
-        at: usize,
-        size: usize,
-    }
-
-    /// The blocks that are held, and which total was held for longest.
+    /// Sizes of the blocks that are held, by where they are, and which total was held for longest.
     struct Record {
-        since: Option<Instant>,
-        blocks: [Block; MOST_BLOCKS],
+        since: Instant,
+        blocks: HashMap<usize, usize>,
+        held: usize,
         longest: Duration,
-        held_longest: usize,
-        peak: usize,
+        totals: Totals,
     }
 
-    const NONE: Block = Block { at: 0, size: 0 };
+    /// Bytes that were held.
+    #[derive(Clone, Copy, Default)]
+    pub struct Totals {
+        /// That total which was held for longest.
+        pub longest: usize,
+        /// Once the last block was taken.
+        pub last: usize,
+        pub peak: usize,
+    }
 
-    static RECORD: Mutex<Record> = Mutex::new(Record {
-        since: None,
-        blocks: [NONE; MOST_BLOCKS],
-        longest: Duration::ZERO,
-        held_longest: 0,
-        peak: 0,
-    });
+    static RECORD: Mutex<Option<Record>> = Mutex::new(None);
 
     impl Record {
-        fn held(&self) -> usize {
-            self.blocks.iter().map(|block| block.size).sum()
+        // There is room for all blocks from the start, since what a record itself takes can't be recorded.
+        fn new() -> Record {
+            Record {
+                since: Instant::now(),
+                blocks: HashMap::with_capacity(MOST_BLOCKS),
+                held: 0,
+                longest: Duration::ZERO,
+                totals: Totals::default(),
+            }
         }
 
         /// Ends the time for which the present total was held.
         fn close(&mut self) {
-            let Some(since) = self.since else {
-                return;
-            };
             let now = Instant::now();
-            if now - since > self.longest {
-                self.longest = now - since;
-                self.held_longest = self.held();
+            if now - self.since > self.longest {
+                self.longest = now - self.since;
+                self.totals.longest = self.held;
             }
-            self.since = Some(now);
+            self.since = now;
         }
 
-        fn replace(&mut self, old: usize, new: Block) {
-            if self.since.is_none() {
-                return;
-            }
+        fn take(&mut self, block: usize, size: usize) {
             self.close();
-            match self.blocks.iter_mut().find(|block| block.at == old) {
-                Some(block) => *block = new,
+            if self.blocks.len() == MOST_BLOCKS {
                 // There are more blocks than can be recorded, and a message would take memory.
-                None => std::process::abort(),
+                std::process::abort();
             }
-            self.peak = self.peak.max(self.held());
+            self.blocks.insert(block, size);
+            self.held += size;
+            self.totals.last = self.held;
+            self.totals.peak = self.totals.peak.max(self.held);
+        }
+
+        fn give_back(&mut self, block: usize) {
+            self.close();
+            self.held -= self.blocks.remove(&block).unwrap_or(0);
         }
     }
 
-    /// The bytes that were held for longest while `play` ran, and the most that were held at once.
-    pub fn record(play: impl FnOnce()) -> (usize, usize) {
-        {
-            let mut record = RECORD.lock().unwrap();
-            record.blocks = [NONE; MOST_BLOCKS];
-            record.longest = Duration::ZERO;
-            record.held_longest = 0;
-            record.peak = 0;
-            record.since = Some(Instant::now());
-        }
+    /// What was held while `play` ran.
+    pub fn record(play: impl FnOnce()) -> Totals {
+        let record = Record::new();
+        *RECORD.lock().unwrap() = Some(record);
         play();
-        let mut record = RECORD.lock().unwrap();
+        let record = RECORD.lock().unwrap().take();
+        let Some(mut record) = record else {
+            unreachable!("nobody else ends a record");
+        };
         record.close();
-        record.since = None;
-        (record.held_longest, record.peak)
+        record.totals
+    }
+
+    /// Records a change, where a record is being made.
+    fn with_record(change: impl FnOnce(&mut Record)) {
+        if let Some(record) = RECORD.lock().unwrap().as_mut() {
+            change(record);
+        }
     }
 
     #[no_mangle]
     extern "C" fn __wrap_malloc(size: usize) -> *mut c_void {
         let block = unsafe { __real_malloc(size) };
-        let new = Block {
-            at: block as usize,
-            size,
-        };
         if !block.is_null() {
-            RECORD.lock().unwrap().replace(0, new);
+            with_record(|record| record.take(block as usize, size));
         }
         block
     }
@@ -112,12 +116,11 @@ mod recorder {
     #[no_mangle]
     extern "C" fn __wrap_realloc(old: *mut c_void, size: usize) -> *mut c_void {
         let block = unsafe { __real_realloc(old, size) };
-        let new = Block {
-            at: block as usize,
-            size,
-        };
         if !block.is_null() {
-            RECORD.lock().unwrap().replace(old as usize, new);
+            with_record(|record| {
+                record.give_back(old as usize);
+                record.take(block as usize, size);
+            });
         }
         block
     }
@@ -125,7 +128,7 @@ mod recorder {
     #[no_mangle]
     extern "C" fn __wrap_free(block: *mut c_void) {
         if !block.is_null() {
-            RECORD.lock().unwrap().replace(block as usize, NONE);
+            with_record(|record| record.give_back(block as usize));
         }
         unsafe { __real_free(block) }
     }
@@ -167,18 +170,53 @@ fn count<S: Side>(build: fn(&Settings) -> S, trace: &Trace) -> (usize, usize) {
     (after - before, PEAK.load(Relaxed) - before)
 }
 
+/// Bytes an entry, and in brackets the most at once.
+fn cell(entries: u64, (held, peak): (usize, usize)) -> String {
+    let a_entry = |bytes| bytes as f64 / entries as f64;
+    format!("{:.1} ({:.1})", a_entry(held), a_entry(peak))
+}
+
+/// The settings whose bytes are counted.
+fn settings_of(entries: u64) -> [(&'static str, Settings); 3] {
+    let plain = Settings::with_capacity(entries);
+    [
+        ("", plain),
+        (", time to live", plain.with_time_to_live()),
+        (", both durations", plain.with_durations()),
+    ]
+}
+
+/// The core of the cache that threads share, beside its original. The core takes its last block for the key of the last look-up, when it is full.
+fn print_shared() {
+    println!("Bytes an entry of two numbers of 64 bits, in a full cache that threads share; in brackets the most at once while it grew.");
+    println!();
+    table::print_head(&["Entries", "core", "mini-moka, sync"]);
+    for entries in [10_000, 1_000_000] {
+        for (name, settings) in settings_of(entries) {
+            let trace = traces::held(settings, entries);
+            let core = recorder::record(|| {
+                port::play_core(&trace.settings, &trace.operations);
+            });
+            let original = count(rust_sides::shared_original, &trace);
+            table::print_row(&[
+                format!("{entries}{name}"),
+                cell(entries, (core.last, core.peak)),
+                cell(entries, original),
+            ]);
+        }
+    }
+}
+
 fn main() {
+    if std::env::args().nth(1).as_deref() == Some("sync") {
+        print_shared();
+        return;
+    }
     println!("Bytes an entry of two numbers of 64 bits, in a full cache; in brackets the most at once while it grew.");
     println!();
     table::print_head(&["Entries", "port", "mini-moka", "lru", "map"]);
     for entries in [10_000, 1_000_000] {
-        let plain = Settings::with_capacity(entries);
-        let rows = [
-            ("", plain),
-            (", time to live", plain.with_time_to_live()),
-            (", both durations", plain.with_durations()),
-        ];
-        for (name, settings) in rows {
+        for (name, settings) in settings_of(entries) {
             let trace = traces::held(settings, entries);
             let port = recorder::record(|| {
                 port::play(&trace.settings, &trace.operations);
@@ -190,14 +228,11 @@ fn main() {
                     count(rust_sides::map, &trace),
                 ]
             });
-            let cell = |(held, peak): (usize, usize)| {
-                let a_entry = |bytes| bytes as f64 / entries as f64;
-                format!("{:.1} ({:.1})", a_entry(held), a_entry(peak))
-            };
+            let cell = |bytes| cell(entries, bytes);
             let [lru, map] = others.map_or(["-".into(), "-".into()], |others| others.map(cell));
             table::print_row(&[
                 format!("{entries}{name}"),
-                cell(port),
+                cell((port.longest, port.peak)),
                 cell(original),
                 lru,
                 map,
@@ -211,10 +246,10 @@ fn main() {
     for ids in [10_000, 1_000_000] {
         let hashes: Vec<u64> = (0..ids).map(traces::spread).collect();
         let held = |play: fn(IndexLoad, &[u64], &[u64], usize) -> u64| {
-            let (held, _) = recorder::record(|| {
+            let held = recorder::record(|| {
                 play(IndexLoad::Find, &hashes, &hashes, 20);
             });
-            format!("{:.1}", held as f64 / ids as f64)
+            format!("{:.1}", held.longest as f64 / ids as f64)
         };
         table::print_row(&[ids.to_string(), held(port::index), held(port::index_by_map)]);
     }
@@ -223,12 +258,12 @@ fn main() {
     println!();
     table::print_head(&["Nodes", "port"]);
     for nodes in [1_000, 1_000_000] {
-        let (held, _) = recorder::record(|| {
+        let held = recorder::record(|| {
             port::list(ListLoad::TakeTurns, nodes, &[], 10);
         });
         table::print_row(&[
             nodes.to_string(),
-            format!("{:.1}", held as f64 / nodes as f64),
+            format!("{:.1}", held.longest as f64 / nodes as f64),
         ]);
     }
 }

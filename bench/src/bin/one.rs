@@ -1,4 +1,5 @@
-//! Plays one trace on one side, to be watched by a profiler: `one SIDE TRACE [TIMES]`, where SIDE is `port` or `original`.
+//! Plays one trace on one side, to be watched by a profiler: `one SIDE TRACE [TIMES]`, where SIDE is `port`, `original`, `core` or `sync`: the last two are
+//! the core of the cache that threads share and its original.
 use moka_trace_bench::{port, rust_sides, traces};
 
 fn main() {
@@ -26,7 +27,12 @@ fn main() {
                 let mut cache = rust_sides::original(&trace.settings);
                 rust_sides::play(&mut cache, &trace.operations)
             }
-            _ => panic!("the sides are port and original"),
+            "core" => port::play_core(&trace.settings, &trace.operations),
+            "sync" => {
+                let mut cache = rust_sides::shared_original(&trace.settings);
+                rust_sides::play(&mut cache, &trace.operations)
+            }
+            _ => panic!("the sides are port, original, core and sync"),
         };
         println!("{outcome:?}");
     }

@@ -2,41 +2,14 @@
 use moka_trace_bench::port::Outcome;
 use moka_trace_bench::rust_sides;
 use moka_trace_bench::table;
-use moka_trace_bench::timing::{keep_memory, time_original, time_port, time_side, Player};
+use moka_trace_bench::timing::{
+    clock_nanos, keep_memory, measure, time_original, time_port, time_side, Player,
+};
 use moka_trace_bench::traces::{self, Operation, Settings, Trace};
-use std::hint::black_box;
 use std::process::ExitCode;
-use std::time::Instant;
 
 const REPEATS: usize = 5;
 const ENTRIES: [u64; 2] = [10_000, 1_000_000];
-
-/// The least times of the repeats, in nanoseconds: of a whole trace, and of its filling alone.
-#[derive(Clone, Copy)]
-struct Least {
-    whole: f64,
-    filling: f64,
-    outcome: Outcome,
-}
-
-impl Least {
-    fn new() -> Least {
-        Least {
-            whole: f64::INFINITY,
-            filling: f64::INFINITY,
-            outcome: Outcome::default(),
-        }
-    }
-
-    fn a_call(&self, trace: &Trace) -> f64 {
-        let filling = if trace.filling == 0 {
-            0.0
-        } else {
-            self.filling
-        };
-        (self.whole - filling) / trace.counted() as f64
-    }
-}
 
 fn time_lru(settings: &Settings, operations: &[Operation]) -> (f64, Outcome) {
     time_side(rust_sides::lru_cache(settings), operations)
@@ -44,29 +17,6 @@ fn time_lru(settings: &Settings, operations: &[Operation]) -> (f64, Outcome) {
 
 fn time_map(settings: &Settings, operations: &[Operation]) -> (f64, Outcome) {
     time_side(rust_sides::map(settings), operations)
-}
-
-/// The sides in turn, repeat by repeat.
-fn measure(trace: &Trace, players: &[Option<Player>], repeats: usize) -> Vec<Option<Least>> {
-    let mut least: Vec<Option<Least>> = players
-        .iter()
-        .map(|player| player.map(|_| Least::new()))
-        .collect();
-    for _ in 0..repeats {
-        for (player, least) in players.iter().zip(&mut least) {
-            let (Some(player), Some(least)) = (player, least) else {
-                continue;
-            };
-            if trace.filling > 0 {
-                let (nanos, _) = player(&trace.settings, &trace.operations[..trace.filling]);
-                least.filling = least.filling.min(nanos);
-            }
-            let (nanos, outcome) = player(&trace.settings, &trace.operations);
-            least.whole = least.whole.min(nanos);
-            least.outcome = outcome;
-        }
-    }
-    least
 }
 
 /// Prints the row of a trace. Says whether the port gave what the original gave.
@@ -107,16 +57,6 @@ fn print_trace(trace: &Trace, repeats: usize) -> bool {
         verdict,
     ]);
     port == original || settings.is_std_hashed
-}
-
-/// What a reading of the clock takes: the original reads it once or twice a call where a duration is set, and the port is handed moments.
-fn clock_nanos() -> f64 {
-    let readings = 1_000_000;
-    let start = Instant::now();
-    for _ in 0..readings {
-        black_box(Instant::now());
-    }
-    start.elapsed().as_nanos() as f64 / f64::from(readings)
 }
 
 fn main() -> ExitCode {
