@@ -45,11 +45,13 @@ mod recorder {
     static RECORD: Mutex<Option<Record>> = Mutex::new(None);
 
     impl Record {
-        // There is room for all blocks from the start, since what a record itself takes can't be recorded.
+        // There is room for all blocks from the start, since what a record itself takes can't be recorded; and the time that this takes isn't
+        // one for which nothing was held.
         fn new() -> Record {
+            let blocks = HashMap::with_capacity(MOST_BLOCKS);
             Record {
                 since: Instant::now(),
-                blocks: HashMap::with_capacity(MOST_BLOCKS),
+                blocks,
                 held: 0,
                 longest: Duration::ZERO,
                 totals: Totals::default(),
