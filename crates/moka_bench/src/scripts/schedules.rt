@@ -379,12 +379,12 @@ fn core_of(alloc: Global, line: &str) -> Result<TestCore, Fail> {
 /// The step that a line asks for: its name, its caller where it has one, and what it is given.
 fn event_of(alloc: Global, line: &str) -> Result<TestEvent, Fail> {
     let name = word(line, 0);
-    let caller = number(line, 1) as u32;
+    let caller = word(line, 1).parse().unwrap_or(0);
     let now = Instant::from_nanos(number(line, 3));
     let key = Shared::new(alloc, number(line, 2))?;
     if name == "insert" {
         let text = String::from_str(alloc, word(line, 4))?;
-        let weight = number(line, 5) as u32;
+        let weight = word(line, 5).parse().unwrap_or(0);
         let value = Shared::new(alloc, Weighed { text, weight })?;
         return Ok(Event::Insert {
             caller,
