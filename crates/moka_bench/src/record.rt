@@ -1,7 +1,6 @@
 // A record of calls.
 use mini_moka::common::time::Instant;
 use mini_moka::common::{FixedState, Shared};
-use mini_moka::sync::CacheBuilder;
 use mini_moka::sync::engine::{Call, Core, Reply};
 use mini_moka::sync::recorded::{Answer, Record, SharedCall};
 use std::alloc::Global;
@@ -120,29 +119,5 @@ fn a_core_is_new_until_a_call(rt: HostRuntime) -> Result<(), Fail> {
     let reply = record.apply(call)?;
     assert_eq!(rt; told(&reply), ("done", 0));
     assert!(rt; !record.core().is_new());
-    Ok(())
-}
-
-/// A record of a cache that counts what its values say.
-fn weighed_count(alloc: Global) -> Result<(&'static str, u64), Fail> {
-    let core = CacheBuilder::new(alloc, 10)
-        .weigher(|_key: &u64, value: &u64| u32::try_from(*value).unwrap_or(u32::MAX))
-        .build_core(FixedState::new())?;
-    if !core.is_new() {
-        return Err("a new core".into());
-    }
-    let mut record = Record::new(alloc, core);
-    let call = call_of(alloc, Name::Insert, 11, Instant::from_nanos(0))?;
-    let _ = record.apply(call)?;
-    let sync = call_of(alloc, Name::Sync, 0, Instant::from_nanos(0))?;
-    let _ = record.apply(sync)?;
-    let count = record.apply(Call::Counts)?;
-    Ok(told(&count))
-}
-
-// The value 11 weighs more than the limit.
-#[test]
-fn a_weigher_can_be_a_closure(rt: HostRuntime) -> Result<(), Fail> {
-    assert_eq!(rt; weighed_count(rt.alloc())?, ("count", 0));
     Ok(())
 }

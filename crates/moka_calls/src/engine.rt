@@ -1,32 +1,29 @@
-// The core, and what it is made of, called as a caller of the library does.
+// What the core is made of, called as a caller of the library does.
 use moka_common::error::InsertError;
-use moka_common::hash::FixedState;
 use moka_common::shared::Shared;
 use moka_common::time::Instant;
-use moka_core::engine::Core;
 use moka_core::pending::{Operation, PendingOperations};
 use moka_engine::call::Call;
-use moka_engine::event::Reply;
 use moka_engine::operation::Read;
 use moka_maintenance::logs::{ReadLog, WriteLog};
+use std::alloc::Global;
 use std::test::Fail;
 
-#[test]
-fn a_core_makes_a_copy_of_a_call(rt: HostRuntime) -> Result<(), Fail> {
+/// The value in a copy of an insert.
+fn value_of_copy(alloc: Global) -> Result<u32, Fail> {
+    let key = Shared::new(alloc, 7u64)?;
+    let value = Shared::new(alloc, 1u32)?;
     let now = Instant::from_nanos(0);
-    let mut core: Core<u64, u32> = Core::new(rt.alloc(), FixedState::new())?;
-    let key = Shared::new(rt.alloc(), 7u64)?;
-    let value = Shared::new(rt.alloc(), 1u32)?;
     let insert = Call::Insert { key, value, now };
-    assert!(rt; core.is_new() && core.is_at_rest());
-    let reply = core.call(insert.try_clone()?);
-    assert!(rt; matches!(reply, Reply::Done));
-    assert!(rt; !core.is_new());
-    let Call::Insert { key, .. } = insert else {
+    let Call::Insert { value, .. } = insert.try_clone()? else {
         return Err("an insert".into());
     };
-    let reply = core.call(Call::Get { key, now });
-    assert!(rt; matches!(&reply, Reply::Found(Some(value)) if *value.get() == 1));
+    Ok(*value.get())
+}
+
+#[test]
+fn a_copy_of_a_call_has_its_value(rt: HostRuntime) -> Result<(), Fail> {
+    assert_eq!(rt; value_of_copy(rt.alloc())?, 1);
     Ok(())
 }
 
