@@ -150,8 +150,9 @@ impl<
 
     /// Makes one whole call of a caller that is alone, and replies to it. Nothing may be under way: `is_at_rest` is the test. Then nothing is again.
     ///
-    /// An insert, a get or an invalidation that finds 64 operations in its log, or comes half a second after the last maintenance, runs one: it takes the time of
-    /// what is put off, and at most that of 1,500 entries that leave. Any other call takes the time of a look-up.
+    /// An insert or a get, and an invalidation that finds its key, runs a maintenance first where 64 operations are in its log, or the last one that such
+    /// a call has run is half a second ago. That takes the time of what was put off, of the entries that give way, and of at most 1,500 that are expired
+    /// or too many. Any other call but `Sync` takes the time of a look-up.
     pub fn call(
         &mut self,
         call: Call<Shared<K, A>, Shared<V, A>>,
