@@ -1,4 +1,6 @@
 pub mod CallLemmas
+pub mod CoreRunLemmas
+pub mod FirstCoreLemmas
 pub mod RecordLemmas
 pub mod RecordedRunLemmas
 pub mod ReplyLemmas

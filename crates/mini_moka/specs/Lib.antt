@@ -5,6 +5,7 @@ pub use Rattle.moka_grammar.specs.Text
 pub use Rattle.moka_grammar.specs.Spelling
 pub use Rattle.moka_grammar.specs.Options
 pub use Rattle.moka_grammar.specs.Lines
+pub use Rattle.moka_grammar.specs.CoreLines
 pub use Rattle.moka_grammar.specs.SketchLines
 pub use Rattle.moka_grammar.specs.Grammar
 pub use Rattle.moka_grammar.specs.Parsed
@@ -14,9 +15,11 @@ pub mod Replay
 pub mod ScriptKeys
 pub mod Stored
 pub mod Reply
-pub mod RecordedRun
-pub mod SketchRun
 pub mod UnsyncRun
+pub mod FirstCore
+pub mod RecordedRun
+pub mod CoreRun
+pub mod SketchRun
 pub mod ScriptRun
 -- inside
 pub mod ReplyValue

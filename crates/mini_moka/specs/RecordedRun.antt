@@ -1,7 +1,5 @@
 -- What the replies to a recorded script are.
-use Rattle.std.specs.Prelude.{◌≡◌, ℕ, Bool, true, false, List, [], ◌∷◌, ◌++◌, Option, Some, None, option_map, Result, Ok}
-use Rattle.moka_common.specs.Weight.{unit_weighs}
-use Rattle.moka_common.specs.declared.error.BuildError.{BuildError}
+use Rattle.std.specs.Prelude.{◌≡◌, ℕ, List, [], ◌∷◌, ◌++◌, Option, Some, None, option_map, Result, Ok}
 use Rattle.moka_grammar.specs.declared.line.CacheOptions.{CacheOptions}
 use Rattle.moka_grammar.specs.declared.line.Line.{Line}
 use Rattle.moka_grammar.specs.declared.line.Request.{Request}
@@ -11,17 +9,16 @@ use Rattle.moka_engine.specs.declared.call.Call.{Call}
 use Rattle.moka_engine.specs.declared.call.Call.TheVariants as call
 use Rattle.moka_engine.specs.declared.event.Reply.TheVariants as answer
 use Rattle.moka_engine.specs.Reply.{Reply as Answer}
-use Rattle.moka_engine.specs.CoreState.{new_core}
 use Rattle.mini_moka.specs.declared.script.keys.KeyState.{KeyState}
 use Rattle.mini_moka.specs.declared.script.recorded.Asked.{Asked}
 use Rattle.mini_moka.specs.declared.script.recorded.Asked.TheVariants.{Count, Weight}
 use Rattle.mini_moka.specs.declared.script.stored.Stored.{Stored}
 use Rattle.mini_moka.specs.declared.sync.recorded.NotRecorded.{NotRecorded}
 use Rattle.mini_moka.specs.Record.{RecordState, Memory, new_record, IsApplied}
-use Rattle.mini_moka.specs.Reply.{Reply, Ready, Refused, Done, Found, Truth, Number, OutOfMemory, TicketsUsedUp, reply_line}
+use Rattle.mini_moka.specs.FirstCore.{weighs_of, AreRepliesOf}
+use Rattle.mini_moka.specs.Reply.{Reply, Done, Found, Truth, Number, OutOfMemory, TicketsUsedUp, reply_line}
 use Rattle.mini_moka.specs.ScriptKeys.{script_keys}
 use Rattle.mini_moka.specs.Stored.{stored_text}
-use Rattle.mini_moka.specs.UnsyncRun.{HasLimits, options_fault}
 
 -- the call that a request makes at a moment, if it is one of a record's
 abbrev pub call_at : ℕ → Request (List ℕ) → Option (Call ℕ (Stored (List ℕ)))
@@ -71,26 +68,7 @@ module _ (A : Type 0) (weighs : ℕ → Stored (List ℕ) → ℕ → Type 0) wh
       × (text ≡ reply_line reply ++ rest)
       × AreReplies next lines rest
 
--- what the weigher answers, by whether the script is weighed: what is stored says its weight, or each entry weighs 1
-abbrev pub weighs_of : Bool → ℕ → Stored (List ℕ) → ℕ → Type 0
-weighs_of true key value weight = weight ≡ value.weight
-weighs_of false key value weight = unit_weighs key value weight
-
-module _ (A : Type 0) where
-  -- the record is of a new core with these settings
-  pub record IsFirstRecord (options : CacheOptions) (record' : ScriptRecord A) : Type 0 where
-    pub limits : HasLimits record'.core.settings.policy options
-    pub new : record' ≡ new_record (new_core
-        (record { hash_state = record {}; policy = record'.core.settings.policy; is_weighed = options.weighed }) 0)
-
-  -- what is written where the settings have this fault or none: that they are refused, and nothing more; or the reply lines
-  abbrev pub AreRepliesUnder : Option BuildError → CacheOptions → List (Line (List ℕ)) → List ℕ → Type 0
-  AreRepliesUnder (Some fault) options lines text = text ≡ reply_line (Refused fault)
-  AreRepliesUnder None options lines text =
-      (record' : ScriptRecord A) × (replies : List ℕ)
-      × IsFirstRecord options record' × AreReplies A (weighs_of options.weighed) record' lines replies
-      × (text ≡ reply_line Ready ++ replies)
-
-  -- the reply lines of a recorded script
-  abbrev pub AreRecordedReplyLines : CacheOptions → List (Line (List ℕ)) → List ℕ → Type 0
-  AreRecordedReplyLines options lines text = AreRepliesUnder (options_fault options) options lines text
+-- the reply lines of a recorded script
+abbrev pub AreRecordedReplyLines : Type 0 → CacheOptions → List (Line (List ℕ)) → List ℕ → Type 0
+AreRecordedReplyLines A options lines text =
+    AreRepliesOf (λ core replies. AreReplies A (weighs_of options.weighed) (new_record core) lines replies) options text

@@ -3,7 +3,7 @@ use Rattle.std.specs.Prelude.{ℕ, List, map, option_map}
 use Rattle.std.specs.Borrow.{Bor}
 use Rattle.mini_moka.specs.declared.script.reply.ReplyValue.{ReplyValue}
 use Rattle.mini_moka.specs.declared.script.reply.ReplyValue.TheVariants as value
-use Rattle.mini_moka.specs.Reply.{Reply, Ready, Refused, Done, Found, Truth, Number, Pairs, Limits, OutOfMemory, TicketsUsedUp}
+use Rattle.mini_moka.specs.Reply.{Reply, Ready, Refused, Done, Found, Truth, Number, Pairs, Limits, OutOfMemory, TicketsUsedUp, Discarded, At, NotPossible}
 
 -- the pairs of keys and texts, whatever lends the texts
 abbrev pub pairs_of : List (ℕ × Bor (List ℕ)) → List (ℕ × List ℕ)
@@ -21,3 +21,6 @@ reply_of (value.Pairs pairs) = Pairs (pairs_of pairs.now)
 reply_of (value.Limits policy) = Limits policy.now
 reply_of value.OutOfMemory = OutOfMemory
 reply_of value.TicketsUsedUp = TicketsUsedUp
+reply_of value.Discarded = Discarded
+reply_of (value.At place) = At place
+reply_of value.NotPossible = NotPossible

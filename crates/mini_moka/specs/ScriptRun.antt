@@ -9,9 +9,10 @@ use Rattle.moka_grammar.specs.declared.line.CacheHeader.{CacheHeader}
 use Rattle.moka_grammar.specs.declared.line.Line.{Line}
 use Rattle.moka_grammar.specs.declared.line.Mode.{Mode}
 use Rattle.moka_grammar.specs.declared.line.Mode.TheVariants.{Recorded, Unsync}
-use Rattle.moka_grammar.specs.Grammar.{Script, CacheScript, SketchScript, IsScript, IsBadAt}
+use Rattle.moka_grammar.specs.Grammar.{Script, CacheScript, CoreScript, SketchScript, IsScript, IsBadAt}
 use Rattle.moka_streams.specs.Streams.{AppendsBeginning}
 use Rattle.mini_moka.specs.Reply.{bad_line}
+use Rattle.mini_moka.specs.CoreRun.{AreCoreReplyLines}
 use Rattle.mini_moka.specs.RecordedRun.{AreRecordedReplyLines}
 use Rattle.mini_moka.specs.SketchRun.{AreSketchReplyLines}
 use Rattle.mini_moka.specs.UnsyncRun.{AreUnsyncReplyLines}
@@ -25,6 +26,7 @@ module _ (A : Type 0) where
   -- the reply lines of a script
   abbrev pub AreReplyLines : Script → List ℕ → Type 0
   AreReplyLines (CacheScript header lines) text = AreCacheReplyLines header.mode header lines text
+  AreReplyLines (CoreScript options lines) text = AreCoreReplyLines options lines text
   AreReplyLines (SketchScript cap lines) text = AreSketchReplyLines cap lines text
 
   -- a whole run of the bytes ends so, and this is the text that it writes

@@ -1,4 +1,6 @@
 //! Scripts: requests to a cache as lines of text, and the streams that bring them and take the replies.
+mod core_lines;
+mod first_core;
 mod keys;
 mod recorded;
 mod reply;
@@ -8,7 +10,8 @@ mod stored;
 mod unsync;
 
 pub use moka_grammar::line::{
-    CacheHeader, CacheOptions, Header, Line, Mode, Request, Script, SketchLine, Span,
+    CacheHeader, CacheOptions, CoreLine, CoreRequest, Header, Line, Mode, Request, Script,
+    SketchLine, Span,
 };
 pub use moka_grammar::parser::{ParseError, parse};
 pub use moka_grammar::text::{LONGEST_TEXT, Text, is_text};

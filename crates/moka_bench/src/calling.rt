@@ -10,6 +10,8 @@ ghost use Rattle.mini_moka.specs.Unsync.Lookup.{is_contained};
 ghost use Rattle.mini_moka.specs.Unsync.Runs.{request_of};
 ghost use Rattle.mini_moka.specs.Unsync.Iterate.{pairs_at};
 ghost use Rattle.mini_moka.specs.Sync.CoreCall.{IsAtRest, IsCall};
+ghost use Rattle.mini_moka.specs.Sync.LastWritten.{last_written, value_at};
+ghost use Rattle.mini_moka.specs.Sync.Run.{Happening};
 ghost use Rattle.mini_moka.specs.Replay.{Replays};
 ghost use Rattle.mini_moka.specs.Grammar.{IsScript};
 ghost use Rattle.mini_moka.specs.Parsed.{script_of};
@@ -20,7 +22,8 @@ use mini_moka::common::frequency_sketch::FrequencySketch;
 use mini_moka::common::time::Instant;
 use mini_moka::common::{BuildError, OutOfMemory, Policy, Shared, Weigh};
 use mini_moka::script::{End, Script, Sink, Source, Text};
-use mini_moka::sync::engine::Core;
+use mini_moka::sync::engine::{Core, Event, Reply, WeighShared};
+use mini_moka::sync::laws::{gets_answer_what_was_last_written, runs_are_happenings};
 use mini_moka::sync::recorded::{Answer, NotRecorded, Record, SharedCall};
 use mini_moka::unsync::Cache;
 use mini_moka::unsync::history::{hits_are_current, runs_have_a_history};
@@ -144,6 +147,34 @@ pub fn call_on<K: Eq + Hash + Drop, V: Drop, S: BuildHasher + Drop>(
         core.old.state call result core.new.state }
 {
     core.call(call)
+}
+
+/// Takes steps of any callers, in any order, and then looks a key up. What is found is what those steps wrote there last, or what stood there before.
+pub fn found_between<K: Eq + Hash + Drop, V: Drop, S: BuildHasher + Drop, W: WeighShared<K, V>>(
+    alloc: Global,
+    core: &mut Core<K, V, S, W>,
+    steps: Vec<Event<Shared<K>, Shared<V>>>,
+    key: Shared<K>,
+    now: Instant,
+) -> Result<Option<Shared<V>>, OutOfMemory>
+    requires ready { W.ready core.old.weigher }
+    ensures { IfOk result (λ found. IfSome found (λ value. (past : List (Happening K V)) × (map (λ h. h.event) past ≡ steps.items)
+        × (last_written K.eq key past (value_at K.eq key core.old.state) ≡ Some value))) }
+{
+    let _replies = core.run(steps)?;
+    let mut look = Vec::with_capacity(alloc, 1)?;
+    look.push_reserved(Event::Get {
+        caller: u32::MAX,
+        key,
+        now,
+    });
+    let mut replies = core.run(look)?;
+    runs_are_happenings::<K, V, S, W>();
+    gets_answer_what_was_last_written::<K, V, S>();
+    match replies.pop() {
+        Some(Reply::Found(found)) => Ok(found),
+        _ => Ok(None),
+    }
 }
 
 /// Makes one call on a recorded core, whose record still replays if it did.

@@ -1,4 +1,5 @@
 // Scripts with their replies, and what is no script.
+mod core_lines;
 mod grammar;
 mod recorded;
 mod schedules;

@@ -12,6 +12,8 @@ mod hashers;
 #[cfg(test)]
 mod heap;
 #[cfg(test)]
+mod housekeeper;
+#[cfg(test)]
 mod sketch;
 #[cfg(test)]
 mod steps;
@@ -23,3 +25,5 @@ mod unsync;
 mod unsync_runs;
 #[cfg(test)]
 mod unsync_sizes;
+#[cfg(test)]
+mod whole_calls;

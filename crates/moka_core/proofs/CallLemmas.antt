@@ -8,9 +8,10 @@ use Rattle.std.proofs.lemmas.Bool.{cases_Bool, lt-ltb}
 use Rattle.moka_base.specs.Keys.{Keys}
 use Rattle.moka_engine.specs.declared.constants.TheConstants.{CALLER, FLUSH_POINT, READ_LOG_SIZE, WRITE_LOG_SIZE}
 use Rattle.moka_engine.specs.declared.call.Call.TheVariants as call
-use Rattle.moka_engine.specs.declared.event.Event.TheVariants.{Insert, Get, Invalidate, Push}
+use Rattle.moka_engine.specs.declared.event.Event.TheVariants.{Insert, Get, Invalidate, Push, Turn}
 use Rattle.moka_engine.specs.declared.event.Event.{Event}
-use Rattle.moka_engine.specs.declared.event.Reply.TheVariants.{Done, Found, Discarded, NotPossible, OutOfMemory, TicketsUsedUp}
+use Rattle.moka_engine.specs.declared.event.Reply.TheVariants.{At, Done, Found, Discarded, NotPossible, OutOfMemory, TicketsUsedUp}
+use Rattle.moka_engine.specs.declared.place.Place.TheVariants as name
 use Rattle.moka_engine.specs.declared.operation.Operation.{Operation}
 use Rattle.moka_engine.specs.declared.operation.Operation.TheVariants.{Reading, Writing}
 use Rattle.moka_engine.specs.declared.operation.Read.{Read}
@@ -20,12 +21,12 @@ use Rattle.moka_engine.specs.declared.operation.Write.TheVariants.{Upsert, Remov
 use Rattle.moka_engine.specs.Entry.{Entry, entry_at}
 use Rattle.moka_engine.specs.CoreState.{CoreState, is_expired, pending_of, with_pending}
 use Rattle.moka_engine.specs.Consistent.{IsConsistent}
-use Rattle.moka_engine.specs.CoreCall.{Decides, IsAtRest, IsCall, has_pending, is_due, scheduled}
+use Rattle.moka_engine.specs.CoreCall.{CoreTurns, Decides, Finishes, IsAtRest, IsCall, has_pending, is_due, scheduled}
 use Rattle.moka_engine.specs.Event.{IsPush}
 use Rattle.moka_engine.specs.MapStep.{IsAddition, IsGet, IsHit, IsInsert, IsInvalidation, IsMiss, IsUpdate, OnlyReplies, fresh_entry}
 use Rattle.moka_engine.specs.Reply.{Reply}
 use Rattle.moka_engine.specs.Run.{Happens, RunsTo}
-use Rattle.moka_engine.specs.WholeCall.{AfterGet, AfterInsert, OfReads, OfWrites, MaintainsIfDue, Pushed, PushesIf}
+use Rattle.moka_engine.specs.WholeCall.{AfterGet, AfterInsert, LastTurn, NextTurn, OfReads, OfWrites, MaintainsIfDue, Pushed, PushesIf}
 use Rattle.moka_engine_laws.proofs.CallLemmas as law
 use Rattle.moka_engine_laws.proofs.ReturnLemmas.{room_left}
 use Rattle.moka_core.specs.Calls.{CoreMaintains, CorePushesRead, CorePushesWrite, MaintainsAsDue, PendsOne, PendsRead, PendsWrite}
@@ -36,6 +37,17 @@ module _ {K V S : Type 0} (keys : Keys K S) (laws : IsEquivalence keys.eq) (weig
 
   abbrev Step : Core → Event K V → Reply K V → Core → Type 0
   Step = Happens keys weighs
+
+  -- turns leave a core that is consistent
+  pub turns_keep_good : (old new : Core) → IsConsistent keys old → CoreTurns keys weighs old new → IsConsistent keys new
+  turns_keep_good old new good (LastTurn _ _ step) = law.consistent_step keys laws weighs old new Turn (At name.Idle) good step
+  turns_keep_good old new good (NextTurn _ next _ place busy step turns) =
+      turns_keep_good next new (law.consistent_step keys laws weighs old next Turn (At place) good step) turns
+
+  -- so does a maintenance that comes to its end, or that isn't there
+  pub end_keeps_good : (old : Core) (was : Bool) (new : Core) → IsConsistent keys old → Finishes keys weighs old was new → IsConsistent keys new
+  end_keeps_good old true new good turns = turns_keep_good old new good turns
+  end_keeps_good old false new good (idle, same) = subst (IsConsistent keys) (sym same) good
 
   -- ---- whether a maintenance is due
 

@@ -37,3 +37,7 @@ module _ {K V S : Type 0} where
   pub record IsAsBuilt (number : ℕ) (shard : ShardState K V S) : Type 0 where
     pub empty : shard.entries ≡ []
     pub next : shard.next_number ≡ number
+
+  -- the shard gives out the numbers from this one on
+  abbrev pub started : ℕ → Shard K V S → Shard K V S
+  started first shard = record shard { next_number = first }

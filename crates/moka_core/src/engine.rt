@@ -2,9 +2,12 @@
 ghost use Rattle.std.specs.Prelude.{◌≡◌, ◌↔◌, IfErr, IfOk, IsTrue, OnErr, slice_index};
 ghost use Rattle.moka_base.specs.Keys.{keys_by};
 ghost use Rattle.moka_core.specs.Core.{unlimited};
-ghost use Rattle.moka_engine.specs.CoreCall.{IsAtRest, IsCall};
+ghost use Rattle.moka_engine.specs.Consistent.{IsConsistent};
+ghost use Rattle.moka_engine.specs.CoreCall.{Finishes, IsAtRest, IsCall};
 ghost use Rattle.moka_engine.specs.CoreState.{IsNew, new_core};
 ghost use Rattle.moka_engine.specs.Run.{RunsTo};
+
+mod steps;
 
 use crate::machine::Machine;
 use crate::rows::Rows;
@@ -109,6 +112,16 @@ impl<
         self.machine.is_new()
     }
 
+    /// The same core, whose shards give out the ticket numbers from this one on. It must be new, and stays so: `is_new` is the test.
+    pub fn with_first_ticket(mut self, first: u64) -> Self
+        requires new { IsNew self.state }
+        ensures state { result.state ≡ new_core self.state.settings first }
+        ensures weigher { result.weigher ≡ self.weigher }
+    {
+        self.machine.start_at(first);
+        self
+    }
+
     /// The number of the next ticket of the first shard.
     pub fn first_ticket(&self) -> u64
         ensures { result ≡ slice_index self.now.state.next_numbers 0 }
@@ -118,7 +131,10 @@ impl<
 
     /// Whether nothing is under way: no maintenance, and no operation that a caller has not pushed.
     pub fn is_at_rest(&self) -> bool
-        ensures { IsTrue result ↔ IsAtRest self.now.state }
+        ensures rest { IsTrue result ↔ IsAtRest self.now.state }
+
+        // What holds of every core.
+        ensures consistent { IsConsistent (keys_by K.Hash S.BuildHasher S.Hasher.Hasher) self.now.state }
     {
         self.machine.is_at_rest()
     }
@@ -144,6 +160,9 @@ impl<
             self.old.state events.items replies.items self.new.state) }
         ensures err { OnErr result (self.new.state ≡ self.old.state) }
         ensures weigher { self.new.weigher ≡ self.old.weigher }
+
+        // What held before, as of every core: the laws of lists of steps begin with it.
+        ensures consistent { IsConsistent (keys_by K.Hash S.BuildHasher S.Hasher.Hasher) self.old.state }
     {
         self.machine.run(events)
     }
@@ -165,5 +184,16 @@ impl<
         ensures weigher { self.new.weigher ≡ self.old.weigher }
     {
         self.machine.call(call)
+    }
+
+    /// Takes turns until no maintenance is under way. Answers whether one was.
+    ///
+    /// It takes the time of what was put off, of the entries that give way, and of at most 1,500 that are expired or too many.
+    pub fn finish(&mut self) -> bool
+        ensures step { Finishes (keys_by K.Hash S.BuildHasher S.Hasher.Hasher) (W.weighs self.old.weigher)
+            self.old.state result self.new.state }
+        ensures weigher { self.new.weigher ≡ self.old.weigher }
+    {
+        self.machine.end_maintenance()
     }
 }

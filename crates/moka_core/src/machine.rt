@@ -1,5 +1,5 @@
 //! What takes one atomic step at a time: the map, the logs, what is pending and the maintenance, each by itself.
-ghost use Rattle.std.specs.Prelude.{◌≡◌, ◌<◌, ◌↔◌, Bool, IsTrue, slice_index, IfErr, IfOk, OnErr};
+ghost use Rattle.std.specs.Prelude.{◌≡◌, ◌<◌, ◌↔◌, Bool, [], replicate, IsTrue, slice_index, IfErr, IfOk, OnErr};
 ghost use Rattle.moka_base.specs.Keys.{keys_by};
 ghost use Rattle.moka_core.specs.Machine.{IsUntouched, KeepsRoom};
 ghost use Rattle.moka_core.specs.Pending.{HasRoomFor};
@@ -9,6 +9,7 @@ ghost use Rattle.moka_engine.specs.Run.{Happens, RunsTo};
 ghost use Rattle.moka_engine.specs.Turn.Turn.{after_turn};
 
 mod calls;
+mod steps;
 
 use crate::engine::CoreParts;
 use crate::map::Map;
@@ -115,6 +116,14 @@ impl<
         self.map.first_ticket()
     }
 
+    /// The shards give out the numbers from this one on. There must be no entry.
+    pub(crate) fn start_at(&mut self, first: u64)
+        requires { self.old.state.entries ≡ [] }
+        ensures { self.new ≡ record self.old { state = record self.old.state { next_numbers = replicate SHARDS first } } }
+    {
+        self.map.start_at(first);
+    }
+
     /// Whether nothing has been done with it.
     pub(crate) fn is_new(&self) -> bool
         ensures { IsTrue result ↔ IsNew self.now.state }
@@ -154,7 +163,7 @@ impl<
     A: Allocator + Clone + Drop,
 > Machine<K, V, S, W, A> {
     /// An insert by a caller.
-    fn insert(
+    pub(crate) fn insert(
         &mut self,
         caller: u32,
         key: Shared<K, A>,
@@ -182,7 +191,12 @@ impl<
     }
 
     /// A get by a caller.
-    fn get(&mut self, caller: u32, key: &K, now: Instant) -> Reply<Shared<V, A>, Rows<K, V, A>>
+    pub(crate) fn get(
+        &mut self,
+        caller: u32,
+        key: &K,
+        now: Instant,
+    ) -> Reply<Shared<V, A>, Rows<K, V, A>>
         requires room { HasRoomFor caller self.old.room }
         ensures step { Happens (keys_by K.Hash S.BuildHasher S.Hasher.Hasher) (W.weighs self.old.weigher)
             self.old.state (Event.Get caller key.now now) result self.new.state }
@@ -209,7 +223,7 @@ impl<
     }
 
     /// Whether a key has an entry that counts.
-    fn contains_key(&self, key: &K, now: Instant) -> Reply<Shared<V, A>, Rows<K, V, A>>
+    pub(crate) fn contains_key(&self, key: &K, now: Instant) -> Reply<Shared<V, A>, Rows<K, V, A>>
         ensures step { Happens (keys_by K.Hash S.BuildHasher S.Hasher.Hasher) (W.weighs self.now.weigher)
             self.now.state (Event.Contains key.now now) result self.now.state }
     {
@@ -217,7 +231,7 @@ impl<
     }
 
     /// An invalidation by a caller.
-    fn invalidate(
+    pub(crate) fn invalidate(
         &mut self,
         caller: u32,
         key: &K,
@@ -239,7 +253,7 @@ impl<
     }
 
     /// Hides all entries from before a moment.
-    fn invalidate_all(&mut self, now: Instant) -> Reply<Shared<V, A>, Rows<K, V, A>>
+    pub(crate) fn invalidate_all(&mut self, now: Instant) -> Reply<Shared<V, A>, Rows<K, V, A>>
         ensures step { Happens (keys_by K.Hash S.BuildHasher S.Hasher.Hasher) (W.weighs self.old.weigher)
             self.old.state (Event.InvalidateAll now) result self.new.state }
         ensures kept { KeepsRoom self.old self.new }
@@ -251,7 +265,7 @@ impl<
     }
 
     /// Puts what a caller has pending into its log.
-    fn push(&mut self, caller: u32) -> Reply<Shared<V, A>, Rows<K, V, A>>
+    pub(crate) fn push(&mut self, caller: u32) -> Reply<Shared<V, A>, Rows<K, V, A>>
         ensures step { Happens (keys_by K.Hash S.BuildHasher S.Hasher.Hasher) (W.weighs self.old.weigher)
             self.old.state (Event.Push caller) result self.new.state }
         ensures kept { KeepsRoom self.old self.new }
@@ -276,7 +290,7 @@ impl<
     }
 
     /// Drops the read that a caller has pending.
-    fn forget(&mut self, caller: u32) -> Reply<Shared<V, A>, Rows<K, V, A>>
+    pub(crate) fn forget(&mut self, caller: u32) -> Reply<Shared<V, A>, Rows<K, V, A>>
         ensures step { Happens (keys_by K.Hash S.BuildHasher S.Hasher.Hasher) (W.weighs self.old.weigher)
             self.old.state (Event.Forget caller) result self.new.state }
         ensures kept { KeepsRoom self.old self.new }
@@ -303,7 +317,7 @@ impl<
     }
 
     /// A maintenance begins, where none is under way.
-    fn begin(&mut self, now: Instant) -> Reply<Shared<V, A>, Rows<K, V, A>>
+    pub(crate) fn begin(&mut self, now: Instant) -> Reply<Shared<V, A>, Rows<K, V, A>>
         ensures step { Happens (keys_by K.Hash S.BuildHasher S.Hasher.Hasher) (W.weighs self.old.weigher)
             self.old.state (Event.Begin now) result self.new.state }
         ensures kept { KeepsRoom self.old self.new }
@@ -316,7 +330,7 @@ impl<
     }
 
     /// It takes a turn, where one is under way.
-    fn turn(&mut self) -> Reply<Shared<V, A>, Rows<K, V, A>>
+    pub(crate) fn turn(&mut self) -> Reply<Shared<V, A>, Rows<K, V, A>>
         ensures step { Happens (keys_by K.Hash S.BuildHasher S.Hasher.Hasher) (W.weighs self.old.weigher)
             self.old.state Event.Turn result self.new.state }
         ensures kept { KeepsRoom self.old self.new }

@@ -3,13 +3,13 @@ ghost use Rattle.std.specs.Prelude.{◌≡◌, ◌≢◌, ◌<◌, ◌↔◌, �
 ghost use Rattle.moka_base.specs.Keys.{keys_by};
 ghost use Rattle.moka_engine.specs.declared.constants.TheConstants.{SHARDS};
 ghost use Rattle.moka_engine.specs.Entry.{entry_at};
-ghost use Rattle.moka_shard.specs.Shard.{state_of, unexpired};
+ghost use Rattle.moka_shard.specs.Shard.{entries_in, state_of, unexpired};
 ghost use Rattle.moka_engine.specs.Parts.{NeedsShard, entries_of, need_of};
 ghost use Rattle.moka_engine.specs.Turn.Turn.{turn_at};
 ghost use Rattle.moka_core.specs.MapTurn.{TurnsOnMap, TurnsOnShard};
 ghost use Rattle.std.specs.List.{All};
 ghost use Rattle.moka_core.specs.MapState.{IsInserted, IsInvalidated, IsNewMap, pairs_in};
-ghost use Rattle.moka_core.specs.Shards.{AreOwn, IsAsBuilt, states_of};
+ghost use Rattle.moka_core.specs.Shards.{AreOwn, IsAsBuilt, started, states_of};
 
 use crate::rows::Rows;
 use moka_base::error::{InsertError, OutOfMemory};
@@ -89,6 +89,14 @@ impl<K: Eq + Hash + Drop, V: Drop, S: BuildHasher + Drop, A: Allocator + Clone +
         ensures { IsTrue result ↔ IsNewMap first self.now }
     {
         are_as_built(&self.shards, first)
+    }
+
+    /// The shards give out the numbers from this one on. There must be no entry.
+    pub(crate) fn start_at(&mut self, first: u64)
+        requires { self.old.entries ≡ [] }
+        ensures { self.new ≡ record self.old { next_numbers = replicate SHARDS first } }
+    {
+        start_all_at(&mut self.shards, first);
     }
 
     /// The hash of a key.
@@ -244,6 +252,19 @@ fn shards_as_built<
         shards.push(shard)?;
     }
     Ok(shards)
+}
+
+/// Each shard gives out the numbers from this one on.
+fn start_all_at<K: Eq + Hash + Drop, V: Drop, S: BuildHasher + Drop, A: Allocator + Clone + Drop>(
+    shards: &mut Vec<Shard<K, V, S, A>, A>,
+    first: u64,
+)
+    requires { All (λ shard. entries_in shard.slots ≡ []) shards.old.items }
+    ensures { shards.new.items ≡ map (started first) shards.old.items }
+{
+    for shard in shards.iter_mut() {
+        shard.start_at(first);
+    }
 }
 
 /// Whether no shard has an entry, and each gives out this number next.

@@ -57,6 +57,11 @@ module _ {K V S : Type 0} (keys : Keys K S) (weighs : K → V → ℕ → Type 0
   abbrev pub CoreTurns : CoreState K V S → CoreState K V S → Type 0
   CoreTurns old new = Turns (Happens keys weighs) Decides has_pending CALLER old new
 
+  -- the maintenance that is under way comes to its end, if one is
+  abbrev pub Finishes : CoreState K V S → Bool → CoreState K V S → Type 0
+  Finishes old true new = CoreTurns old new
+  Finishes old false new = (old.maintenance.place ≡ Idle) × (new ≡ old)
+
   -- how many entries these turns have evicted
   abbrev pub entries_evicted : (old new : CoreState K V S) → CoreTurns old new → ℕ
   entries_evicted old new (LastTurn _ _ step) = 0

@@ -1,17 +1,18 @@
 -- The words of headers are read as those headers.
-use Rattle.std.proofs.Common.{◌≡◌, ℕ, List, [], ◌∷◌, codes, Some, refl, ap, ◌∙◌, subst, inl, inr, ◌^◌, arith}
+use Rattle.std.proofs.Common.{◌≡◌, ℕ, List, [], ◌∷◌, codes, cond, Some, None, refl, ap, ◌∙◌, subst, inl, inr, ◌^◌, arith}
+use Rattle.std.specs.Prelude.{IsTrue}
 use Rattle.std.specs.List.{AllByRecursion}
 use Rattle.std.specs.Str.{bytes_eq}
-use Rattle.std.proofs.lemmas.Option.{same_Some}
+use Rattle.std.proofs.lemmas.Option.{cond_some, same_Some}
 use Rattle.std.proofs.lemmas.Slice.Eq.{bytes_eq-Decides}
 use Rattle.moka_grammar.specs.declared.line.CacheHeader.{CacheHeader}
 use Rattle.moka_grammar.specs.declared.line.CacheOptions.{CacheOptions}
 use Rattle.moka_grammar.specs.declared.line.Header.{Header}
-use Rattle.moka_grammar.specs.declared.line.Header.TheVariants.{Cache, Sketch}
+use Rattle.moka_grammar.specs.declared.line.Header.TheVariants.{Cache, Core, Sketch}
 use Rattle.moka_grammar.specs.declared.line.Mode.{Mode}
 use Rattle.moka_grammar.specs.declared.line.Mode.TheVariants.{Recorded, Unsync}
 use Rattle.moka_grammar.specs.Grammar.{mode_word, header_words, HeaderFits}
-use Rattle.moka_grammar.specs.Options.{OptionsFit, options_words}
+use Rattle.moka_grammar.specs.Options.{OptionsFit, can_have, options_words}
 use Rattle.moka_grammar.specs.Reading.{◌>>=◌, u32_of}
 use Rattle.moka_grammar.specs.ReadingOptions.{options_of}
 use Rattle.moka_grammar.specs.ReadingLines.{mode_of, cache_header_of, header_from_words}
@@ -44,10 +45,19 @@ cache_header_of-found : (mode : Mode) (arguments : List (List ℕ)) (header : He
     → IsHeader (mode_word mode ∷ arguments) header
 unfolding cache_header_of
 cache_header_of-found mode arguments header e =
-    let behind = λ (options : CacheOptions). Some (Cache (record { mode = mode; options = options })) in
-    let (options, was, shown) = bind_some (options_of arguments) behind header e in
+    let behind = λ (options : CacheOptions). cond (can_have mode options) (Some (Cache (record { mode = mode; options = options }))) None in
+    let (options, was, rest) = bind_some (options_of arguments) behind header e in
     let found = options_of-found arguments options was in
-    subst (IsHeader (mode_word mode ∷ arguments)) (same_Some _ _ shown) (ap (λ l. mode_word mode ∷ l) found.0, found.1)
+    let shown = cond_some (can_have mode options) (Cache (record { mode = mode; options = options })) header rest in
+    subst (IsHeader (mode_word mode ∷ arguments)) shown.1 (ap (λ l. mode_word mode ∷ l) found.0, (found.1, shown.0))
+
+-- what is read as a core's header is spelled so
+core-found : (arguments : List (List ℕ)) (header : Header) → (options_of arguments >>= λ options. Some (Core options)) ≡ Some header
+    → IsHeader (codes "core" ∷ arguments) header
+core-found arguments header e =
+    let (options, was, shown) = bind_some (options_of arguments) (λ options. Some (Core options)) header e in
+    let found = options_of-found arguments options was in
+    subst (IsHeader (codes "core" ∷ arguments)) (same_Some _ _ shown) (ap (λ l. codes "core" ∷ l) found.0, found.1)
 
 -- what is read as a sketch's header is spelled so
 sketch-found : (arguments : List (List ℕ)) (header : Header) → (u32_of arguments >>= λ cap. Some (Sketch cap)) ≡ Some header
@@ -70,9 +80,13 @@ header_from_words-found (name ∷ arguments) header e =
     elim (chosen (bytes_eq name (codes "sketch")) _ _ _ e) [
       | inl sketch ↦ named name (codes "sketch") arguments header ((bytes_eq-Decides name (codes "sketch")).0 sketch.0)
           (sketch-found arguments header sketch.1)
-      | inr other ↦
-          let (mode, mode_is, rest) = bind_some (mode_of name) (λ mode. cache_header_of mode arguments) header other.1 in
-          named name (mode_word mode) arguments header (mode_of-found name mode mode_is) (cache_header_of-found mode arguments header rest)
+      | inr not_sketch ↦ elim (chosen (bytes_eq name (codes "core")) _ _ _ not_sketch.1) [
+        | inl core ↦ named name (codes "core") arguments header ((bytes_eq-Decides name (codes "core")).0 core.0)
+            (core-found arguments header core.1)
+        | inr other ↦
+            let (mode, mode_is, rest) = bind_some (mode_of name) (λ mode. cache_header_of mode arguments) header other.1 in
+            named name (mode_word mode) arguments header (mode_of-found name mode mode_is) (cache_header_of-found mode arguments header rest)
+      ]
     ]
 
 -- ---- what is spelled is read
@@ -84,14 +98,15 @@ mode_word_is Unsync = IsWord-name (codes "unsync") refl
 
 -- the words of a header are words
 header_words_are : (header : Header) → HeaderFits header → AllByRecursion IsWord (header_words header)
-header_words_are (Cache header) fits = (mode_word_is header.mode, options_words_are header.options fits)
+header_words_are (Cache header) fits = (mode_word_is header.mode, options_words_are header.options fits.0)
+header_words_are (Core options) fits = (IsWord-name (codes "core") refl, options_words_are options fits)
 header_words_are (Sketch cap) fits = (IsWord-name (codes "sketch") refl, (IsWord-decimal cap (omega (arith, fits)), tt))
 
 -- the settings of a mode are read behind its name
-cache_header_of-again : (header : CacheHeader) → OptionsFit header.options
+cache_header_of-again : (header : CacheHeader) → OptionsFit header.options → IsTrue (can_have header.mode header.options)
     → cache_header_of header.mode (options_words header.options) ≡ Some (Cache header)
 unfolding cache_header_of
-cache_header_of-again header fits = rw (options_again header.options fits) refl
+cache_header_of-again header fits can = rw (options_again header.options fits, can) refl
 
 -- the words of a cache's header are read as that header
 cache_again : (mode : Mode) (arguments : List (List ℕ)) (header : Header) → cache_header_of mode arguments ≡ Some header
@@ -103,12 +118,15 @@ cache_again Unsync arguments header e = e
 -- the words of a header are read as that header
 header_again : (header : Header) → HeaderFits header → header_from_words (header_words header) ≡ Some header
 unfolding header_from_words u32_of
-header_again (Cache header) fits = cache_again header.mode (options_words header.options) (Cache header) (cache_header_of-again header fits)
+header_again (Cache header) fits = cache_again header.mode (options_words header.options) (Cache header)
+    (cache_header_of-again header fits.0 fits.1)
+header_again (Core options) fits = rw (options_again options fits) refl
 header_again (Sketch cap) fits = rw (number_below-decimal (2 ^ 32) cap fits (omega (arith, fits))) refl
 
 -- a header has words
 some_header_words : (header : Header) → header_words header ≡ [] → ⊥
 some_header_words (Cache header) e = absurd cc
+some_header_words (Core options) e = absurd cc
 some_header_words (Sketch cap) e = absurd cc
 
 -- headers are read as they are spelled

@@ -7,6 +7,9 @@ pub mod LineListLemmas
 pub mod ArgumentLemmas
 pub mod OptionLemmas
 pub mod HeaderLemmas
+pub mod CallLemmas
+pub mod WeightLemmas
 pub mod RequestLemmas
+pub mod CoreLineLemmas
 pub mod SketchLineLemmas
 pub mod ScriptLemmas

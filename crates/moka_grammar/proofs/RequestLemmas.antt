@@ -1,73 +1,32 @@
 -- The words of lines of calls to a cache are read as those lines.
-use Rattle.std.proofs.Common.{◌≡◌, ℕ, ◌<◌, ◌^◌, List, [], ◌∷◌, codes, Bool, true, false, cond, Option, Some, None, refl, sym, ap, ◌∙◌, subst, inl, inr, arith}
+use Rattle.std.proofs.Common.{◌≡◌, ℕ, ◌<◌, ◌^◌, List, [], ◌∷◌, codes, true, cond, Some, None, refl, ap, ◌∙◌, subst, inl, inr}
 use Rattle.std.specs.Prelude.{IsTrue}
 use Rattle.std.specs.Fmt.{decimal}
 use Rattle.std.specs.List.{AllByRecursion}
 use Rattle.std.specs.Str.{bytes_eq}
 use Rattle.std.proofs.lemmas.Option.{cond_some, same_Some}
-use Rattle.std.proofs.lemmas.Slice.Eq.{bytes_eq-Decides}
 use Rattle.moka_grammar.specs.declared.line.CacheHeader.{CacheHeader}
 use Rattle.moka_grammar.specs.declared.line.CacheOptions.{CacheOptions}
 use Rattle.moka_grammar.specs.declared.line.Line.{Line}
 use Rattle.moka_grammar.specs.declared.line.Request.{Request}
 use Rattle.moka_grammar.specs.declared.line.Request.TheVariants.{Insert, Get, ContainsKey, Invalidate, InvalidateAll, InvalidateIf, Sync, Iter, EntryCount, WeightedSize, Policy}
-use Rattle.moka_grammar.specs.Lines.{allows, weight_words, request_words, line_words, WeightFits, RequestFits, LineFits}
-use Rattle.moka_grammar.specs.Reading.{◌>>=◌, number_of, text_of, no_argument, u64_of, u32_of}
+use Rattle.moka_grammar.specs.Lines.{allows, request_words, line_words, RequestFits, LineFits}
+use Rattle.moka_grammar.specs.Reading.{◌>>=◌, number_of, text_of, no_argument, u64_of}
 use Rattle.moka_grammar.specs.ReadingLines.{weight_of, insert_of, invalidate_if_of, bare_of, request_of, line_from_words}
 use Rattle.moka_grammar.proofs.CutLemmas.{bind_some}
 use Rattle.moka_grammar.proofs.LineLemmas.{IsReading}
 use Rattle.moka_grammar.proofs.NumberLemmas.{number_of-decimal, number_of-found}
-use Rattle.moka_grammar.proofs.ArgumentLemmas.{chosen, number_below-decimal, text_of-found, text_of-text, no_argument-found, u64_of-found, u32_of-found}
+use Rattle.moka_grammar.proofs.ArgumentLemmas.{chosen, text_of-found, text_of-text, u64_of-found}
+use Rattle.moka_grammar.proofs.CallLemmas.{IsSpelled, named, given, alone}
+use Rattle.moka_grammar.proofs.WeightLemmas.{weight_of-found, weight_of-again, weight_words_are}
 use Rattle.moka_grammar.proofs.WordLemmas.{IsWord, IsWord-decimal, IsWord-text, IsWord-name}
-
--- ---- weights
-
--- the words are that of the weight, which fits
-abbrev IsWeight : Bool → List (List ℕ) → Option ℕ → Type 0
-IsWeight weighed words weight = (words ≡ weight_words weight) × WeightFits weighed weight
-
--- how a weight is read, as the script is weighed
-abbrev weight_read : Bool → List (List ℕ) → Option (Option ℕ)
-weight_read weighed words = cond weighed (u32_of words >>= λ w. Some (Some w)) (no_argument words >>= λ nothing. Some None)
-
--- what is read as a weight is spelled so
-weight_found : (weighed : Bool) (words : List (List ℕ)) (weight : Option ℕ) → weight_read weighed words ≡ Some weight
-    → IsWeight weighed words weight
-weight_found true words weight e =
-    let (w, was, shown) = bind_some (u32_of words) (λ w. Some (Some w)) weight e in
-    let found = u32_of-found words w was in
-    subst (IsWeight true words) (same_Some _ _ shown) found
-weight_found false words weight e =
-    let (nothing, was, shown) = bind_some (no_argument words) (λ nothing. Some None) weight e in
-    subst (IsWeight false words) (same_Some _ _ shown) (no_argument-found words nothing was, tt)
-
--- the word of a weight is read as that weight
-weight_again : (weighed : Bool) (weight : Option ℕ) → WeightFits weighed weight → weight_read weighed (weight_words weight) ≡ Some weight
-unfolding u32_of no_argument
-weight_again true (Some w) fits = rw (number_below-decimal (2 ^ 32) w fits (omega (arith, fits))) refl
-weight_again true None fits = absurd fits
-weight_again false (Some w) fits = absurd fits
-weight_again false None fits = refl
-
--- the word of a weight is a word
-weight_words_are : (weighed : Bool) (weight : Option ℕ) → WeightFits weighed weight → AllByRecursion IsWord (weight_words weight)
-weight_words_are true (Some w) fits = (IsWord-decimal w (omega (arith, fits)), tt)
-weight_words_are true None fits = absurd fits
-weight_words_are false (Some w) fits = absurd fits
-weight_words_are false None fits = tt
 
 module _ (options : CacheOptions) where
   -- ---- what is read as a request is spelled so
 
   -- the name and the arguments are the words of the request, which fits
   abbrev IsRequest : List ℕ → List (List ℕ) → Request (List ℕ) → Type 0
-  IsRequest call arguments r = (call ∷ arguments ≡ request_words r) × RequestFits options.weighed r
-
-  -- what is left of an insert is read as a weight that is spelled so
-  weight_of-found : (words : List (List ℕ)) (weight : Option ℕ) → weight_of options words ≡ Some weight
-      → IsWeight options.weighed words weight
-  unfolding weight_of
-  weight_of-found words weight e = weight_found options.weighed words weight e
+  IsRequest = IsSpelled request_words (RequestFits options.weighed)
 
   -- what is read as an insert is spelled so
   insert_of-found : (arguments : List (List ℕ)) (r : Request (List ℕ)) → insert_of options arguments ≡ Some r
@@ -81,7 +40,7 @@ module _ (options : CacheOptions) where
       let (w, weight_is, rest) = bind_some (weight_of options behind) (λ w. text_of text >>= λ t. Some (Insert k t w)) r more in
       let (t, text_is, shown) = bind_some (text_of text) (λ t. Some (Insert k t w)) r rest in
       let keys = number_of-found key k key_is in
-      let weights = weight_of-found behind w weight_is in
+      let weights = weight_of-found options behind w weight_is in
       let texts = text_of-found text t text_is in
       subst (IsRequest (codes "insert") (key ∷ text ∷ behind)) (same_Some _ _ shown) (
         ap (λ l. codes "insert" ∷ l ∷ text ∷ behind) keys.0
@@ -94,22 +53,7 @@ module _ (options : CacheOptions) where
   keyed : (call name : List ℕ) (arguments : List (List ℕ)) (make : ℕ → Request (List ℕ)) (r : Request (List ℕ))
       → ((k : ℕ) → request_words (make k) ≡ name ∷ decimal k ∷ []) → ((k : ℕ) → k < 2 ^ 64 → RequestFits options.weighed (make k))
       → bytes_eq call name ≡ true → (u64_of arguments >>= λ k. Some (make k)) ≡ Some r → IsRequest call arguments r
-  keyed call name arguments make r words fits is e =
-      let (k, was, shown) = bind_some (u64_of arguments) (λ k. Some (make k)) r e in
-      let keys = u64_of-found arguments k was in
-      subst (IsRequest call arguments) (same_Some _ _ shown)
-      (ap (λ w. w ∷ arguments) ((bytes_eq-Decides call name).0 is) ∙ ap (λ l. name ∷ l) keys.0 ∙ sym (words k), fits k keys.1)
-
-  -- a request with nothing is spelled by its name
-  alone : (call name : List ℕ) (made r : Request (List ℕ)) → request_words made ≡ name ∷ [] → RequestFits options.weighed made
-      → bytes_eq call name ≡ true → Some made ≡ Some r → IsRequest call [] r
-  alone call name made r words fits is e =
-      subst (IsRequest call []) (same_Some _ _ e) (ap (λ w. w ∷ []) ((bytes_eq-Decides call name).0 is) ∙ sym words, fits)
-
-  -- where the name is this one, so is the first word
-  named : (call name : List ℕ) (arguments : List (List ℕ)) (r : Request (List ℕ)) → bytes_eq call name ≡ true → IsRequest name arguments r
-      → IsRequest call arguments r
-  named call name arguments r is found = (ap (λ w. w ∷ arguments) ((bytes_eq-Decides call name).0 is) ∙ found.0, found.1)
+  keyed = given request_words (RequestFits options.weighed) u64_of (λ k. decimal k ∷ []) (λ k. k < 2 ^ 64) u64_of-found
 
   -- what is read as an invalidation by text is spelled so
   invalidate_if_of-found : (arguments : List (List ℕ)) (r : Request (List ℕ)) → invalidate_if_of arguments ≡ Some r
@@ -129,17 +73,17 @@ module _ (options : CacheOptions) where
   bare_of-found call (word ∷ words) r e = absurd cc
   bare_of-found call [] r e =
       elim (chosen (bytes_eq call (codes "clear")) _ _ _ e) [
-        | inl clear ↦ alone call (codes "clear") InvalidateAll r refl tt clear.0 clear.1
+        | inl clear ↦ alone request_words (RequestFits options.weighed) call (codes "clear") InvalidateAll r refl tt clear.0 clear.1
         | inr not_clear ↦ elim (chosen (bytes_eq call (codes "sync")) _ _ _ not_clear.1) [
-          | inl sync ↦ alone call (codes "sync") Sync r refl tt sync.0 sync.1
+          | inl sync ↦ alone request_words (RequestFits options.weighed) call (codes "sync") Sync r refl tt sync.0 sync.1
           | inr not_sync ↦ elim (chosen (bytes_eq call (codes "iter")) _ _ _ not_sync.1) [
-            | inl iter ↦ alone call (codes "iter") Iter r refl tt iter.0 iter.1
+            | inl iter ↦ alone request_words (RequestFits options.weighed) call (codes "iter") Iter r refl tt iter.0 iter.1
             | inr not_iter ↦ elim (chosen (bytes_eq call (codes "count")) _ _ _ not_iter.1) [
-              | inl count ↦ alone call (codes "count") EntryCount r refl tt count.0 count.1
+              | inl count ↦ alone request_words (RequestFits options.weighed) call (codes "count") EntryCount r refl tt count.0 count.1
               | inr not_count ↦ elim (chosen (bytes_eq call (codes "weight")) _ _ _ not_count.1) [
-                | inl weight ↦ alone call (codes "weight") WeightedSize r refl tt weight.0 weight.1
+                | inl weight ↦ alone request_words (RequestFits options.weighed) call (codes "weight") WeightedSize r refl tt weight.0 weight.1
                 | inr not_weight ↦ elim (chosen (bytes_eq call (codes "policy")) _ _ _ not_weight.1) [
-                  | inl policy ↦ alone call (codes "policy") Policy r refl tt policy.0 policy.1
+                  | inl policy ↦ alone request_words (RequestFits options.weighed) call (codes "policy") Policy r refl tt policy.0 policy.1
                   | inr not_policy ↦ absurd (let none = not_policy.1 in cc)
                 ]
               ]
@@ -154,7 +98,7 @@ module _ (options : CacheOptions) where
   unfolding request_of
   request_of-found call arguments r e =
       elim (chosen (bytes_eq call (codes "insert")) _ _ _ e) [
-        | inl insert ↦ named call (codes "insert") arguments r insert.0 (insert_of-found arguments r insert.1)
+        | inl insert ↦ named request_words (RequestFits options.weighed) call (codes "insert") arguments r insert.0 (insert_of-found arguments r insert.1)
         | inr not_insert ↦ elim (chosen (bytes_eq call (codes "get")) _ _ _ not_insert.1) [
           | inl get ↦ keyed call (codes "get") arguments (λ k. Get k) r (λ k. refl) (λ k h. h) get.0 get.1
           | inr not_get ↦ elim (chosen (bytes_eq call (codes "has")) _ _ _ not_get.1) [
@@ -163,7 +107,7 @@ module _ (options : CacheOptions) where
               | inl invalidate ↦ keyed call (codes "invalidate") arguments (λ k. Invalidate k) r (λ k. refl)
                   (λ k h. h) invalidate.0 invalidate.1
               | inr not_invalidate ↦ elim (chosen (bytes_eq call (codes "drop-if")) _ _ _ not_invalidate.1) [
-                | inl drop_if ↦ named call (codes "drop-if") arguments r drop_if.0 (invalidate_if_of-found arguments r drop_if.1)
+                | inl drop_if ↦ named request_words (RequestFits options.weighed) call (codes "drop-if") arguments r drop_if.0 (invalidate_if_of-found arguments r drop_if.1)
                 | inr not_drop_if ↦ bare_of-found call arguments r not_drop_if.1
               ]
             ]
@@ -173,16 +117,11 @@ module _ (options : CacheOptions) where
 
   -- ---- what is spelled is read as a request
 
-  -- the word of a weight is read as that weight, as the script is weighed
-  weight_of-again : (weight : Option ℕ) → WeightFits options.weighed weight → weight_of options (weight_words weight) ≡ Some weight
-  unfolding weight_of
-  weight_of-again weight fits = weight_again options.weighed weight fits
-
   -- the words of a request are words
   request_words_are : (r : Request (List ℕ)) → RequestFits options.weighed r → AllByRecursion IsWord (request_words r)
   request_words_are (Insert key text weight) fits = (
     IsWord-name (codes "insert") refl,
-    (IsWord-decimal key fits.0, (IsWord-text text fits.1, weight_words_are options.weighed weight fits.2)),
+    (IsWord-decimal key fits.0, (IsWord-text text fits.1, weight_words_are options weight fits.2)),
   )
   request_words_are (Get key) fits = (IsWord-name (codes "get") refl, (IsWord-decimal key fits, tt))
   request_words_are (ContainsKey key) fits = (IsWord-name (codes "has") refl, (IsWord-decimal key fits, tt))

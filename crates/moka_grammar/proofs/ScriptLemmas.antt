@@ -1,17 +1,20 @@
 -- The laws of scripts.
 use Rattle.std.proofs.Common.{◌≡◌, ℕ, ◌+◌, List, ◌++◌, Some, None, refl, sym, ap, ◌∙◌, subst, inl, inr, ◌⊎◌}
 use Rattle.moka_grammar.specs.declared.line.Header.{Header}
-use Rattle.moka_grammar.specs.declared.line.Header.TheVariants.{Cache, Sketch}
+use Rattle.moka_grammar.specs.declared.line.Header.TheVariants.{Cache, Core, Sketch}
 use Rattle.moka_grammar.specs.Spelling.{line_of}
 use Rattle.moka_grammar.specs.Lines.{line_words, LineFits}
+use Rattle.moka_grammar.specs.CoreLines.{core_words, CoreFits}
 use Rattle.moka_grammar.specs.SketchLines.{sketch_words, SketchFits}
-use Rattle.moka_grammar.specs.Grammar.{header_words, HeaderFits, AreLines, Script, CacheScript, SketchScript, header_of, IsBody, IsScript, IsBadBehind, IsBadAt}
+use Rattle.moka_grammar.specs.Grammar.{header_words, HeaderFits, AreLines, Script, CacheScript, CoreScript, SketchScript, header_of, IsBody, IsScript, IsBadBehind, IsBadAt}
 use Rattle.moka_grammar.specs.Reading.{line_at}
 use Rattle.moka_grammar.specs.ReadingLines.{header_from_words, line_from_words, sketch_from_words}
+use Rattle.moka_grammar.specs.ReadingCoreLines.{core_from_words}
 use Rattle.moka_grammar.proofs.LineLemmas.{line_at-found}
 use Rattle.moka_grammar.proofs.LineListLemmas.{one_line, not_bad, same_count, same_lines, outcome_of, lacks_line}
 use Rattle.moka_grammar.proofs.HeaderLemmas.{reads_header}
 use Rattle.moka_grammar.proofs.RequestLemmas.{reads_line}
+use Rattle.moka_grammar.proofs.CoreLineLemmas.{reads_core}
 use Rattle.moka_grammar.proofs.SketchLineLemmas.{reads_sketch}
 
 -- how a header is spelled
@@ -28,6 +31,8 @@ one_header = one_line header_words HeaderFits header_from_words reads_header
 body_not_bad : (script : Script) (body : List ℕ) (count : ℕ) → IsBody body script → IsBadBehind (header_of script) body count → ⊥
 body_not_bad (CacheScript header lines) body count is bad =
     not_bad line_words (LineFits header) (line_from_words header) (reads_line header) body lines count is bad
+body_not_bad (CoreScript options lines) body count is bad =
+    not_bad core_words (CoreFits options) (core_from_words options) (reads_core options) body lines count is bad
 body_not_bad (SketchScript cap lines) body count is bad =
     not_bad sketch_words SketchFits sketch_from_words reads_sketch body lines count is bad
 
@@ -45,6 +50,7 @@ script_not_bad bytes script number is (inr line) =
 -- behind a header one line is the first bad one
 one_behind : (header : Header) (body : List ℕ) (m n : ℕ) → IsBadBehind header body m → IsBadBehind header body n → m ≡ n
 one_behind (Cache header) body m n a b = same_count line_words (LineFits header) (line_from_words header) (reads_line header) body m n a b
+one_behind (Core options) body m n a b = same_count core_words (CoreFits options) (core_from_words options) (reads_core options) body m n a b
 one_behind (Sketch cap) body m n a b = same_count sketch_words SketchFits sketch_from_words reads_sketch body m n a b
 
 -- one line is the first bad one
@@ -68,8 +74,18 @@ one_body (CacheScript a xs) (CacheScript b ys) body same p q =
     ap (λ h. CacheScript h xs) headers
     ∙ ap (λ lines. CacheScript b lines)
     (same_lines line_words (LineFits a) (line_from_words a) (reads_line a) xs ys p.0 others.0 (sym p.1 ∙ others.1))
+one_body (CoreScript a xs) (CoreScript b ys) body same p q =
+    let settings : a ≡ b = cc in
+    let others : AreLines core_words (CoreFits a) body ys = subst (λ o. AreLines core_words (CoreFits o) body ys) (sym settings) q in
+    ap (λ o. CoreScript o xs) settings
+    ∙ ap (λ lines. CoreScript b lines)
+    (same_lines core_words (CoreFits a) (core_from_words a) (reads_core a) xs ys p.0 others.0 (sym p.1 ∙ others.1))
+one_body (CacheScript header xs) (CoreScript options ys) body same p q = absurd cc
 one_body (CacheScript header xs) (SketchScript cap ys) body same p q = absurd cc
+one_body (CoreScript options xs) (CacheScript header ys) body same p q = absurd cc
+one_body (CoreScript options xs) (SketchScript cap ys) body same p q = absurd cc
 one_body (SketchScript cap xs) (CacheScript header ys) body same p q = absurd cc
+one_body (SketchScript cap xs) (CoreScript options ys) body same p q = absurd cc
 one_body (SketchScript c xs) (SketchScript d ys) body same p q =
     let caps : c ≡ d = cc in
     ap (λ cap. SketchScript cap xs) caps
@@ -119,6 +135,11 @@ with_body bytes (Cache header) body b =
     elim (outcome_of line_words (LineFits header) (line_from_words header) (reads_line header) body) [
       | inl all ↦ all_lines bytes (CacheScript header all.0) body b all.1
       | inr bad ↦ bad_line bytes (Cache header) body bad.0 b bad.1
+    ]
+with_body bytes (Core options) body b =
+    elim (outcome_of core_words (CoreFits options) (core_from_words options) (reads_core options) body) [
+      | inl all ↦ all_lines bytes (CoreScript options all.0) body b all.1
+      | inr bad ↦ bad_line bytes (Core options) body bad.0 b bad.1
     ]
 with_body bytes (Sketch cap) body b =
     elim (outcome_of sketch_words SketchFits sketch_from_words reads_sketch body) [

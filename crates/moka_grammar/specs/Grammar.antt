@@ -1,14 +1,17 @@
 -- What a contract sees of scripts: which bytes are one, and which line is the first bad one.
-use Rattle.std.specs.Prelude.{◌≡◌, ◌≢◌, ℕ, ◌+◌, ◌^◌, ◌<◌, List, [], ◌∷◌, ◌++◌, length, codes, ◌⊎◌}
+use Rattle.std.specs.Prelude.{◌≡◌, ◌≢◌, ℕ, ◌+◌, ◌^◌, ◌<◌, List, [], ◌∷◌, ◌++◌, length, codes, ◌⊎◌, IsTrue}
 use Rattle.std.specs.List.{flat_map, AllByRecursion}
 use Rattle.std.specs.Fmt.{decimal}
 use Rattle.moka_grammar.specs.Spelling.{line_of}
-use Rattle.moka_grammar.specs.Options.{options_words, OptionsFit}
+use Rattle.moka_grammar.specs.Options.{options_words, OptionsFit, can_have}
 use Rattle.moka_grammar.specs.Lines.{line_words, LineFits}
+use Rattle.moka_grammar.specs.CoreLines.{core_words, CoreFits}
 use Rattle.moka_grammar.specs.SketchLines.{sketch_words, SketchFits}
 use Rattle.moka_grammar.specs.declared.line.CacheHeader.{CacheHeader}
+use Rattle.moka_grammar.specs.declared.line.CacheOptions.{CacheOptions}
+use Rattle.moka_grammar.specs.declared.line.CoreLine.{CoreLine}
 use Rattle.moka_grammar.specs.declared.line.Header.{Header}
-use Rattle.moka_grammar.specs.declared.line.Header.TheVariants.{Cache, Sketch}
+use Rattle.moka_grammar.specs.declared.line.Header.TheVariants.{Cache, Core, Sketch}
 use Rattle.moka_grammar.specs.declared.line.Line.{Line}
 use Rattle.moka_grammar.specs.declared.line.Mode.{Mode}
 use Rattle.moka_grammar.specs.declared.line.Mode.TheVariants.{Recorded, Unsync}
@@ -22,11 +25,13 @@ mode_word Unsync = codes "unsync"
 -- the words of a header: the name of the mode, and what it is given
 abbrev pub header_words : Header → List (List ℕ)
 header_words (Cache header) = mode_word header.mode ∷ options_words header.options
+header_words (Core options) = codes "core" ∷ options_words options
 header_words (Sketch cap) = codes "sketch" ∷ decimal cap ∷ []
 
--- the header holds what can be spelled
+-- the header holds what can be spelled, and settings that its mode can have
 abbrev pub HeaderFits : Header → Type 0
-HeaderFits (Cache header) = OptionsFit header.options
+HeaderFits (Cache header) = OptionsFit header.options × IsTrue (can_have header.mode header.options)
+HeaderFits (Core options) = OptionsFit options
 HeaderFits (Sketch cap) = cap < 2 ^ 32
 
 -- ---- lines of one kind
@@ -52,19 +57,22 @@ module _ {L : Type 0} (words : L → List (List ℕ)) (Fits : L → Type 0) wher
 
 -- ---- scripts
 
--- a script of calls to a cache or to a sketch: what its header gives, and its lines
+-- a script of calls to a cache, of steps of a core, or of calls to a sketch: what its header gives, and its lines
 pub data Script : Type 0 where
   CacheScript : CacheHeader → List (Line (List ℕ)) → Script
+  CoreScript : CacheOptions → List (CoreLine (List ℕ)) → Script
   SketchScript : ℕ → List SketchLine → Script
 
 -- the header of a script
 abbrev pub header_of : Script → Header
 header_of (CacheScript header lines) = Cache header
+header_of (CoreScript options lines) = Core options
 header_of (SketchScript cap lines) = Sketch cap
 
 -- the bytes are the lines of the script, which are those of its mode
 abbrev pub IsBody : List ℕ → Script → Type 0
 IsBody bytes (CacheScript header lines) = AreLines line_words (LineFits header) bytes lines
+IsBody bytes (CoreScript options lines) = AreLines core_words (CoreFits options) bytes lines
 IsBody bytes (SketchScript cap lines) = AreLines sketch_words SketchFits bytes lines
 
 -- the bytes are the header of the script and its lines, and nothing else
@@ -79,6 +87,7 @@ pub record IsScript (bytes : List ℕ) (script : Script) : Type 0 where
 -- as many good lines of the header's mode as this begin the bytes, and then comes something that no line of it begins
 abbrev pub IsBadBehind : Header → List ℕ → ℕ → Type 0
 IsBadBehind (Cache header) bytes count = IsBadAfter line_words (LineFits header) bytes count
+IsBadBehind (Core options) bytes count = IsBadAfter core_words (CoreFits options) bytes count
 IsBadBehind (Sketch cap) bytes count = IsBadAfter sketch_words SketchFits bytes count
 
 -- a header begins the bytes, and behind it the line of this number is the first bad one

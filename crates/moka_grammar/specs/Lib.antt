@@ -2,6 +2,7 @@ pub mod Text
 pub mod Spelling
 pub mod Options
 pub mod Lines
+pub mod CoreLines
 pub mod SketchLines
 pub mod Grammar
 pub mod Parsed
@@ -9,3 +10,4 @@ pub mod Parsed
 pub mod Reading
 pub mod ReadingOptions
 pub mod ReadingLines
+pub mod ReadingCoreLines

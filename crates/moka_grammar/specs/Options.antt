@@ -1,9 +1,11 @@
 -- What a contract sees of the settings of a cache: how the first line of a script spells them.
-use Rattle.std.specs.Prelude.{ℕ, ◌^◌, ◌<◌, ◌*◌, Bool, true, false, List, [], ◌∷◌, ◌++◌, codes, Option, Some, None, IfSome}
+use Rattle.std.specs.Prelude.{ℕ, ◌^◌, ◌<◌, ◌*◌, Bool, true, false, List, [], ◌∷◌, ◌++◌, codes, Option, Some, None, IfSome, is_none}
 use Rattle.std.specs.Fmt.{decimal}
 use Rattle.moka_grammar.specs.declared.line.Span.{Span}
 use Rattle.moka_grammar.specs.declared.line.Span.TheVariants.{Seconds, Nanos}
 use Rattle.moka_grammar.specs.declared.line.CacheOptions.{CacheOptions}
+use Rattle.moka_grammar.specs.declared.line.Mode.{Mode}
+use Rattle.moka_grammar.specs.declared.line.Mode.TheVariants.{Recorded, Unsync}
 
 -- how many nanoseconds a span has
 abbrev pub span_nanos : Span → ℕ
@@ -31,7 +33,8 @@ options_words options =
     option_words (codes "max") decimal options.max
     ++ (option_words (codes "live") span_word options.live
     ++ (option_words (codes "idle") span_word options.idle
-    ++ weighed_words options.weighed))
+    ++ (weighed_words options.weighed
+    ++ option_words (codes "tickets") decimal options.tickets)))
 
 -- the number can be spelled
 abbrev pub NumberFits : ℕ → Type 0
@@ -44,4 +47,10 @@ SpanFits (Nanos count) = count < 2 ^ 64
 
 -- the settings hold what can be spelled
 abbrev pub OptionsFit : CacheOptions → Type 0
-OptionsFit options = IfSome options.max NumberFits × IfSome options.live SpanFits × IfSome options.idle SpanFits
+OptionsFit options =
+    IfSome options.max NumberFits × IfSome options.live SpanFits × IfSome options.idle SpanFits × IfSome options.tickets NumberFits
+
+-- whether a script of calls to a cache of this mode can begin with the settings: one for one thread gives out no tickets
+abbrev pub can_have : Mode → CacheOptions → Bool
+can_have Recorded options = true
+can_have Unsync options = is_none options.tickets

@@ -3,12 +3,13 @@ use Rattle.std.specs.Prelude.{ℕ, ◌^◌, List, [], ◌∷◌, codes, Option, 
 use Rattle.std.specs.Str.{bytes_eq}
 use Rattle.moka_sketch.specs.declared.constants.TheConstants.{DEPTHS}
 use Rattle.moka_grammar.specs.Lines.{allows}
+use Rattle.moka_grammar.specs.Options.{can_have}
 use Rattle.moka_grammar.specs.Reading.{◌>>=◌, number_of, number_below, text_of, no_argument, u64_of, u32_of}
 use Rattle.moka_grammar.specs.ReadingOptions.{options_of}
 use Rattle.moka_grammar.specs.declared.line.CacheHeader.{CacheHeader}
 use Rattle.moka_grammar.specs.declared.line.CacheOptions.{CacheOptions}
 use Rattle.moka_grammar.specs.declared.line.Header.{Header}
-use Rattle.moka_grammar.specs.declared.line.Header.TheVariants.{Cache, Sketch}
+use Rattle.moka_grammar.specs.declared.line.Header.TheVariants.{Cache, Core, Sketch}
 use Rattle.moka_grammar.specs.declared.line.Mode.{Mode}
 use Rattle.moka_grammar.specs.declared.line.Mode.TheVariants.{Recorded, Unsync}
 use Rattle.moka_grammar.specs.declared.line.Line.{Line}
@@ -30,7 +31,7 @@ mode_of name =
 unfoldable pub cache_header_of : Mode → List (List ℕ) → Option Header
 cache_header_of mode arguments = do
   options ← options_of arguments
-  Some (Cache (record { mode = mode; options = options }))
+  if can_have mode options then Some (Cache (record { mode = mode; options = options })) else None
 
 -- the header of these words
 unfoldable pub header_from_words : List (List ℕ) → Option Header
@@ -38,6 +39,9 @@ header_from_words (name ∷ arguments) =
     if bytes_eq name (codes "sketch") then (do
       cap ← u32_of arguments
       Some (Sketch cap))
+    else if bytes_eq name (codes "core") then (do
+      options ← options_of arguments
+      Some (Core options))
     else (do
       mode ← mode_of name
       cache_header_of mode arguments)

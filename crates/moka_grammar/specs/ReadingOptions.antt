@@ -1,7 +1,7 @@
 -- How the settings of a cache are read from the words of a first line. No public clause cites this module.
 use Rattle.std.specs.Prelude.{ℕ, ◌-◌, Bool, true, false, List, [], ◌∷◌, ◌++◌, length, take, codes, Option, Some, None, if◌then◌else◌}
 use Rattle.std.specs.Str.{bytes_eq}
-use Rattle.moka_grammar.specs.Reading.{◌>>=◌, number_of}
+use Rattle.moka_grammar.specs.Reading.{◌>>=◌, no_argument, number_of}
 use Rattle.moka_grammar.specs.declared.line.Span.{Span}
 use Rattle.moka_grammar.specs.declared.line.Span.TheVariants.{Seconds, Nanos}
 use Rattle.moka_grammar.specs.declared.line.CacheOptions.{CacheOptions}
@@ -34,11 +34,10 @@ option_of name read (first ∷ value ∷ behind) =
     else Some (None, first ∷ value ∷ behind)
 option_of name read words = Some (None, words)
 
--- whether inserts have weights, by the last word
-unfoldable pub weighed_of : List (List ℕ) → Option Bool
-weighed_of [] = Some false
-weighed_of (word ∷ []) = if bytes_eq word (codes "weighed") then Some true else None
-weighed_of _ = None
+-- whether the word comes first which says that inserts have weights, and the words that are left
+unfoldable pub weighed_of : List (List ℕ) → Bool × List (List ℕ)
+weighed_of [] = (false, [])
+weighed_of (word ∷ words) = if bytes_eq word (codes "weighed") then (true, words) else (false, word ∷ words)
 
 -- the settings that all of the words spell
 unfoldable pub options_of : List (List ℕ) → Option CacheOptions
@@ -46,5 +45,6 @@ options_of words = do
   max ← option_of (codes "max") number_of words
   live ← option_of (codes "live") span_of max.1
   idle ← option_of (codes "idle") span_of live.1
-  weighed ← weighed_of idle.1
-  Some (record { max = max.0; live = live.0; idle = idle.0; weighed = weighed })
+  tickets ← option_of (codes "tickets") number_of (weighed_of idle.1).1
+  nothing ← no_argument tickets.1
+  Some (record { max = max.0; live = live.0; idle = idle.0; weighed = (weighed_of idle.1).0; tickets = tickets.0 })

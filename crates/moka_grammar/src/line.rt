@@ -2,7 +2,7 @@
 ghost use Rattle.std.specs.Prelude.{◌≡◌};
 ghost use Rattle.std.specs.Duration.{as_nanos};
 ghost use Rattle.moka_grammar.specs.Lines.{allows};
-ghost use Rattle.moka_grammar.specs.Options.{span_nanos};
+ghost use Rattle.moka_grammar.specs.Options.{can_have, span_nanos};
 
 use crate::text::Text;
 use std::alloc::{Allocator, Global};
@@ -13,6 +13,8 @@ use std::time::Duration;
 pub enum Header {
     /// Calls to a cache.
     Cache(CacheHeader),
+    /// Steps of the core of the cache that threads share.
+    Core(CacheOptions),
     /// Calls to a frequency sketch that begins with a table for `cap` entries.
     Sketch { cap: u32 },
 }
@@ -43,6 +45,16 @@ impl Mode {
                 false,
             (Mode::Unsync, Request::Sync) => false,
             _ => true,
+        }
+    }
+
+    /// Whether a script of this mode can begin with the settings: a cache for one thread gives out no tickets.
+    pub fn can_have(self, options: CacheOptions) -> bool
+        ensures { result ≡ can_have self options }
+    {
+        match self {
+            Mode::Recorded => true,
+            Mode::Unsync => options.tickets.is_none(),
         }
     }
 }
@@ -77,6 +89,8 @@ pub struct CacheOptions {
     pub idle: Option<Span>,
     /// Whether each insert is given the weight of its value.
     pub weighed: bool,
+    /// The number of each shard's first ticket.
+    pub tickets: Option<u64>,
 }
 
 /// What is asked of a cache. `T` is how texts are held, so that a contract sees a request without an allocator.
@@ -123,6 +137,61 @@ pub struct Line<T = Text> {
     pub request: Request<T>,
 }
 
+/// What is asked of a core: mostly one atomic step, of a caller or of the maintenance. `T` is how texts are held, as in `Request`.
+#[derive(Drop)]
+pub enum CoreRequest<T = Text> {
+    /// Puts the text into the map. The weight is there exactly where the script is weighed.
+    Insert {
+        caller: u32,
+        key: u64,
+        text: T,
+        weight: Option<u32>,
+    },
+    Get {
+        caller: u32,
+        key: u64,
+    },
+    ContainsKey {
+        key: u64,
+    },
+    /// Takes the entry of the key out of the map.
+    Invalidate {
+        caller: u32,
+        key: u64,
+    },
+    /// Hides all entries.
+    InvalidateAll,
+    /// Puts what the caller has pending into its log.
+    Push {
+        caller: u32,
+    },
+    /// Drops the read that the caller has pending.
+    Forget {
+        caller: u32,
+    },
+    /// Begins a maintenance.
+    Begin,
+    /// Takes its next turn.
+    Turn,
+    /// Takes turns until it is done.
+    Rest,
+    /// Begins a maintenance, and takes turns until it is done.
+    Sync,
+    /// The unexpired entries.
+    Iter,
+    /// How many entries are charged.
+    EntryCount,
+    /// What weight is charged.
+    WeightedSize,
+}
+
+/// What is asked of a core, and its moment, in nanoseconds.
+#[derive(Drop)]
+pub struct CoreLine<T = Text> {
+    pub now: u64,
+    pub request: CoreRequest<T>,
+}
+
 /// What is asked of the sketch.
 #[derive(Clone, Copy, Debug, PartialEq, Eq)]
 pub enum SketchLine {
@@ -144,6 +213,10 @@ pub enum Script<A: Allocator + Clone + Drop = Global> {
     Cache {
         header: CacheHeader,
         lines: Vec<Line<Text<A>>, A>,
+    },
+    Core {
+        options: CacheOptions,
+        lines: Vec<CoreLine<Text<A>>, A>,
     },
     Sketch {
         cap: u32,

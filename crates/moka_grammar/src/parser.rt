@@ -12,6 +12,7 @@ use crate::words::{LineError, words_of};
 use std::alloc::{AllocError, AllocFailed, Allocator};
 use thiserror::Error;
 
+mod core_lines;
 mod from_words;
 mod header;
 mod lines;
@@ -58,6 +59,10 @@ pub fn parse<A: Allocator + Clone + Drop>(alloc: A, bytes: &[u8]) -> Result<Scri
         Header::Cache(header) => {
             let lines = lines_of(alloc, header, body)?;
             Ok(Script::Cache { header, lines })
+        }
+        Header::Core(options) => {
+            let lines = lines_of(alloc, options, body)?;
+            Ok(Script::Core { options, lines })
         }
         Header::Sketch { cap } => {
             let lines = lines_of(alloc, (), body)?;

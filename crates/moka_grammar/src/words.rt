@@ -79,6 +79,18 @@ pub fn text_of<A: Allocator + Clone + Drop>(alloc: A, word: &[u8]) -> Result<Tex
     Ok(Text::new(alloc, word)?)
 }
 
+/// The number that a word spells, as one of 32 bits.
+#[tactic(auto, unfolding(crate::specs::Reading::number_below))]
+pub fn small_number_of(word: &[u8]) -> Result<u32, LineError>
+    ensures { Gives result (number_below (2 ^ 32) word.now) }
+{
+    let number = number_of(word)?;
+    let Ok(number) = u32::try_from(number) else {
+        return Err(LineError::Bad);
+    };
+    Ok(number)
+}
+
 /// The number that a word spells, as how many times a hash is counted.
 #[tactic(auto, unfolding(crate::specs::Reading::number_below))]
 pub fn times_of(word: &[u8]) -> Result<u16, LineError>
@@ -126,16 +138,12 @@ pub fn u64_of(arguments: &[&[u8]]) -> Result<u64, LineError>
 }
 
 /// The only argument, a number of 32 bits.
-#[tactic(auto, unfolding(crate::specs::Reading::u32_of, crate::specs::Reading::number_below))]
+#[tactic(auto, unfolding(crate::specs::Reading::u32_of))]
 pub fn u32_of(arguments: &[&[u8]]) -> Result<u32, LineError>
     ensures { Gives result (u32_of (map (λ word. word.now) arguments.now)) }
 {
     let [word] = arguments else {
         return Err(LineError::Bad);
     };
-    let number = number_of(word)?;
-    let Ok(number) = u32::try_from(number) else {
-        return Err(LineError::Bad);
-    };
-    Ok(number)
+    small_number_of(word)
 }

@@ -68,13 +68,13 @@ impl<A: Allocator + Clone + Drop> Orders<A> {
         })
     }
 
-    /// Makes room for one more node. Where there is none, there is room for twice as many nodes as before then. Without a time to live the order
-    /// of writing stays empty, with room for one.
+    /// Makes room for one more node. Where there is none, there is room for twice as many nodes as before then, or for as many as the limit lets in and
+    /// one more, if that is less. Without a time to live the order of writing stays empty, with room for one.
     pub fn reserve(&mut self, limits: &Limits) -> Result<(), OutOfMemory>
         ensures ok { OnOk result (0 < self.new.room) }
         ensures unchanged { self.new ≡ record self.old { room = self.new.room } }
     {
-        let more = index_more(&mut self.index, &self.access)?;
+        let more = index_more(&mut self.index, &self.access, limits)?;
         self.access.reserve_exact(more)?;
         index_all(&mut self.index, &self.access, self.access.capacity())?;
         let more_writes = if limits.has_time_to_live() { more } else { 1 };
@@ -281,11 +281,12 @@ fn unlink_write<A: Allocator>(writes: &mut Deque<Ticket, A>, write: Option<NodeI
     }
 }
 
-/// Where there is no room for a node, makes room in the index for twice as many, so that the queues are as they were where memory for it is
+/// Where there is no room for a node, makes room in the index for the next capacity, so that the queues are as they were where memory for it is
 /// refused. For how many more nodes the queues are to make room then.
 fn index_more<A: Allocator>(
     index: &mut HashIndex<A>,
     access: &Deque<Node, A>,
+    limits: &Limits,
 ) -> Result<usize, OutOfMemory>
     requires indexed { IsIndexed access.now.items index.old }
     ensures indexed { IsIndexed access.now.items index.new }
@@ -295,9 +296,20 @@ fn index_more<A: Allocator>(
     if len < ids {
         return Ok(1);
     }
-    let target = ids.saturating_add(1).max(ids.saturating_mul(2));
+    let target = next_capacity(ids, limits);
     index_all(index, access, target)?;
     Ok((target - len).max(1))
+}
+
+/// For how many nodes there is room next: for twice as many, but not past the limit, as no more nodes than that weigh something. Weights of 0 pass it.
+fn next_capacity(ids: usize, limits: &Limits) -> usize
+    ensures { ids ≤ result }
+{
+    let twice = ids.saturating_add(1).max(ids.saturating_mul(2));
+    match limits.max_capacity() {
+        Some(limit) if (ids as u64) <= limit => twice.min((limit as usize).saturating_add(1)),
+        _ => twice,
+    }
 }
 
 /// Makes room in the index for all ids below this number.

@@ -27,7 +27,23 @@ use Rattle.moka_shard.proofs.SlotListLemmas.{map-is, count-once}
 pub some_parts : {X : Type 0} (x y : X) → Some x ≡ Some y → x ≡ y
 some_parts x y is = cc
 
+-- slots without entries have none in any place
+none_in : {K V : Type 0} (slots : List (Option (Entry K V))) → entries_in slots ≡ [] → (i : ℕ) (e : Entry K V) → entry_in slots i ≡ Some e → ⊥
+none_in [] none i e here = cc
+none_in (None ∷ slots) none Prim.Native.Nat.zero e here = cc
+none_in (None ∷ slots) none (suc i) e here = none_in slots none i e here
+none_in (Some x ∷ slots) none i e here = cc
+
 module _ {K V S : Type 0} (keys : Keys K S) where
+  -- slots without entries are those of a shard that gives out any number next
+  pub empty_slots : {state : S} {number next : ℕ} {slots : List (Option (Entry K V))} → AreSlots keys state number next slots
+      → entries_in slots ≡ [] → (first : ℕ) → AreSlots keys state number first slots
+  empty_slots {slots = slots} s none first = record {
+    keys_apart = s.keys_apart;
+    tickets_apart = s.tickets_apart;
+    belong = λ i e here. absurd (none_in slots none i e here);
+  }
+
   module _ {state : S} {number next : ℕ} {slots : List (Option (Entry K V))} (s : AreSlots keys state number next slots) where
     -- what holds of the entries
     pub valid : IsValidShard keys (record { number = number; next_number = next; entries = entries_in slots; hash_state = state })

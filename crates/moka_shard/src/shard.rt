@@ -28,6 +28,9 @@ use std::alloc::{Allocator, Global};
 use std::hash::{BuildHasher, Hash};
 use std::marker::Model;
 
+/// For how many more entries room is made at least, so that a small shard seldom grows.
+const LEAST_GROWTH: usize = 4;
+
 /// One shard of the map. It gives out the ticket numbers of its entries.
 #[derive(Drop)]
 pub struct Shard<
@@ -107,6 +110,14 @@ impl<K: Eq + Hash + Drop, V: Drop, S: BuildHasher + Drop, A: Allocator + Clone +
         ensures { result ≡ self.now.next_number }
     {
         self.next_number
+    }
+
+    /// The shard gives out the numbers from this one on. It must have no entries.
+    pub fn start_at(&mut self, next_number: u64)
+        requires { entries_in self.old.slots ≡ [] }
+        ensures { self.new ≡ record self.old { next_number = next_number } }
+    {
+        self.next_number = next_number;
     }
 
     /// The slot of the entry of a key, whose hash it is.
@@ -358,7 +369,7 @@ impl<K: Eq + Hash + Drop, V: Drop, S: BuildHasher + Drop, A: Allocator + Clone +
     }
 }
 
-/// Makes room for one more entry, in the slots and in the index.
+/// Makes room for one more entry, in the slots and in the index. Where there is none, there is room for a quarter more than before then.
 fn make_room<K: Drop, V: Drop, A: Allocator + Clone + Drop>(
     slots: &mut Slab<Entry<K, V, A>, A>,
     index: &mut HashIndex<A>,
@@ -369,7 +380,9 @@ fn make_room<K: Drop, V: Drop, A: Allocator + Clone + Drop>(
     ensures room { OnOk result (HasRoomFor slots.new 1) }
     ensures ids { OnOk result (slots.new.capacity ≤ index.new.ids) }
 {
-    slots.reserve(1)?;
+    if slots.len() == slots.capacity() {
+        slots.reserve_exact((slots.capacity() / 4).max(LEAST_GROWTH))?;
+    }
     let ids = slots.capacity();
     if index.ids() < ids {
         index.clear_for(ids)?;

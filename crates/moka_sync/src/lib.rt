@@ -3,6 +3,9 @@
 
 pub mod builder;
 pub mod engine;
+pub mod housekeeper;
+pub mod step_laws;
+pub mod steps;
 
-pub use moka_core::housekeeper;
 pub use moka_engine::constants;
+pub use moka_engine_laws::laws;

@@ -1,5 +1,5 @@
 // The replies to a recorded script: its calls, made on a cache that keeps a record of them.
-ghost use Rattle.std.specs.Prelude.{◌≡◌, ◌++◌, ℕ, List, Some, false, IfOk, OnOk, IsTrue};
+ghost use Rattle.std.specs.Prelude.{◌≡◌, ◌++◌, ℕ, List, Some, IfOk, OnOk, IsTrue};
 ghost use Rattle.std.specs.List.{AllByRecursion};
 ghost use Rattle.moka_engine.specs.CoreState.{IsNew};
 ghost use Rattle.moka_grammar.specs.Lines.{allows, LineFits};
@@ -7,8 +7,8 @@ ghost use Rattle.mini_moka.specs.Record.{IsAnswer, new_record};
 ghost use Rattle.mini_moka.specs.RecordedRun.{AreRecordedReplyLines, AreReplies, IsAnswered, asked_of, call_at, told};
 ghost use Rattle.mini_moka.specs.Reply.{Ready, Reply as Told, reply_line};
 ghost use Rattle.mini_moka.specs.ReplyValue.{reply_of};
-ghost use Rattle.mini_moka.specs.UnsyncRun.{HasLimits};
 
+use crate::script::first_core::{ScriptCore, builder_of, first_core};
 use crate::script::keys::KeyState;
 use crate::script::reply::{ReplyValue, push_reply, refusal};
 use crate::script::stored::{Stored, StoredWeight, stored_text};
@@ -16,23 +16,14 @@ use crate::sync::recorded::{Answer, NotRecorded, Record, SharedCall};
 use moka_common::error::OutOfMemory;
 use moka_common::shared::Shared;
 use moka_common::time::Instant;
-use moka_common::weigh::UnitWeight;
-use moka_core::engine::Core;
 use moka_engine::call::Call;
 use moka_engine::event::Reply;
 use moka_engine::weigh::WeighShared;
-use moka_grammar::line::{CacheHeader, CacheOptions, Line, Mode, Request};
+use moka_grammar::line::{CacheHeader, Line, Mode, Request};
 use moka_grammar::text::Text;
-use moka_sync::builder::CacheBuilder;
 use std::alloc::Allocator;
 
-/// A builder of the caches that a script's calls are made on.
-type ScriptBuilder<A> = CacheBuilder<u64, Stored<Text<A>>, UnitWeight, A>;
-
-/// A cache that a script's calls are made on, before there is a record.
-type ScriptCore<W, A> = Core<u64, Stored<Text<A>>, KeyState, W, A>;
-
-/// The same with its record.
+/// A cache that a script's calls are made on, with its record.
 type ScriptRecord<W, A> = Record<u64, Stored<Text<A>>, KeyState, W, A>;
 
 /// A call of a line.
@@ -61,34 +52,15 @@ pub(super) fn recorded_replies<A: Allocator + Clone + Drop>(
 {
     let builder = builder_of(alloc.clone()?, header.options);
     if header.options.weighed {
-        return match builder.weigher(StoredWeight).build_core(KeyState) {
+        return match first_core(builder.weigher(StoredWeight), header.options.tickets) {
             Ok(core) => replies_of(alloc, core, lines),
             Err(error) => refusal(alloc, error),
         };
     }
-    match builder.build_core(KeyState) {
+    match first_core(builder, header.options.tickets) {
         Ok(core) => replies_of(alloc, core, lines),
         Err(error) => refusal(alloc, error),
     }
-}
-
-/// A builder with the limits of the settings.
-fn builder_of<A: Allocator + Clone + Drop>(alloc: A, options: CacheOptions) -> ScriptBuilder<A>
-    ensures limits { HasLimits result.policy options }
-    ensures capacity { result.initial_capacity ≡ 0 }
-    ensures weighed { result.is_weighed ≡ false }
-{
-    let mut builder = CacheBuilder::default(alloc);
-    if let Some(max) = options.max {
-        builder = builder.max_capacity(max);
-    }
-    if let Some(live) = options.live {
-        builder = builder.time_to_live(live.to_duration());
-    }
-    if let Some(idle) = options.idle {
-        builder = builder.time_to_idle(idle.to_duration());
-    }
-    builder
 }
 
 /// Makes the calls of the lines in turn on the cache, with a record of them, and writes the replies.

@@ -4,12 +4,13 @@ ghost use Rattle.std.specs.Duration.{as_nanos};
 ghost use Rattle.std.specs.Fmt.{decimal};
 ghost use Rattle.std.specs.List.{flat_map};
 ghost use Rattle.moka_grammar.specs.Spelling.{line_feed, space};
-ghost use Rattle.mini_moka.specs.Reply.{Found, Refused, limit_words, nanos_words, pair_words, pairs_words, policy_words, reply_line};
+ghost use Rattle.mini_moka.specs.Reply.{Found, Refused, limit_words, nanos_words, pair_words, pairs_words, place_word, policy_words, reply_line};
 ghost use Rattle.mini_moka.specs.ReplyValue.{pairs_of, reply_of};
 
 use crate::script::stored::Stored;
 use moka_common::error::{BuildError, OutOfMemory};
 use moka_common::policy::Policy;
+use moka_engine::place::Place;
 use moka_grammar::text::Text;
 use std::alloc::{AllocError, Allocator};
 use std::time::Duration;
@@ -30,6 +31,11 @@ pub(super) enum ReplyValue<'a> {
     Limits(&'a Policy),
     OutOfMemory,
     TicketsUsedUp,
+    /// A read for which there was no room in its log.
+    Discarded,
+    /// Where a maintenance is.
+    At(Place),
+    NotPossible,
 }
 
 /// What a get finds, as a reply.
@@ -77,6 +83,9 @@ pub(super) fn push_reply<A: Allocator + Clone + Drop>(
         ReplyValue::Limits(policy) => push_policy(text, *policy),
         ReplyValue::OutOfMemory => text.extend_from_slice(b"refused memory\n"),
         ReplyValue::TicketsUsedUp => text.extend_from_slice(b"refused tickets\n"),
+        ReplyValue::Discarded => text.extend_from_slice(b"discarded\n"),
+        ReplyValue::At(place) => push_place(text, place),
+        ReplyValue::NotPossible => text.extend_from_slice(b"not possible\n"),
     }
 }
 
@@ -100,6 +109,42 @@ fn push_found<A: Allocator + Clone + Drop>(
     text.extend_from_slice(b"some ")?;
     text.extend_from_slice(found)?;
     text.extend_from_slice(b"\n")
+}
+
+fn push_place<A: Allocator + Clone + Drop>(
+    text: &mut Vec<u8, A>,
+    place: Place,
+) -> Result<(), AllocError>
+    ensures { OnOk result (text.new.items ≡ text.old.items ++ (codes "at " ++ place_word place ++ line_feed ∷ [])) }
+{
+    text.extend_from_slice(b"at ")?;
+    text.extend_from_slice(place_word(place).as_bytes())?;
+    text.extend_from_slice(b"\n")
+}
+
+/// The name of a place.
+fn place_word(place: Place) -> &'static str
+    ensures { result.now ≡ place_word place }
+{
+    match place {
+        Place::Idle => "idle",
+        Place::ReadCount => "read-count",
+        Place::Reads => "reads",
+        Place::ReadApply => "read-apply",
+        Place::WriteCount => "write-count",
+        Place::Writes => "writes",
+        Place::Apply => "apply",
+        Place::Scan => "scan",
+        Place::Removing => "removing",
+        Place::Enter => "enter",
+        Place::Sketch => "sketch",
+        Place::MoreReads => "more-reads",
+        Place::MoreWrites => "more-writes",
+        Place::ExpireWrite => "expire-write",
+        Place::ExpireAccess => "expire-access",
+        Place::Evict => "evict",
+        Place::Publish => "publish",
+    }
 }
 
 fn push_number<A: Allocator + Clone + Drop>(

@@ -6,6 +6,7 @@ ghost use Rattle.moka_grammar.specs.Lines.{LineFits};
 ghost use Rattle.mini_moka.specs.ScriptRun.{AreCacheReplyLines, EndsSo, IsRunOf, status_of};
 ghost use Rattle.mini_moka.specs.declared.script.runner.ScriptError.TheVariants as script_error;
 
+use crate::script::core_lines::core_replies;
 use crate::script::recorded::recorded_replies;
 use crate::script::sketch::sketch_replies;
 use crate::script::unsync::unsync_replies;
@@ -113,14 +114,15 @@ impl From<AllocError> for ScriptError {
     }
 }
 
-/// Reads a whole script, makes its calls in turn on a cache or a sketch of its own, and writes the replies.
+/// Reads a whole script, makes its calls in turn on a cache, a core or a sketch of its own, and writes the replies.
 ///
 /// The first line is answered by `ready`. Where it asks for a cache with a duration that is too long, `refused` and the reason are
 /// all that is written, and no call is made. In a script of a cache an accepted insert is answered by `ok`, a get by `some` and
 /// the value or by `none`, a `has` by `true` or `false`, `count` and `weight` by a number, and `policy` by the limits, each with
-/// its name; in a sketch script `inc` and `ensure` by `ok`, and the others by a number. A call that was refused is answered by
-/// `refused memory` or `refused tickets`. Where a line is bad, `bad line` and its number are all that is written. The time is
-/// linear in the bytes, but for what the calls of a cache take and the counts of an `inc`.
+/// its name; in a sketch script `inc` and `ensure` by `ok`, and the others by a number. In a script of a core a turn is answered
+/// by `at` and the place after it, a push by `ok` or `discarded`, and a step that can't happen by `not possible`. A call that was
+/// refused is answered by `refused memory` or `refused tickets`. Where a line is bad, `bad line` and its number are all that is
+/// written. The time is linear in the bytes, but for what the calls of a cache or a core take and the counts of an `inc`.
 pub fn run<A: Allocator + Clone + Drop, I: Source, O: Sink>(
     alloc: A,
     source: &mut I,
@@ -149,6 +151,10 @@ fn output_of<A: Allocator + Clone + Drop>(
     match parse(alloc.clone()?, bytes) {
         Ok(Script::Cache { header, lines }) => {
             let text = cache_replies(alloc, header, lines)?;
+            Ok((End::Done, text))
+        }
+        Ok(Script::Core { options, lines }) => {
+            let text = core_replies(alloc, options, lines)?;
             Ok((End::Done, text))
         }
         Ok(Script::Sketch { cap, lines }) => {

@@ -1,7 +1,8 @@
 // What is a script, and which line is the first bad one.
 use crate::scripts::table::output_of;
 use mini_moka::script::{
-    End, LONGEST_TEXT, Mode, ParseError, Request, Script, SketchLine, Text, is_text, parse,
+    CoreRequest, End, LONGEST_TEXT, Mode, ParseError, Request, Script, SketchLine, Text, is_text,
+    parse,
 };
 use std::alloc::Global;
 use std::process::Abort;
@@ -134,6 +135,72 @@ const CACHE_LINES: [(&str, Option<u64>); 6] = [
     ("unsync live 31536000001s\n0 get 0", Some(2)),
 ];
 
+// Tickets come last, once, and not in `unsync`.
+const TICKETS: [(&str, Option<u64>); 13] = [
+    ("recorded tickets 0\n", None),
+    ("recorded tickets 18446744073709551615\n", None),
+    ("recorded max 3 live 1s idle 2ns weighed tickets 7\n", None),
+    ("recorded tickets\n", Some(1)),
+    ("recorded tickets 18446744073709551616\n", Some(1)),
+    ("recorded tickets 1 tickets 1\n", Some(1)),
+    ("recorded tickets 1 weighed\n", Some(1)),
+    ("recorded tickets 1 max 3\n", Some(1)),
+    ("unsync tickets 1\n", Some(1)),
+    ("unsync max 3 weighed tickets 1\n", Some(1)),
+    ("sketch 1 tickets 1\n", Some(1)),
+    ("core max 3 live 1s idle 2ns weighed tickets 7\n", None),
+    ("core weighed tickets 7 8\n", Some(1)),
+];
+
+const CORE_LINES: [(&str, Option<u64>); 34] = [
+    ("core\n", None),
+    ("core", Some(1)),
+    ("Core\n", Some(1)),
+    ("core core\n", Some(1)),
+    ("core max 3\n0 insert 1 7 a\n", None),
+    ("core\n0 insert 4294967295 18446744073709551615 a\n", None),
+    ("core\n0 insert 4294967296 7 a\n", Some(2)),
+    ("core\n0 insert 1 18446744073709551616 a\n", Some(2)),
+    ("core\n0 insert 1 a\n", Some(2)),
+    ("core\n0 insert 1 7 a 3\n", Some(2)),
+    ("core weighed\n0 insert 1 7 a 3\n", None),
+    ("core weighed\n0 insert 1 7 a\n", Some(2)),
+    ("core weighed\n0 insert 1 7 a 4294967296\n", Some(2)),
+    ("core\n0 insert 1 7 a_b\n", Some(2)),
+    ("core\n0 get 1 7\n", None),
+    ("core\n0 get 7\n", Some(2)),
+    ("core\n0 get 1 7 8\n", Some(2)),
+    ("core\n0 get 01 7\n", Some(2)),
+    ("core\n0 has 7\n", None),
+    ("core\n0 has 1 7\n", Some(2)),
+    ("core\n0 invalidate 4294967296 7\n", Some(2)),
+    ("core\n0 invalidate 7\n", Some(2)),
+    (
+        "core\n0 clear\n0 begin\n0 turn\n0 rest\n0 sync\n0 iter\n0 count\n0 weight\n",
+        None,
+    ),
+    ("core\n0 push\n", Some(2)),
+    ("core\n0 push 4294967296\n", Some(2)),
+    ("core\n0 push 1 1\n", Some(2)),
+    ("core\n0 forget\n", Some(2)),
+    ("core\n0 forget 4294967295\n", None),
+    ("core\n0 turn 1\n", Some(2)),
+    ("core\nturn\n", Some(2)),
+    ("core\n0 turn\n0 rest \n", Some(3)),
+    ("core\n0 drop-if a\n", Some(2)),
+    ("core\n0 policy\n", Some(2)),
+    ("core\n0 len\n", Some(2)),
+];
+
+const LINES_OF_A_CORE: [(&str, Option<u64>); 6] = [
+    ("recorded\n0 turn\n", Some(2)),
+    ("recorded\n0 push 1\n", Some(2)),
+    ("recorded\n0 get 1 7\n", Some(2)),
+    ("unsync\n0 begin\n", Some(2)),
+    ("unsync\n0 insert 1 7 a\n", Some(2)),
+    ("sketch 1\nturn\n", Some(2)),
+];
+
 /// Runs each script, and names the one whose first bad line is another.
 fn check_edges(rt: &impl Abort, alloc: Global, edges: &[(&str, Option<u64>)]) -> Result<(), Fail> {
     for (script, bad) in edges {
@@ -176,6 +243,21 @@ fn a_line_of_another_mode_is_named(rt: HostRuntime) -> Result<(), Fail> {
 }
 
 #[test]
+fn tickets_come_last_and_once(rt: HostRuntime) -> Result<(), Fail> {
+    check_edges(&rt, rt.alloc(), &TICKETS)
+}
+
+#[test]
+fn a_bad_line_of_a_core_is_named(rt: HostRuntime) -> Result<(), Fail> {
+    check_edges(&rt, rt.alloc(), &CORE_LINES)
+}
+
+#[test]
+fn a_line_of_a_core_is_none_of_another_mode(rt: HostRuntime) -> Result<(), Fail> {
+    check_edges(&rt, rt.alloc(), &LINES_OF_A_CORE)
+}
+
+#[test]
 fn lines_hold_what_they_spell(rt: HostRuntime) -> Result<(), Fail> {
     let text = b"recorded\n5 insert 7 a-Z9\n6 get 8\n18446744073709551615 has 0\n".as_slice();
     let Script::Cache { header, lines } = parse(rt.alloc(), text)? else {
@@ -191,6 +273,27 @@ fn lines_hold_what_they_spell(rt: HostRuntime) -> Result<(), Fail> {
     );
     assert!(rt; matches!(&get.request, Request::Get { key: 8 }));
     assert!(rt; matches!(&has.request, Request::ContainsKey { key: 0 }));
+    Ok(())
+}
+
+#[test]
+fn core_lines_hold_what_they_spell(rt: HostRuntime) -> Result<(), Fail> {
+    let text = b"core weighed tickets 9\n5 insert 4294967295 7 a-Z9 3\n6 push 1\n".as_slice();
+    let Script::Core { options, lines } = parse(rt.alloc(), text)? else {
+        return Err("a core script".into());
+    };
+    assert_eq!(rt;
+        (options.weighed, options.tickets, options.max),
+        (true, Some(9), None)
+    );
+    let [insert, push] = lines.as_slice() else {
+        return Err("two lines".into());
+    };
+    assert_eq!(rt; (insert.now, push.now), (5, 6));
+    assert!(rt;
+        matches!(&insert.request, CoreRequest::Insert { caller: u32::MAX, key: 7, text, weight: Some(3) } if text.as_bytes() == b"a-Z9".as_slice())
+    );
+    assert!(rt; matches!(&push.request, CoreRequest::Push { caller: 1 }));
     Ok(())
 }
 

@@ -82,20 +82,21 @@ fn repeated(line: &str) -> (u64, &str) {
     }
 }
 
-/// Adds a line with this number where it has a place for one.
+/// Adds a line with this number in each place that it has for one.
 fn push_numbered(
     alloc: Global,
     text: &mut String,
     line: &str,
     number: u64,
 ) -> Result<(), AllocError> {
-    match line.split_once("#") {
-        Some((front, back)) => {
-            let numbered = format!(in alloc; "{front}{number}{back}")?;
-            push_line(text, &numbered)
+    let number = format!(in alloc; "{number}")?;
+    for (place, part) in line.split("#").enumerate() {
+        if place > 0 {
+            text.push_str(&number)?;
         }
-        None => push_line(text, line),
+        text.push_str(part)?;
     }
+    text.push_str("\n")
 }
 
 fn push_line(text: &mut String, line: &str) -> Result<(), AllocError> {

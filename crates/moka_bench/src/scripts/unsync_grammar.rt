@@ -148,6 +148,7 @@ fn a_header_holds_the_settings_that_it_spells(rt: HostRuntime) -> Result<(), Fai
         live: Some(Span::Seconds(10)),
         idle: Some(Span::Nanos(10_000_000_000)),
         weighed: true,
+        tickets: None,
     };
     let mode = Mode::Unsync;
     assert_eq!(rt; header, CacheHeader { mode, options });

@@ -3,7 +3,7 @@ ghost use Rattle.std.specs.Prelude.{◌≡◌, ◌≢◌, true};
 ghost use Rattle.moka_base.specs.Keys.{keys_by};
 ghost use Rattle.moka_core.specs.Calls.{CoreMaintains, CorePushesRead, CorePushesWrite, MaintainsAsDue, Pends, PendsRead, PendsWrite};
 ghost use Rattle.moka_engine.specs.Consistent.{IsConsistent};
-ghost use Rattle.moka_engine.specs.CoreCall.{CoreTurns, IsAtRest, IsCall, scheduled};
+ghost use Rattle.moka_engine.specs.CoreCall.{CoreTurns, Finishes, IsAtRest, IsCall, scheduled};
 ghost use Rattle.moka_engine.specs.Place.{Idle};
 ghost use Rattle.moka_engine.specs.declared.call.Call.TheVariants as call;
 
@@ -154,7 +154,7 @@ impl<
     }
 
     /// The next maintenance is due by time a while after this moment.
-    fn schedule(&mut self, now: Instant)
+    pub(super) fn schedule(&mut self, now: Instant)
         ensures state { self.new.state ≡ scheduled true now self.old.state }
         ensures weigher { self.new.weigher ≡ self.old.weigher }
     {
@@ -172,6 +172,20 @@ impl<
     {
         let _ = self.begin(now);
         self.finish();
+    }
+
+    /// Ends the maintenance that is under way. Answers whether one was.
+    pub(crate) fn end_maintenance(&mut self) -> bool
+        requires good { IsConsistent (keys_by K.Hash S.BuildHasher S.Hasher.Hasher) self.old.state }
+        ensures step { Finishes (keys_by K.Hash S.BuildHasher S.Hasher.Hasher) (W.weighs self.old.weigher)
+            self.old.state result self.new.state }
+        ensures weigher { self.new.weigher ≡ self.old.weigher }
+    {
+        if self.maintenance.place() == Place::Idle {
+            return false;
+        }
+        self.finish();
+        true
     }
 
     /// Turns until no maintenance is under way.

@@ -21,6 +21,10 @@ impl<A: Allocator + Clone + Drop> FromWords<A, ()> for Header {
             let cap = u32_of(arguments)?;
             return Ok(Header::Sketch { cap });
         }
+        if *name == b"core".as_slice() {
+            let options = options_of(arguments)?;
+            return Ok(Header::Core(options));
+        }
         let mode = mode_of(name)?;
         cache_header_of(mode, arguments)
     }
@@ -46,5 +50,8 @@ fn cache_header_of(mode: Mode, arguments: &[&[u8]]) -> Result<Header, LineError>
     ensures { Gives result (cache_header_of mode (map (λ word. word.now) arguments.now)) }
 {
     let options = options_of(arguments)?;
+    if !mode.can_have(options) {
+        return Err(LineError::Bad);
+    }
     Ok(Header::Cache(CacheHeader { mode, options }))
 }

@@ -123,7 +123,10 @@ fn invalidate_if_of<A: Allocator + Clone + Drop>(
 
 /// The weight that is left, where inserts have one. Where they don't, that nothing is left.
 #[tactic(auto, unfolding(crate::specs::ReadingLines::weight_of))]
-fn weight_of(options: CacheOptions, arguments: &[&[u8]]) -> Result<Option<u32>, LineError>
+pub(super) fn weight_of(
+    options: CacheOptions,
+    arguments: &[&[u8]],
+) -> Result<Option<u32>, LineError>
     ensures { Gives result (weight_of options (map (λ word. word.now) arguments.now)) }
 {
     if options.weighed {

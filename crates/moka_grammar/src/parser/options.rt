@@ -4,7 +4,7 @@ ghost use Rattle.moka_grammar.specs.Reading.{Gives, GivesLeft, number_of};
 ghost use Rattle.moka_grammar.specs.ReadingOptions.{front_of, span_of, option_of, weighed_of, options_of};
 
 use crate::line::{CacheOptions, Span};
-use crate::words::{LineError, number_of};
+use crate::words::{LineError, no_argument, number_of};
 
 /// The settings that all of the words spell, each at most once and in their order.
 #[tactic(auto, unfolding(crate::specs::ReadingOptions::options_of))]
@@ -14,12 +14,15 @@ pub(super) fn options_of(arguments: &[&[u8]]) -> Result<CacheOptions, LineError>
     let (max, arguments) = number_option(b"max", arguments)?;
     let (live, arguments) = span_option(b"live", arguments)?;
     let (idle, arguments) = span_option(b"idle", arguments)?;
-    let weighed = weighed_of(arguments)?;
+    let (weighed, arguments) = weighed_of(arguments);
+    let (tickets, arguments) = number_option(b"tickets", arguments)?;
+    no_argument(arguments)?;
     Ok(CacheOptions {
         max,
         live,
         idle,
         weighed,
+        tickets,
     })
 }
 
@@ -59,16 +62,18 @@ fn span_option<'a>(
     Ok((Some(span), behind))
 }
 
-/// Whether the last word is there, which says that inserts have weights.
+/// Whether the word comes first which says that inserts have weights, and the words that are left.
 #[tactic(auto, unfolding(crate::specs::ReadingOptions::weighed_of))]
-fn weighed_of(arguments: &[&[u8]]) -> Result<bool, LineError>
-    ensures { Gives result (weighed_of (map (λ word. word.now) arguments.now)) }
+fn weighed_of<'a>(arguments: &'a [&'a [u8]]) -> (bool, &'a [&'a [u8]])
+    ensures { (result.0, map (λ word. word.now) result.1.now) ≡ weighed_of (map (λ word. word.now) arguments.now) }
 {
-    match arguments {
-        [] => Ok(false),
-        [word] if *word == b"weighed".as_slice() => Ok(true),
-        _ => Err(LineError::Bad),
+    let [word, behind @ ..] = arguments else {
+        return (false, arguments);
+    };
+    if *word == b"weighed".as_slice() {
+        return (true, behind);
     }
+    (false, arguments)
 }
 
 /// The span that a word spells: a number, and its unit at once behind it.

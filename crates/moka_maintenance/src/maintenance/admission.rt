@@ -261,13 +261,13 @@ impl<A: Allocator + Clone + Drop> State<A> {
             (first_tickets skipped self.old.orders.nodes) (maintenance_of self.old) (option_copied found.entry) }
         ensures holds { IsAtHand self.new.orders self.new.stage }
     {
-        let Some(entry) = found else {
+        let Some(standing) = found else {
             send_back(&mut self.orders, skipped);
             self.stage = writes_or_on(work);
             return EntryChange::Stays;
         };
         self.orders
-            .enter(candidate.ticket, entry.weight(), settings.limits());
+            .enter(candidate.ticket, standing.weight(), settings.limits());
         send_back(&mut self.orders, skipped);
         self.stage = writes_or_on(work);
         EntryChange::UpsertDone

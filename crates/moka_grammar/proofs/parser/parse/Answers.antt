@@ -1,13 +1,16 @@
 use Rattle.std.proofs.Common.{◌≡◌, sym, subst, ap, ◌∙◌, Err}
 use Rattle.std.proofs.lemmas.Result.{err_from_is_err_and}
 use Rattle.moka_grammar.specs.Lines.{line_words, LineFits}
+use Rattle.moka_grammar.specs.CoreLines.{core_words, CoreFits}
 use Rattle.moka_grammar.specs.SketchLines.{sketch_words, SketchFits}
-use Rattle.moka_grammar.specs.Grammar.{IsBadAt, CacheScript, SketchScript}
+use Rattle.moka_grammar.specs.Grammar.{IsBadAt, CacheScript, CoreScript, SketchScript}
 use Rattle.moka_grammar.specs.ReadingLines.{line_from_words, sketch_from_words}
-use Rattle.moka_grammar.specs.declared.line.Header.TheVariants.{Cache, Sketch}
+use Rattle.moka_grammar.specs.ReadingCoreLines.{core_from_words}
+use Rattle.moka_grammar.specs.declared.line.Header.TheVariants.{Cache, Core, Sketch}
 use Rattle.moka_grammar.specs.declared.parser.ParseError.TheVariants as parse_error
 use Rattle.moka_grammar.proofs.LineListLemmas.{all_read, bad_where_stopped}
 use Rattle.moka_grammar.proofs.RequestLemmas.{reads_line}
+use Rattle.moka_grammar.proofs.CoreLineLemmas.{reads_core}
 use Rattle.moka_grammar.proofs.SketchLineLemmas.{reads_sketch}
 use Rattle.moka_grammar.proofs.ScriptLemmas.{script_read, bad_line_read, first_bad}
 use Rattle.moka_grammar.proofs.parser.parse.Goals as goal
@@ -27,6 +30,16 @@ returns-in_err-lines-in-Cache-clause-bad g c n e =
     bad_line_read _ _ (Cache header) _ count n c.in-Ok.ensures c.in-Cache.is
     (bad_where_stopped line_words (LineFits header) (line_from_words header) (reads_line header) _ count stops) number
 
+pub returns-in_err-lines-in-Core-clause-bad : goal.returns-in_err-lines-in-Core-clause-bad
+returns-in_err-lines-in-Core-clause-bad g c n e =
+    let options = c.in-Core.options in
+    let residual = c.from_residual-in_err-lines-in-Core in
+    let p = err_from_is_err_and residual.result residual.ensures.1 in
+    let same : p.0 ≡ parse_error.BadLine n = cc (p.1, e) in
+    let (count, number, stops) = c.in_err-lines-in-Core.ensures.bad n (ap Err (sym p.2 ∙ same)) in
+    bad_line_read _ _ (Core options) _ count n c.in-Ok.ensures c.in-Core.is
+    (bad_where_stopped core_words (CoreFits options) (core_from_words options) (reads_core options) _ count stops) number
+
 pub returns-in_err-lines-in-Sketch-clause-bad : goal.returns-in_err-lines-in-Sketch-clause-bad
 returns-in_err-lines-in-Sketch-clause-bad g c n e =
     let residual = c.from_residual-in_err-lines-in-Sketch in
@@ -41,6 +54,12 @@ returns-in_ok-lines-in-Cache-clause-found g c =
     let header = c.in-Cache.header in
     script_read _ _ _ (CacheScript header c.in_ok-lines-in-Cache.lines.items) c.in-Ok.ensures c.in-Cache.is
     (all_read line_words (LineFits header) (line_from_words header) (reads_line header) _ _ c.in_ok-lines-in-Cache.ensures.found)
+
+pub returns-in_ok-lines-in-Core-clause-found : goal.returns-in_ok-lines-in-Core-clause-found
+returns-in_ok-lines-in-Core-clause-found g c =
+    let options = c.in-Core.options in
+    script_read _ _ _ (CoreScript options c.in_ok-lines-in-Core.lines.items) c.in-Ok.ensures c.in-Core.is
+    (all_read core_words (CoreFits options) (core_from_words options) (reads_core options) _ _ c.in_ok-lines-in-Core.ensures.found)
 
 pub returns-in_ok-lines-in-Sketch-clause-found : goal.returns-in_ok-lines-in-Sketch-clause-found
 returns-in_ok-lines-in-Sketch-clause-found g c =

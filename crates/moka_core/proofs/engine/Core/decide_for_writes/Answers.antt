@@ -1,0 +1,12 @@
+use Rattle.std.proofs.Common.{subst, sym}
+use Rattle.moka_base.specs.Keys.{keys_by}
+use Rattle.moka_engine.specs.Consistent.{IsConsistent}
+use Rattle.moka_engine_laws.proofs.CallLemmas.{good_scheduled}
+use Rattle.moka_core.proofs.engine.Core.decide_for_writes.Goals as goal
+
+pub invariant_of-self : goal.invariant_of-self
+invariant_of-self g c =
+    let keys = keys_by (record { eq = g.K.PartialEq.eq; hash_input = g.K.Hash.hash_input }) g.S.BuildHasher g.S.Hasher.Hasher in
+    let old = c.self.inside.machine in
+    subst (IsConsistent keys) (sym c.decide_for_writes.ensures.decision.1)
+    (good_scheduled keys g.met.K.Eq.laws (g.W.WeighShared.weighs old.weigher) c.decide_for_writes.result c.args.now old.state c.self.invariant)

@@ -1,0 +1,3 @@
+pub mod StepsLemmas
+pub mod CoreCallerLemmas
+pub mod CallerLemmas
