@@ -5,7 +5,7 @@ use Rattle.mini_moka.specs.declared.script.runner.End.{End}
 use Rattle.mini_moka.specs.ScriptRun.{IsRunOf}
 
 -- where all of a known input was read, what was written is the text of its run
-pub run_ends : (A : Type 0) (input old new : Option (List ℕ)) (read text : List ℕ) (end : End)
+pub run_ends : (A : Type 0) (input old new : Option (List ℕ)) (read text : List ℕ) (end : End A)
     → IfSome input (λ bytes. read ≡ bytes) → IsRunOf A read end text → Appends old new text
     → IfSome input (λ bytes. (text : List ℕ) × IsRunOf A bytes end text × Appends old new text)
 run_ends A None old new read text end is run written = tt

@@ -20,6 +20,7 @@ pub mod FirstCore
 pub mod RecordedRun
 pub mod CoreRun
 pub mod SketchRun
+pub mod LockedScript
 pub mod ScriptRun
 -- inside
 pub mod ReplyValue

@@ -1,16 +1,17 @@
 -- What a run of a script writes, and how it ends.
-use Rattle.std.specs.Prelude.{◌≡◌, ℕ, List, Option, Result, Ok, Err, IfSome, codes}
+use Rattle.std.specs.Prelude.{◌≡◌, ℕ, List, [], Option, Result, Ok, Err, IfSome, codes}
 use Rattle.std.specs.Io.KnownBytes.{Keeps, Appends}
 use Rattle.mini_moka.specs.declared.script.runner.End.{End}
-use Rattle.mini_moka.specs.declared.script.runner.End.TheVariants.{Done, BadLine}
+use Rattle.mini_moka.specs.declared.script.runner.End.TheVariants.{Done, BadLine, Locked}
 use Rattle.mini_moka.specs.declared.script.runner.ScriptError.{ScriptError}
 use Rattle.mini_moka.specs.declared.script.runner.ScriptError.TheVariants.{Read, Write, OutOfMemory}
 use Rattle.moka_grammar.specs.declared.line.CacheHeader.{CacheHeader}
 use Rattle.moka_grammar.specs.declared.line.Line.{Line}
 use Rattle.moka_grammar.specs.declared.line.Mode.{Mode}
-use Rattle.moka_grammar.specs.declared.line.Mode.TheVariants.{Recorded, Unsync}
+use Rattle.moka_grammar.specs.declared.line.Mode.TheVariants.{Recorded, Sync, Unsync}
 use Rattle.moka_grammar.specs.Grammar.{Script, CacheScript, CoreScript, SketchScript, IsScript, IsBadAt}
 use Rattle.moka_streams.specs.Streams.{AppendsBeginning}
+use Rattle.mini_moka.specs.LockedScript.{script_of}
 use Rattle.mini_moka.specs.Reply.{bad_line}
 use Rattle.mini_moka.specs.CoreRun.{AreCoreReplyLines}
 use Rattle.mini_moka.specs.RecordedRun.{AreRecordedReplyLines}
@@ -18,9 +19,10 @@ use Rattle.mini_moka.specs.SketchRun.{AreSketchReplyLines}
 use Rattle.mini_moka.specs.UnsyncRun.{AreUnsyncReplyLines}
 
 module _ (A : Type 0) where
-  -- the reply lines of a script of calls to a cache, by its mode
+  -- the reply lines of a script of calls to a cache, by its mode: a run writes none of one with locks, which is still to be run then
   abbrev pub AreCacheReplyLines : Mode → CacheHeader → List (Line (List ℕ)) → List ℕ → Type 0
   AreCacheReplyLines Recorded header lines text = AreRecordedReplyLines A header.options lines text
+  AreCacheReplyLines Sync header lines text = ⊥
   AreCacheReplyLines Unsync header lines text = AreUnsyncReplyLines header.options lines text
 
   -- the reply lines of a script
@@ -30,16 +32,17 @@ module _ (A : Type 0) where
   AreReplyLines (SketchScript cap lines) text = AreSketchReplyLines cap lines text
 
   -- a whole run of the bytes ends so, and this is the text that it writes
-  abbrev pub IsRunOf : List ℕ → End → List ℕ → Type 0
+  abbrev pub IsRunOf : List ℕ → End A → List ℕ → Type 0
   IsRunOf bytes Done text = (script : Script) × IsScript bytes script × AreReplyLines script text
   IsRunOf bytes (BadLine number) text = IsBadAt bytes number × (text ≡ bad_line number)
+  IsRunOf bytes (Locked script) text = IsScript bytes (script_of script) × (text ≡ [])
 
   -- what was written when the run ended, where the input and the output are known: all of its text; nothing where it could not
   -- be read, or memory ran out; and a beginning of its text where it could not be written
-  abbrev pub EndsSo : Option (List ℕ) → Result End ScriptError → Option (List ℕ) → Option (List ℕ) → Type 0
+  abbrev pub EndsSo : Option (List ℕ) → Result (End A) ScriptError → Option (List ℕ) → Option (List ℕ) → Type 0
   EndsSo input (Ok end) old new = IfSome input (λ bytes. (text : List ℕ) × IsRunOf bytes end text × Appends old new text)
   EndsSo input (Err Write) old new =
-      IfSome input (λ bytes. (end : End) × (text : List ℕ) × IsRunOf bytes end text × AppendsBeginning old new text)
+      IfSome input (λ bytes. (end : End A) × (text : List ℕ) × IsRunOf bytes end text × AppendsBeginning old new text)
   EndsSo input (Err Read) old new = Keeps old new
   EndsSo input (Err OutOfMemory) old new = Keeps old new
 
@@ -49,8 +52,9 @@ script_error_text Read = codes "read fault"
 script_error_text Write = codes "write fault"
 script_error_text OutOfMemory = codes "out of memory"
 
--- the exit status of a program whose run ends so
-abbrev pub status_of : Result End ScriptError → ℕ
+-- the exit status of a program whose run ends so: a script that is still to be run has no replies
+abbrev pub status_of : {A : Type 0} → Result (End A) ScriptError → ℕ
 status_of (Ok Done) = 0
 status_of (Ok (BadLine number)) = 2
+status_of (Ok (Locked script)) = 1
 status_of (Err error) = 1

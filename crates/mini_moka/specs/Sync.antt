@@ -25,6 +25,11 @@ pub use Rattle.moka_sync.specs.Weights
 pub use Rattle.moka_sync.specs.CallLaws
 pub use Rattle.moka_sync.specs.Core
 pub use Rattle.moka_sync.specs.Builder
+pub use Rattle.moka_sync.specs.Rule
+pub use Rattle.moka_sync.specs.Cache
+pub use Rattle.moka_sync.specs.Locked
+pub use Rattle.moka_sync.specs.Snapshot
+pub use Rattle.moka_sync.specs.MaintenanceTurn
 pub use Rattle.moka_sync.specs.Steps
 pub use Rattle.moka_sync.specs.CoreCaller
 pub use Rattle.moka_sync.specs.StepLaws

@@ -2,6 +2,7 @@
 mod core_lines;
 mod first_core;
 mod keys;
+mod locked;
 mod recorded;
 mod reply;
 mod runner;
@@ -9,6 +10,7 @@ mod sketch;
 mod stored;
 mod unsync;
 
+pub use locked::LockedScript;
 pub use moka_grammar::line::{
     CacheHeader, CacheOptions, CoreLine, CoreRequest, Header, Line, Mode, Request, Script,
     SketchLine, Span,
@@ -18,4 +20,4 @@ pub use moka_grammar::text::{LONGEST_TEXT, Text, is_text};
 pub use moka_streams::streams::{
     Fault, FromRead, FromWrite, ReadError, Sink, Source, read_all, write_all,
 };
-pub use runner::{End, ScriptError, run, status_of};
+pub use runner::{End, ScriptError, run, run_locked, status_of};

@@ -2,4 +2,8 @@
 pub mod recorded;
 
 pub use moka_sync::builder::CacheBuilder;
+pub use moka_sync::cache::{Cache, ConcurrentCacheExt};
+pub use moka_sync::iter::Iter;
+pub use moka_sync::mapref::EntryRef;
+pub use moka_sync::rule::{AnyPair, PairRule};
 pub use moka_sync::{constants, engine, housekeeper, laws, step_laws, steps};

@@ -210,7 +210,7 @@ pub fn text_of(alloc: Global, bytes: &[u8]) -> Option<Text>
 pub fn has_ended<I: Source, O: Sink>(alloc: Global, source: &mut I, sink: &mut O) -> bool
     requires source { I.failed source.old ≡ false }
     requires sink { O.failed sink.old ≡ false }
-    ensures { IsTrue result → (end : End) × EndsSo Global (I.remaining source.old) (Ok end) (O.contents sink.old) (O.contents sink.new) }
+    ensures { IsTrue result → (end : End Global) × EndsSo Global (I.remaining source.old) (Ok end) (O.contents sink.old) (O.contents sink.new) }
 {
     script::run(alloc, source, sink).is_ok()
 }

@@ -9,4 +9,5 @@ pub mod pages;
 mod record;
 #[cfg(test)]
 mod scripts;
+pub mod shared;
 pub mod uses;

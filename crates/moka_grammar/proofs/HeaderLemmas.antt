@@ -10,7 +10,7 @@ use Rattle.moka_grammar.specs.declared.line.CacheOptions.{CacheOptions}
 use Rattle.moka_grammar.specs.declared.line.Header.{Header}
 use Rattle.moka_grammar.specs.declared.line.Header.TheVariants.{Cache, Core, Sketch}
 use Rattle.moka_grammar.specs.declared.line.Mode.{Mode}
-use Rattle.moka_grammar.specs.declared.line.Mode.TheVariants.{Recorded, Unsync}
+use Rattle.moka_grammar.specs.declared.line.Mode.TheVariants.{Recorded, Sync, Unsync}
 use Rattle.moka_grammar.specs.Grammar.{mode_word, header_words, HeaderFits}
 use Rattle.moka_grammar.specs.Options.{OptionsFit, can_have, options_words}
 use Rattle.moka_grammar.specs.Reading.{◌>>=◌, u32_of}
@@ -34,9 +34,12 @@ unfolding mode_of
 mode_of-found name mode e =
     elim (chosen (bytes_eq name (codes "recorded")) _ _ _ e) [
       | inl recorded ↦ subst (λ m. name ≡ mode_word m) (same_Some _ _ recorded.1) ((bytes_eq-Decides name (codes "recorded")).0 recorded.0)
-      | inr not_recorded ↦ elim (chosen (bytes_eq name (codes "unsync")) _ _ _ not_recorded.1) [
-        | inl unsync ↦ subst (λ m. name ≡ mode_word m) (same_Some _ _ unsync.1) ((bytes_eq-Decides name (codes "unsync")).0 unsync.0)
-        | inr not_unsync ↦ absurd (let none = not_unsync.1 in cc)
+      | inr not_recorded ↦ elim (chosen (bytes_eq name (codes "sync")) _ _ _ not_recorded.1) [
+        | inl sync ↦ subst (λ m. name ≡ mode_word m) (same_Some _ _ sync.1) ((bytes_eq-Decides name (codes "sync")).0 sync.0)
+        | inr not_sync ↦ elim (chosen (bytes_eq name (codes "unsync")) _ _ _ not_sync.1) [
+          | inl unsync ↦ subst (λ m. name ≡ mode_word m) (same_Some _ _ unsync.1) ((bytes_eq-Decides name (codes "unsync")).0 unsync.0)
+          | inr not_unsync ↦ absurd (let none = not_unsync.1 in cc)
+        ]
       ]
     ]
 
@@ -94,6 +97,7 @@ header_from_words-found (name ∷ arguments) header e =
 -- the name of a mode is a word
 mode_word_is : (mode : Mode) → IsWord (mode_word mode)
 mode_word_is Recorded = IsWord-name (codes "recorded") refl
+mode_word_is Sync = IsWord-name (codes "sync") refl
 mode_word_is Unsync = IsWord-name (codes "unsync") refl
 
 -- the words of a header are words
@@ -113,6 +117,7 @@ cache_again : (mode : Mode) (arguments : List (List ℕ)) (header : Header) → 
     → header_from_words (mode_word mode ∷ arguments) ≡ Some header
 unfolding header_from_words mode_of
 cache_again Recorded arguments header e = e
+cache_again Sync arguments header e = e
 cache_again Unsync arguments header e = e
 
 -- the words of a header are read as that header

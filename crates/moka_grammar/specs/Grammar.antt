@@ -14,12 +14,13 @@ use Rattle.moka_grammar.specs.declared.line.Header.{Header}
 use Rattle.moka_grammar.specs.declared.line.Header.TheVariants.{Cache, Core, Sketch}
 use Rattle.moka_grammar.specs.declared.line.Line.{Line}
 use Rattle.moka_grammar.specs.declared.line.Mode.{Mode}
-use Rattle.moka_grammar.specs.declared.line.Mode.TheVariants.{Recorded, Unsync}
+use Rattle.moka_grammar.specs.declared.line.Mode.TheVariants.{Recorded, Sync, Unsync}
 use Rattle.moka_grammar.specs.declared.line.SketchLine.{SketchLine}
 
 -- the name of a mode
 abbrev pub mode_word : Mode → List ℕ
 mode_word Recorded = codes "recorded"
+mode_word Sync = codes "sync"
 mode_word Unsync = codes "unsync"
 
 -- the words of a header: the name of the mode, and what it is given

@@ -4,7 +4,7 @@ use Rattle.std.specs.Fmt.{decimal}
 use Rattle.moka_grammar.specs.Text.{IsText}
 use Rattle.moka_grammar.specs.declared.line.CacheHeader.{CacheHeader}
 use Rattle.moka_grammar.specs.declared.line.Mode.{Mode}
-use Rattle.moka_grammar.specs.declared.line.Mode.TheVariants.{Recorded, Unsync}
+use Rattle.moka_grammar.specs.declared.line.Mode.TheVariants as mode
 use Rattle.moka_grammar.specs.declared.line.Line.{Line}
 use Rattle.moka_grammar.specs.declared.line.Request.{Request}
 use Rattle.moka_grammar.specs.declared.line.Request.TheVariants.{Insert, Get, ContainsKey, Invalidate, InvalidateAll, InvalidateIf, Sync, Iter, EntryCount, WeightedSize, Policy}
@@ -34,12 +34,14 @@ line_words line = decimal line.now ∷ request_words line.request
 
 -- whether the request is one of a script of this mode
 abbrev pub allows : {T : Type 0} → Mode → Request T → Bool
-allows Recorded (InvalidateIf text) = false
-allows Recorded Iter = false
-allows Recorded Policy = false
-allows Recorded request = true
-allows Unsync Sync = false
-allows Unsync request = true
+allows mode.Recorded (InvalidateIf text) = false
+allows mode.Recorded Iter = false
+allows mode.Recorded Policy = false
+allows mode.Recorded request = true
+allows mode.Sync (InvalidateIf text) = false
+allows mode.Sync request = true
+allows mode.Unsync Sync = false
+allows mode.Unsync request = true
 
 -- the weight can be spelled, and is there exactly where the script is weighed
 abbrev pub WeightFits : Bool → Option ℕ → Type 0

@@ -5,7 +5,7 @@ use Rattle.moka_grammar.specs.declared.line.Span.{Span}
 use Rattle.moka_grammar.specs.declared.line.Span.TheVariants.{Seconds, Nanos}
 use Rattle.moka_grammar.specs.declared.line.CacheOptions.{CacheOptions}
 use Rattle.moka_grammar.specs.declared.line.Mode.{Mode}
-use Rattle.moka_grammar.specs.declared.line.Mode.TheVariants.{Recorded, Unsync}
+use Rattle.moka_grammar.specs.declared.line.Mode.TheVariants.{Recorded, Sync, Unsync}
 
 -- how many nanoseconds a span has
 abbrev pub span_nanos : Span → ℕ
@@ -50,7 +50,8 @@ abbrev pub OptionsFit : CacheOptions → Type 0
 OptionsFit options =
     IfSome options.max NumberFits × IfSome options.live SpanFits × IfSome options.idle SpanFits × IfSome options.tickets NumberFits
 
--- whether a script of calls to a cache of this mode can begin with the settings: one for one thread gives out no tickets
+-- whether a script of calls to a cache of this mode can begin with the settings: only the cache of a record has its first tickets set
 abbrev pub can_have : Mode → CacheOptions → Bool
 can_have Recorded options = true
+can_have Sync options = is_none options.tickets
 can_have Unsync options = is_none options.tickets

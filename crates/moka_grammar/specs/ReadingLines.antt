@@ -11,7 +11,7 @@ use Rattle.moka_grammar.specs.declared.line.CacheOptions.{CacheOptions}
 use Rattle.moka_grammar.specs.declared.line.Header.{Header}
 use Rattle.moka_grammar.specs.declared.line.Header.TheVariants.{Cache, Core, Sketch}
 use Rattle.moka_grammar.specs.declared.line.Mode.{Mode}
-use Rattle.moka_grammar.specs.declared.line.Mode.TheVariants.{Recorded, Unsync}
+use Rattle.moka_grammar.specs.declared.line.Mode.TheVariants as mode
 use Rattle.moka_grammar.specs.declared.line.Line.{Line}
 use Rattle.moka_grammar.specs.declared.line.Request.{Request}
 use Rattle.moka_grammar.specs.declared.line.Request.TheVariants.{Insert, Get, ContainsKey, Invalidate, InvalidateAll, InvalidateIf, Sync, Iter, EntryCount, WeightedSize, Policy}
@@ -23,8 +23,9 @@ use Rattle.moka_grammar.specs.declared.line.SketchLine.TheVariants.{Inc, Freq, I
 -- the mode of this name
 unfoldable pub mode_of : List ℕ → Option Mode
 mode_of name =
-    if bytes_eq name (codes "recorded") then Some Recorded
-    else if bytes_eq name (codes "unsync") then Some Unsync
+    if bytes_eq name (codes "recorded") then Some mode.Recorded
+    else if bytes_eq name (codes "sync") then Some mode.Sync
+    else if bytes_eq name (codes "unsync") then Some mode.Unsync
     else None
 
 -- the header of a script of calls to a cache of this mode

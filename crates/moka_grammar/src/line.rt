@@ -31,6 +31,8 @@ pub struct CacheHeader {
 pub enum Mode {
     /// A cache that keeps a record of its calls.
     Recorded,
+    /// The cache that threads share, with its locks.
+    Sync,
     /// The cache for one thread.
     Unsync,
 }
@@ -43,18 +45,19 @@ impl Mode {
         match (self, request) {
             (Mode::Recorded, Request::InvalidateIf { .. } | Request::Iter | Request::Policy) =>
                 false,
+            (Mode::Sync, Request::InvalidateIf { .. }) => false,
             (Mode::Unsync, Request::Sync) => false,
             _ => true,
         }
     }
 
-    /// Whether a script of this mode can begin with the settings: a cache for one thread gives out no tickets.
+    /// Whether a script of this mode can begin with the settings: only the cache of a record has its first tickets set.
     pub fn can_have(self, options: CacheOptions) -> bool
         ensures { result ≡ can_have self options }
     {
         match self {
             Mode::Recorded => true,
-            Mode::Unsync => options.tickets.is_none(),
+            Mode::Sync | Mode::Unsync => options.tickets.is_none(),
         }
     }
 }

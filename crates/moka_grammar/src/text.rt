@@ -27,6 +27,15 @@ impl<A: Allocator + Clone + Drop> Model for Text<A> {
     ghost invariant = { λ text. IsText text.bytes.items };
 }
 
+impl<A: Allocator + Clone + Drop> Clone for Text<A> {
+    ghost is_clone = { λ text copy. copy ≡ text };
+
+    /// A copy, in memory of its own.
+    fn clone(&self) -> Result<Self, AllocError> {
+        Text::new(self.bytes.allocator().clone()?, &self.bytes)
+    }
+}
+
 fn is_text_byte(byte: u8) -> bool
     ensures { result ≡ is_text_byte byte }
 {

@@ -1,5 +1,5 @@
 //! One shard of the map: the entries whose hashes belong to it, in the slots of a slab, found by the hashes of their keys.
-ghost use Rattle.std.specs.Prelude.{◌≡◌, ◌≢◌, ◌≤◌, ℕ, Bool, false, [], Some, None, IfSome, IfOk, OnOk, OnErr, IsSome, IsErr, IsTrue, IsFalse, is_some, length, option_map, option_copied};
+ghost use Rattle.std.specs.Prelude.{◌≡◌, ◌≢◌, ◌≤◌, ◌↔◌, ℕ, Bool, false, [], Some, None, IfSome, IfOk, OnOk, OnErr, IsSome, IsErr, IsTrue, IsFalse, is_some, length, option_map, option_copied};
 ghost use Rattle.slab.specs.Slab.{HasRoomFor};
 ghost use Rattle.moka_base.specs.Keys.{keys_by};
 ghost use Rattle.moka_index.specs.HashIndex.{candidates};
@@ -17,7 +17,7 @@ use moka_base::error::{InsertError, OutOfMemory};
 use moka_base::hash::FixedState;
 use moka_base::shared::Shared;
 use moka_base::time::Instant;
-use moka_engine::constants::{MAX_OUTSTANDING, NO_TICKET};
+use moka_engine::constants::{MAX_OUTSTANDING, NO_TICKET, SHARDS};
 use moka_engine::entry::{Entry, EntryChange};
 use moka_engine::settings::Settings;
 use moka_engine::ticket::Ticket;
@@ -118,6 +118,20 @@ impl<K: Eq + Hash + Drop, V: Drop, S: BuildHasher + Drop, A: Allocator + Clone +
         ensures { self.new ≡ record self.old { next_number = next_number } }
     {
         self.next_number = next_number;
+    }
+
+    /// The hash of a key.
+    pub fn hash_of(&self, key: &K) -> u64
+        ensures { result ≡ (keys_by K.Hash S.BuildHasher S.Hasher.Hasher).hash_of self.now.hash_state key.now }
+    {
+        self.hash_state.get().hash_one(key)
+    }
+
+    /// Whether keys of this hash belong here.
+    pub fn is_of(&self, hash: u64) -> bool
+        ensures { IsTrue result ↔ shard_of hash ≡ self.now.number }
+    {
+        (hash % SHARDS as u64) as usize == self.number
     }
 
     /// The slot of the entry of a key, whose hash it is.

@@ -23,7 +23,12 @@ pub use Rattle.moka_engine_laws.specs.PlainMap
 pub use Rattle.moka_engine_laws.specs.Weights
 pub use Rattle.moka_engine_laws.specs.CallLaws
 pub use Rattle.moka_core.specs.Core
-pub mod Builder
-pub mod Steps
-pub mod CoreCaller
-pub mod StepLaws
+pub use Rattle.moka_locks.specs.Builder
+pub use Rattle.moka_locks.specs.Rule
+pub use Rattle.moka_locks.specs.Cache
+pub use Rattle.moka_locks.specs.Locked
+pub use Rattle.moka_locks.specs.Snapshot
+pub use Rattle.moka_locks.specs.MaintenanceTurn
+pub use Rattle.moka_steps.specs.Steps
+pub use Rattle.moka_steps.specs.CoreCaller
+pub use Rattle.moka_steps.specs.StepLaws

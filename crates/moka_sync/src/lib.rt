@@ -1,11 +1,9 @@
 //! The cache that threads share.
 #![tactic(auto)]
 
-pub mod builder;
 pub mod engine;
-pub mod housekeeper;
-pub mod step_laws;
-pub mod steps;
 
 pub use moka_engine::constants;
 pub use moka_engine_laws::laws;
+pub use moka_locks::{builder, cache, housekeeper, iter, mapref, rule};
+pub use moka_steps::{step_laws, steps};

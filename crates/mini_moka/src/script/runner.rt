@@ -1,12 +1,14 @@
 // A whole run: from the bytes of a script to the bytes of its replies.
-ghost use Rattle.std.specs.Prelude.{◌≡◌, ◌↔◌, true, false, IfOk};
+ghost use Rattle.std.specs.Prelude.{◌≡◌, ◌≢◌, ◌↔◌, true, false, IfOk, ℕ, List};
 ghost use Rattle.mini_moka.specs.Reply.{bad_line};
 ghost use Rattle.std.specs.List.{AllByRecursion};
+ghost use Rattle.moka_grammar.specs.Grammar.{CacheScript, IsScript};
 ghost use Rattle.moka_grammar.specs.Lines.{LineFits};
-ghost use Rattle.mini_moka.specs.ScriptRun.{AreCacheReplyLines, EndsSo, IsRunOf, status_of};
+ghost use Rattle.mini_moka.specs.ScriptRun.{EndsSo, IsRunOf, status_of};
 ghost use Rattle.mini_moka.specs.declared.script.runner.ScriptError.TheVariants as script_error;
 
 use crate::script::core_lines::core_replies;
+use crate::script::locked::{LockedScript, locked_replies};
 use crate::script::recorded::recorded_replies;
 use crate::script::sketch::sketch_replies;
 use crate::script::unsync::unsync_replies;
@@ -15,16 +17,19 @@ use moka_grammar::line::{CacheHeader, Line, Mode, Script};
 use moka_grammar::parser::{ParseError, parse};
 use moka_grammar::text::Text;
 use moka_streams::streams::{Fault, ReadError, Sink, Source, read_all, write_all};
-use std::alloc::{AllocError, Allocator};
+use std::alloc::{AllocError, Allocator, Global};
 use std::fmt;
+use std::sync::Wait;
 
 /// How a run of a script ends where its streams and memory serve.
-#[derive(Clone, Copy, Debug, PartialEq, Eq)]
-pub enum End {
+#[derive(Drop)]
+pub enum End<A: Allocator + Clone + Drop = Global> {
     /// The replies were written, a line for each line of the script, or that its cache is refused.
     Done,
     /// The input is no script. Its first bad line, counted from 1, was written, and no call was made.
     BadLine(u64),
+    /// The input is a script of the cache with locks, whose calls may wait. Nothing was written: it is for `run_locked`.
+    Locked(LockedScript<A>),
 }
 
 /// Why a run of a script is broken off.
@@ -66,14 +71,15 @@ impl fmt::Display for ScriptError {
 
 impl std::error::Error for ScriptError {}
 
-/// The exit status of a program whose run ends so: 0 where the replies were written, 2 where the input is no script, 1 after a fault.
-pub fn status_of(ended: Result<End, ScriptError>) -> u8
+/// The exit status of a program whose run ends so: 0 where the replies were written, 2 where the input is no script, 1 after a fault or where the script
+/// is still to be run.
+pub fn status_of<A: Allocator + Clone + Drop>(ended: Result<End<A>, ScriptError>) -> u8
     ensures { result ≡ status_of ended }
 {
     match ended {
         Ok(End::Done) => 0,
         Ok(End::BadLine(_)) => 2,
-        Err(_) => 1,
+        Ok(End::Locked(_)) | Err(_) => 1,
     }
 }
 
@@ -122,12 +128,12 @@ impl From<AllocError> for ScriptError {
 /// its name; in a sketch script `inc` and `ensure` by `ok`, and the others by a number. In a script of a core a turn is answered
 /// by `at` and the place after it, a push by `ok` or `discarded`, and a step that can't happen by `not possible`. A call that was
 /// refused is answered by `refused memory` or `refused tickets`. Where a line is bad, `bad line` and its number are all that is
-/// written. The time is linear in the bytes, but for what the calls of a cache or a core take and the counts of an `inc`.
+/// written. A script of the cache with locks is handed back, and nothing is written. The time is linear in the bytes, but for what the calls of a cache or a core take and the counts of an `inc`.
 pub fn run<A: Allocator + Clone + Drop, I: Source, O: Sink>(
     alloc: A,
     source: &mut I,
     sink: &mut O,
-) -> Result<End, ScriptError>
+) -> Result<End<A>, ScriptError>
     requires source { I.failed source.old ≡ false }
     requires sink { O.failed sink.old ≡ false }
     ensures ends { EndsSo A (I.remaining source.old) result
@@ -141,18 +147,35 @@ pub fn run<A: Allocator + Clone + Drop, I: Source, O: Sink>(
     Ok(end)
 }
 
+/// Makes the calls of a script in turn on a cache with locks, and writes the replies as `run` does. A call waits where another thread has its lock, and
+/// here no other thread has one.
+///
+/// What a call is answered is shown by tests: the contracts of a cache with locks say nothing of what it holds.
+pub fn run_locked<A: Allocator + Clone + Drop, R: Wait, O: Sink>(
+    alloc: A,
+    rt: &R,
+    script: LockedScript<A>,
+    sink: &mut O,
+) -> Result<End<A>, ScriptError>
+    requires sink { O.failed sink.old ≡ false }
+    ensures done { IfOk result (λ end. end ≡ End.Done) }
+    ensures read { result ≢ Err ScriptError.Read }
+    ensures write { (result ≡ Err ScriptError.Write) ↔ (O.failed sink.new ≡ true) }
+{
+    let replies = locked_replies(alloc, rt, script)?;
+    write_all(sink, &replies)?;
+    Ok(End::Done)
+}
+
 /// How a run of the bytes ends, and the text that it writes.
 fn output_of<A: Allocator + Clone + Drop>(
     alloc: A,
     bytes: &[u8],
-) -> Result<(End, Vec<u8, A>), OutOfMemory>
+) -> Result<(End<A>, Vec<u8, A>), OutOfMemory>
     ensures { IfOk result (λ output. IsRunOf A bytes.now output.0 output.1.items) }
 {
     match parse(alloc.clone()?, bytes) {
-        Ok(Script::Cache { header, lines }) => {
-            let text = cache_replies(alloc, header, lines)?;
-            Ok((End::Done, text))
-        }
+        Ok(Script::Cache { header, lines }) => cache_output(alloc, header, lines),
         Ok(Script::Core { options, lines }) => {
             let text = core_replies(alloc, options, lines)?;
             Ok((End::Done, text))
@@ -169,18 +192,29 @@ fn output_of<A: Allocator + Clone + Drop>(
     }
 }
 
-/// The replies to a script of calls to a cache, by its mode.
-fn cache_replies<A: Allocator + Clone + Drop>(
+/// How a run of the calls to a cache ends, by their mode, and the text that it writes.
+fn cache_output<A: Allocator + Clone + Drop>(
     alloc: A,
     header: CacheHeader,
     lines: Vec<Line<Text<A>>, A>,
-) -> Result<Vec<u8, A>, OutOfMemory>
+) -> Result<(End<A>, Vec<u8, A>), OutOfMemory>
     requires { AllByRecursion (LineFits header) lines.items }
-    ensures { IfOk result (λ text. AreCacheReplyLines A header.mode header lines.items text.items) }
+    ensures { IfOk result (λ output. (bytes : List ℕ) → IsScript bytes (CacheScript header lines.items)
+        → IsRunOf A bytes output.0 output.1.items) }
 {
     match header.mode {
-        Mode::Recorded => recorded_replies(alloc, header, lines),
-        Mode::Unsync => unsync_replies(alloc, header, lines),
+        Mode::Recorded => {
+            let text = recorded_replies(alloc, header, lines)?;
+            Ok((End::Done, text))
+        }
+        Mode::Sync => {
+            let script = LockedScript::new(header, lines);
+            Ok((End::Locked(script), Vec::new(alloc)))
+        }
+        Mode::Unsync => {
+            let text = unsync_replies(alloc, header, lines)?;
+            Ok((End::Done, text))
+        }
     }
 }
 

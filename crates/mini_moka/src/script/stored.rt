@@ -8,7 +8,7 @@ use moka_engine::weigh::WeighShared;
 use moka_grammar::text::Text;
 
 /// A text, and how much it weighs. `T` is how texts are held, as in `Request`.
-#[derive(Drop)]
+#[derive(Clone, Drop)]
 pub struct Stored<T = Text> {
     pub text: T,
     pub weight: u32,

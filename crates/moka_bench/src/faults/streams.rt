@@ -95,11 +95,11 @@ fn nothing_is_written_where_the_nth_read_fails(rt: HostRuntime) -> Result<(), Fa
     let mut refusals = 0usize;
     for calls in 0..MANY {
         let (end, text) = run_of_reads(rt.alloc(), calls);
-        if end == Err(ScriptError::Read) {
+        if let Err(ScriptError::Read) = end {
             assert!(rt; text.is_empty(), "after {calls} reads");
             refusals = calls + 1;
         } else {
-            assert_eq!(rt; end, Ok(End::Done), "after {calls} reads");
+            assert!(rt; matches!(end, Ok(End::Done)), "after {calls} reads");
             assert_eq!(rt; text.as_slice(), REPLIES.as_bytes(), "after {calls} reads");
         }
     }
@@ -113,7 +113,7 @@ fn a_beginning_is_written_where_the_nth_write_fails(rt: HostRuntime) -> Result<(
     let mut refusals = 0usize;
     for calls in 0..MANY {
         let (end, text) = run_of_writes(rt.alloc(), SCRIPT.as_bytes(), calls);
-        if end == Err(ScriptError::Write) {
+        if let Err(ScriptError::Write) = end {
             assert_eq!(rt; text.len(), calls.wrapping_mul(2), "after {calls} writes");
             assert!(rt;
                 REPLIES.as_bytes().starts_with(text.as_slice()),
@@ -121,7 +121,7 @@ fn a_beginning_is_written_where_the_nth_write_fails(rt: HostRuntime) -> Result<(
             );
             refusals = calls + 1;
         } else {
-            assert_eq!(rt; end, Ok(End::Done), "after {calls} writes");
+            assert!(rt; matches!(end, Ok(End::Done)), "after {calls} writes");
             assert_eq!(rt; text.as_slice(), REPLIES.as_bytes(), "after {calls} writes");
         }
     }
@@ -133,7 +133,7 @@ fn a_beginning_is_written_where_the_nth_write_fails(rt: HostRuntime) -> Result<(
 #[test]
 fn a_bad_line_is_told_as_far_as_the_writer_takes_it(rt: HostRuntime) -> Result<(), Fail> {
     let (end, text) = run_of_writes(rt.alloc(), b"recorded\nx\n".as_slice(), 3);
-    assert_eq!(rt; end, Err(ScriptError::Write));
+    assert!(rt; matches!(end, Err(ScriptError::Write)));
     assert_eq!(rt; text.as_slice(), b"bad li".as_slice());
     Ok(())
 }
@@ -184,13 +184,13 @@ fn errors_of_streams_have_their_texts(rt: HostRuntime) -> Result<(), Fail> {
 
 #[test]
 fn a_run_has_its_status(rt: HostRuntime) {
-    for (ended, status) in [
-        (Ok(End::Done), 0),
-        (Ok(End::BadLine(1)), 2),
-        (Err(ScriptError::Read), 1),
-        (Err(ScriptError::Write), 1),
-        (Err(ScriptError::OutOfMemory), 1),
+    assert_eq!(rt; status_of::<Global>(Ok(End::Done)), 0);
+    assert_eq!(rt; status_of::<Global>(Ok(End::BadLine(1))), 2);
+    for error in [
+        ScriptError::Read,
+        ScriptError::Write,
+        ScriptError::OutOfMemory,
     ] {
-        assert_eq!(rt; status_of(ended), status, "of {ended:?}");
+        assert_eq!(rt; status_of::<Global>(Err(error)), 1, "of {error:?}");
     }
 }

@@ -184,7 +184,7 @@ fn a_refused_table_is_told_and_leaves_the_counters(rt: HostRuntime) -> Result<()
 fn nothing_is_written_where_the_first_table_is_refused(rt: HostRuntime) -> Result<(), Fail> {
     let heap = LocalHeap::new(rt.alloc(), 6000)?;
     let (end, text) = run_in(&heap, rt.alloc(), "sketch 1024\nlen\n");
-    assert_eq!(rt; end, Err(ScriptError::OutOfMemory));
+    assert!(rt; matches!(end, Err(ScriptError::OutOfMemory)));
     assert!(rt; text.is_empty());
     Ok(())
 }

@@ -22,7 +22,7 @@ pub fn run_in<A: Allocator + Clone + Drop>(
     heap: A,
     alloc: Global,
     script: &str,
-) -> (Result<End, ScriptError>, Vec<u8>) {
+) -> (Result<End<A>, ScriptError>, Vec<u8>) {
     let mut source = FromRead::new(script.as_bytes());
     let mut sink = FromWrite::new(Vec::new(alloc));
     let end = run(heap, &mut source, &mut sink);
@@ -127,7 +127,7 @@ pub fn check_lines_in<A: Allocator + Clone + Drop>(
 ) -> Result<(), Fail> {
     let (script, replies) = sides_of(alloc, lines)?;
     let (end, text) = run_in(heap, alloc, &script);
-    assert_eq!(rt; end, Ok(End::Done));
+    assert!(rt; matches!(end, Ok(End::Done)));
     assert_eq!(rt; text.as_slice(), replies.as_bytes());
     Ok(())
 }
@@ -141,8 +141,19 @@ pub fn check_script(
     replies: &str,
 ) -> Result<(), Fail> {
     let (end, text) = output_of(alloc, script)?;
-    assert_eq!(rt; end, End::Done, "the end of {name}");
-    let text = std::str::from_utf8(text.as_slice())?;
+    assert!(rt; matches!(end, End::Done), "the end of {name}");
+    check_replies(rt, name, script, &text, replies)
+}
+
+/// Compares what a script writes line by line.
+pub fn check_replies(
+    rt: &impl Abort,
+    name: &str,
+    script: &str,
+    text: &[u8],
+    replies: &str,
+) -> Result<(), Fail> {
+    let text = std::str::from_utf8(text)?;
     for ((call, reply), want) in script.lines().zip(text.lines()).zip(replies.lines()) {
         assert_eq!(rt; reply, want, "the reply to {call:?} of {name}");
     }

@@ -1,4 +1,4 @@
-// The atomic steps of the caller of whole calls, one method each: what `moka_sync::steps` stands on.
+// The atomic steps of the caller of whole calls, one method each: what `moka_steps` stands on.
 ghost use Rattle.std.specs.Prelude.{◌≡◌, None};
 ghost use Rattle.moka_base.specs.Keys.{keys_by};
 ghost use Rattle.moka_engine.specs.CoreCall.{Decides, has_pending};

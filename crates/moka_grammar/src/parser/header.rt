@@ -38,6 +38,9 @@ fn mode_of(name: &[u8]) -> Result<Mode, LineError>
     if name == b"recorded".as_slice() {
         return Ok(Mode::Recorded);
     }
+    if name == b"sync".as_slice() {
+        return Ok(Mode::Sync);
+    }
     if name == b"unsync".as_slice() {
         return Ok(Mode::Unsync);
     }

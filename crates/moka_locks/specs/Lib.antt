@@ -1,0 +1,6 @@
+pub mod Builder
+pub mod Rule
+pub mod Cache
+pub mod Locked
+pub mod Snapshot
+pub mod MaintenanceTurn

@@ -1,0 +1,99 @@
+//! When a caller runs a maintenance: nobody else does, and one caller at a time.
+ghost use Rattle.std.specs.Prelude.{◌≡◌, Option, ℕ, IsTrue};
+ghost use Rattle.moka_engine.specs.CoreCall.{is_due};
+ghost use Rattle.moka_engine.specs.declared.constants.TheConstants.{FLUSH_POINT};
+
+use moka_base::time::Instant;
+pub use moka_core::housekeeper::is_due;
+use moka_engine::constants::{FLUSH_POINT, SYNC_INTERVAL};
+use std::sync::atomic::{AtomicBool, AtomicU64, Ordering};
+
+/// Says when a maintenance is due, and lets one caller at a time run it. Its calls neither wait nor take memory.
+///
+/// It is mini-moka's `Housekeeper`, whose `try_sync` takes a closure here. There is no due moment before the first maintenance.
+#[derive(Drop)]
+pub struct Housekeeper {
+    is_running: AtomicBool,
+    /// Whether there is a due moment yet. Each number is a moment, so none can stand for that.
+    is_scheduled: AtomicBool,
+    sync_after: AtomicU64,
+}
+
+impl Default for Housekeeper {
+    fn default() -> Self {
+        Housekeeper {
+            is_running: AtomicBool::new(false),
+            is_scheduled: AtomicBool::new(false),
+            sync_after: AtomicU64::new(0),
+        }
+    }
+}
+
+impl Housekeeper {
+    /// Whether a maintenance is due in a call that finds so many operations in the read log.
+    pub fn should_apply_reads(&self, len: usize, now: Instant) -> bool
+        ensures { (due : Option ℕ) × (result ≡ is_due len FLUSH_POINT due now) }
+    {
+        self.should_apply(len, FLUSH_POINT, now)
+    }
+
+    /// The same for the write log.
+    pub fn should_apply_writes(&self, len: usize, now: Instant) -> bool
+        ensures { (due : Option ℕ) × (result ≡ is_due len FLUSH_POINT due now) }
+    {
+        self.should_apply(len, FLUSH_POINT, now)
+    }
+
+    /// Whether a maintenance is due in a call that finds so many operations in its log: as many as the flush point or more, or the due moment, if
+    /// there is one, has come.
+    pub fn should_apply(&self, len: usize, flush_point: usize, now: Instant) -> bool
+        ensures { (due : Option ℕ) × (result ≡ is_due len flush_point due now) }
+    {
+        is_due(len, flush_point, self.sync_after(), now)
+    }
+
+    /// Calls the closure and answers true, unless another caller's closure is running: then it answers false, and drops the closure. The next
+    /// maintenance is due half a second after `now`, from before the closure is called.
+    pub fn try_sync<F: FnOnce()>(&self, now: Instant, run: F) -> bool
+        requires { F.pre run }
+        ensures { IsTrue result → F.post run tt }
+    {
+        if !self.try_begin(now) {
+            return false;
+        }
+        run();
+        self.end();
+        true
+    }
+
+    /// Wins the right to run a maintenance, and schedules the next, unless another caller has that right.
+    pub(crate) fn try_begin(&self, now: Instant) -> bool {
+        // A look leaves the line with all that look. An exchange, won or not, takes it from them.
+        if self.is_running.load(Ordering::Acquire) {
+            return false;
+        }
+        let won = self
+            .is_running
+            .compare_exchange(false, true, Ordering::AcqRel, Ordering::Acquire);
+        if won.is_err() {
+            return false;
+        }
+        let due = now.nanos().saturating_add(SYNC_INTERVAL);
+        self.sync_after.store(due, Ordering::Release);
+        self.is_scheduled.store(true, Ordering::Release);
+        true
+    }
+
+    /// Gives that right back.
+    pub(crate) fn end(&self) {
+        self.is_running.store(false, Ordering::Release);
+    }
+
+    /// The moment from which on a maintenance is due by time, if there is one.
+    fn sync_after(&self) -> Option<Instant> {
+        if !self.is_scheduled.load(Ordering::Acquire) {
+            return None;
+        }
+        Some(Instant::from_nanos(self.sync_after.load(Ordering::Acquire)))
+    }
+}

@@ -1,0 +1,358 @@
+// What all clones of a cache share: its shards, its logs and its maintenance, each behind a lock, and some words.
+ghost use Rattle.std.specs.Prelude.{◌≡◌, ◌<◌, ◌+◌, ◌++◌, map, IfOk, IfSome, OnOk};
+ghost use Rattle.std.specs.List.{IsDistinct};
+ghost use Rattle.std.specs.Vec.{vec_len};
+ghost use Rattle.moka_engine.specs.declared.constants.TheConstants.{SHARDS};
+ghost use Rattle.moka_base.specs.Keys.{keys_by};
+ghost use Rattle.moka_locks.specs.Cache.{new_cache};
+ghost use Rattle.moka_locks.specs.Rule.{PairsMeet};
+ghost use Rattle.moka_locks.specs.Snapshot.{IsSnapshot, own_pairs};
+ghost use Rattle.moka_engine.specs.CoreState.{Maintenance as MaintenanceState};
+ghost use Rattle.moka_engine.specs.Place.{Idle, ReadCount};
+ghost use Rattle.moka_locks.specs.MaintenanceTurn.{IsTurn};
+
+use crate::housekeeper::Housekeeper;
+use crate::resting::Resting;
+use crate::rule::PairRule;
+use crate::running::Running;
+use crate::shard::RuledShard;
+use crate::waiting::{goes_below, lock};
+use crossbeam_utils::CachePadded;
+use moka_base::error::{InsertError, OutOfMemory};
+use moka_base::shared::Shared;
+use moka_base::time::Instant;
+use moka_core::engine::CoreParts;
+use moka_engine::constants::{READ_LOG_SIZE, SHARDS, WRITE_LOG_SIZE};
+use moka_engine::operation::{Read, Write};
+use moka_engine::settings::Settings;
+use moka_engine::ticket::Ticket;
+use moka_engine::weigh::WeighShared;
+use moka_maintenance::logs::{ReadLog, WriteLog};
+use moka_maintenance::maintenance::{Maintenance, Need};
+use moka_shard::shard::Shard;
+use std::alloc::Allocator;
+use std::hash::{BuildHasher, Hash};
+use std::marker::Model;
+use std::sync::atomic::{AtomicU64, AtomicUsize, Ordering};
+use std::sync::{Mutex, Wait};
+
+/// The locks of a cache, and what lies beside them. What threads write to lies on lines of its own.
+#[derive(Drop)]
+pub(crate) struct Inner<
+    K: Eq + Hash + Drop,
+    V: Drop,
+    S: BuildHasher + Drop,
+    P: PairRule<K, V>,
+    W: Drop,
+    A: Allocator + Clone + Drop,
+> {
+    pub(crate) settings: Settings<S, A>,
+    pub(crate) weigher: W,
+    pub(crate) alloc: A,
+    shards: Vec<CachePadded<Mutex<RuledShard<K, V, S, P, A>>>, A>,
+    read_log: CachePadded<Mutex<ReadLog<A>>>,
+    write_log: CachePadded<Mutex<WriteLog<A>>>,
+    /// Nothing while a maintenance is under way: then whoever runs it has the lock.
+    maintenance: CachePadded<Mutex<Option<Resting<A>>>>,
+    housekeeper: CachePadded<Housekeeper>,
+    /// How many operations the read log held when it was left last.
+    reads: CachePadded<AtomicUsize>,
+    /// How many the write log did.
+    writes: CachePadded<AtomicUsize>,
+    valid_after: AtomicU64,
+    /// How many entries were charged when a maintenance last ended.
+    entry_count: AtomicU64,
+    /// What they weighed, at most `u64::MAX`.
+    weighted_size: AtomicU64,
+}
+
+impl<
+    K: Eq + Hash + Drop,
+    V: Drop,
+    S: BuildHasher + Drop,
+    P: PairRule<K, V>,
+    W: Drop,
+    A: Allocator + Clone + Drop,
+> Model for Inner<K, V, S, P, W, A> {
+    ghost use Rattle.std.specs.Prelude.{◌≡◌};
+    ghost use Rattle.std.specs.Vec.{vec_len};
+    ghost use Rattle.moka_engine.specs.declared.constants.TheConstants.{SHARDS};
+    ghost use Rattle.moka_locks.specs.Cache.{Cache};
+
+    ghost Value = { Cache S W };
+
+    ghost view = { λ i. record { settings = i.settings; weigher = i.weigher } };
+
+    ghost invariant = { λ i. vec_len i.shards ≡ SHARDS };
+}
+
+impl<
+    K: Eq + Hash + Drop,
+    V: Drop,
+    S: BuildHasher + Drop,
+    P: PairRule<K, V>,
+    W: Drop,
+    A: Allocator + Clone + Drop,
+> Inner<K, V, S, P, W, A> {
+    /// A cache of these parts, with nothing done to it.
+    pub(crate) fn new(alloc: A, parts: CoreParts<S, W>) -> Result<Self, OutOfMemory>
+        ensures { IfOk result (λ inner. inner ≡ new_cache (record { hash_state = parts.hash_state; policy = parts.policy; is_weighed = parts.is_weighed }) parts.weigher) }
+    {
+        let hash_state = Shared::new(alloc.clone()?, parts.hash_state)?;
+        let shards = locked_shards(alloc.clone()?, &hash_state, parts.capacity)?;
+        let maintenance = Resting::new(Maintenance::new(alloc.clone()?)?);
+        Ok(Inner {
+            settings: Settings::new(hash_state, parts.policy, parts.is_weighed),
+            weigher: parts.weigher,
+            shards,
+            read_log: CachePadded::new(Mutex::new(ReadLog::new(alloc.clone()?)?)),
+            write_log: CachePadded::new(Mutex::new(WriteLog::new(alloc.clone()?)?)),
+            maintenance: CachePadded::new(Mutex::new(Some(maintenance))),
+            housekeeper: CachePadded::new(Housekeeper::default()),
+            reads: CachePadded::new(AtomicUsize::new(0)),
+            writes: CachePadded::new(AtomicUsize::new(0)),
+            valid_after: AtomicU64::new(0),
+            entry_count: AtomicU64::new(0),
+            weighted_size: AtomicU64::new(0),
+            alloc,
+        })
+    }
+
+    /// The hash of a key.
+    pub(crate) fn hash_of(&self, key: &K) -> u64
+        ensures { result ≡ (keys_by K.Hash S.BuildHasher S.Hasher.Hasher).hash_of self.now.settings.hash_state key.now }
+    {
+        self.settings.hash_state().get().hash_one(key)
+    }
+
+    /// The lock of the shard that a hash belongs to.
+    fn shard(&self, hash: u64) -> &Mutex<RuledShard<K, V, S, P, A>> {
+        &self.shards[(hash % SHARDS as u64) as usize]
+    }
+
+    /// The moment from which on entries count.
+    fn valid_after(&self) -> Instant {
+        Instant::from_nanos(self.valid_after.load(Ordering::Acquire))
+    }
+
+    /// The value at a key, shared once more, and the ticket of its entry, if that counts at a moment.
+    pub(crate) fn get<R: Wait>(
+        &self,
+        rt: &R,
+        key: &K,
+        hash: u64,
+        now: Instant,
+    ) -> Result<Option<(Shared<V, A>, Ticket)>, OutOfMemory>
+        ensures ruled { IfOk result (λ found. IfSome found (λ f. P.holds key.now f.0)) }
+    {
+        let valid_after = self.valid_after();
+        let shard = lock(rt, self.shard(hash));
+        shard.get(key, &self.settings, valid_after, now)
+    }
+
+    /// Whether a key has an entry that counts at a moment.
+    pub(crate) fn contains_key<R: Wait>(&self, rt: &R, key: &K, now: Instant) -> bool {
+        let valid_after = self.valid_after();
+        let shard = lock(rt, self.shard(self.hash_of(key)));
+        shard.contains_key(key, &self.settings, valid_after, now)
+    }
+
+    /// Takes out the entry of a key. The answer is its ticket.
+    pub(crate) fn invalidate<R: Wait>(&self, rt: &R, key: &K) -> Option<Ticket> {
+        let mut shard = lock(rt, self.shard(self.hash_of(key)));
+        shard.invalidate(key)
+    }
+
+    /// The pairs of a shard that count at a moment, shared once more.
+    fn pairs<R: Wait>(
+        &self,
+        rt: &R,
+        number: usize,
+        now: Instant,
+    ) -> Result<Vec<(Shared<K, A>, Shared<V, A>), A>, OutOfMemory>
+        requires { number < SHARDS }
+        ensures ruled { IfOk result (λ pairs. PairsMeet P.holds pairs.items) }
+        ensures once { IfOk result (λ pairs. IsDistinct K.eq (map (λ p. p.0) pairs.items)) }
+    {
+        let alloc = self.alloc.clone()?;
+        let valid_after = self.valid_after();
+        let shard = lock(rt, &self.shards[number]);
+        shard.pairs(alloc, &self.settings, valid_after, now)
+    }
+
+    /// Adds those of the pairs whose keys are of this shard.
+    fn add_own(
+        &self,
+        number: usize,
+        copied: Vec<(Shared<K, A>, Shared<V, A>), A>,
+        pairs: &mut Vec<(Shared<K, A>, Shared<V, A>), A>,
+    ) -> Result<(), OutOfMemory>
+        ensures { OnOk result (pairs.new.items ≡ pairs.old.items ++ own_pairs
+            ((keys_by K.Hash S.BuildHasher S.Hasher.Hasher).hash_of self.now.settings.hash_state) number copied.items) }
+    {
+        for (key, value) in copied {
+            if self.hash_of(key.get()) % SHARDS as u64 == number as u64 {
+                pairs.push((key, value))?;
+            }
+        }
+        Ok(())
+    }
+
+    /// Adds the pairs of a shard that count at a moment, shared once more, to those of the shards before it.
+    pub(crate) fn copy<R: Wait>(
+        &self,
+        rt: &R,
+        number: usize,
+        now: Instant,
+        pairs: &mut Vec<(Shared<K, A>, Shared<V, A>), A>,
+    ) -> Result<(), OutOfMemory>
+        requires below { number < SHARDS }
+        requires snapshot { IsSnapshot P.holds K.eq ((keys_by K.Hash S.BuildHasher S.Hasher.Hasher).hash_of self.now.settings.hash_state)
+            number pairs.old.items }
+        ensures snapshot { OnOk result (IsSnapshot P.holds K.eq ((keys_by K.Hash S.BuildHasher S.Hasher.Hasher).hash_of
+            self.now.settings.hash_state) (number + 1) pairs.new.items) }
+    {
+        let copied = self.pairs(rt, number, now)?;
+        self.add_own(number, copied, pairs)
+    }
+
+    /// Hides all entries from before a moment.
+    pub(crate) fn invalidate_all(&self, now: Instant) {
+        self.valid_after.fetch_max(now.nanos(), Ordering::AcqRel);
+    }
+
+    /// How many entries were charged when a maintenance last ended.
+    pub(crate) fn entry_count(&self) -> u64 {
+        self.entry_count.load(Ordering::Acquire)
+    }
+
+    /// What they weighed together, at most `u64::MAX`.
+    pub(crate) fn weighted_size(&self) -> u64 {
+        self.weighted_size.load(Ordering::Acquire)
+    }
+
+    /// Puts a read into its log. Answers whether there was room. A log that its word tells full is not looked at.
+    pub(crate) fn push_read<R: Wait>(&self, rt: &R, read: Read) -> bool {
+        if self.reads.load(Ordering::Acquire) >= READ_LOG_SIZE {
+            return false;
+        }
+        let mut log = lock(rt, &self.read_log);
+        let is_pushed = log.push(read).is_ok();
+        self.reads.store(log.len(), Ordering::Release);
+        is_pushed
+    }
+
+    /// Puts a write into its log. Answers whether there was room. While its word tells it full it is not looked at: the writer waits on the word.
+    pub(crate) fn push_write<R: Wait>(&self, rt: &R, write: Write) -> bool {
+        if !goes_below(&self.writes, WRITE_LOG_SIZE) {
+            return false;
+        }
+        let mut log = lock(rt, &self.write_log);
+        let is_pushed = log.push(write).is_ok();
+        self.writes.store(log.len(), Ordering::Release);
+        is_pushed
+    }
+
+    /// Whether a maintenance is due, as a get asks, and nobody else runs one. Then nobody does until `end_maintenance`.
+    pub(crate) fn win_for_reads(&self, now: Instant) -> bool {
+        let reads = self.reads.load(Ordering::Acquire);
+        self.housekeeper.should_apply_reads(reads, now) && self.housekeeper.try_begin(now)
+    }
+
+    /// The same, as an insert or an invalidation asks.
+    pub(crate) fn win_for_writes(&self, now: Instant) -> bool {
+        let writes = self.writes.load(Ordering::Acquire);
+        self.housekeeper.should_apply_writes(writes, now) && self.housekeeper.try_begin(now)
+    }
+
+    /// Others may run a maintenance again.
+    pub(crate) fn end_maintenance(&self) {
+        self.housekeeper.end();
+    }
+
+    /// Begins a maintenance, once nobody else runs one.
+    pub(crate) fn begin<R: Wait>(&self, rt: &R, now: Instant) -> Running<'_, A>
+        ensures { (m : MaintenanceState) × (m.place ≡ Idle) × (result ≡ record m { place = ReadCount 1; moment = now }) }
+    {
+        Running::begin(rt, &self.maintenance, now)
+    }
+
+    /// One turn of the maintenance, with the lock of what it needs.
+    pub(crate) fn turn<R: Wait>(&self, rt: &R, maintenance: &mut Maintenance<A>)
+        ensures { IsTurn K V self.now.settings maintenance.old maintenance.new }
+    {
+        let valid_after = self.valid_after();
+        match maintenance.need::<K, V, S>(&self.settings, valid_after) {
+            Need::Nothing => maintenance.turn_alone::<K, V, S>(&self.settings, valid_after),
+            Need::Reads => {
+                let mut log = lock(rt, &self.read_log);
+                maintenance.turn_with_reads::<K, V, S>(&self.settings, valid_after, &mut log);
+                self.reads.store(log.len(), Ordering::Release);
+            }
+            Need::Writes => {
+                let mut log = lock(rt, &self.write_log);
+                maintenance.turn_with_writes::<K, V, S>(&self.settings, valid_after, &mut log);
+                self.writes.store(log.len(), Ordering::Release);
+            }
+            Need::Entry(ticket) => {
+                let mut shard = lock(rt, self.shard(ticket.hash));
+                shard.turn(maintenance, ticket, &self.settings, valid_after);
+            }
+        }
+    }
+
+    /// Publishes what a maintenance that has ended has left.
+    pub(crate) fn publish(&self, maintenance: &Maintenance<A>) {
+        let published = maintenance.published();
+        self.entry_count
+            .store(published.count as u64, Ordering::Release);
+        self.weighted_size
+            .store(published.weight, Ordering::Release);
+    }
+}
+
+impl<
+    K: Eq + Hash + Drop,
+    V: Drop,
+    S: BuildHasher + Drop,
+    P: PairRule<K, V>,
+    W: WeighShared<K, V>,
+    A: Allocator + Clone + Drop,
+> Inner<K, V, S, P, W, A> {
+    /// Puts the value at the key. The answer is the entry's ticket.
+    pub(crate) fn insert<R: Wait>(
+        &self,
+        rt: &R,
+        key: Shared<K, A>,
+        value: Shared<V, A>,
+        now: Instant,
+    ) -> Result<Ticket, InsertError>
+        requires ruled { P.holds key value }
+        requires ready { W.ready self.now.weigher }
+    {
+        let mut shard = lock(rt, self.shard(self.hash_of(key.get())));
+        shard.insert(key, value, &self.weigher, now)
+    }
+}
+
+/// The shards of a new cache, each behind its lock, with room for `capacity` entries in each.
+fn locked_shards<
+    K: Eq + Hash + Drop,
+    V: Drop,
+    S: BuildHasher + Drop,
+    P: PairRule<K, V>,
+    A: Allocator + Clone + Drop,
+>(
+    alloc: A,
+    hash_state: &Shared<S, A>,
+    capacity: usize,
+) -> Result<Vec<CachePadded<Mutex<RuledShard<K, V, S, P, A>>>, A>, OutOfMemory>
+    ensures { IfOk result (λ shards. vec_len shards ≡ SHARDS) }
+{
+    let mut shards = Vec::with_capacity(alloc.clone()?, SHARDS)?;
+    for number in 0..SHARDS {
+        let shard = Shard::new(alloc.clone()?, number, 0, capacity, hash_state.try_clone()?)?;
+        shards.push(CachePadded::new(Mutex::new(RuledShard::new(shard))))?;
+    }
+    Ok(shards)
+}

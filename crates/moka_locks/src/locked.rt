@@ -1,0 +1,218 @@
+// The steps of one caller on a cache behind locks.
+ghost use Rattle.std.specs.Prelude.{◌≡◌, None, IfSome};
+ghost use Rattle.moka_engine.specs.Place.{Idle};
+ghost use Rattle.moka_locks.specs.Locked.{resting_at, running};
+
+use crate::inner::Inner;
+use crate::rule::PairRule;
+use crate::running::Running;
+use moka_base::error::{InsertError, OutOfMemory};
+use moka_base::shared::Shared;
+use moka_base::time::Instant;
+use moka_engine::operation::{Operation, Read, Write};
+use moka_engine::place::Place;
+use moka_engine::weigh::WeighShared;
+use moka_steps::steps::{ReadPush, Steps, WhichLog, WritePush};
+use std::alloc::Allocator;
+use std::hash::{BuildHasher, Hash};
+use std::marker::Model;
+use std::sync::Wait;
+
+/// A cache as one caller has it for the time of a call.
+#[derive(Drop)]
+pub(crate) struct Locked<
+    'a,
+    K: Eq + Hash + Drop,
+    V: Drop,
+    S: BuildHasher + Drop,
+    P: PairRule<K, V>,
+    W: Drop,
+    A: Allocator + Clone + Drop,
+> {
+    inner: &'a Inner<K, V, S, P, W, A>,
+    pending: Option<Operation>,
+    /// The maintenance that the caller runs.
+    running: Option<Running<'a, A>>,
+    /// Whether the caller has been told to run it, and nobody else is until it has ended.
+    has_won: bool,
+}
+
+impl<
+    'a,
+    K: Eq + Hash + Drop,
+    V: Drop,
+    S: BuildHasher + Drop,
+    P: PairRule<K, V>,
+    W: Drop,
+    A: Allocator + Clone + Drop,
+> Model for Locked<'a, K, V, S, P, W, A> {
+    ghost use Rattle.moka_locks.specs.Locked.{Locked as LockedValue};
+
+    ghost Value = { LockedValue S W };
+
+    ghost view = { λ l. record { cache = l.inner.now; pending = l.pending; maintenance = l.running } };
+}
+
+impl<
+    'a,
+    K: Eq + Hash + Drop,
+    V: Drop,
+    S: BuildHasher + Drop,
+    P: PairRule<K, V>,
+    W: Drop,
+    A: Allocator + Clone + Drop,
+> Locked<'a, K, V, S, P, W, A> {
+    /// The cache, with nothing under way.
+    pub(crate) fn new(inner: &'a Inner<K, V, S, P, W, A>) -> Self
+        ensures { result ≡ resting_at inner.now }
+    {
+        Locked {
+            inner,
+            pending: None,
+            running: None,
+            has_won: false,
+        }
+    }
+
+    /// Gives back the maintenance, which has ended, and publishes what it has left.
+    fn end(&mut self)
+        requires { IfSome self.old.maintenance (λ m. m.place ≡ Idle) }
+        ensures { self.new ≡ running None self.old }
+    {
+        let Some(running) = self.running.take() else {
+            return;
+        };
+        self.inner.publish(running.maintenance());
+        running.end();
+        if self.has_won {
+            self.has_won = false;
+            self.inner.end_maintenance();
+        }
+    }
+}
+
+impl<
+    'a,
+    K: Eq + Hash + Drop,
+    V: Drop,
+    S: BuildHasher + Drop,
+    P: PairRule<K, V>,
+    W: WeighShared<K, V>,
+    A: Allocator + Clone + Drop,
+> Steps<K, V, A> for Locked<'a, K, V, S, P, W, A> {
+    ghost use Rattle.moka_locks.specs.Locked.{locked_allows, locked_caller, locked_decides};
+
+    ghost allowed = { locked_allows P.holds };
+
+    ghost decides = { locked_decides };
+
+    ghost caller = { locked_caller };
+
+    ghost accepts = { λ locked key value. P.holds key value × W.ready locked.cache.weigher };
+
+    type Key = Shared<K, A>;
+
+    type Value = Shared<V, A>;
+
+    ghost key_of = { λ key. key };
+
+    ghost value_of = { λ value. value };
+
+    fn insert<R: Wait>(
+        &mut self,
+        rt: &R,
+        key: Shared<K, A>,
+        value: Shared<V, A>,
+        now: Instant,
+    ) -> Result<(), InsertError> {
+        let ticket = self.inner.insert(rt, key, value, now)?;
+        self.pending = Some(Operation::Writing(Write::Upsert { ticket }));
+        Ok(())
+    }
+
+    fn get<R: Wait>(
+        &mut self,
+        rt: &R,
+        key: &K,
+        now: Instant,
+    ) -> Result<Option<Shared<V, A>>, OutOfMemory> {
+        let hash = self.inner.hash_of(key);
+        let Some((value, ticket)) = self.inner.get(rt, key, hash, now)? else {
+            self.pending = Some(Operation::Reading(Read::Miss { hash }));
+            return Ok(None);
+        };
+        let read = Read::Hit {
+            ticket,
+            moment: now,
+        };
+        self.pending = Some(Operation::Reading(read));
+        Ok(Some(value))
+    }
+
+    fn contains_key<R: Wait>(&self, rt: &R, key: &K, now: Instant) -> bool {
+        self.inner.contains_key(rt, key, now)
+    }
+
+    fn invalidate<R: Wait>(&mut self, rt: &R, key: &K, _now: Instant) -> bool {
+        let Some(ticket) = self.inner.invalidate(rt, key) else {
+            return false;
+        };
+        self.pending = Some(Operation::Writing(Write::Remove { ticket }));
+        true
+    }
+
+    fn invalidate_all(&mut self, now: Instant) {
+        self.inner.invalidate_all(now);
+    }
+
+    fn push_read<R: Wait>(&mut self, rt: &R) -> ReadPush {
+        let Some(Operation::Reading(read)) = self.pending else {
+            return ReadPush::Discarded;
+        };
+        self.pending = None;
+        if self.inner.push_read(rt, read) {
+            ReadPush::Pushed
+        } else {
+            ReadPush::Discarded
+        }
+    }
+
+    fn push_write<R: Wait>(&mut self, rt: &R) -> WritePush {
+        let Some(Operation::Writing(write)) = self.pending else {
+            return WritePush::Full;
+        };
+        if !self.inner.push_write(rt, write) {
+            return WritePush::Full;
+        }
+        self.pending = None;
+        WritePush::Pushed
+    }
+
+    fn forget(&mut self) {
+        self.pending = None;
+    }
+
+    fn decide(&mut self, log: WhichLog, now: Instant) -> bool {
+        let has_won = match log {
+            WhichLog::Reads => self.inner.win_for_reads(now),
+            WhichLog::Writes => self.inner.win_for_writes(now),
+        };
+        self.has_won = has_won;
+        has_won
+    }
+
+    fn begin<R: Wait>(&mut self, rt: &R, now: Instant) {
+        self.running = Some(self.inner.begin(rt, now));
+    }
+
+    fn turn<R: Wait>(&mut self, rt: &R) -> Place {
+        let Some(running) = &mut self.running else {
+            return Place::Idle;
+        };
+        let place = running.turn(rt, self.inner);
+        if let Place::Idle = place {
+            self.end();
+        }
+        place
+    }
+}

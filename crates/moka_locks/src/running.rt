@@ -1,0 +1,87 @@
+// A maintenance that is under way, with its lock.
+ghost use Rattle.std.specs.Prelude.{◌≡◌};
+ghost use Rattle.moka_engine.specs.CoreState.{Maintenance as MaintenanceState};
+ghost use Rattle.moka_engine.specs.Place.{Idle, ReadCount, name_of};
+ghost use Rattle.moka_locks.specs.MaintenanceTurn.{IsTurn};
+
+use crate::inner::Inner;
+use crate::resting::Resting;
+use crate::rule::PairRule;
+use crate::waiting::lock;
+use moka_base::time::Instant;
+use moka_engine::place::Place;
+use moka_maintenance::maintenance::Maintenance;
+use std::alloc::Allocator;
+use std::hash::{BuildHasher, Hash};
+use std::marker::Model;
+use std::sync::{Mutex, MutexGuard, Wait};
+
+/// A maintenance with the lock from which it was taken, and to which it goes back.
+#[derive(Drop)]
+pub(crate) struct Running<'a, A: Allocator + Clone + Drop> {
+    guard: MutexGuard<'a, Option<Resting<A>>>,
+    maintenance: Maintenance<A>,
+}
+
+impl<'a, A: Allocator + Clone + Drop> Model for Running<'a, A> {
+    ghost use Rattle.moka_engine.specs.CoreState.{Maintenance as MaintenanceState};
+
+    ghost Value = { MaintenanceState };
+
+    ghost view = { λ r. r.maintenance };
+}
+
+impl<'a, A: Allocator + Clone + Drop> Running<'a, A> {
+    /// Takes the lock, and begins a maintenance.
+    pub(crate) fn begin<R: Wait>(
+        rt: &R,
+        maintenance: &'a Mutex<Option<Resting<A>>>,
+        now: Instant,
+    ) -> Running<'a, A>
+        ensures { (m : MaintenanceState) × (m.place ≡ Idle) × (result ≡ record m { place = ReadCount 1; moment = now }) }
+    {
+        for _ in rt.forever() {
+            let mut guard = lock(rt, maintenance);
+            if let Some(resting) = guard.take() {
+                let mut maintenance = resting.wake();
+                maintenance.begin(now);
+                return Running { guard, maintenance };
+            }
+        }
+        unreachable!()
+    }
+
+    /// The maintenance.
+    pub(crate) fn maintenance(&self) -> &Maintenance<A>
+        ensures { result.now ≡ self.now }
+    {
+        &self.maintenance
+    }
+
+    /// One turn, with the lock of what it needs. The answer is where the maintenance is then.
+    pub(crate) fn turn<
+        R: Wait,
+        K: Eq + Hash + Drop,
+        V: Drop,
+        S: BuildHasher + Drop,
+        P: PairRule<K, V>,
+        W: Drop,
+    >(&mut self, rt: &R, inner: &Inner<K, V, S, P, W, A>) -> Place
+        ensures turn { IsTurn K V inner.now.settings self.old self.new }
+        ensures place { result ≡ name_of self.new.place }
+    {
+        inner.turn(rt, &mut self.maintenance);
+        self.maintenance.place()
+    }
+
+    /// Gives the maintenance back, which has ended, and frees its lock.
+    pub(crate) fn end(self)
+        requires { self.place ≡ Idle }
+    {
+        let Running {
+            mut guard,
+            maintenance,
+        } = self;
+        *guard = Some(Resting::new(maintenance));
+    }
+}

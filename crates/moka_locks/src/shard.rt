@@ -1,0 +1,156 @@
+// What lies behind the lock of a shard: its entries, whose pairs meet the rule.
+ghost use Rattle.std.specs.Prelude.{◌≡◌, [], false, map, IfOk, IfSome};
+ghost use Rattle.std.specs.List.{IsDistinct};
+ghost use Rattle.moka_engine.specs.Parts.{NeedsShard, need_of};
+ghost use Rattle.moka_engine.specs.Turn.Turn.{turn_at};
+ghost use Rattle.moka_locks.specs.MaintenanceTurn.{IsTurn};
+ghost use Rattle.moka_locks.specs.Rule.{PairsMeet};
+ghost use Rattle.moka_shard.specs.Shard.{entries_in};
+
+use crate::rule::PairRule;
+use moka_base::error::{InsertError, OutOfMemory};
+use moka_base::hash::FixedState;
+use moka_base::shared::Shared;
+use moka_base::time::Instant;
+use moka_engine::settings::Settings;
+use moka_engine::ticket::Ticket;
+use moka_engine::weigh::WeighShared;
+use moka_maintenance::maintenance::Maintenance;
+use moka_shard::shard::Shard;
+use std::alloc::{Allocator, Global};
+use std::hash::{BuildHasher, Hash};
+use std::marker::{Model, PhantomData};
+
+/// A shard whose pairs meet the rule.
+#[derive(Drop)]
+pub(crate) struct RuledShard<
+    K: Eq + Hash + Drop,
+    V: Drop,
+    S: BuildHasher + Drop,
+    P: PairRule<K, V>,
+    A: Allocator + Clone + Drop = Global,
+> {
+    shard: Shard<K, V, S, A>,
+    rule: PhantomData<P>,
+}
+
+impl<
+    K: Eq + Hash + Drop,
+    V: Drop,
+    S: BuildHasher + Drop,
+    P: PairRule<K, V>,
+    A: Allocator + Clone + Drop,
+> Model for RuledShard<K, V, S, P, A> {
+    ghost use Rattle.moka_shard.specs.Shard.{Shard as ShardValue, entries_in};
+    ghost use Rattle.moka_locks.specs.Rule.{AllMeet};
+
+    ghost Value = { ShardValue K V S };
+
+    ghost view = { λ s. s.shard };
+
+    ghost invariant = { λ s. AllMeet P.holds (entries_in s.shard.slots) };
+}
+
+impl<
+    K: Eq + Hash + Drop,
+    V: Drop,
+    S: BuildHasher + Drop,
+    P: PairRule<K, V>,
+    A: Allocator + Clone + Drop,
+> RuledShard<K, V, S, P, A> {
+    /// The shard, which has no entries yet.
+    pub(crate) fn new(shard: Shard<K, V, S, A>) -> Self
+        requires { entries_in shard.slots ≡ [] }
+    {
+        RuledShard {
+            shard,
+            rule: PhantomData,
+        }
+    }
+
+    /// The value at a key, shared once more, and the ticket of its entry, if that counts at a moment.
+    pub(crate) fn get(
+        &self,
+        key: &K,
+        settings: &Settings<S, A>,
+        valid_after: Instant,
+        now: Instant,
+    ) -> Result<Option<(Shared<V, A>, Ticket)>, OutOfMemory>
+        ensures ruled { IfOk result (λ found. IfSome found (λ f. P.holds key.now f.0)) }
+    {
+        let hash = self.shard.hash_of(key);
+        self.shard.get(key, hash, settings, valid_after, now)
+    }
+
+    /// Whether a key has an entry that counts at a moment.
+    pub(crate) fn contains_key(
+        &self,
+        key: &K,
+        settings: &Settings<S, A>,
+        valid_after: Instant,
+        now: Instant,
+    ) -> bool {
+        let hash = self.shard.hash_of(key);
+        self.shard
+            .contains_key(key, hash, settings, valid_after, now)
+    }
+
+    /// Puts the value at the key. The answer is the entry's ticket.
+    pub(crate) fn insert<W: WeighShared<K, V>>(
+        &mut self,
+        key: Shared<K, A>,
+        value: Shared<V, A>,
+        weigher: &W,
+        now: Instant,
+    ) -> Result<Ticket, InsertError>
+        requires ruled { P.holds key value }
+        requires ready { W.ready weigher.now }
+    {
+        let hash = self.shard.hash_of(key.get());
+        if !self.shard.is_of(hash) {
+            return Err(InsertError::TicketsUsedUp);
+        }
+        // What holds of every shard.
+        let _ = self.shard.len();
+        self.shard.insert(hash, key, value, weigher, now)
+    }
+
+    /// Takes out the entry of a key. The answer is its ticket.
+    pub(crate) fn invalidate(&mut self, key: &K) -> Option<Ticket> {
+        let hash = self.shard.hash_of(key);
+        self.shard.invalidate(key, hash)
+    }
+
+    /// The pairs that count at a moment, shared once more.
+    pub(crate) fn pairs(
+        &self,
+        alloc: A,
+        settings: &Settings<S, A>,
+        valid_after: Instant,
+        now: Instant,
+    ) -> Result<Vec<(Shared<K, A>, Shared<V, A>), A>, OutOfMemory>
+        ensures ruled { IfOk result (λ pairs. PairsMeet P.holds pairs.items) }
+        ensures once { IfOk result (λ pairs. IsDistinct K.eq (map (λ p. p.0) pairs.items)) }
+    {
+        // What holds of every shard.
+        let _ = self.shard.len();
+        self.shard.pairs(alloc, settings, valid_after, now)
+    }
+
+    /// A turn of the maintenance that needs the entry of a ticket.
+    pub(crate) fn turn(
+        &mut self,
+        maintenance: &mut Maintenance<A>,
+        ticket: Ticket,
+        settings: &Settings<S, A>,
+        valid_after: Instant,
+    )
+        requires { need_of (turn_at {K = K} {V = V} settings.now valid_after false maintenance.old.place maintenance.old) ≡ NeedsShard ticket }
+        ensures { IsTurn K V settings.now maintenance.old maintenance.new }
+    {
+        let slot = self.shard.find_ticket(ticket);
+        let found = self.shard.entry(slot);
+        let change = maintenance.turn_at_entry(settings, valid_after, found);
+        self.shard.change(slot, change);
+    }
+}

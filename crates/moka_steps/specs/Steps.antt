@@ -1,0 +1,116 @@
+-- What a caller has under way between its atomic steps, and what these steps and its whole calls answer.
+use Rattle.std.specs.Prelude.{◌⊎◌, ℕ, Bool, true, false, Option, None, Some, Result, Ok, Err}
+use Rattle.moka_base.specs.declared.error.InsertError.{InsertError}
+use Rattle.moka_base.specs.declared.error.InsertError.TheVariants as refused
+use Rattle.moka_base.specs.declared.error.OutOfMemory.{OutOfMemory as MemoryError}
+use Rattle.moka_engine.specs.declared.constants.TheConstants.{CALLER}
+use Rattle.moka_engine.specs.declared.event.Event.{Event}
+use Rattle.moka_engine.specs.declared.event.Reply.TheVariants.{Done, Found, Discarded, NotPossible, OutOfMemory, TicketsUsedUp}
+use Rattle.moka_engine.specs.declared.place.Place.{Place as PlaceName}
+use Rattle.moka_engine.specs.declared.place.Place.TheVariants as name
+use Rattle.moka_engine.specs.Reply.{Reply}
+use Rattle.moka_engine.specs.WholeCall.{Log, OfReads, OfWrites, CallsGet}
+use Rattle.moka_steps.specs.declared.steps.WhichLog.{WhichLog}
+use Rattle.moka_steps.specs.declared.steps.WhichLog.TheVariants as log
+use Rattle.moka_steps.specs.declared.steps.ReadPush.{ReadPush}
+use Rattle.moka_steps.specs.declared.steps.ReadPush.TheVariants as read
+use Rattle.moka_steps.specs.declared.steps.WritePush.{WritePush}
+use Rattle.moka_steps.specs.declared.steps.WritePush.TheVariants as write
+
+-- what a caller has left and not pushed to a log yet
+pub data Pending : Type 0 where
+  Nothing : Pending
+  ARead : Pending
+  AWrite : Pending
+
+-- what a caller has under way: what is pending, and whether it runs a maintenance
+pub record Caller : Type 0 where
+  pub pending : Pending
+  pub is_maintaining : Bool
+
+-- it has this pending, and runs no maintenance
+abbrev pub pends : Pending → Caller
+pends pending = record { pending = pending; is_maintaining = false }
+
+-- it has nothing under way
+abbrev pub at_rest : Caller
+at_rest = pends Nothing
+
+-- the same caller, which runs a maintenance or doesn't
+abbrev pub maintaining : Bool → Caller → Caller
+maintaining runs caller = record caller { is_maintaining = runs }
+
+-- whether a caller has anything pending
+abbrev pub has_operation : Pending → Bool
+has_operation Nothing = false
+has_operation ARead = true
+has_operation AWrite = true
+
+-- whether the caller of a cache has, by what the cache knows of its caller
+abbrev pub pends_by : {W : Type 0} → (W → Caller) → W → Bool
+pends_by caller cache = has_operation (caller cache).pending
+
+-- whether a maintenance at this place goes on
+abbrev pub goes_on : PlaceName → Bool
+goes_on name.Idle = false
+goes_on place = true
+
+-- which log a call looks at
+abbrev pub log_of : WhichLog → Log
+log_of log.Reads = OfReads
+log_of log.Writes = OfWrites
+
+-- what an insert leaves pending
+abbrev pub left_by_insert : Result Unit InsertError → Pending
+left_by_insert (Ok done) = AWrite
+left_by_insert (Err error) = Nothing
+
+-- what a get does
+abbrev pub left_by_get : {F : Type 0} → Result F MemoryError → Pending
+left_by_get (Ok found) = ARead
+left_by_get (Err error) = Nothing
+
+-- what an invalidation does, by whether an entry has left
+abbrev pub left_by_invalidate : Bool → Pending
+left_by_invalidate true = AWrite
+left_by_invalidate false = Nothing
+
+-- what a push of a write does
+abbrev pub left_by_push : WritePush → Pending
+left_by_push write.Pushed = Nothing
+left_by_push write.Full = AWrite
+
+module _ {K V : Type 0} where
+  -- the reply of an insert
+  abbrev pub insert_reply : Result Unit InsertError → Reply K V
+  insert_reply (Ok done) = Done
+  insert_reply (Err refused.OutOfMemory) = OutOfMemory
+  insert_reply (Err refused.TicketsUsedUp) = TicketsUsedUp
+
+  -- that of a get
+  abbrev pub get_reply : Result (Option V) MemoryError → Reply K V
+  get_reply (Ok found) = Found found
+  get_reply (Err error) = OutOfMemory
+
+  -- that of a push of a read
+  abbrev pub read_reply : ReadPush → Reply K V
+  read_reply read.Pushed = Done
+  read_reply read.Discarded = Discarded
+
+  -- that of a push of a write
+  abbrev pub write_reply : WritePush → Reply K V
+  write_reply write.Pushed = Done
+  write_reply write.Full = NotPossible
+
+module _ {W K V : Type 0} (allowed : W → Event K V → Reply K V → W → Type 0) (decides : W → Log → ℕ → Bool → W → Type 0)
+    (caller : W → Caller) (is_clone : V → V → Type 0) (is_infallible : V → Type 0) where
+  -- a whole call of get with this reply, by whether the value was copied for the caller
+  abbrev pub Gets : K → ℕ → Bool → Reply K V → W → W → Type 0
+  Gets key now copied reply old new = CallsGet allowed decides (pends_by caller) CALLER key now copied reply old new
+
+  -- what a whole call of get answers: a clone of the value found, or that memory for the get or for the clone was refused
+  abbrev pub AnswersGet : K → ℕ → Result (Option V) MemoryError → W → W → Type 0
+  AnswersGet key now (Ok None) old new = Gets key now true (Found None) old new
+  AnswersGet key now (Ok (Some copy)) old new = (value : V) × is_clone value copy × Gets key now true (Found (Some value)) old new
+  AnswersGet key now (Err error) old new =
+      Gets key now true OutOfMemory old new ⊎ ((value : V) × (¬ (is_infallible value)) × Gets key now false (Found (Some value)) old new)

@@ -1,0 +1,10 @@
+//! The tests of the cache that threads share.
+#![tactic(auto)]
+
+mod hashers;
+#[cfg(test)]
+mod meeting;
+#[cfg(test)]
+mod one_thread;
+#[cfg(test)]
+mod threads;
