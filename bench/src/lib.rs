@@ -1,10 +1,15 @@
-//! The port of the cache for one thread beside the original, by whole traces; and its parts beside others, by whole batches.
+//! The port of the cache for one thread beside the original, by whole traces; its parts beside others, by whole batches; and the caches that threads share, by
+//! lists of calls.
 pub mod hand_lists;
 pub mod loads;
+pub mod machine;
 mod original_sketch;
+pub mod play_program;
 pub mod plot;
 pub mod port;
 pub mod rust_sides;
 pub mod table;
+pub mod thread_loads;
+pub mod thread_sides;
 pub mod timing;
 pub mod traces;

@@ -1,7 +1,5 @@
-pub mod CallLemmas
 pub mod CoreRunLemmas
 pub mod FirstCoreLemmas
-pub mod RecordLemmas
 pub mod RecordedRunLemmas
 pub mod ReplyLemmas
 pub mod RunnerLemmas

@@ -10,8 +10,9 @@ pub use Rattle.moka_grammar.specs.SketchLines
 pub use Rattle.moka_grammar.specs.Grammar
 pub use Rattle.moka_grammar.specs.Parsed
 pub use Rattle.moka_streams.specs.Streams
-pub mod Record
-pub mod Replay
+pub use Rattle.moka_record.specs.Record
+pub use Rattle.moka_record.specs.Replay
+pub use Rattle.moka_record.specs.Passes
 pub mod ScriptKeys
 pub mod Stored
 pub mod Reply

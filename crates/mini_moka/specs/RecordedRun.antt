@@ -13,8 +13,8 @@ use Rattle.mini_moka.specs.declared.script.keys.KeyState.{KeyState}
 use Rattle.mini_moka.specs.declared.script.recorded.Asked.{Asked}
 use Rattle.mini_moka.specs.declared.script.recorded.Asked.TheVariants.{Count, Weight}
 use Rattle.mini_moka.specs.declared.script.stored.Stored.{Stored}
-use Rattle.mini_moka.specs.declared.sync.recorded.NotRecorded.{NotRecorded}
-use Rattle.mini_moka.specs.Record.{RecordState, Memory, new_record, IsApplied}
+use Rattle.moka_record.specs.declared.record.NotRecorded.{NotRecorded}
+use Rattle.moka_record.specs.Record.{RecordState, Memory, new_record, IsApplied}
 use Rattle.mini_moka.specs.FirstCore.{weighs_of, AreRepliesOf}
 use Rattle.mini_moka.specs.Reply.{Reply, Done, Found, Truth, Number, OutOfMemory, TicketsUsedUp, reply_line}
 use Rattle.mini_moka.specs.ScriptKeys.{script_keys}

@@ -33,3 +33,5 @@ pub use Rattle.moka_sync.specs.MaintenanceTurn
 pub use Rattle.moka_sync.specs.Steps
 pub use Rattle.moka_sync.specs.CoreCaller
 pub use Rattle.moka_sync.specs.StepLaws
+pub use Rattle.moka_sync.specs.Log
+pub use Rattle.moka_sync.specs.Counts

@@ -4,9 +4,10 @@ ghost use Rattle.std.specs.IoError.{error_kind};
 ghost use Rattle.mini_moka.specs.declared.errors.Error.TheVariants as variant;
 
 use crate::script::ScriptError;
-use crate::sync::recorded::NotRecorded;
 use moka_common::error::{BuildError, InsertError, OutOfMemory};
 use moka_grammar::parser::ParseError;
+use moka_record::pass::CloseError;
+use moka_record::record::NotRecorded;
 use moka_streams::streams::{Fault, ReadError};
 use std::alloc::{AllocError, AllocFailed};
 use std::io;
@@ -25,6 +26,9 @@ pub enum Error {
     /// A call isn't written down, and wasn't made.
     #[error(transparent)]
     NotRecorded(NotRecorded),
+    /// A recording cache gives no record.
+    #[error(transparent)]
+    Close(CloseError),
     /// A stream refused a call.
     #[error(transparent)]
     Fault(Fault),
@@ -87,6 +91,14 @@ impl From<NotRecorded> for Error {
 
     fn from(cause: NotRecorded) -> Error {
         Error::NotRecorded(cause)
+    }
+}
+
+impl From<CloseError> for Error {
+    ghost from_gives = { λ cause error. error ≡ variant.Close cause };
+
+    fn from(cause: CloseError) -> Error {
+        Error::Close(cause)
     }
 }
 

@@ -3,6 +3,7 @@ pub mod recorded;
 
 pub use moka_sync::builder::CacheBuilder;
 pub use moka_sync::cache::{Cache, ConcurrentCacheExt};
+pub use moka_sync::counts::{CountPass, Published};
 pub use moka_sync::iter::Iter;
 pub use moka_sync::mapref::EntryRef;
 pub use moka_sync::rule::{AnyPair, PairRule};

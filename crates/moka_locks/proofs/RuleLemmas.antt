@@ -21,7 +21,7 @@ use Rattle.moka_engine.proofs.TicketLemmas.{same_self}
 use Rattle.moka_engine.specs.CoreState.{is_expired}
 use Rattle.moka_base.specs.Settings.{Settings}
 use Rattle.moka_base.specs.declared.error.OutOfMemory.{OutOfMemory as MemoryError}
-use Rattle.moka_shard.specs.Shard.{unexpired}
+use Rattle.moka_shard.specs.Shard.{entries_in, entry_found, entry_in, unexpired}
 use Rattle.moka_shard.specs.ShardStep.{IsInsert, IsInvalidation, fresh_entry, pairs_at}
 use Rattle.moka_locks.specs.Rule.{AllMeet, PairsMeet}
 
@@ -199,6 +199,21 @@ module _ {K V : Type 0} where
               | inl old ↦ rw old tt
               | inr counts ↦ rw counts good
             ]
+
+    -- so does what is found in a slot, if that is the key's
+    pub found_in_slot_meets : (eq : K → K → Bool) → IsEquivalence eq
+        → ((key other : K) (value : V) → eq key other ≡ true → holds key value → holds other value) → {S : Type 0} (settings : Settings S)
+        (valid_after now : ℕ) (key : K) (slots : List (Option (Entry K V))) (slot : Option ℕ)
+        → IfSome slot (λ s. entry_in slots s ≡ entry_at eq key (entries_in slots)) → AllMeet holds (entries_in slots)
+        → (answer : Result (Option (V × Ticket)) MemoryError)
+        → IfOk answer (λ found. found ≡ option_map (λ e. (e.value, e.ticket)) (unexpired settings valid_after now (entry_found slots slot)))
+        → IfOk answer (λ found. IfSome {T = V × Ticket} found (λ f. holds key f.0))
+    found_in_slot_meets eq laws agrees settings valid_after now key slots None own meet (Err error) is = tt
+    found_in_slot_meets eq laws agrees settings valid_after now key slots None own meet (Ok found) is =
+        subst (λ o. IfSome {T = V × Ticket} o (λ f. holds key f.0)) (sym is) tt
+    found_in_slot_meets eq laws agrees settings valid_after now key slots (Some slot) own meet answer is =
+        found_meets eq laws agrees settings valid_after now key (entries_in slots) meet answer
+        (subst (λ o. IfOk answer (λ found. found ≡ option_map (λ e. (e.value, e.ticket)) (unexpired settings valid_after now o))) own is)
 
     -- the pairs that count meet it
     pub pairs_meet : {S : Type 0} (settings : Settings S) (valid_after now : ℕ) (shard : ShardState K V S) → AllMeet holds shard.entries

@@ -1,11 +1,14 @@
 -- What a contract sees of a cache that threads share: what doesn't change while they do.
+use Rattle.std.specs.Prelude.{Option}
+use Rattle.atomic_table.specs.Seated.{TableId}
 use Rattle.moka_base.specs.Settings.{Settings}
 
--- its settings and its weigher
+-- its settings, its weigher, and the counts that are published, if they are
 pub record Cache (S W : Type 0) : Type 0 where
   pub settings : Settings S
   pub weigher : W
+  pub counted : Option TableId
 
 -- the cache of these
-abbrev pub new_cache : {S W : Type 0} → Settings S → W → Cache S W
-new_cache settings weigher = record { settings = settings; weigher = weigher }
+abbrev pub new_cache : {S W : Type 0} → Settings S → W → Option TableId → Cache S W
+new_cache settings weigher counted = record { settings = settings; weigher = weigher; counted = counted }

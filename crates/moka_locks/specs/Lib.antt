@@ -4,3 +4,4 @@ pub mod Cache
 pub mod Locked
 pub mod Snapshot
 pub mod MaintenanceTurn
+pub mod Charged

@@ -1,13 +1,14 @@
 //! The builder of caches that threads share.
-ghost use Rattle.std.specs.Prelude.{◌≡◌, true, None, Some, IfErr, IfOk};
+ghost use Rattle.std.specs.Prelude.{◌≡◌, ◌∷◌, [], true, None, Some, IfErr, IfOk};
 ghost use Rattle.moka_locks.specs.Builder.{ArePartsOf, IsBuilt, IsLegal, new_builder, refusal_of};
 ghost use Rattle.moka_locks.specs.Cache.{new_cache};
+ghost use Rattle.moka_published.specs.Log.{opening};
 
 mod debug;
 
 use crate::cache::Cache;
 use crate::rule::{AnyPair, PairRule};
-use moka_base::error::BuildError;
+use moka_base::error::{BuildError, OutOfMemory};
 use moka_base::hash::FixedState;
 use moka_base::policy::Policy;
 use moka_base::settings::duration_fault;
@@ -15,6 +16,7 @@ use moka_base::weigh::UnitWeight;
 use moka_core::engine::{Core, CoreParts};
 use moka_engine::constants::{SHARDS, WRITE_LOG_SIZE};
 use moka_engine::weigh::WeighShared;
+use moka_published::counts::{CountPass, Publisher};
 use std::alloc::{Allocator, Global};
 use std::hash::{BuildHasher, Hash};
 use std::marker::{Model, PhantomData};
@@ -249,10 +251,30 @@ impl<
     ) -> Result<Cache<K, V, S, P, W, A>, BuildError>
         ensures legal { IfOk result (λ cache. IsLegal self) }
         ensures cache { IfOk result (λ cache. cache ≡ new_cache
-            (record { hash_state = hash_state; policy = self.policy; is_weighed = self.is_weighed }) self.weigher) }
+            (record { hash_state = hash_state; policy = self.policy; is_weighed = self.is_weighed }) self.weigher None) }
         ensures err { IfErr result (λ error. error ≡ refusal_of self) }
     {
         let (alloc, parts) = self.parts(hash_state)?;
-        Ok(Cache::of_parts(alloc, parts)?)
+        Ok(Cache::of_parts(alloc, parts, None)?)
+    }
+}
+
+impl<K: Eq + Hash + Drop, V: Drop, W: Drop, P: PairRule<K, V>> CacheBuilder<K, V, W, Global, P> {
+    /// The cache, with this hash state, and a pass for its published counts. It is refused as `build_with_hasher` is.
+    pub fn build_counted<S: BuildHasher + Drop>(
+        self,
+        hash_state: S,
+    ) -> Result<(Cache<K, V, S, P, W>, CountPass), BuildError>
+        ensures legal { IfOk result (λ built. IsLegal self) }
+        ensures cache { IfOk result (λ built. built.0 ≡ new_cache
+            (record { hash_state = hash_state; policy = self.policy; is_weighed = self.is_weighed }) self.weigher (Some built.1.counts)) }
+        ensures pass { IfOk result (λ built. built.1.seen ≡ opening ∷ []) }
+        ensures err { IfErr result (λ error. error ≡ refusal_of self) }
+    {
+        let (alloc, parts) = self.parts(hash_state)?;
+        let mut publisher = Publisher::new(alloc).map_err(|_| OutOfMemory)?;
+        let pass = publisher.pass();
+        let cache = Cache::of_parts(alloc, parts, Some(publisher))?;
+        Ok((cache, pass))
     }
 }

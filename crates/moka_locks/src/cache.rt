@@ -1,5 +1,5 @@
 //! The cache that threads share.
-ghost use Rattle.std.specs.Prelude.{◌≡◌, ℕ, None, Some, map, IfErr, IfOk, IfSome};
+ghost use Rattle.std.specs.Prelude.{◌≡◌, ◌∷◌, [], ℕ, List, None, Some, map, IfErr, IfOk, IfSome};
 ghost use Rattle.std.specs.List.{IsDistinct};
 ghost use Rattle.moka_locks.specs.Rule.{PairsMeet};
 ghost use Rattle.moka_engine.specs.declared.constants.TheConstants.{CALLER};
@@ -7,6 +7,8 @@ ghost use Rattle.moka_engine.specs.WholeCall.{CallsContains, CallsInsert, CallsI
 ghost use Rattle.moka_engine.specs.declared.event.Reply.TheVariants as reply;
 ghost use Rattle.moka_locks.specs.Builder.{new_builder};
 ghost use Rattle.moka_locks.specs.Cache.{new_cache};
+ghost use Rattle.moka_locks.specs.Charged.{counts_of};
+ghost use Rattle.moka_published.specs.Log.{IsSuffix, opening};
 ghost use Rattle.moka_locks.specs.Locked.{Locked as LockedValue, locked_allows, locked_caller, locked_decides, resting_at};
 ghost use Rattle.moka_steps.specs.Steps.{AnswersGet, insert_reply, pends_by};
 
@@ -24,6 +26,8 @@ use moka_base::weigh::UnitWeight;
 use moka_core::engine::CoreParts;
 use moka_engine::constants::SHARDS;
 use moka_engine::weigh::WeighShared;
+use moka_published::counts::{CountPass, Publisher};
+use moka_published::rule::Published;
 use moka_steps::steps;
 use std::alloc::{AllocError, Allocator, Global};
 use std::hash::{BuildHasher, Hash};
@@ -64,7 +68,8 @@ use std::sync::Wait;
 ///
 /// # Size, expiry, hashing
 ///
-/// These are as at `unsync::Cache`, but that limits hold after a maintenance; a call hashes its key twice, once to find its shard and once behind the lock.
+/// These are as at `unsync::Cache`, but that limits hold after a maintenance. A call hashes its key once, before it takes a lock; the insert of a key that
+/// isn't there hashes it once more behind the lock.
 ///
 /// # Cost
 ///
@@ -152,11 +157,17 @@ impl<
     W: Drop,
     A: Allocator + Clone + Drop,
 > Cache<K, V, S, P, W, A> {
-    /// A cache of these parts, with nothing done to it.
-    pub(crate) fn of_parts(alloc: A, parts: CoreParts<S, W>) -> Result<Self, OutOfMemory>
-        ensures { IfOk result (λ cache. cache ≡ new_cache (record { hash_state = parts.hash_state; policy = parts.policy; is_weighed = parts.is_weighed }) parts.weigher) }
+    /// A cache of these parts, with nothing done to it, and its publisher, if there is one.
+    pub(crate) fn of_parts(
+        alloc: A,
+        parts: CoreParts<S, W>,
+        publisher: Option<Publisher>,
+    ) -> Result<Self, OutOfMemory>
+        requires { IfSome publisher (λ p. p.published ≡ opening ∷ []) }
+        ensures { IfOk result (λ cache. cache ≡ new_cache
+            (record { hash_state = parts.hash_state; policy = parts.policy; is_weighed = parts.is_weighed }) parts.weigher (counts_of publisher)) }
     {
-        let inner = Inner::new(alloc.clone()?, parts)?;
+        let inner = Inner::new(alloc.clone()?, parts, publisher)?;
         Ok(Cache {
             inner: Shared::new(alloc, inner)?,
         })
@@ -177,6 +188,26 @@ impl<
     /// What they weighed together, at most `u64::MAX`. It is another load, so it may be of another maintenance than the count.
     pub fn weighted_size(&self) -> u64 {
         self.inner.get().weighted_size()
+    }
+
+    /// The count and the weight that were published last, of one maintenance, with the number of the publication, from 1 on; before the first, three zeros.
+    /// The pass must be of this cache, and has seen them then: none of them is older than what it had seen. No lock is taken but where a publication
+    /// comes between.
+    pub fn published<R: Wait>(&self, rt: &R, pass: &mut CountPass) -> Published
+        requires { self.now.counted ≡ Some pass.old.counts }
+        ensures counts { pass.new.counts ≡ pass.old.counts }
+        ensures newest { (older : List _) × (pass.new.seen ≡ result ∷ older) }
+        ensures seen { IsSuffix pass.old.seen pass.new.seen }
+    {
+        self.inner.get().published(rt, pass)
+    }
+
+    /// One more pass, which has seen what this one has. It takes no memory.
+    pub fn split_pass(&self, pass: &mut CountPass) -> CountPass
+        requires { self.now.counted ≡ Some pass.old.counts }
+        ensures { (pass.new ≡ pass.old) × (result ≡ pass.old) }
+    {
+        self.inner.get().split(pass)
     }
 
     /// A snapshot of the unexpired pairs, shard by shard: the pairs of a shard are those of one moment, and no lock is held when they come out. It

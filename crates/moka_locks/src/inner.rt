@@ -1,10 +1,12 @@
 // What all clones of a cache share: its shards, its logs and its maintenance, each behind a lock, and some words.
-ghost use Rattle.std.specs.Prelude.{◌≡◌, ◌<◌, ◌+◌, ◌++◌, map, IfOk, IfSome, OnOk};
+ghost use Rattle.std.specs.Prelude.{◌≡◌, ◌<◌, ◌+◌, ◌++◌, [], ◌∷◌, List, Some, map, IfOk, IfSome, OnOk};
 ghost use Rattle.std.specs.List.{IsDistinct};
 ghost use Rattle.std.specs.Vec.{vec_len};
 ghost use Rattle.moka_engine.specs.declared.constants.TheConstants.{SHARDS};
 ghost use Rattle.moka_base.specs.Keys.{keys_by};
 ghost use Rattle.moka_locks.specs.Cache.{new_cache};
+ghost use Rattle.moka_locks.specs.Charged.{counts_of};
+ghost use Rattle.moka_published.specs.Log.{IsSuffix, opening};
 ghost use Rattle.moka_locks.specs.Rule.{PairsMeet};
 ghost use Rattle.moka_locks.specs.Snapshot.{IsSnapshot, own_pairs};
 ghost use Rattle.moka_engine.specs.CoreState.{Maintenance as MaintenanceState};
@@ -29,6 +31,8 @@ use moka_engine::ticket::Ticket;
 use moka_engine::weigh::WeighShared;
 use moka_maintenance::logs::{ReadLog, WriteLog};
 use moka_maintenance::maintenance::{Maintenance, Need};
+use moka_published::counts::{CountPass, Counts, Publisher};
+use moka_published::rule::Published;
 use moka_shard::shard::Shard;
 use std::alloc::Allocator;
 use std::hash::{BuildHasher, Hash};
@@ -64,6 +68,8 @@ pub(crate) struct Inner<
     entry_count: AtomicU64,
     /// What they weighed, at most `u64::MAX`.
     weighted_size: AtomicU64,
+    /// The same, one pair after another, where somebody loads them so.
+    counts: Option<Counts>,
 }
 
 impl<
@@ -81,7 +87,7 @@ impl<
 
     ghost Value = { Cache S W };
 
-    ghost view = { λ i. record { settings = i.settings; weigher = i.weigher } };
+    ghost view = { λ i. record { settings = i.settings; weigher = i.weigher; counted = i.counts } };
 
     ghost invariant = { λ i. vec_len i.shards ≡ SHARDS };
 }
@@ -94,13 +100,20 @@ impl<
     W: Drop,
     A: Allocator + Clone + Drop,
 > Inner<K, V, S, P, W, A> {
-    /// A cache of these parts, with nothing done to it.
-    pub(crate) fn new(alloc: A, parts: CoreParts<S, W>) -> Result<Self, OutOfMemory>
-        ensures { IfOk result (λ inner. inner ≡ new_cache (record { hash_state = parts.hash_state; policy = parts.policy; is_weighed = parts.is_weighed }) parts.weigher) }
+    /// A cache of these parts, with nothing done to it, and its publisher, if there is one.
+    pub(crate) fn new(
+        alloc: A,
+        parts: CoreParts<S, W>,
+        publisher: Option<Publisher>,
+    ) -> Result<Self, OutOfMemory>
+        requires { IfSome publisher (λ p. p.published ≡ opening ∷ []) }
+        ensures { IfOk result (λ inner. inner ≡ new_cache
+            (record { hash_state = parts.hash_state; policy = parts.policy; is_weighed = parts.is_weighed }) parts.weigher (counts_of publisher)) }
     {
         let hash_state = Shared::new(alloc.clone()?, parts.hash_state)?;
         let shards = locked_shards(alloc.clone()?, &hash_state, parts.capacity)?;
-        let maintenance = Resting::new(Maintenance::new(alloc.clone()?)?);
+        let counts = counts_of(&publisher)?;
+        let maintenance = Resting::new(Maintenance::new(alloc.clone()?)?, publisher);
         Ok(Inner {
             settings: Settings::new(hash_state, parts.policy, parts.is_weighed),
             weigher: parts.weigher,
@@ -114,6 +127,7 @@ impl<
             valid_after: AtomicU64::new(0),
             entry_count: AtomicU64::new(0),
             weighted_size: AtomicU64::new(0),
+            counts,
             alloc,
         })
     }
@@ -147,20 +161,22 @@ impl<
     {
         let valid_after = self.valid_after();
         let shard = lock(rt, self.shard(hash));
-        shard.get(key, &self.settings, valid_after, now)
+        shard.get(key, hash, &self.settings, valid_after, now)
     }
 
     /// Whether a key has an entry that counts at a moment.
     pub(crate) fn contains_key<R: Wait>(&self, rt: &R, key: &K, now: Instant) -> bool {
         let valid_after = self.valid_after();
-        let shard = lock(rt, self.shard(self.hash_of(key)));
-        shard.contains_key(key, &self.settings, valid_after, now)
+        let hash = self.hash_of(key);
+        let shard = lock(rt, self.shard(hash));
+        shard.contains_key(key, hash, &self.settings, valid_after, now)
     }
 
     /// Takes out the entry of a key. The answer is its ticket.
     pub(crate) fn invalidate<R: Wait>(&self, rt: &R, key: &K) -> Option<Ticket> {
-        let mut shard = lock(rt, self.shard(self.hash_of(key)));
-        shard.invalidate(key)
+        let hash = self.hash_of(key);
+        let mut shard = lock(rt, self.shard(hash));
+        shard.invalidate(key, hash)
     }
 
     /// The pairs of a shard that count at a moment, shared once more.
@@ -229,6 +245,30 @@ impl<
     /// What they weighed together, at most `u64::MAX`.
     pub(crate) fn weighted_size(&self) -> u64 {
         self.weighted_size.load(Ordering::Acquire)
+    }
+
+    /// The counts that were published last, which the pass has seen then.
+    pub(crate) fn published<R: Wait>(&self, rt: &R, pass: &mut CountPass) -> Published
+        requires { self.now.counted ≡ Some pass.old.counts }
+        ensures counts { pass.new.counts ≡ pass.old.counts }
+        ensures newest { (older : List _) × (pass.new.seen ≡ result ∷ older) }
+        ensures seen { IsSuffix pass.old.seen pass.new.seen }
+    {
+        match &self.counts {
+            Some(counts) => counts.load(rt, pass),
+            None => unreachable!(),
+        }
+    }
+
+    /// One more pass, which has seen what this one has.
+    pub(crate) fn split(&self, pass: &mut CountPass) -> CountPass
+        requires { self.now.counted ≡ Some pass.old.counts }
+        ensures { (pass.new ≡ pass.old) × (result ≡ pass.old) }
+    {
+        match &self.counts {
+            Some(counts) => counts.split(pass),
+            None => unreachable!(),
+        }
     }
 
     /// Puts a read into its log. Answers whether there was room. A log that its word tells full is not looked at.
@@ -330,8 +370,19 @@ impl<
         requires ruled { P.holds key value }
         requires ready { W.ready self.now.weigher }
     {
-        let mut shard = lock(rt, self.shard(self.hash_of(key.get())));
-        shard.insert(key, value, &self.weigher, now)
+        let hash = self.hash_of(key.get());
+        let mut shard = lock(rt, self.shard(hash));
+        shard.insert(hash, key, value, &self.weigher, now)
+    }
+}
+
+/// The counts of a publisher, if there is one.
+fn counts_of(publisher: &Option<Publisher>) -> Result<Option<Counts>, OutOfMemory>
+    ensures { IfOk result (λ counts. counts ≡ counts_of publisher.now) }
+{
+    match publisher {
+        Some(publisher) => Ok(Some(publisher.counts()?)),
+        None => Ok(None),
     }
 }
 

@@ -75,7 +75,7 @@ impl<
     }
 
     /// Gives back the maintenance, which has ended, and publishes what it has left.
-    fn end(&mut self)
+    fn end<R: Wait>(&mut self, rt: &R)
         requires { IfSome self.old.maintenance (λ m. m.place ≡ Idle) }
         ensures { self.new ≡ running None self.old }
     {
@@ -83,7 +83,7 @@ impl<
             return;
         };
         self.inner.publish(running.maintenance());
-        running.end();
+        running.end(rt);
         if self.has_won {
             self.has_won = false;
             self.inner.end_maintenance();
@@ -211,7 +211,7 @@ impl<
         };
         let place = running.turn(rt, self.inner);
         if let Place::Idle = place {
-            self.end();
+            self.end(rt);
         }
         place
     }

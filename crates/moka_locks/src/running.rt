@@ -11,6 +11,7 @@ use crate::waiting::lock;
 use moka_base::time::Instant;
 use moka_engine::place::Place;
 use moka_maintenance::maintenance::Maintenance;
+use moka_published::counts::Publisher;
 use std::alloc::Allocator;
 use std::hash::{BuildHasher, Hash};
 use std::marker::Model;
@@ -21,6 +22,7 @@ use std::sync::{Mutex, MutexGuard, Wait};
 pub(crate) struct Running<'a, A: Allocator + Clone + Drop> {
     guard: MutexGuard<'a, Option<Resting<A>>>,
     maintenance: Maintenance<A>,
+    publisher: Option<Publisher>,
 }
 
 impl<'a, A: Allocator + Clone + Drop> Model for Running<'a, A> {
@@ -43,9 +45,13 @@ impl<'a, A: Allocator + Clone + Drop> Running<'a, A> {
         for _ in rt.forever() {
             let mut guard = lock(rt, maintenance);
             if let Some(resting) = guard.take() {
-                let mut maintenance = resting.wake();
+                let (mut maintenance, publisher) = resting.wake();
                 maintenance.begin(now);
-                return Running { guard, maintenance };
+                return Running {
+                    guard,
+                    maintenance,
+                    publisher,
+                };
             }
         }
         unreachable!()
@@ -74,14 +80,15 @@ impl<'a, A: Allocator + Clone + Drop> Running<'a, A> {
         self.maintenance.place()
     }
 
-    /// Gives the maintenance back, which has ended, and frees its lock.
-    pub(crate) fn end(self)
+    /// Publishes the counts of the maintenance, which has ended, gives it back, and frees its lock.
+    pub(crate) fn end<R: Wait>(self, rt: &R)
         requires { self.place ≡ Idle }
     {
         let Running {
             mut guard,
             maintenance,
+            publisher,
         } = self;
-        *guard = Some(Resting::new(maintenance));
+        *guard = Some(Resting::ended(rt, maintenance, publisher));
     }
 }

@@ -68,36 +68,39 @@ impl<
         }
     }
 
-    /// The value at a key, shared once more, and the ticket of its entry, if that counts at a moment.
+    /// The value at a key, found by its hash and shared once more, and the ticket of its entry, if that counts at a moment.
     pub(crate) fn get(
         &self,
         key: &K,
+        hash: u64,
         settings: &Settings<S, A>,
         valid_after: Instant,
         now: Instant,
     ) -> Result<Option<(Shared<V, A>, Ticket)>, OutOfMemory>
         ensures ruled { IfOk result (λ found. IfSome found (λ f. P.holds key.now f.0)) }
     {
-        let hash = self.shard.hash_of(key);
-        self.shard.get(key, hash, settings, valid_after, now)
+        let slot = self.shard.find(key, hash);
+        self.shard.value(slot, settings, valid_after, now)
     }
 
-    /// Whether a key has an entry that counts at a moment.
+    /// Whether a key has an entry, found by its hash, that counts at a moment.
     pub(crate) fn contains_key(
         &self,
         key: &K,
+        hash: u64,
         settings: &Settings<S, A>,
         valid_after: Instant,
         now: Instant,
     ) -> bool {
-        let hash = self.shard.hash_of(key);
-        self.shard
-            .contains_key(key, hash, settings, valid_after, now)
+        let slot = self.shard.find(key, hash);
+        self.shard.counts(slot, settings, valid_after, now)
     }
 
-    /// Puts the value at the key. The answer is the entry's ticket.
+    /// Puts the value at the key, whose hash it is. The answer is the entry's ticket. An entry is added once the key is hashed again, since nothing
+    /// that a lock keeps says whose hash this is.
     pub(crate) fn insert<W: WeighShared<K, V>>(
         &mut self,
+        hash: u64,
         key: Shared<K, A>,
         value: Shared<V, A>,
         weigher: &W,
@@ -106,19 +109,21 @@ impl<
         requires ruled { P.holds key value }
         requires ready { W.ready weigher.now }
     {
-        let hash = self.shard.hash_of(key.get());
-        if !self.shard.is_of(hash) {
-            return Err(InsertError::TicketsUsedUp);
-        }
         // What holds of every shard.
         let _ = self.shard.len();
-        self.shard.insert(hash, key, value, weigher, now)
+        if let Some(slot) = self.shard.find(key.get(), hash) {
+            return self.shard.update(slot, key, value, weigher, now);
+        }
+        if hash != self.shard.hash_of(key.get()) || !self.shard.is_of(hash) {
+            return Err(InsertError::TicketsUsedUp);
+        }
+        self.shard.add(hash, key, value, weigher, now)
     }
 
-    /// Takes out the entry of a key. The answer is its ticket.
-    pub(crate) fn invalidate(&mut self, key: &K) -> Option<Ticket> {
-        let hash = self.shard.hash_of(key);
-        self.shard.invalidate(key, hash)
+    /// Takes out the entry of a key, found by its hash. The answer is its ticket.
+    pub(crate) fn invalidate(&mut self, key: &K, hash: u64) -> Option<Ticket> {
+        let slot = self.shard.find(key, hash)?;
+        Some(self.shard.remove(slot))
     }
 
     /// The pairs that count at a moment, shared once more.

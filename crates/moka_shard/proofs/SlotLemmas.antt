@@ -270,6 +270,19 @@ module _ {K V : Type 0} where
 
   -- ---- a search among candidates
 
+  -- these slots have entries
+  pub record AreStanding (slots : List (Option (Entry K V))) (ids : List ℕ) : Type 0 where
+    pub standing : (i : ℕ) → list_any (nat_eq i) ids ≡ true → IsSome (entry_in slots i)
+
+  -- at first they are the candidates of a hash
+  pub all_stand : (slots : List (Option (Entry K V))) (index : HashIndex) (hash : ℕ) → IsIndexed slots index → (ids : List ℕ)
+      → ids ≡ candidates index hash → AreStanding slots ids
+  all_stand slots index hash s ids is = record { standing = λ i h. s.standing hash i (sym (ap (list_any (nat_eq i)) is) ∙ h) }
+
+  -- then those behind one
+  pub stand_behind : (slots : List (Option (Entry K V))) (i : ℕ) (ids : List ℕ) → AreStanding slots (i ∷ ids) → AreStanding slots ids
+  stand_behind slots i ids s = record { standing = λ j h. s.standing j (or_right (nat_eq j i) (list_any (nat_eq j) ids) h) }
+
   -- these slots have entries, and one that passes is among them, if there is one
   pub record IsAhead (p : Entry K V → Bool) (slots : List (Option (Entry K V))) (ids : List ℕ) : Type 0 where
     pub standing : (i : ℕ) → list_any (nat_eq i) ids ≡ true → IsSome (entry_in slots i)

@@ -134,11 +134,12 @@ impl<K: Eq + Hash + Drop, V: Drop, S: BuildHasher + Drop, A: Allocator + Clone +
         (hash % SHARDS as u64) as usize == self.number
     }
 
-    /// The slot of the entry of a key, whose hash it is.
+    /// The slot of the entry of a key, by its hash. By another hash the entry may not be found; what is found is the key's.
     pub fn find(&self, key: &K, hash: u64) -> Option<usize>
-        requires { hash ≡ (keys_by K.Hash S.BuildHasher S.Hasher.Hasher).hash_of self.now.hash_state key.now }
-        ensures value { entry_found self.now.slots result ≡ entry_at K.eq key.now (entries_in self.now.slots) }
+        ensures value { hash ≡ (keys_by K.Hash S.BuildHasher S.Hasher.Hasher).hash_of self.now.hash_state key.now
+            → entry_found self.now.slots result ≡ entry_at K.eq key.now (entries_in self.now.slots) }
         ensures found { IfSome result (λ slot. IsSome (entry_in self.now.slots slot)) }
+        ensures same { IfSome result (λ slot. entry_in self.now.slots slot ≡ entry_at K.eq key.now (entries_in self.now.slots)) }
     {
         for slot in self.index.candidates(hash) {
             let entry = &self.slots[slot];
@@ -169,23 +170,55 @@ impl<K: Eq + Hash + Drop, V: Drop, S: BuildHasher + Drop, A: Allocator + Clone +
         self.slots.get(slot?)
     }
 
-    /// The entry of a key, whose hash it is, if it counts at a moment.
+    /// The entry in a slot, if a search has found one and it counts at a moment.
     fn unexpired(
         &self,
-        key: &K,
-        hash: u64,
+        slot: Option<usize>,
         settings: &Settings<S, A>,
         valid_after: Instant,
         now: Instant,
     ) -> Option<&Entry<K, V, A>>
-        requires { hash ≡ (keys_by K.Hash S.BuildHasher S.Hasher.Hasher).hash_of self.now.hash_state key.now }
-        ensures { option_copied result ≡ unexpired settings.now valid_after now (entry_at K.eq key.now (entries_in self.now.slots)) }
+        ensures { option_copied result ≡ unexpired settings.now valid_after now (entry_found self.now.slots slot) }
     {
-        let entry = self.entry(self.find(key, hash))?;
+        let entry = self.entry(slot)?;
         if entry.is_expired(settings, valid_after, now) {
             return None;
         }
         Some(entry)
+    }
+
+    /// Whether a search has found an entry that counts at a moment.
+    pub fn counts(
+        &self,
+        slot: Option<usize>,
+        settings: &Settings<S, A>,
+        valid_after: Instant,
+        now: Instant,
+    ) -> bool
+        ensures { result ≡ is_some (unexpired settings.now valid_after now (entry_found self.now.slots slot)) }
+    {
+        self.unexpired(slot, settings, valid_after, now).is_some()
+    }
+
+    /// The value of the entry that a search has found, shared once more, and its ticket, if it counts at a moment.
+    pub fn value(
+        &self,
+        slot: Option<usize>,
+        settings: &Settings<S, A>,
+        valid_after: Instant,
+        now: Instant,
+    ) -> Result<Option<(Shared<V, A>, Ticket)>, OutOfMemory>
+        ensures value { IfOk result (λ found. found ≡ option_map (λ e. (e.value, e.ticket))
+            (unexpired settings.now valid_after now (entry_found self.now.slots slot))) }
+
+        // Only a copy can be refused.
+        ensures refused { IsErr result → IsSome (unexpired settings.now valid_after now (entry_found self.now.slots slot)) }
+    {
+        let Some(entry) = self.unexpired(slot, settings, valid_after, now) else {
+            return Ok(None);
+        };
+        let value = entry.value().try_clone()?;
+        Ok(Some((value, entry.ticket())))
     }
 
     /// Whether a key, whose hash it is, has an entry that counts at a moment.
@@ -200,8 +233,7 @@ impl<K: Eq + Hash + Drop, V: Drop, S: BuildHasher + Drop, A: Allocator + Clone +
         requires { hash ≡ (keys_by K.Hash S.BuildHasher S.Hasher.Hasher).hash_of self.now.hash_state key.now }
         ensures { result ≡ is_some (unexpired settings.now valid_after now (entry_at K.eq key.now (entries_in self.now.slots))) }
     {
-        self.unexpired(key, hash, settings, valid_after, now)
-            .is_some()
+        self.counts(self.find(key, hash), settings, valid_after, now)
     }
 
     /// The value at a key, whose hash it is, shared once more, and the ticket of its entry, if that counts at a moment.
@@ -221,11 +253,7 @@ impl<K: Eq + Hash + Drop, V: Drop, S: BuildHasher + Drop, A: Allocator + Clone +
         ensures refused { IsErr result →
             IsSome (unexpired settings.now valid_after now (entry_at K.eq key.now (entries_in self.now.slots))) }
     {
-        let Some(entry) = self.unexpired(key, hash, settings, valid_after, now) else {
-            return Ok(None);
-        };
-        let value = entry.value().try_clone()?;
-        Ok(Some((value, entry.ticket())))
+        self.value(self.find(key, hash), settings, valid_after, now)
     }
 
     /// Puts the value at the key, whose hash it is. An equal key that is there stays, with its ticket, which is the answer; a new entry has the
@@ -252,7 +280,7 @@ impl<K: Eq + Hash + Drop, V: Drop, S: BuildHasher + Drop, A: Allocator + Clone +
     }
 
     /// Gives the entry in a slot another value.
-    fn update<W: WeighShared<K, V>>(
+    pub fn update<W: WeighShared<K, V>>(
         &mut self,
         slot: usize,
         key: Shared<K, A>,
@@ -274,8 +302,8 @@ impl<K: Eq + Hash + Drop, V: Drop, S: BuildHasher + Drop, A: Allocator + Clone +
         Ok(entry.ticket())
     }
 
-    /// Adds the entry of a key that has none.
-    fn add<W: WeighShared<K, V>>(
+    /// Adds the entry of a key that has none. The weigher is asked once room is made.
+    pub fn add<W: WeighShared<K, V>>(
         &mut self,
         hash: u64,
         key: Shared<K, A>,
@@ -318,7 +346,7 @@ impl<K: Eq + Hash + Drop, V: Drop, S: BuildHasher + Drop, A: Allocator + Clone +
     }
 
     /// Takes out the entry in a slot. The answer is its ticket.
-    fn remove(&mut self, slot: usize) -> Ticket
+    pub fn remove(&mut self, slot: usize) -> Ticket
         requires { IsSome (entry_in self.old.slots slot) }
         ensures step { IsInvalidation (state_of self.old) (entry_in self.old.slots slot) (Some result) (state_of self.new) }
     {

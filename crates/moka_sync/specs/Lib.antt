@@ -32,3 +32,5 @@ pub use Rattle.moka_locks.specs.MaintenanceTurn
 pub use Rattle.moka_steps.specs.Steps
 pub use Rattle.moka_steps.specs.CoreCaller
 pub use Rattle.moka_steps.specs.StepLaws
+pub use Rattle.moka_published.specs.Log
+pub use Rattle.moka_published.specs.Counts

@@ -1,6 +1,7 @@
 //! The cache that threads share.
 #![tactic(auto)]
 
+pub mod counts;
 pub mod engine;
 
 pub use moka_engine::constants;

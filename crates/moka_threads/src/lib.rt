@@ -7,4 +7,8 @@ mod meeting;
 #[cfg(test)]
 mod one_thread;
 #[cfg(test)]
+mod published;
+#[cfg(test)]
+mod recorded;
+#[cfg(test)]
 mod threads;

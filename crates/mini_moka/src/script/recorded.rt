@@ -3,7 +3,7 @@ ghost use Rattle.std.specs.Prelude.{◌≡◌, ◌++◌, ℕ, List, Some, IfOk, 
 ghost use Rattle.std.specs.List.{AllByRecursion};
 ghost use Rattle.moka_engine.specs.CoreState.{IsNew};
 ghost use Rattle.moka_grammar.specs.Lines.{allows, LineFits};
-ghost use Rattle.mini_moka.specs.Record.{IsAnswer, new_record};
+ghost use Rattle.moka_record.specs.Record.{IsAnswer, new_record};
 ghost use Rattle.mini_moka.specs.RecordedRun.{AreRecordedReplyLines, AreReplies, IsAnswered, asked_of, call_at, told};
 ghost use Rattle.mini_moka.specs.Reply.{Ready, Reply as Told, reply_line};
 ghost use Rattle.mini_moka.specs.ReplyValue.{reply_of};
@@ -12,7 +12,6 @@ use crate::script::first_core::{ScriptCore, builder_of, first_core};
 use crate::script::keys::KeyState;
 use crate::script::reply::{ReplyValue, push_reply, refusal};
 use crate::script::stored::{Stored, StoredWeight, stored_text};
-use crate::sync::recorded::{Answer, NotRecorded, Record, SharedCall};
 use moka_common::error::OutOfMemory;
 use moka_common::shared::Shared;
 use moka_common::time::Instant;
@@ -21,6 +20,7 @@ use moka_engine::event::Reply;
 use moka_engine::weigh::WeighShared;
 use moka_grammar::line::{CacheHeader, Line, Mode, Request};
 use moka_grammar::text::Text;
+use moka_record::record::{Answer, NotRecorded, Record, SharedCall};
 use std::alloc::Allocator;
 
 /// A cache that a script's calls are made on, with its record.

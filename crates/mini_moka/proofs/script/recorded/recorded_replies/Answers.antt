@@ -3,7 +3,7 @@ use Rattle.std.specs.Prelude.{unwrap_or}
 use Rattle.moka_engine.specs.CoreState.{new_core}
 use Rattle.moka_grammar.specs.declared.line.Mode.TheVariants.{Recorded}
 use Rattle.mini_moka.specs.FirstCore.{weighs_of}
-use Rattle.mini_moka.specs.Record.{new_record}
+use Rattle.moka_record.specs.Record.{new_record}
 use Rattle.mini_moka.specs.RecordedRun.{AreReplies}
 use Rattle.mini_moka.proofs.UnsyncRunLemmas.{each_allowed}
 use Rattle.mini_moka.proofs.FirstCoreLemmas.{built, built_is_new}

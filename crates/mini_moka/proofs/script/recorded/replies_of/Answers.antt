@@ -1,7 +1,7 @@
 use Rattle.std.proofs.Common.{◌≡◌, [], ◌++◌, sym, ap, ◌∙◌, subst, append_assoc}
 use Rattle.std.proofs.lemmas.List.{append-nil, nil_from_length}
 use Rattle.std.specs.Vec.Iter.{into_iter_items}
-use Rattle.mini_moka.specs.Record.{new_record}
+use Rattle.moka_record.specs.Record.{new_record}
 use Rattle.mini_moka.specs.Reply.{Ready, reply_line}
 use Rattle.mini_moka.proofs.RecordedRunLemmas.{AreReplies-cons, AreReplies-nil, AreReplies-same}
 use Rattle.mini_moka.proofs.script.recorded.replies_of.Goals as goal

@@ -4,7 +4,7 @@ use Rattle.std.specs.List.{AllByRecursion}
 use Rattle.std.specs.Vec.Iter.{into_iter_items}
 use Rattle.moka_grammar.specs.declared.line.Mode.TheVariants.{Recorded}
 use Rattle.moka_grammar.specs.Lines.{allows}
-use Rattle.mini_moka.specs.Record.{new_record}
+use Rattle.moka_record.specs.Record.{new_record}
 use Rattle.mini_moka.specs.RecordedRun.{AreReplies}
 use Rattle.mini_moka.specs.Reply.{Ready, reply_line}
 use Rattle.mini_moka.proofs.script.recorded.replies_of.Given as goal

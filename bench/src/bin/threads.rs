@@ -1,0 +1,268 @@
+//! The cache that threads share beside others, all in one run: `threads PROGRAM [REPEATS]`, where PROGRAM is the built `moka_play`.
+use moka_trace_bench::machine::{describe, Watch};
+use moka_trace_bench::play_program::{Kind, PlayProgram};
+use moka_trace_bench::rust_sides::{original, shared_original};
+use moka_trace_bench::table;
+use moka_trace_bench::thread_loads::{counting, filling, Call, Mix, CALLS, CAPACITY};
+use moka_trace_bench::thread_sides::{play, LockedOriginal, Played};
+use moka_trace_bench::timing::{clock_nanos, keep_memory};
+use moka_trace_bench::traces::Settings;
+use std::io;
+use std::process::{self, ExitCode};
+
+const REPEATS: usize = 7;
+const GETS: [u64; 2] = [90, 50];
+const THREADS: [usize; 3] = [1, 2, 4];
+
+/// What is compared.
+#[derive(Clone, Copy, PartialEq, Eq)]
+enum Side {
+    Port,
+    Counted,
+    Original,
+    LockedOriginal,
+    LockedPort,
+}
+
+const SIDES: [Side; 4] = [
+    Side::Port,
+    Side::Original,
+    Side::LockedOriginal,
+    Side::LockedPort,
+];
+
+/// What all sides are played with.
+struct Bench {
+    program: PlayProgram,
+    filling: Vec<Call>,
+    repeats: usize,
+}
+
+/// What one side gave in each repeat.
+struct Repeats(Vec<Played>);
+
+impl Repeats {
+    /// Nanoseconds a call of a thread, the least first.
+    fn times(&self) -> Vec<f64> {
+        let mut times: Vec<f64> = self
+            .0
+            .iter()
+            .map(|played| played.nanos as f64 / CALLS as f64)
+            .collect();
+        times.sort_by(f64::total_cmp);
+        times
+    }
+
+    fn median(&self) -> f64 {
+        let times = self.times();
+        let middle = times.len() / 2;
+        match times.len() % 2 {
+            0 => (times[middle - 1] + times[middle]) / 2.0,
+            _ => times[middle],
+        }
+    }
+
+    /// The median, and the least and the greatest in brackets.
+    fn text(&self) -> String {
+        let times = self.times();
+        let (least, greatest) = (times[0], times[times.len() - 1]);
+        format!("{:.0} ({least:.0} to {greatest:.0})", self.median())
+    }
+
+    /// The share of gets that found their key, of all repeats.
+    fn hit_ratio(&self, gets: usize) -> String {
+        let hits: u64 = self.0.iter().map(|played| played.hits).sum();
+        format!("{:.4}", hits as f64 / (gets * self.0.len()) as f64)
+    }
+}
+
+impl Bench {
+    fn play(&mut self, side: Side, lists: &[Vec<Call>]) -> io::Result<Played> {
+        let settings = Settings::with_capacity(CAPACITY);
+        match side {
+            Side::Port => self.program.play(Kind::Sync),
+            Side::Counted => self.program.play(Kind::Counted),
+            Side::LockedPort => self.program.play(Kind::Unsync),
+            Side::Original => Ok(play(&shared_original(&settings), &self.filling, lists)),
+            Side::LockedOriginal => {
+                let cache = LockedOriginal::new(original(&settings));
+                Ok(play(&cache, &self.filling, lists))
+            }
+        }
+    }
+
+    /// The sides in turn, repeat by repeat.
+    fn measure<const N: usize>(
+        &mut self,
+        sides: [Side; N],
+        lists: &[Vec<Call>],
+    ) -> io::Result<[Repeats; N]> {
+        self.program.send_lists(lists)?;
+        let mut all = sides.map(|_| Repeats(Vec::new()));
+        for _ in 0..self.repeats {
+            for (side, repeats) in sides.into_iter().zip(&mut all) {
+                repeats.0.push(self.play(side, lists)?);
+            }
+        }
+        Ok(all)
+    }
+
+    /// Prints the row of so many threads. Says whether it is right.
+    fn print_row(&mut self, mix: &Mix, threads: usize) -> io::Result<bool> {
+        let watch = Watch::start(&[process::id(), self.program.process()]);
+        let all = self.measure(SIDES, &mix.lists[..threads])?;
+        let free = watch.free();
+        let [port, others @ ..] = &all;
+        let mut cells = vec![mix.gets.to_string(), threads.to_string()];
+        cells.extend(all.iter().map(Repeats::text));
+        cells.extend(
+            others
+                .iter()
+                .map(|other| table::ratio(other.median(), port.median())),
+        );
+        cells.extend(
+            all.iter()
+                .map(|repeats| repeats.hit_ratio(mix.gets_of(threads))),
+        );
+        cells.push(table::number(free));
+        table::print_row(&cells);
+        Ok(is_right(&all, threads))
+    }
+
+    /// Prints what publishing costs the calls of so many threads.
+    fn print_counted_row(&mut self, mix: &Mix, threads: usize) -> io::Result<()> {
+        let watch = Watch::start(&[process::id(), self.program.process()]);
+        let [port, counted] = self.measure([Side::Port, Side::Counted], &mix.lists[..threads])?;
+        table::print_row(&[
+            format!("a call, {} gets of 100", mix.gets),
+            threads.to_string(),
+            port.text(),
+            counted.text(),
+            table::ratio(counted.median(), port.median()),
+            "".into(),
+            table::number(watch.free()),
+        ]);
+        Ok(())
+    }
+
+    /// Prints what a look at the counts costs where so many threads do nothing else.
+    fn print_looks_row(&mut self, threads: usize) -> io::Result<()> {
+        let watch = Watch::start(&[process::id(), self.program.process()]);
+        let [port, counted, original] = self.measure(
+            [Side::Port, Side::Counted, Side::Original],
+            &counting(threads),
+        )?;
+        table::print_row(&[
+            "a look at the counts".into(),
+            threads.to_string(),
+            port.text(),
+            counted.text(),
+            table::ratio(counted.median(), port.median()),
+            original.text(),
+            table::number(watch.free()),
+        ]);
+        Ok(())
+    }
+}
+
+/// Whether no side has more entries than its capacity; and where one thread plays alone, so that nothing hangs on the order of calls, whether both caches for
+/// one thread have the same hits.
+fn is_right(all: &[Repeats; 4], threads: usize) -> bool {
+    let [_, _, original, port] = all;
+    let is_within = all
+        .iter()
+        .flat_map(|repeats| &repeats.0)
+        .all(|played| played.entries <= CAPACITY);
+    let are_same = original
+        .0
+        .iter()
+        .zip(&port.0)
+        .all(|(one, other)| one.hits == other.hits && one.sum == other.sum);
+    is_within && (threads > 1 || are_same)
+}
+
+/// Prints the second table: the port's cache beside itself with its counts published.
+fn print_counted_table(bench: &mut Bench) -> io::Result<()> {
+    println!();
+    println!("The same times, of the port's sync and of one whose counts are published. A look is entry_count, and published of the latter.");
+    println!();
+    table::print_head(&[
+        "what",
+        "threads",
+        "port, sync",
+        "port, counted",
+        "counted to sync",
+        "mini-moka, sync",
+        "processors free",
+    ]);
+    for gets in GETS {
+        let mix = Mix::new(gets, THREADS[THREADS.len() - 1]);
+        for threads in THREADS {
+            bench.print_counted_row(&mix, threads)?;
+        }
+    }
+    for threads in THREADS {
+        bench.print_looks_row(threads)?;
+    }
+    Ok(())
+}
+
+/// Prints the tables. Says whether all rows of the first are right.
+fn print_tables(program: &str, repeats: usize) -> io::Result<bool> {
+    println!(
+        "Nanoseconds a call of a thread: the median of {repeats} repeats, in brackets the least and the greatest. A ratio is how many times as many calls the \
+         port's sync makes in a time, by the medians. {}. A reading of the clock takes {:.1}.",
+        describe(),
+        clock_nanos()
+    );
+    println!();
+    let names = [
+        "port, sync",
+        "mini-moka, sync",
+        "mini-moka, unsync in a lock",
+        "port, unsync in a lock",
+    ];
+    let mut head = vec!["gets of 100".to_string(), "threads".into()];
+    head.extend(names.map(String::from));
+    head.extend(names[1..].iter().map(|name| format!("to {name}")));
+    head.extend(names.map(|name| format!("hits, {name}")));
+    head.push("processors free".into());
+    table::print_head(&head.iter().map(String::as_str).collect::<Vec<_>>());
+    let mut bench = Bench {
+        program: PlayProgram::start(program)?,
+        filling: filling(),
+        repeats,
+    };
+    bench.program.send_filling(CAPACITY, &bench.filling)?;
+    let mut all_right = true;
+    for gets in GETS {
+        let mix = Mix::new(gets, THREADS[THREADS.len() - 1]);
+        for threads in THREADS {
+            all_right &= bench.print_row(&mix, threads)?;
+        }
+    }
+    print_counted_table(&mut bench)?;
+    Ok(all_right)
+}
+
+fn main() -> ExitCode {
+    let words: Vec<String> = std::env::args().skip(1).collect();
+    let Some(program) = words.first() else {
+        eprintln!("usage: threads PROGRAM [REPEATS]");
+        return ExitCode::from(2);
+    };
+    keep_memory();
+    let repeats = words
+        .get(1)
+        .map_or(Ok(REPEATS), |word| word.parse())
+        .expect("the number of repeats is no number");
+    assert!(repeats > 0, "there is nothing to repeat");
+    match print_tables(program, repeats) {
+        Ok(true) => ExitCode::SUCCESS,
+        Ok(false) => ExitCode::FAILURE,
+        Err(error) => {
+            eprintln!("threads: {error}");
+            ExitCode::FAILURE
+        }
+    }
+}

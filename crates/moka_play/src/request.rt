@@ -1,0 +1,85 @@
+// Lines of input as requests.
+
+/// One call of a thread. An insert stores the key itself as its value.
+#[derive(Clone, Copy, Debug, PartialEq, Eq)]
+pub(crate) enum Call {
+    /// `get KEY`
+    Get(u64),
+    /// `insert KEY`
+    Insert(u64),
+    /// `count`: how many entries were counted last. Nothing is made of it.
+    Count,
+}
+
+/// Which cache threads share.
+#[derive(Clone, Copy, Debug, PartialEq, Eq)]
+pub(crate) enum Kind {
+    /// `sync`: the cache that is made for it.
+    Sync,
+    /// `counted`: the same, with its counts published.
+    Counted,
+    /// `unsync`: the cache for one thread, with one lock round it.
+    Unsync,
+}
+
+/// One line of input.
+#[derive(Clone, Copy, Debug, PartialEq, Eq)]
+pub(crate) enum Request {
+    /// `capacity NUMBER`: how many entries the caches have at most that are made from here on. Before the first such line they have no limit.
+    Capacity(u64),
+    /// `thread`: the calls that follow are those of one more thread. The calls that come before the first thread's fill each new cache.
+    Thread,
+    /// `clear`: there are no threads. What fills a new cache stays.
+    Clear,
+    /// A call, of the thread that came last.
+    Call(Call),
+    /// `play sync`, `play counted` or `play unsync`: a new cache is made and filled, and then all threads make their calls on it.
+    Play(Kind),
+    /// `nanos`: how long the last play took.
+    Nanos,
+}
+
+impl Request {
+    /// The request that a line spells, if it spells one.
+    pub(crate) fn parse(line: &str) -> Option<Request> {
+        match line.split_once(' ') {
+            Some((name, word)) => with_word(name, word),
+            None => alone(line),
+        }
+    }
+}
+
+/// The request of one word.
+fn alone(name: &str) -> Option<Request> {
+    match name {
+        "thread" => Some(Request::Thread),
+        "clear" => Some(Request::Clear),
+        "nanos" => Some(Request::Nanos),
+        "count" => Some(Request::Call(Call::Count)),
+        _ => None,
+    }
+}
+
+/// The request of two words.
+fn with_word(name: &str, word: &str) -> Option<Request> {
+    match name {
+        "get" => Some(Request::Call(Call::Get(number_of(word)?))),
+        "insert" => Some(Request::Call(Call::Insert(number_of(word)?))),
+        "capacity" => Some(Request::Capacity(number_of(word)?)),
+        "play" => Some(Request::Play(kind_of(word)?)),
+        _ => None,
+    }
+}
+
+fn number_of(word: &str) -> Option<u64> {
+    word.parse::<u64>().ok()
+}
+
+fn kind_of(word: &str) -> Option<Kind> {
+    match word {
+        "sync" => Some(Kind::Sync),
+        "counted" => Some(Kind::Counted),
+        "unsync" => Some(Kind::Unsync),
+        _ => None,
+    }
+}

@@ -1,0 +1,5 @@
+pub mod Record
+pub mod Replay
+pub mod Passes
+-- inside
+pub mod Counted

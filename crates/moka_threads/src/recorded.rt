@@ -1,0 +1,145 @@
+// A recording cache that threads call, each with a pass of its own.
+use moka_common::hash::FixedState;
+use moka_common::shared::Shared;
+use moka_common::time::Instant;
+use moka_record::pass::{CallPass, CloseError};
+use moka_record::record::NotRecorded;
+use moka_record::recorded::Recorded;
+use moka_sync::engine::{Call, Core, Reply};
+use std::alloc::{AllocError, Global};
+use std::sync::{Arc, Wait};
+use std::test::Fail;
+use std::thread;
+
+/// A recording cache without a limit, and as many passes as there are callers.
+fn open(alloc: Global, callers: usize) -> Result<(Recorded<u64, u64>, Vec<CallPass>), Fail> {
+    let core: Core<u64, u64> = Core::new(alloc, FixedState::new())?;
+    if !core.is_new() {
+        return Err("a new core".into());
+    }
+    Ok(Recorded::open(alloc, core, callers)?)
+}
+
+fn start() -> Instant {
+    Instant::from_nanos(0)
+}
+
+/// Inserts a key with itself for its value.
+fn insert(alloc: Global, key: u64) -> Result<Call<Shared<u64>, Shared<u64>>, AllocError> {
+    let key = Shared::new(alloc, key)?;
+    Ok(Call::Insert {
+        value: key.try_clone()?,
+        key,
+        now: start(),
+    })
+}
+
+/// Whether a value that was inserted is read back.
+fn is_read_back<R: Wait>(
+    rt: &R,
+    alloc: Global,
+    cache: &Recorded<u64, u64>,
+    pass: &mut CallPass,
+    key: u64,
+) -> bool {
+    let Ok(call) = insert(alloc, key) else {
+        return false;
+    };
+    if !matches!(cache.call(rt, pass, call), Ok(Reply::Done)) {
+        return false;
+    }
+    let Ok(shared) = Shared::new(alloc, key) else {
+        return false;
+    };
+    let call = Call::Get {
+        key: shared,
+        now: start(),
+    };
+    match cache.call(rt, pass, call) {
+        Ok(Reply::Found(Some(found))) => *found.get() == key,
+        _ => false,
+    }
+}
+
+/// The pass, once each of 100 keys from this one on was read back, or nothing.
+fn read_back_all<R: Wait>(
+    rt: &R,
+    alloc: Global,
+    cache: &Recorded<u64, u64>,
+    mut pass: CallPass,
+    first: u64,
+) -> Option<CallPass> {
+    for key in first..first.saturating_add(100) {
+        if !is_read_back(rt, alloc, cache, &mut pass, key) {
+            return None;
+        }
+    }
+    Some(pass)
+}
+
+#[test]
+fn a_record_has_what_two_threads_have_made(rt: HostRuntime) -> Result<(), Fail> {
+    let alloc = rt.alloc();
+    let (cache, passes) = open(alloc, 2)?;
+    let cache = Arc::new(alloc, cache)?;
+    let mut threads = Vec::new(alloc);
+    let mut first = 0u64;
+    for pass in passes {
+        let shared = Arc::try_clone(&cache)?;
+        let key = first;
+        threads.push(thread::spawn(&rt, move || {
+            read_back_all(&rt, alloc, &shared, pass, key)
+        })?)?;
+        first = first.saturating_add(100);
+    }
+    let mut passes = Vec::new(alloc);
+    for thread in threads {
+        let Some(pass) = thread.join(&rt) else {
+            return Err("a thread that reads back what it has written".into());
+        };
+        assert_eq!(rt; pass.made(), 200);
+        passes.push(pass)?;
+    }
+    let Ok(cache) = Arc::try_unwrap(cache) else {
+        return Err("one owner".into());
+    };
+    let record = cache.close(passes)?;
+    assert_eq!(rt; record.calls().len(), 400);
+    Ok(())
+}
+
+#[test]
+fn a_cache_is_closed_with_all_its_passes(rt: HostRuntime) -> Result<(), Fail> {
+    let (cache, mut passes) = open(rt.alloc(), 2)?;
+    let _ = passes.pop();
+    assert!(rt; matches!(cache.close(passes), Err(CloseError::PassMissing)));
+    let (cache, passes) = open(rt.alloc(), 0)?;
+    assert!(rt; cache.close(passes)?.calls().is_empty());
+    Ok(())
+}
+
+#[test]
+fn a_pass_of_another_cache_is_strange(rt: HostRuntime) -> Result<(), Fail> {
+    let alloc = rt.alloc();
+    let (cache, mut passes) = open(alloc, 1)?;
+    let (other, _) = open(alloc, 1)?;
+    let Some(mut pass) = passes.pop() else {
+        return Err("a pass".into());
+    };
+    assert!(rt;
+        matches!(
+            cache.call(&rt, &mut pass, insert(alloc, 7)?),
+            Ok(Reply::Done)
+        )
+    );
+    assert!(rt;
+        matches!(
+            other.call(&rt, &mut pass, insert(alloc, 7)?),
+            Err(NotRecorded)
+        )
+    );
+    assert_eq!(rt; pass.made(), 1);
+    passes.push(pass)?;
+    assert!(rt; matches!(other.close(passes), Err(CloseError::StrangePass)));
+    Ok(())
+}
