@@ -1,4 +1,4 @@
-"""fuzz.py --program P --seed N --count N --jobs J --mode all|unsync|core|recorded|sketch
+"""fuzz.py --program P --seed N --count N --jobs J --mode all|unsync|core|recorded|sync|sketch
 
 Makes random scripts, runs `P < script`, and compares stdout and exit status with the model.
 """
@@ -15,7 +15,7 @@ import model
 
 HERE = os.path.dirname(os.path.abspath(__file__))
 U32, U64 = model.U32, model.U64
-MODES = ("unsync", "core", "recorded", "sketch")
+MODES = ("unsync", "core", "recorded", "sync", "sketch")
 TEXTS = ["a", "b", "c", "z", "alice", "bob", "0", "7", "-", "x-1", "A" * 64, "get", "Z9"]
 
 
@@ -1091,6 +1091,20 @@ def gen_recorded(r):
     return lines
 
 
+def gen_sync(r):
+    """A recorded script, which has the same calls, with lines that only the cache with locks has."""
+    lines = gen_recorded(r)
+    words = lines[0].split(" ")
+    if "tickets" in words:
+        del words[words.index("tickets"):]
+    out = [" ".join(["sync"] + words[1:])]
+    for line in lines[1:]:
+        out.append(line)
+        if r.random() < 0.05:
+            out.append(line.split(" ")[0] + r.choice([" iter", " policy"]))
+    return out
+
+
 def gen_recorded_aging(r):
     weighed = r.random() < 0.5
     limit = r.choice([1, 2, 3, 4, 8, 10])
@@ -1225,7 +1239,7 @@ def gen_sketch(r):
     return lines
 
 
-GEN = {"unsync": gen_unsync, "core": gen_core, "recorded": gen_recorded, "sketch": gen_sketch}
+GEN = {"unsync": gen_unsync, "core": gen_core, "recorded": gen_recorded, "sync": gen_sync, "sketch": gen_sketch}
 
 # ---------------------------------------------------------------- malformed scripts
 
@@ -1238,7 +1252,7 @@ WORDS = ["max", "live", "idle", "weighed", "tickets", "max 3", "live 5ns", "idle
          "sync", "insert", "get", "INSERT", "Get", "fetch", "remove", "count", "x" * 64, "x" * 65, "x" * 63 + "_", "a_b", "a.b", "-", "--", ""]
 DURATIONS = ["5", "5ms", "s", "ns", "5sn", "5nss", "5us", "05ns", "00s", "18446744073709551615s", "18446744073709551616s",
              "18446744073709551615ns", "18446744073709551616ns", "5NS", "5S", "+5s", "-5s", "5n", "ns5", "5ns5", "0ns", "5sns", "5 s", "5 ns"]
-FIRSTS = ["", "sync", "sync max 3", "unsync max", "unsync max 3 max 3", "core weighed weighed", "core tickets 3 weighed", "unsync tickets 3",
+FIRSTS = ["", "sync", "sync max 3", "sync tickets 3", "sync max 3 weighed tickets 3", "unsync max", "unsync max 3 max 3", "core weighed weighed", "core tickets 3 weighed", "unsync tickets 3",
           "recorded idle 3ns live 3ns", "recorded weighed max 3", "sketch", "sketch 4294967296", "sketch 3 3", "sketch max 3", "core tickets",
           "core live 3ns max 3", "core idle 3ns idle 3ns", "recorded live 3ns live 4ns", "unsync weighed 3", "unsync  max 3", " unsync", "unsync ",
           "Unsync", "unsynced", "core max 18446744073709551616", "core max 03", "recorded tickets 18446744073709551616", "unsync live 5", "max 3",

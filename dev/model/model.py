@@ -67,8 +67,8 @@ def first_line(line):
         if len(words) != 2:
             raise Bad()
         return "sketch", number(words[1], U32)
-    if mode not in (b"unsync", b"core", b"recorded"):
-        raise Bad()       # `sync` answers nothing yet
+    if mode not in (b"unsync", b"core", b"recorded", b"sync"):
+        raise Bad()
     o = Options()
     rest = words[1:]
 
@@ -108,6 +108,9 @@ LINES = {
     "recorded": {
         b"insert": (U64_, TEXT_), b"get": (U64_,), b"has": (U64_,), b"invalidate": (U64_,), b"clear": (),
         b"sync": (), b"count": (), b"weight": ()},
+    "sync": {
+        b"insert": (U64_, TEXT_), b"get": (U64_,), b"has": (U64_,), b"invalidate": (U64_,), b"clear": (),
+        b"sync": (), b"iter": (), b"count": (), b"weight": (), b"policy": ()},
     "core": {
         b"insert": (U32_, U64_, TEXT_), b"get": (U32_, U64_), b"has": (U64_,), b"invalidate": (U32_, U64_),
         b"clear": (), b"push": (U32_,), b"forget": (U32_,), b"begin": (), b"turn": (), b"rest": (), b"sync": (),
@@ -272,6 +275,13 @@ def run_sketch(cap, calls):
 LONGEST = 31536000000 * 10**9
 
 
+def policy_text(o):
+    return "max %s live %s idle %s" % (
+        "-" if o.max is None else o.max,
+        "-" if o.live is None else "%dns" % o.live,
+        "-" if o.idle is None else "%dns" % o.idle)
+
+
 def refusal(o):
     if o.live is not None and o.live > LONGEST:
         return "time_to_live is longer than 1000 years"
@@ -395,11 +405,7 @@ class Unsync:
 
     def call(self, now, name, a):
         if name == "policy":
-            o = self.o
-            return "max %s live %s idle %s" % (
-                "-" if o.max is None else o.max,
-                "-" if o.live is None else "%dns" % o.live,
-                "-" if o.idle is None else "%dns" % o.idle)
+            return policy_text(self.o)
         if name == "count":
             return str(len(self.rows))
         if name == "weight":
@@ -979,7 +985,8 @@ def run_core(o, calls):
     return out
 
 
-def run_recorded(o, calls):
+def run_whole(o, calls):
+    """Of the modes recorded and sync: by one caller, the cache with locks makes the same calls."""
     w = World(o)
     out = ["ready"]
     for now, name, a in calls:
@@ -999,6 +1006,10 @@ def run_recorded(o, calls):
             out.append(str(w.published[0]))
         elif name == "weight":
             out.append(str(w.published[1]))
+        elif name == "iter":
+            out.append(w.copies(now))
+        elif name == "policy":
+            out.append(policy_text(o))
         else:
             raise AssertionError(name)
         if CHECK_SOUND:
@@ -1019,7 +1030,7 @@ def reply_text(data):
         if why is not None:
             out = ["refused " + why]
         else:
-            out = {"unsync": run_unsync, "core": run_core, "recorded": run_recorded}[mode](options, calls)
+            out = {"unsync": run_unsync, "core": run_core, "recorded": run_whole, "sync": run_whole}[mode](options, calls)
     return "".join(line + "\n" for line in out).encode(), 0
 
 
