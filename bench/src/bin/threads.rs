@@ -14,6 +14,9 @@ const REPEATS: usize = 7;
 const GETS: [u64; 2] = [90, 50];
 const THREADS: [usize; 3] = [1, 2, 4];
 
+/// How many pairs of plays are made for each repeat, where two sides differ by less than repeats do.
+const PAIRS: usize = 8;
+
 /// What is compared.
 #[derive(Clone, Copy, PartialEq, Eq)]
 enum Side {
@@ -54,12 +57,17 @@ impl Repeats {
     }
 
     fn median(&self) -> f64 {
-        let times = self.times();
-        let middle = times.len() / 2;
-        match times.len() % 2 {
-            0 => (times[middle - 1] + times[middle]) / 2.0,
-            _ => times[middle],
-        }
+        median_of(&self.times())
+    }
+
+    /// How many times as long each play took as the other side's just before it: the median.
+    fn ratio_in_pairs(&self, other: &Repeats) -> f64 {
+        let pairs = self.0.iter().zip(&other.0);
+        let mut ratios: Vec<f64> = pairs
+            .map(|(played, before)| played.nanos as f64 / before.nanos as f64)
+            .collect();
+        ratios.sort_by(f64::total_cmp);
+        median_of(&ratios)
     }
 
     /// The median, and the least and the greatest in brackets.
@@ -73,6 +81,15 @@ impl Repeats {
     fn hit_ratio(&self, gets: usize) -> String {
         let hits: u64 = self.0.iter().map(|played| played.hits).sum();
         format!("{:.4}", hits as f64 / (gets * self.0.len()) as f64)
+    }
+}
+
+/// The median of numbers that rise.
+fn median_of(sorted: &[f64]) -> f64 {
+    let middle = sorted.len() / 2;
+    match sorted.len() % 2 {
+        0 => (sorted[middle - 1] + sorted[middle]) / 2.0,
+        _ => sorted[middle],
     }
 }
 
@@ -96,10 +113,11 @@ impl Bench {
         &mut self,
         sides: [Side; N],
         lists: &[Vec<Call>],
+        repeats: usize,
     ) -> io::Result<[Repeats; N]> {
         self.program.send_lists(lists)?;
         let mut all = sides.map(|_| Repeats(Vec::new()));
-        for _ in 0..self.repeats {
+        for _ in 0..repeats {
             for (side, repeats) in sides.into_iter().zip(&mut all) {
                 repeats.0.push(self.play(side, lists)?);
             }
@@ -110,7 +128,7 @@ impl Bench {
     /// Prints the row of so many threads. Says whether it is right.
     fn print_row(&mut self, mix: &Mix, threads: usize) -> io::Result<bool> {
         let watch = Watch::start(&[process::id(), self.program.process()]);
-        let all = self.measure(SIDES, &mix.lists[..threads])?;
+        let all = self.measure(SIDES, &mix.lists[..threads], self.repeats)?;
         let free = watch.free();
         let [port, others @ ..] = &all;
         let mut cells = vec![mix.gets.to_string(), threads.to_string()];
@@ -132,13 +150,14 @@ impl Bench {
     /// Prints what publishing costs the calls of so many threads.
     fn print_counted_row(&mut self, mix: &Mix, threads: usize) -> io::Result<()> {
         let watch = Watch::start(&[process::id(), self.program.process()]);
-        let [port, counted] = self.measure([Side::Port, Side::Counted], &mix.lists[..threads])?;
+        let sides = [Side::Port, Side::Counted];
+        let [port, counted] = self.measure(sides, &mix.lists[..threads], PAIRS * self.repeats)?;
         table::print_row(&[
             format!("a call, {} gets of 100", mix.gets),
             threads.to_string(),
             port.text(),
             counted.text(),
-            table::ratio(counted.median(), port.median()),
+            format!("{:.3}", counted.ratio_in_pairs(&port)),
             "".into(),
             table::number(watch.free()),
         ]);
@@ -151,6 +170,7 @@ impl Bench {
         let [port, counted, original] = self.measure(
             [Side::Port, Side::Counted, Side::Original],
             &counting(threads),
+            self.repeats,
         )?;
         table::print_row(&[
             "a look at the counts".into(),
@@ -184,7 +204,7 @@ fn is_right(all: &[Repeats; 4], threads: usize) -> bool {
 /// Prints the second table: the port's cache beside itself with its counts published.
 fn print_counted_table(bench: &mut Bench) -> io::Result<()> {
     println!();
-    println!("The same times, of the port's sync and of one whose counts are published. A look is entry_count, and published of the latter.");
+    println!("The same times, of the port's sync and of one whose counts are published. A look is entry_count, and published of the latter. The rows of calls have {PAIRS} plays for each repeat, and their ratio is the median of those of neighbouring plays.");
     println!();
     table::print_head(&[
         "what",
