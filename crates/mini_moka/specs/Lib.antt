@@ -13,16 +13,13 @@ pub use Rattle.moka_streams.specs.Streams
 pub use Rattle.moka_record.specs.Record
 pub use Rattle.moka_record.specs.Replay
 pub use Rattle.moka_record.specs.Passes
-pub mod ScriptKeys
-pub mod Stored
-pub mod Reply
-pub mod UnsyncRun
-pub mod FirstCore
-pub mod RecordedRun
-pub mod CoreRun
-pub mod SketchRun
+pub use Rattle.moka_script.specs.ScriptKeys
+pub use Rattle.moka_script.specs.Stored
+pub use Rattle.moka_script.specs.Reply
+pub use Rattle.moka_script.specs.UnsyncRun
+pub use Rattle.moka_script.specs.FirstCore
+pub use Rattle.moka_script.specs.RecordedRun
+pub use Rattle.moka_script.specs.CoreRun
+pub use Rattle.moka_script.specs.SketchRun
 pub mod LockedScript
 pub mod ScriptRun
--- inside
-pub mod ReplyValue
-pub mod ScriptWeighers

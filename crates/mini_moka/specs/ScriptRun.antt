@@ -12,11 +12,11 @@ use Rattle.moka_grammar.specs.declared.line.Mode.TheVariants.{Recorded, Sync, Un
 use Rattle.moka_grammar.specs.Grammar.{Script, CacheScript, CoreScript, SketchScript, IsScript, IsBadAt}
 use Rattle.moka_streams.specs.Streams.{AppendsBeginning}
 use Rattle.mini_moka.specs.LockedScript.{script_of}
-use Rattle.mini_moka.specs.Reply.{bad_line}
-use Rattle.mini_moka.specs.CoreRun.{AreCoreReplyLines}
-use Rattle.mini_moka.specs.RecordedRun.{AreRecordedReplyLines}
-use Rattle.mini_moka.specs.SketchRun.{AreSketchReplyLines}
-use Rattle.mini_moka.specs.UnsyncRun.{AreUnsyncReplyLines}
+use Rattle.moka_script.specs.Reply.{bad_line}
+use Rattle.moka_script.specs.CoreRun.{AreCoreReplyLines}
+use Rattle.moka_script.specs.RecordedRun.{AreRecordedReplyLines}
+use Rattle.moka_script.specs.SketchRun.{AreSketchReplyLines}
+use Rattle.moka_script.specs.UnsyncRun.{AreUnsyncReplyLines}
 
 module _ (A : Type 0) where
   -- the reply lines of a script of calls to a cache, by its mode: a run writes none of one with locks, which is still to be run then

@@ -1,14 +1,6 @@
 //! Scripts: requests to a cache as lines of text, and the streams that bring them and take the replies.
-mod core_lines;
-mod first_core;
-mod keys;
 mod locked;
-mod recorded;
-mod reply;
 mod runner;
-mod sketch;
-mod stored;
-mod unsync;
 
 pub use locked::LockedScript;
 pub use moka_grammar::line::{

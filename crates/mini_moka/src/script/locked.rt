@@ -3,15 +3,16 @@ ghost use Rattle.std.specs.Prelude.{◌≡◌, IsTrue};
 ghost use Rattle.std.specs.List.{AllByRecursion};
 ghost use Rattle.moka_grammar.specs.Lines.{allows, LineFits};
 
-use crate::script::first_core::builder_of;
-use crate::script::keys::KeyState;
-use crate::script::reply::{ReplyValue, push_reply, refusal};
-use crate::script::stored::{Stored, StoredWeight, stored_text};
 use moka_common::error::{InsertError, OutOfMemory};
 use moka_common::time::Instant;
+use moka_common::weigh::UnitWeight;
 use moka_engine::weigh::WeighShared;
 use moka_grammar::line::{CacheHeader, CacheOptions, Line, Mode, Request};
 use moka_grammar::text::Text;
+use moka_script::keys::KeyState;
+use moka_script::reply::{ReplyValue, push_reply, refusal};
+use moka_script::stored::{Stored, StoredWeight, stored_text};
+use moka_sync::builder::CacheBuilder;
 use moka_sync::cache::{Cache, ConcurrentCacheExt};
 use moka_sync::iter::Iter;
 use moka_sync::mapref::EntryRef;
@@ -56,6 +57,9 @@ impl<A: Allocator + Clone + Drop> LockedScript<A> {
     }
 }
 
+/// A builder of caches that a script's calls are made on.
+type ScriptBuilder<A> = CacheBuilder<u64, Stored<Text<A>>, UnitWeight, A>;
+
 /// A cache that a script's calls are made on.
 type ScriptCache<W, A> = Cache<u64, Stored<Text<A>>, KeyState, AnyPair, W, A>;
 
@@ -77,6 +81,21 @@ pub(super) fn locked_replies<A: Allocator + Clone + Drop, R: Wait>(
         Ok(cache) => replies_of(alloc, rt, &cache, script.lines),
         Err(error) => refusal(alloc, error),
     }
+}
+
+/// A builder with the limits of the settings.
+fn builder_of<A: Allocator + Clone + Drop>(alloc: A, options: CacheOptions) -> ScriptBuilder<A> {
+    let mut builder = CacheBuilder::default(alloc);
+    if let Some(max) = options.max {
+        builder = builder.max_capacity(max);
+    }
+    if let Some(live) = options.live {
+        builder = builder.time_to_live(live.to_duration());
+    }
+    if let Some(idle) = options.idle {
+        builder = builder.time_to_idle(idle.to_duration());
+    }
+    builder
 }
 
 /// Makes the calls of the lines in turn on the cache, and writes the replies.

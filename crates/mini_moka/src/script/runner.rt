@@ -1,21 +1,21 @@
 // A whole run: from the bytes of a script to the bytes of its replies.
 ghost use Rattle.std.specs.Prelude.{◌≡◌, ◌≢◌, ◌↔◌, true, false, IfOk, ℕ, List};
-ghost use Rattle.mini_moka.specs.Reply.{bad_line};
+ghost use Rattle.moka_script.specs.Reply.{bad_line};
 ghost use Rattle.std.specs.List.{AllByRecursion};
 ghost use Rattle.moka_grammar.specs.Grammar.{CacheScript, IsScript};
 ghost use Rattle.moka_grammar.specs.Lines.{LineFits};
 ghost use Rattle.mini_moka.specs.ScriptRun.{EndsSo, IsRunOf, status_of};
 ghost use Rattle.mini_moka.specs.declared.script.runner.ScriptError.TheVariants as script_error;
 
-use crate::script::core_lines::core_replies;
 use crate::script::locked::{LockedScript, locked_replies};
-use crate::script::recorded::recorded_replies;
-use crate::script::sketch::sketch_replies;
-use crate::script::unsync::unsync_replies;
 use moka_common::error::OutOfMemory;
 use moka_grammar::line::{CacheHeader, Line, Mode, Script};
 use moka_grammar::parser::{ParseError, parse};
 use moka_grammar::text::Text;
+use moka_script::core_lines::core_replies;
+use moka_script::recorded::recorded_replies;
+use moka_script::sketch::sketch_replies;
+use moka_script::unsync::unsync_replies;
 use moka_streams::streams::{Fault, ReadError, Sink, Source, read_all, write_all};
 use std::alloc::{AllocError, Allocator, Global};
 use std::fmt;

@@ -1,7 +1,0 @@
-use Rattle.std.proofs.Common.{rules}
-use Rattle.mini_moka.proofs.CoreRunLemmas.{last_step}
-use Rattle.mini_moka.proofs.script.core_lines.step.Goals as goal
-
-pub returns-clause-step : goal.returns-clause-step
-returns-clause-step g c =
-    last_step _ _ _ _ _ c.args.event _ c.pop.new.self.items c.in-Some.reply c.in_ok-replies.ensures.ok (search rules) (search rules)

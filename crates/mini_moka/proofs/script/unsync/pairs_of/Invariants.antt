@@ -1,8 +1,0 @@
-use Rattle.std.proofs.Common.{◌≡◌, ◌++◌, map}
-use Rattle.mini_moka.specs.ReplyValue.{pairs_of}
-use Rattle.mini_moka.proofs.script.unsync.pairs_of.Given as goal
-
--- the pairs so far and those to come are all
-abbrev pub invariant-loop-key : goal.invariant-loop-key
-invariant-loop-key g l =
-    pairs_of l.pairs.items ++ map (λ p. (p.0, p.1.text)) l.key-iterator ≡ map (λ p. (p.0, p.1.text)) l.fn.entries

@@ -1,0 +1,75 @@
+use Rattle.std.proofs.Common.{rules, ◌≡◌, refl, ap, ◌∙◌, subst, inl, inr}
+use Rattle.std.proofs.lemmas.List.{length-map}
+use Rattle.moka_unsync.specs.Insert.{IsInserted}
+use Rattle.moka_unsync.specs.Invalidate.{after_invalidate_if}
+use Rattle.moka_unsync.specs.Step as machine
+use Rattle.moka_script.specs.Reply.{Done, Truth, Number, Pairs, Limits, OutOfMemory}
+use Rattle.moka_script.specs.ScriptKeys.{script_keys}
+use Rattle.moka_script.specs.ScriptWeighers.{AnswersRequest}
+use Rattle.moka_script.specs.Stored.{stored_text}
+use Rattle.moka_script.specs.UnsyncRun.{have_text}
+use Rattle.moka_script.proofs.UnsyncRunLemmas.{replied, stored_insert}
+use Rattle.moka_script.proofs.unsync.reply_to.Goals as goal
+use Rattle.moka_script.proofs.unsync.reply_to.Goals.{in-Ok, in-Err}
+
+pub returns-after-inserted-clause-step : goal.returns-after-inserted-clause-step
+returns-after-inserted-clause-step g c =
+    let value : c.stored_text.result ≡ stored_text c.in-Insert.value c.in-Insert.weight = search rules in
+    let answers = subst (AnswersRequest g.W.Weigh.weighs) c.in-Insert.is c.requires.weighs in
+    let weighs = g.W.Weigh.weighs in
+    let cache = c.args.cache.now in
+    elim c.match-inserted.branch [
+      | in-Ok w ↦
+          let step = subst (λ v. IsInserted script_keys weighs cache c.in-Insert.key v c.from_nanos-now.result c.insert-inserted.new.self)
+          value w.in-Ok.ensures.step in
+          replied _ _ _ _ _ _ c.push_reply.result _ _ Done c.from_nanos-now.ensures c.in-Insert.is
+          (machine.Done, inl (refl, stored_insert weighs _ _ _ _ _ answers step), refl) (rw w.reply-is at c.push_reply.ensures)
+      | in-Err w ↦
+          replied _ _ _ _ _ _ c.push_reply.result _ _ OutOfMemory c.from_nanos-now.ensures c.in-Insert.is
+          (machine.OutOfMemory, inr (refl, w.in-Err.ensures.err), refl) (rw w.reply-is at c.push_reply.ensures)
+    ]
+
+pub returns-in-ContainsKey-clause-step : goal.returns-in-ContainsKey-clause-step
+returns-in-ContainsKey-clause-step g c =
+    replied _ _ _ _ _ _ c.push_reply-in-ContainsKey.result _ _ (Truth c.contains_key.result) c.from_nanos-now.ensures c.in-ContainsKey.is
+    (machine.Truth c.contains_key.result, (ap machine.Truth c.contains_key.ensures.value, c.contains_key.ensures.step), refl)
+    c.push_reply-in-ContainsKey.ensures
+
+pub returns-in-Invalidate-clause-step : goal.returns-in-Invalidate-clause-step
+returns-in-Invalidate-clause-step g c =
+    replied _ _ _ _ _ _ c.push_reply-in-Invalidate.result _ _ Done c.from_nanos-now.ensures c.in-Invalidate.is
+    (machine.Done, (refl, c.invalidate.ensures.step), refl) c.push_reply-in-Invalidate.ensures
+
+pub returns-in-InvalidateAll-clause-step : goal.returns-in-InvalidateAll-clause-step
+returns-in-InvalidateAll-clause-step g c =
+    replied _ _ _ _ _ _ c.push_reply-in-InvalidateAll.result _ _ Done c.from_nanos-now.ensures c.in-InvalidateAll.is
+    (machine.Done, (refl, c.invalidate_all.ensures.step), refl) c.push_reply-in-InvalidateAll.ensures
+
+pub returns-in-InvalidateIf-clause-step : goal.returns-in-InvalidateIf-clause-step
+returns-in-InvalidateIf-clause-step g c =
+    let entries = c.args.cache.now.contents.entries in
+    let step = c.invalidate_if.ensures.step
+    ∙ ap (λ text. after_invalidate_if script_keys c.args.cache.now (have_text text entries)) (search rules) in
+    replied _ _ _ _ _ _ c.push_reply-in-InvalidateIf.result _ _ Done c.from_nanos-now.ensures c.in-InvalidateIf.is
+    (machine.Done, ((refl, length-map entries _), step), refl) c.push_reply-in-InvalidateIf.ensures
+
+pub returns-in_ok-pairs-in-Iter-clause-step : goal.returns-in_ok-pairs-in-Iter-clause-step
+returns-in_ok-pairs-in-Iter-clause-step g c =
+    replied _ _ _ _ _ _ c.push_reply-in-Iter.result _ _ _ c.from_nanos-now.ensures c.in-Iter.is
+    (machine.Pairs _, (ap machine.Pairs c.iter.ensures.value, refl), ap Pairs (search rules)) c.push_reply-in-Iter.ensures
+
+pub returns-in-EntryCount-clause-step : goal.returns-in-EntryCount-clause-step
+returns-in-EntryCount-clause-step g c =
+    replied _ _ _ _ _ _ c.push_reply-in-EntryCount.result _ _ (Number c.entry_count.result) c.from_nanos-now.ensures c.in-EntryCount.is
+    (machine.Number c.entry_count.result, (ap machine.Number c.entry_count.ensures, refl), refl) c.push_reply-in-EntryCount.ensures
+
+pub returns-in-WeightedSize-clause-step : goal.returns-in-WeightedSize-clause-step
+returns-in-WeightedSize-clause-step g c =
+    replied _ _ _ _ _ _ c.push_reply-in-WeightedSize.result _ _
+    (Number c.weighted_size.result) c.from_nanos-now.ensures c.in-WeightedSize.is
+    (machine.Number c.weighted_size.result, (ap machine.Number c.weighted_size.ensures, refl), refl) c.push_reply-in-WeightedSize.ensures
+
+pub returns-in-Policy-clause-step : goal.returns-in-Policy-clause-step
+returns-in-Policy-clause-step g c =
+    replied _ _ _ _ _ _ c.push_reply-in-Policy.result _ _ (Limits c.policy-policy.result) c.from_nanos-now.ensures c.in-Policy.is
+    (ap Limits c.policy-policy.ensures, refl) c.push_reply-in-Policy.ensures
