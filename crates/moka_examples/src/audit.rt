@@ -12,7 +12,7 @@ use std::sync::{Arc, Wait};
 use std::thread::{Builder, Threads};
 
 /// A core without a limit, with which nothing has been done.
-fn new_core(alloc: Global) -> Result<Core<u64, u64>, Error>
+pub fn new_core(alloc: Global) -> Result<Core<u64, u64>, Error>
     ensures { IfOk result (λ core. IsNew core.state) }
 {
     Ok(Core::new(alloc, FixedState::new())?)
@@ -100,18 +100,4 @@ pub fn is_replayed(
         }
     }
     Ok(true)
-}
-
-#[cfg(test)]
-mod tests {
-    use super::*;
-    use std::test::Fail;
-
-    #[test]
-    fn what_four_threads_were_answered_is_replayed(rt: HostRuntime) -> Result<(), Fail> {
-        let record = record_of_threads(rt, rt.alloc(), 4)?;
-        assert_eq!(rt; record.calls().len(), 400);
-        assert!(rt; is_replayed(rt.alloc(), new_core(rt.alloc())?, &record)?);
-        Ok(())
-    }
 }

@@ -214,30 +214,3 @@ pub fn has_ended<I: Source, O: Sink>(alloc: Global, source: &mut I, sink: &mut O
 {
     script::run(alloc, source, sink).is_ok()
 }
-
-#[cfg(test)]
-mod tests {
-    use super::*;
-    use std::test::Fail;
-
-    #[test]
-    fn what_a_list_of_calls_wrote_is_found(rt: HostRuntime) -> Result<(), Fail> {
-        let alloc = rt.alloc();
-        let now = Instant::from_secs(0);
-        let value = Rc::new(alloc, 10)?;
-        let calls = vec![in alloc; unsync::Call::Insert { key: 7, value, now }]?;
-        let mut cache: Cache<u64, Rc<u32>> = Cache::new(alloc, 100)?;
-        assert!(rt; is_found_after(alloc, &mut cache, calls, &7, now)?);
-        Ok(())
-    }
-
-    #[test]
-    fn what_is_taken_out_was_there_once(rt: HostRuntime) -> Result<(), Fail> {
-        let now = Instant::from_nanos(0);
-        let mut cache: Cache<u64, u32> = minute_cache(rt.alloc(), 10)?;
-        cache.insert(7, 1, now)?;
-        let answers = (take_out(&mut cache, &7, now), take_out(&mut cache, &7, now));
-        assert_eq!(rt; answers, (true, false));
-        Ok(())
-    }
-}

@@ -1,11 +1,9 @@
-//! The examples of the docs, and callers whose contracts name `mini_moka` alone: proved, and run by tests.
+//! The examples of the docs, and callers whose contracts name `mini_moka` alone: proved. `moka_examples_tests` runs them.
 #![tactic(auto)]
 
 pub mod audit;
 pub mod calling;
 pub mod metrics;
 pub mod pages;
-#[cfg(test)]
-mod replay;
 pub mod shared;
 pub mod uses;

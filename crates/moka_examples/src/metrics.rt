@@ -78,17 +78,3 @@ pub fn watched_while_filled<R: Wait + Threads + Copy + Send + 'static>(
     let most = watching.join(&rt);
     Ok((most, cache.entry_count()))
 }
-
-#[cfg(test)]
-mod tests {
-    use super::*;
-    use std::test::Fail;
-
-    #[test]
-    fn no_counts_are_torn_or_go_back(rt: HostRuntime) -> Result<(), Fail> {
-        let (most, last) = watched_while_filled(rt, rt.alloc(), 10_000)?;
-        assert!(rt; most.is_some_and(|most| most <= 100));
-        assert_eq!(rt; last, 100);
-        Ok(())
-    }
-}

@@ -57,18 +57,3 @@ impl Pages {
         Ok(Instant::from_secs(0).after(since))
     }
 }
-
-#[cfg(test)]
-mod tests {
-    use super::*;
-    use std::test::Fail;
-
-    #[test]
-    fn a_page_is_found_by_a_running_clock(rt: HostRuntime) -> Result<(), Fail> {
-        let mut pages = Pages::open(rt.alloc(), &rt)?;
-        pages.put(&rt, 7, String::from_str(rt.alloc(), "alice")?)?;
-        assert!(rt; pages.text(&rt, 7)?.is_some());
-        assert!(rt; pages.text(&rt, 8)?.is_none());
-        Ok(())
-    }
-}

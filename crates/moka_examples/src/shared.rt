@@ -1,4 +1,4 @@
-//! The examples of the cache that threads share, proved and run by tests, which compare what they give.
+//! The examples of the cache that threads share.
 ghost use Rattle.std.specs.Prelude.{◌≡◌, ◌*◌, IfOk};
 ghost use Rattle.std.proofs.Common.{subst};
 ghost use Rattle.std.proofs.lemmas.Bool.{eqb-true};
@@ -74,32 +74,4 @@ pub fn square<R: Wait>(
     let square = u64::from(number) * u64::from(number);
     squares.insert(rt, number, square, now)?;
     Ok(square)
-}
-
-#[cfg(test)]
-mod tests {
-    use super::*;
-    use std::test::Fail;
-
-    #[test]
-    fn sixteen_threads_share_a_cache(rt: HostRuntime) -> Result<(), Fail> {
-        assert_eq!(rt; square_by_threads(rt, rt.alloc())?, (1240, 16));
-        Ok(())
-    }
-
-    #[test]
-    fn a_clone_is_the_same_cache(rt: HostRuntime) -> Result<(), Fail> {
-        assert_eq!(rt; counted_twice(&rt, rt.alloc())?, (2, 2));
-        Ok(())
-    }
-
-    #[test]
-    fn a_square_is_found_again(rt: HostRuntime) -> Result<(), Fail> {
-        let squares = Cache::builder(rt.alloc()).pair_rule::<IsSquare>().build()?;
-        let now = Instant::from_secs(0);
-        assert_eq!(rt; square(&rt, &squares, 7, now)?, 49);
-        assert_eq!(rt; square(&rt, &squares, 7, now)?, 49);
-        assert!(rt; squares.contains_key(&rt, &7, now));
-        Ok(())
-    }
 }

@@ -1,4 +1,4 @@
-//! The examples of the README, proved to be safe and to return, and run by tests, which compare what they give: they have no contracts.
+//! The examples of the README, proved to be safe and to return: they have no contracts.
 use mini_moka::common::time::Instant;
 use mini_moka::common::{FixedState, Shared};
 use mini_moka::sync::engine::{Call, Core, Reply};
@@ -100,62 +100,5 @@ pub fn count_after_calls(alloc: Global) -> Result<Option<u64>, Error> {
     match replies.last() {
         Some(unsync::Reply::Number(count)) => Ok(Some(*count)),
         _ => Ok(None),
-    }
-}
-
-#[cfg(test)]
-mod tests {
-    use super::*;
-    use mini_moka::common::BuildError;
-    use std::test::Fail;
-
-    #[test]
-    fn a_remembered_value_is_found(rt: HostRuntime) -> Result<(), Fail> {
-        assert_eq!(rt; remember(rt.alloc(), 7, 1)?, Some(1));
-        Ok(())
-    }
-
-    #[test]
-    fn a_text_is_found_until_its_time_is_over(rt: HostRuntime) -> Result<(), Fail> {
-        assert_eq!(rt; found_within_ten_seconds(rt.alloc())?, (true, false));
-        Ok(())
-    }
-
-    #[test]
-    fn an_error_has_the_text_of_its_cause(rt: HostRuntime) -> Result<(), Fail> {
-        let build = Error::from(BuildError::TimeToLiveTooLong);
-        let texts = format!(in rt.alloc(); "{build}, {}", Error::OutOfMemory)?;
-        assert!(rt; texts.as_str() == "time_to_live is longer than 1000 years, out of memory");
-        Ok(())
-    }
-
-    #[test]
-    fn a_moment_is_so_much_later(rt: HostRuntime) {
-        assert_eq!(rt; millis_after_noon(), 43_201_500);
-    }
-
-    #[test]
-    fn what_is_invalidated_is_gone(rt: HostRuntime) -> Result<(), Fail> {
-        assert_eq!(rt; left_of_64(rt.alloc())?, (true, true, 31));
-        Ok(())
-    }
-
-    #[test]
-    fn the_first_pair_is_of_the_least_recently_used_entry(rt: HostRuntime) -> Result<(), Fail> {
-        assert_eq!(rt; least_recently_used(rt.alloc())?, Some(1));
-        Ok(())
-    }
-
-    #[test]
-    fn a_list_of_calls_is_made_in_turn(rt: HostRuntime) -> Result<(), Fail> {
-        assert_eq!(rt; count_after_calls(rt.alloc())?, Some(1));
-        Ok(())
-    }
-
-    #[test]
-    fn a_text_weighs_its_bytes(rt: HostRuntime) -> Result<(), Fail> {
-        let text = String::from_str(rt.alloc(), "alice")?;
-        assert_eq!(rt; weight_in_bytes(rt.alloc(), text)?, 5);
-        Ok(())
     }
 }

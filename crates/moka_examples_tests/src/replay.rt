@@ -2,12 +2,12 @@
 ghost use Rattle.std.specs.Prelude.{IfOk};
 ghost use Rattle.mini_moka.specs.Sync.CoreState.{IsNew};
 
-use crate::audit::is_replayed;
 use mini_moka::common::time::Instant;
 use mini_moka::common::{FixedState, Shared};
 use mini_moka::sync::CacheBuilder;
 use mini_moka::sync::engine::{Call, Core};
 use mini_moka::sync::recorded::{CallPass, Recorded, SharedCall};
+use moka_examples::audit::is_replayed;
 use std::alloc::{AllocError, Global};
 use std::sync::{Arc, Wait};
 use std::test::Fail;
