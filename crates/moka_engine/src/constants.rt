@@ -9,6 +9,9 @@ pub const NO_TICKET: u64 = u64::MAX;
 /// How many upserts of an entry can be outstanding. An insert that would be one more is refused, so that none is forgotten.
 pub const MAX_OUTSTANDING: u64 = u64::MAX;
 
+/// No place of a charge: the hint of an entry that the maintenance has not charged yet, or at a place that 32 bits don't tell.
+pub const NO_PLACE: u32 = u32::MAX;
+
 /// How many operations in a log make a maintenance due, or another round of it: enough of them that its locks are worth their while.
 pub const FLUSH_POINT: usize = 64;
 

@@ -3,12 +3,13 @@ ghost use Rattle.std.specs.Prelude.{◌≡◌, ◌<◌, ◌+◌, ◌^◌};
 ghost use Rattle.moka_engine.specs.CoreState.{is_expired};
 ghost use Rattle.moka_engine.specs.Entry.{touched, updated, with_upsert_done};
 
-use crate::constants::MAX_OUTSTANDING;
+use crate::constants::{MAX_OUTSTANDING, NO_PLACE};
 use crate::settings::Settings;
 use crate::ticket::Ticket;
 use moka_base::shared::Shared;
 use moka_base::time::Instant;
 use std::alloc::{Allocator, Global};
+use std::cell::Cell;
 use std::marker::Model;
 
 /// A key with its value and what the cache keeps of them. The hash of the key is its ticket's.
@@ -17,6 +18,8 @@ pub struct Entry<K: Drop, V: Drop, A: Allocator + Drop = Global> {
     key: Shared<K, A>,
     value: Shared<V, A>,
     weight: u32,
+    /// Where the maintenance has put what it charges for it, as far as is known.
+    place: Cell<u32>,
     accessed: Instant,
     modified: Instant,
     ticket: Ticket,
@@ -74,6 +77,7 @@ impl<K: Drop, V: Drop, A: Allocator + Drop> Entry<K, V, A> {
             key,
             value,
             weight,
+            place: Cell::new(NO_PLACE),
             accessed: now,
             modified: now,
             ticket,
@@ -124,6 +128,18 @@ impl<K: Drop, V: Drop, A: Allocator + Drop> Entry<K, V, A> {
         ensures { result ≡ self.now.ticket }
     {
         self.ticket
+    }
+
+    /// Where the maintenance may find what it charges for the entry. It is no more than a hint, of which no contract speaks.
+    #[inline]
+    pub fn place(&self) -> usize {
+        self.place.get() as usize
+    }
+
+    /// Keeps a place for `place` to tell, if 32 bits can.
+    #[inline]
+    pub fn keep_place(&self, place: usize) {
+        self.place.set(u32::try_from(place).unwrap_or(NO_PLACE));
     }
 
     /// How many upserts of it the maintenance has not done.

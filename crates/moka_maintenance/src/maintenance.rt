@@ -246,7 +246,7 @@ impl<A: Allocator + Clone + Drop> Maintenance<A> {
         match self.state.stage {
             Stage::ReadApply { work, read } => match read {
                 Read::Hit { ticket, moment } => {
-                    self.state.apply_hit(work, ticket);
+                    self.state.apply_hit(work, ticket, place_of(found));
                     EntryChange::Touched(moment)
                 }
                 Read::Miss { .. } => EntryChange::Stays,
@@ -282,6 +282,14 @@ impl<A: Allocator + Clone + Drop> Maintenance<A> {
             },
             _ => EntryChange::Stays,
         }
+    }
+}
+
+/// Where what is charged for an entry may be found: nowhere where there is no entry.
+fn place_of<K: Drop, V: Drop, A: Allocator + Drop>(found: Option<&Entry<K, V, A>>) -> usize {
+    match found {
+        Some(entry) => entry.place(),
+        None => usize::MAX,
     }
 }
 

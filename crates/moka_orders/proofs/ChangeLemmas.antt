@@ -8,16 +8,16 @@ use Rattle.std.specs.Map.{lookup, remove_entry, set_value, keys_of, values_of}
 use Rattle.moka_deque.specs.Deque.{Deque, IsIn, moved_to_back, after_move_to_back, after_move_front_to_back}
 use Rattle.moka_deque.proofs.DequeLemmas.{length-remove, lookup-set}
 use Rattle.moka_engine.specs.declared.ticket.Ticket.{Ticket}
-use Rattle.moka_engine.specs.Orders.{used, rewritten, recharged, with_node, without_node, with_write}
+use Rattle.moka_engine.specs.Orders.{charge_of, used, rewritten, recharged, with_node, without_node, with_write}
 use Rattle.moka_index.specs.HashIndex.{HashIndex}
 use Rattle.moka_orders.specs.declared.orders.Node.{Node}
 use Rattle.moka_orders.specs.Indexed.{IsIndexed}
 use Rattle.moka_orders.specs.Kept.{IsKept, room_of, room_after, with_write_last, without_write}
-use Rattle.moka_orders.specs.OrdersState.{OrdersState, orders_of, access_of, charged}
+use Rattle.moka_orders.specs.OrdersState.{OrdersState, IsNodeOf, orders_of, access_of, charged}
 use Rattle.moka_deque.proofs.IdLemmas.{lookup-rewritten, moved-found}
 use Rattle.moka_orders.proofs.IndexLemmas.{IsIndexed-rewrite}
 use Rattle.moka_orders.proofs.KeptLemmas.{IsKept-moved, IsKept-set, IsKept-rewritten, access-moved, access-set, access-same, access-removed}
-use Rattle.moka_orders.proofs.KeptLemmas.{written-moved, written-removed}
+use Rattle.moka_orders.proofs.KeptLemmas.{charge_found, written-moved, written-removed}
 use Rattle.moka_orders.proofs.TicketsLemmas.{seen-push}
 
 -- what a contract sees of the parts
@@ -46,6 +46,18 @@ length-moved id n items stood =
 
 module _ {items : List (ℕ × Node)} {writes : List (ℕ × Ticket)} {total : ℕ} (s : IsKept items writes total)
     (id : ℕ) (n : Node) (stood : lookup (nat_eq id) items ≡ Some n) where
+  -- it is the node of its ticket
+  pub node_of : (access written ids : ℕ) (t : Ticket) → n.ticket ≡ t → IsNodeOf (seen items writes access written ids) t id
+  node_of access written ids t is =
+      record {
+        node = n;
+        stands = stood;
+        of_ticket = is;
+        charge =
+            subst (λ u. charge_of u (orders_of (seen items writes access written ids)) ≡ Some n.charge) is
+            (charge_found s id n stood (values_of writes));
+      }
+
   -- ---- a node goes to the back
 
   pub moved_indexed : (index : HashIndex) → IsIndexed items index → IsIndexed (moved_to_back id items) index

@@ -116,6 +116,20 @@ impl<A: Allocator + Clone + Drop> Orders<A> {
         None
     }
 
+    /// The node of a ticket, which is looked for at a place first: that where `enter` has put it, as far as the caller knows it. It spares the look-up
+    /// in the index.
+    pub fn find_at(&self, ticket: Ticket, place: usize) -> Option<NodeId>
+        ensures found { IfSome result (λ id. IsNodeOf self.now ticket id) }
+        ensures absent { IsNone result → charge_of ticket (orders_of self.now) ≡ None }
+        ensures unwritten { IsNone result → is_written ticket (orders_of self.now) ≡ false }
+    {
+        let id = NodeId::from_number(place);
+        if self.access.contains(id) && self.access.get(id).ticket == ticket {
+            return Some(id);
+        }
+        self.find(ticket)
+    }
+
     /// The node of an id.
     pub fn get(&self, id: NodeId) -> &Node
         requires { IsIn self.now.nodes id }
@@ -211,8 +225,8 @@ impl<A: Allocator + Clone + Drop> Orders<A> {
     }
 
     /// A new node at the back, also in the order of writing where there is a time to live. There must be room for it, and no node of its
-    /// ticket: `reserve` and `find` tell.
-    pub fn enter(&mut self, ticket: Ticket, charge: u32, limits: &Limits)
+    /// ticket: `reserve` and `find` tell. The answer is its place, for `find_at`.
+    pub fn enter(&mut self, ticket: Ticket, charge: u32, limits: &Limits) -> usize
         requires room { 0 < self.old.room }
         requires absent { charge_of ticket (orders_of self.old) ≡ None }
         ensures step { AddsNode self.old self.new ticket charge }
@@ -226,11 +240,10 @@ impl<A: Allocator + Clone + Drop> Orders<A> {
             write: None,
         };
         if !limits.has_time_to_live() {
-            push_node(&mut self.access, &mut self.index, node);
-            return;
+            return push_node(&mut self.access, &mut self.index, node);
         }
         node.write = Some(self.writes.push_reserved(ticket));
-        push_node(&mut self.access, &mut self.index, node);
+        push_node(&mut self.access, &mut self.index, node)
     }
 
     /// The node leaves both orders, and its room stays.
@@ -257,8 +270,12 @@ fn with_charge<A: Allocator>(access: &Deque<Node, A>, total: u128, charge: u32) 
     total + u128::from(charge)
 }
 
-/// A node at the back, in room that was made.
-fn push_node<A: Allocator>(access: &mut Deque<Node, A>, index: &mut HashIndex<A>, node: Node)
+/// A node at the back, in room that was made. The answer is the number of its id.
+fn push_node<A: Allocator>(
+    access: &mut Deque<Node, A>,
+    index: &mut HashIndex<A>,
+    node: Node,
+) -> usize
     requires room { 0 < access.old.room }
     requires ids { length access.old.items + access.old.room ≤ index.old.ids }
     requires indexed { IsIndexed access.old.items index.old }
@@ -268,6 +285,7 @@ fn push_node<A: Allocator>(access: &mut Deque<Node, A>, index: &mut HashIndex<A>
     let hash = node.ticket.hash;
     let id = access.push_reserved(node);
     index.add(id.number(), hash);
+    id.number()
 }
 
 /// Takes a write out of the order of writing, if there is one.

@@ -266,8 +266,10 @@ impl<A: Allocator + Clone + Drop> State<A> {
             self.stage = writes_or_on(work);
             return EntryChange::Stays;
         };
-        self.orders
+        let place = self
+            .orders
             .enter(candidate.ticket, standing.weight(), settings.limits());
+        standing.keep_place(place);
         send_back(&mut self.orders, skipped);
         self.stage = writes_or_on(work);
         EntryChange::UpsertDone

@@ -12,11 +12,15 @@ use moka_engine::ticket::Ticket;
 use moka_orders::orders::Orders;
 use std::alloc::{Allocator, Global};
 
-/// The ticket's node, if there is one, becomes the most recently used one.
-pub(crate) fn use_ticket<A: Allocator + Clone + Drop>(orders: &mut Orders<A>, ticket: Ticket)
+/// The ticket's node, if there is one, becomes the most recently used one. It is looked for at a place first.
+pub(crate) fn use_ticket<A: Allocator + Clone + Drop>(
+    orders: &mut Orders<A>,
+    ticket: Ticket,
+    place: usize,
+)
     ensures { orders_of orders.new ≡ used ticket (orders_of orders.old) }
 {
-    if let Some(id) = orders.find(ticket) {
+    if let Some(id) = orders.find_at(ticket, place) {
         orders.use_node(id);
     }
 }

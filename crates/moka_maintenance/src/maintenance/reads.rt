@@ -90,14 +90,14 @@ impl<A: Allocator + Clone + Drop> State<A> {
         self.stage = reads_or_on(work);
     }
 
-    /// A hit: its hash is counted, and its node becomes the most recently used one.
-    pub(crate) fn apply_hit(&mut self, work: Work, ticket: Ticket)
+    /// A hit: its hash is counted, and its node, which is looked for at a place first, becomes the most recently used one.
+    pub(crate) fn apply_hit(&mut self, work: Work, ticket: Ticket, place: usize)
         requires { work.round ≤ MAX_ROUNDS }
         ensures step { maintenance_of self.new ≡ moved_on (after_miss (work_of work) ticket.hash (maintenance_of self.old))
             (used ticket (orders_of self.old.orders)) (reads_or_on (work_of work)) }
         ensures holds { IsAtHand self.new.orders self.new.stage }
     {
-        use_ticket(&mut self.orders, ticket);
+        use_ticket(&mut self.orders, ticket, place);
         self.apply_miss(work, ticket.hash);
     }
 }

@@ -121,7 +121,7 @@ impl<A: Allocator + Clone + Drop> State<A> {
             self.stage = writes_or_on(work);
             return EntryChange::Stays;
         };
-        let Some(id) = self.orders.find(ticket) else {
+        let Some(id) = self.orders.find_at(ticket, entry.place()) else {
             return self.apply_first_upsert(settings, work, ticket, entry);
         };
         self.orders.recharge(id, entry.weight());
@@ -175,7 +175,8 @@ impl<A: Allocator + Clone + Drop> State<A> {
         }
         let charged = self.orders.charged_weight() + u128::from(weight);
         if is_within(settings.limits(), charged) {
-            self.orders.enter(ticket, weight, settings.limits());
+            let place = self.orders.enter(ticket, weight, settings.limits());
+            entry.keep_place(place);
             self.stage = writes_or_on(work);
             return EntryChange::UpsertDone;
         }

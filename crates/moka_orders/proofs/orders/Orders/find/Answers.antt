@@ -1,27 +1,17 @@
-use Rattle.std.proofs.Common.{◌≡◌, ◌∙◌, Some, subst, sym}
+use Rattle.std.proofs.Common.{◌∙◌, subst, sym}
 use Rattle.std.specs.Map.{values_of}
 use Rattle.moka_engine.proofs.TicketLemmas.{same_is}
-use Rattle.moka_engine.specs.Orders.{charge_of}
-use Rattle.moka_orders.specs.OrdersState.{orders_of}
-use Rattle.moka_orders.proofs.KeptLemmas.{charge_found}
+use Rattle.moka_orders.proofs.ChangeLemmas.{node_of}
 use Rattle.moka_orders.proofs.IndexLemmas.{none_ahead, IsAhead}
 use Rattle.moka_orders.proofs.orders.Orders.find.Goals as goal
 
 pub returns-then-eq-clause-found : goal.returns-then-eq-clause-found
 returns-then-eq-clause-found g c =
+    let old = c.self.inside in
     let node = c.get.result.now in
-    let is : node.ticket ≡ c.args.ticket = same_is node.ticket c.args.ticket (sym c.eq.ensures ∙ c.if-eq.true) in
-    let items = c.self.inside.access.items in
-    rw (← c.self.view_is) (record {
-      node = node;
-      stands = c.get.ensures;
-      of_ticket = is;
-      charge =
-          subst (λ t.
-          charge_of t (record { access = Rattle.moka_orders.specs.OrdersState.access_of items; write = values_of c.self.inside.writes.items })
-          ≡ Some node.charge) is
-          (charge_found c.self.invariant.0 c.from_number-id.result node c.get.ensures (values_of c.self.inside.writes.items));
-    })
+    rw (← c.self.view_is)
+    (node_of c.self.invariant.0 c.from_number-id.result node c.get.ensures old.access.room old.writes.room old.index.ids c.args.ticket
+    (same_is node.ticket c.args.ticket (sym c.eq.ensures ∙ c.if-eq.true)))
 
 pub returns-clause-absent : goal.returns-clause-absent
 returns-clause-absent g c =

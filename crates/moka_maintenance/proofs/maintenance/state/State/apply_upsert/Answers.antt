@@ -15,16 +15,16 @@ returns-in_default-clause-holds g c = c.writes_or_on-self-inside.ensures.holds c
 
 pub renew-requires : goal.renew-requires
 renew-requires g c =
-    let id = c.in-Some-find.id in
-    let f = c.in-Some-find.ensures.found in
+    let id = c.in-Some-find_at.id in
+    let f = c.in-Some-find_at.ensures.found in
     subst (λ v. IsIn v.nodes id) (sym (c.recharge.ensures.step f.node f.stands))
     (ap is_some (lookup-set id id (record f.node { charge = c.weight.result }) c.self.inside.orders.nodes (ap is_some f.stands)
     ∙ cond-true (nat_eq id id) _ _ (nat_eq-same id)))
 
 pub returns-clause-step : goal.returns-clause-step
 returns-clause-step g c =
-    let id = c.in-Some-find.id in
-    let f = c.in-Some-find.ensures.found in
+    let id = c.in-Some-find_at.id in
+    let f = c.in-Some-find_at.ensures.found in
     let e = c.in-Some.entry.now in
     let old = orders_of c.self.inside.orders in
     let m : Node = record f.node { charge = c.weight.result } in
