@@ -1,10 +1,11 @@
 -- The steps of a whole call, one after another.
-use Rattle.std.proofs.Common.{◌≡◌, ◌⊎◌, ℕ, nat_lt, Bool, true, false, List, [], ◌∷◌, ◌++◌, length, Option, Some, None, refl, sym, ◌∙◌, ap, subst}
-use Rattle.std.proofs.Common.{inl, inr, Result, Ok, Err, IfOk, OnErr}
+use Rattle.std.proofs.Common.{◌≡◌, ◌⊎◌, ◌<◌, ◌||◌, ℕ, arith, nat_le, nat_lt, Bool, true, false, List, [], ◌∷◌, ◌++◌, length, Option, Some, None, refl, sym, ◌∙◌, ap, subst}
+use Rattle.std.proofs.Common.{inl, inr, nat_eq, Result, Ok, Err, IsOk, IfOk, OnOk, OnErr, ◌↔◌}
 use Rattle.std.specs.Bool.{MatchBool}
 use Rattle.std.specs.Cmp.{IsEquivalence}
-use Rattle.std.specs.Option.{MatchOption, is_some}
-use Rattle.std.proofs.lemmas.Bool.{cases_Bool, lt-ltb}
+use Rattle.std.specs.Map.{remove_entry}
+use Rattle.std.specs.Option.{MatchOption, is_some, option_map_or}
+use Rattle.std.proofs.lemmas.Bool.{cases_Bool, false≢true, leb-false, lt-ltb}
 use Rattle.moka_base.specs.Keys.{Keys}
 use Rattle.moka_engine.specs.declared.constants.TheConstants.{CALLER, FLUSH_POINT, READ_LOG_SIZE, WRITE_LOG_SIZE}
 use Rattle.moka_engine.specs.declared.call.Call.TheVariants as call
@@ -29,7 +30,7 @@ use Rattle.moka_engine.specs.Run.{Happens, RunsTo}
 use Rattle.moka_engine.specs.WholeCall.{AfterGet, AfterInsert, LastTurn, NextTurn, OfReads, OfWrites, MaintainsIfDue, Pushed, PushesIf}
 use Rattle.moka_engine_laws.proofs.CallLemmas as law
 use Rattle.moka_engine_laws.proofs.ReturnLemmas.{room_left}
-use Rattle.moka_core.specs.Calls.{CoreMaintains, CorePushesRead, CorePushesWrite, MaintainsAsDue, PendsOne, PendsRead, PendsWrite}
+use Rattle.moka_core.specs.Calls.{CoreMaintains, CorePushesRead, CorePushesWrite, MaintainsAsDue, PendsOne, PendsRead, PendsWrite, having_read}
 
 module _ {K V S : Type 0} (keys : Keys K S) (laws : IsEquivalence keys.eq) (weighs : K → V → ℕ → Type 0) where
   abbrev Core : Type 0
@@ -124,6 +125,48 @@ module _ {K V S : Type 0} (keys : Keys K S) (laws : IsEquivalence keys.eq) (weig
       done : IsPush keys next CALLER (Some (Writing write)) reply new → reply ≡ Done
       done p =
           (rw (lt-ltb (length next.write_log) WRITE_LOG_SIZE (room_left keys laws weighs (Writing write) now old next pends due)) at p).0
+
+  -- ---- a read that goes to its log at once
+
+  -- a log of a maintenance that isn't due has room
+  pub room_where_not_due : (len : ℕ) (sync_after : Option ℕ) (now : ℕ) → is_due len FLUSH_POINT sync_after now ≡ false → len < READ_LOG_SIZE
+  room_where_not_due len sync_after now rests = by (nat_le FLUSH_POINT len) refl
+    where
+      by : (b : Bool) → nat_le FLUSH_POINT len ≡ b → len < READ_LOG_SIZE
+      by true enough = absurd (false≢true (sym rests ∙ ap (λ b. b || option_map_or (λ due. nat_le due now) sync_after false) enough))
+      by false few = omega (arith, leb-false FLUSH_POINT len few)
+
+  -- what a push says of its success holds where there is room
+  pub where_room : {A E : Type 0} (result : Result A E) (len size : ℕ) (Holds : Type 0) → (IsOk result ↔ (len < size)) → len < size
+      → OnOk result Holds → Holds
+  where_room (Ok done) len size Holds succeeds room holds = holds
+  where_room (Err back) len size Holds succeeds room holds = absurd (false≢true (succeeds.1 room))
+
+  -- it is as if it had been pending, where none was
+  pub logs_read : (now : ℕ) (old : Core) (read : Read) (log : List Read) → old.pending ≡ []
+      → is_due (length old.read_log) FLUSH_POINT old.sync_after now ≡ false → log ≡ old.read_log ++ read ∷ []
+      → CorePushesRead keys weighs now (having_read read old) (record old { read_log = log })
+  logs_read now old read log none rests is = record {
+    next = having;
+    maintains = record { runs = false; decided = having; decision = (sym rests, refl); maintains = refl };
+    pushes = inl (record { weight = 0; refused = false; weighed = tt; step = pushed });
+  }
+    where
+      having : Core
+      having = having_read read old
+
+      pending : having.pending ≡ (CALLER, Reading read) ∷ []
+      pending = ap (λ ps. ps ++ (CALLER, Reading read) ∷ []) none
+
+      pushed : IsPush keys having CALLER (pending_of CALLER having) Done (record old { read_log = log })
+      pushed =
+          rw (
+            law.pending_is keys laws weighs (Reading read) having pending,
+            lt-ltb (length old.read_log) READ_LOG_SIZE (room_where_not_due (length old.read_log) old.sync_after now rests),
+          ) (
+            refl,
+            λ i. record old { read_log = is i; pending = (none ∙ sym (ap (remove_entry (nat_eq CALLER)) pending)) i },
+          )
 
   -- ---- the first step
 

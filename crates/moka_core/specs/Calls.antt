@@ -7,11 +7,15 @@ use Rattle.moka_engine.specs.declared.operation.Operation.TheVariants.{Reading, 
 use Rattle.moka_engine.specs.declared.operation.Read.{Read}
 use Rattle.moka_engine.specs.declared.operation.Write.{Write}
 use Rattle.moka_engine.specs.Place.{Idle}
-use Rattle.moka_engine.specs.CoreState.{CoreState}
+use Rattle.moka_engine.specs.CoreState.{CoreState, with_pending}
 use Rattle.moka_engine.specs.Consistent.{IsConsistent}
 use Rattle.moka_engine.specs.Run.{Happens}
 use Rattle.moka_engine.specs.CoreCall.{Decides, has_pending, log_length}
 use Rattle.moka_engine.specs.WholeCall.{Log, Maintains, MaintainsIfDue, PushesRead, PushesWrite}
+
+-- the core, with this read of the caller pending
+abbrev pub having_read : {K V S : Type 0} → Read → CoreState K V S → CoreState K V S
+having_read read core = record core { pending = with_pending CALLER (Reading read) core }
 
 module _ {K V S : Type 0} (keys : Keys K S) (core : CoreState K V S) where
   -- this operation of the caller is pending, and nothing else is under way

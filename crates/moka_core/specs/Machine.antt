@@ -1,6 +1,12 @@
 -- How a core's parts are seen together. No public clause cites this module.
-use Rattle.std.specs.Prelude.{◌≡◌, ◌≤◌, ℕ, ◌+◌, [], None}
-use Rattle.moka_engine.specs.CoreState.{CoreState, new_maintenance}
+use Rattle.std.specs.Prelude.{◌≡◌, ◌≤◌, ℕ, ◌+◌, [], Option, None}
+use Rattle.moka_base.specs.Keys.{Keys}
+use Rattle.moka_engine.specs.declared.event.Event.TheVariants.{Get}
+use Rattle.moka_engine.specs.declared.event.Reply.TheVariants.{Found, OutOfMemory}
+use Rattle.moka_engine.specs.declared.operation.Operation.TheVariants.{Reading}
+use Rattle.moka_engine.specs.declared.operation.Read.{Read}
+use Rattle.moka_engine.specs.CoreState.{CoreState, new_maintenance, pending_of, with_pending}
+use Rattle.moka_engine.specs.Run.{Happens}
 
 -- the state, the weigher, and for how many more pending operations there is room
 pub record Machine (K V S W : Type 0) : Type 0 where
@@ -22,3 +28,14 @@ pub record IsUntouched {K V S : Type 0} (core : CoreState K V S) : Type 0 where
   pub pending : core.pending ≡ []
   pub maintenance : core.maintenance ≡ new_maintenance
   pub sync_after : core.sync_after ≡ None
+
+module _ {K V S : Type 0} (keys : Keys K S) (weighs : K → V → ℕ → Type 0) (core : CoreState K V S) (key : K) (now : ℕ) where
+  -- a get by whatever caller has nothing pending finds this, and leaves this read pending
+  abbrev pub FindsFor : Option V → Read → Type 0
+  FindsFor found read =
+      (caller : ℕ) → pending_of caller core ≡ None
+      → Happens keys weighs core (Get caller key now) (Found found) (record core { pending = with_pending caller (Reading read) core })
+
+  -- it is refused memory, and changes nothing
+  abbrev pub RefusesFor : Type 0
+  RefusesFor = (caller : ℕ) → pending_of caller core ≡ None → Happens keys weighs core (Get caller key now) OutOfMemory core

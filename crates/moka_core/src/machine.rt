@@ -1,7 +1,7 @@
 //! What takes one atomic step at a time: the map, the logs, what is pending and the maintenance, each by itself.
 ghost use Rattle.std.specs.Prelude.{◌≡◌, ◌<◌, ◌↔◌, Bool, [], replicate, IsTrue, slice_index, IfErr, IfOk, OnErr};
 ghost use Rattle.moka_base.specs.Keys.{keys_by};
-ghost use Rattle.moka_core.specs.Machine.{IsUntouched, KeepsRoom};
+ghost use Rattle.moka_core.specs.Machine.{FindsFor, IsUntouched, KeepsRoom, RefusesFor};
 ghost use Rattle.moka_core.specs.Pending.{HasRoomFor};
 ghost use Rattle.moka_engine.specs.CoreCall.{IsAtRest};
 ghost use Rattle.moka_engine.specs.CoreState.{IsNew, new_core};
@@ -205,21 +205,31 @@ impl<
         if self.pending.of(caller).is_some() {
             return Reply::NotPossible;
         }
-        let hash = self.map.hash_of(key);
-        let Ok(found) = self.map.get(key, hash, self.valid_after, now) else {
+        let Ok((found, read)) = self.look_up(key, now) else {
             return Reply::OutOfMemory;
         };
-        let Some((value, ticket)) = found else {
-            self.pending
-                .put(caller, Operation::Reading(Read::Miss { hash }));
-            return Reply::Found(None);
-        };
-        let read = Read::Hit {
-            ticket,
-            moment: now,
-        };
         self.pending.put(caller, Operation::Reading(read));
-        Reply::Found(Some(value))
+        Reply::Found(found)
+    }
+
+    /// What a get by any caller finds that has nothing pending, and the read that it leaves pending.
+    fn look_up(&self, key: &K, now: Instant) -> Result<(Option<Shared<V, A>>, Read), OutOfMemory>
+        ensures found { IfOk result (λ found. FindsFor (keys_by K.Hash S.BuildHasher S.Hasher.Hasher) (W.weighs self.now.weigher)
+            self.now.state key.now now found.0 found.1) }
+        ensures refused { OnErr result (RefusesFor (keys_by K.Hash S.BuildHasher S.Hasher.Hasher) (W.weighs self.now.weigher)
+            self.now.state key.now now) }
+    {
+        let hash = self.map.hash_of(key);
+        match self.map.get(key, hash, self.valid_after, now)? {
+            Some((value, ticket)) => {
+                let read = Read::Hit {
+                    ticket,
+                    moment: now,
+                };
+                Ok((Some(value), read))
+            }
+            None => Ok((None, Read::Miss { hash })),
+        }
     }
 
     /// Whether a key has an entry that counts.

@@ -1,7 +1,7 @@
 //! Whole calls of one caller, each a chain of steps.
 ghost use Rattle.std.specs.Prelude.{◌≡◌, ◌≢◌, true};
 ghost use Rattle.moka_base.specs.Keys.{keys_by};
-ghost use Rattle.moka_core.specs.Calls.{CoreMaintains, CorePushesRead, CorePushesWrite, MaintainsAsDue, Pends, PendsRead, PendsWrite};
+ghost use Rattle.moka_core.specs.Calls.{CoreMaintains, CorePushesRead, CorePushesWrite, MaintainsAsDue, Pends, PendsRead, PendsWrite, having_read};
 ghost use Rattle.moka_engine.specs.Consistent.{IsConsistent};
 ghost use Rattle.moka_engine.specs.CoreCall.{CoreTurns, Finishes, IsAtRest, IsCall, scheduled};
 ghost use Rattle.moka_engine.specs.Place.{Idle};
@@ -15,6 +15,7 @@ use moka_base::time::Instant;
 use moka_engine::call::Call;
 use moka_engine::constants::{CALLER, FLUSH_POINT, SYNC_INTERVAL};
 use moka_engine::event::Reply;
+use moka_engine::operation::{Operation, Read};
 use moka_engine::place::Place;
 use moka_engine::weigh::WeighShared;
 use std::alloc::Allocator;
@@ -81,12 +82,11 @@ impl<
             self.old.state (call.Get key.now now) result self.new.state }
         ensures weigher { self.new.weigher ≡ self.old.weigher }
     {
-        let reply = self.get(CALLER, key, now);
-        let Reply::Found(_) = &reply else {
-            return reply;
+        let Ok((found, read)) = self.look_up(key, now) else {
+            return Reply::OutOfMemory;
         };
-        self.push_read(now);
-        reply
+        self.log_read(read, now);
+        Reply::Found(found)
     }
 
     fn call_invalidate(&mut self, key: &K, now: Instant) -> Reply<Shared<V, A>, Rows<K, V, A>>
@@ -114,6 +114,22 @@ impl<
             count: published.count,
             weight: u128::from(published.weight),
         }
+    }
+
+    /// A read goes to its log: at once where no maintenance is due, and else it is pending while one is run.
+    fn log_read(&mut self, read: Read, now: Instant)
+        requires rest { IsAtRest self.old.state }
+        requires pends { PendsRead (keys_by K.Hash S.BuildHasher S.Hasher.Hasher) (having_read read self.old.state) }
+        ensures step { CorePushesRead (keys_by K.Hash S.BuildHasher S.Hasher.Hasher) (W.weighs self.old.weigher)
+            now (having_read read self.old.state) self.new.state }
+        ensures weigher { self.new.weigher ≡ self.old.weigher }
+    {
+        if is_due(self.read_log.len(), FLUSH_POINT, self.sync_after, now) {
+            self.pending.put(CALLER, Operation::Reading(read));
+            self.push_read(now);
+            return;
+        }
+        let _ = self.read_log.push(read);
     }
 
     /// The pending read goes to its log, once a maintenance was run where one is due.

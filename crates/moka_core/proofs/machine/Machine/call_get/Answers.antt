@@ -1,7 +1,10 @@
-use Rattle.std.proofs.Common.{subst}
+use Rattle.std.proofs.Common.{refl}
 use Rattle.moka_base.specs.Keys.{Keys, keys_by}
+use Rattle.moka_engine.specs.declared.constants.TheConstants.{CALLER}
+use Rattle.moka_engine.specs.declared.event.Reply.TheVariants.{Found, OutOfMemory}
+use Rattle.moka_engine_laws.proofs.CallLemmas.{none_pending}
 use Rattle.moka_core.proofs.CallLemmas.{called_get, found_pends, refused_get}
-use Rattle.moka_core.specs.Calls.{CorePushesRead}
+use Rattle.moka_core.specs.Calls.{having_read}
 use Rattle.moka_core.proofs.machine.Machine.call_get.Given.{Over}
 use Rattle.moka_core.proofs.machine.Machine.call_get.Goals as goal
 
@@ -9,28 +12,26 @@ use Rattle.moka_core.proofs.machine.Machine.call_get.Goals as goal
 abbrev keys : (g : Over) → Keys g.row.K.Denot g.row.S.Denot
 keys g = keys_by (record { eq = g.K.PartialEq.eq; hash_input = g.K.Hash.hash_input }) g.S.BuildHasher g.S.Hasher.Hasher
 
-pub returns-in_default : goal.returns-in_default
-returns-in_default g c =
+pub returns-in_default-clause-step : goal.returns-in_default-clause-step
+returns-in_default-clause-step g c =
     let weighs = g.W.WeighShared.weighs c.args.self.now.weigher in
-    record {
-      step = refused_get (keys g) g.met.K.Eq.laws weighs c.args.self.now.state c.get-reply.new.self.state c.requires.good c.requires.rest
-          c.args.key.now c.args.now c.get-reply.result c.in_default.not-Found c.get-reply.ensures.step;
-      weigher = c.get-reply.ensures.kept.weigher;
-    }
+    let old = c.args.self.now.state in
+    let none = none_pending (keys g) g.met.K.Eq.laws weighs old c.requires.rest.pending in
+    refused_get (keys g) g.met.K.Eq.laws weighs old old c.requires.good c.requires.rest c.args.key.now c.args.now OutOfMemory (λ found is. cc)
+    (c.in_default.ensures.refused CALLER none)
 
-pub push_read-requires : goal.push_read-requires
-push_read-requires g c =
+pub log_read-requires-clause-pends : goal.log_read-requires-clause-pends
+log_read-requires-clause-pends g c =
     let weighs = g.W.WeighShared.weighs c.args.self.now.weigher in
-    record {
-      pends = found_pends (keys g) g.met.K.Eq.laws weighs c.args.self.now.state c.get-reply.new.self.state c.requires.good c.requires.rest
-          c.args.key.now c.args.now c.get-reply.result c.in-Found.field-0 c.in-Found.is c.get-reply.ensures.step;
-    }
+    let old = c.args.self.now.state in
+    let none = none_pending (keys g) g.met.K.Eq.laws weighs old c.requires.rest.pending in
+    found_pends (keys g) g.met.K.Eq.laws weighs old (having_read c.in-Ok.read old) c.requires.good c.requires.rest c.args.key.now c.args.now
+    (Found c.in-Ok.found) c.in-Ok.found refl (c.in-Ok.ensures.found CALLER none)
 
 pub returns-clause-step : goal.returns-clause-step
 returns-clause-step g c =
     let weighs = g.W.WeighShared.weighs c.args.self.now.weigher in
-    let next = c.get-reply.new.self.state in
-    called_get (keys g) g.met.K.Eq.laws weighs c.args.self.now.state next c.requires.good c.requires.rest c.args.key.now c.args.now
-    c.push_read.new.self.state c.in-Found.field-0 c.get-reply.result c.in-Found.is c.get-reply.ensures.step
-    (subst (λ w. CorePushesRead (keys g) (g.W.WeighShared.weighs w) c.args.now next c.push_read.new.self.state)
-    c.get-reply.ensures.kept.weigher c.push_read.ensures.step)
+    let old = c.args.self.now.state in
+    let none = none_pending (keys g) g.met.K.Eq.laws weighs old c.requires.rest.pending in
+    called_get (keys g) g.met.K.Eq.laws weighs old (having_read c.in-Ok.read old) c.requires.good c.requires.rest c.args.key.now c.args.now
+    c.log_read.new.self.state c.in-Ok.found (Found c.in-Ok.found) refl (c.in-Ok.ensures.found CALLER none) c.log_read.ensures.step
