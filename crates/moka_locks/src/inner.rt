@@ -14,22 +14,22 @@ ghost use Rattle.moka_engine.specs.Place.{Idle, ReadCount};
 ghost use Rattle.moka_locks.specs.MaintenanceTurn.{IsTurn};
 
 use crate::housekeeper::Housekeeper;
+use crate::logs::Logs;
 use crate::resting::Resting;
 use crate::rule::PairRule;
 use crate::running::Running;
 use crate::shard::RuledShard;
-use crate::waiting::{goes_below, lock};
+use crate::waiting::lock;
 use crossbeam_utils::CachePadded;
 use moka_base::error::{InsertError, OutOfMemory};
 use moka_base::shared::Shared;
 use moka_base::time::Instant;
 use moka_core::engine::CoreParts;
-use moka_engine::constants::{READ_LOG_SIZE, SHARDS, WRITE_LOG_SIZE};
+use moka_engine::constants::SHARDS;
 use moka_engine::operation::{Read, Write};
 use moka_engine::settings::Settings;
 use moka_engine::ticket::Ticket;
 use moka_engine::weigh::WeighShared;
-use moka_maintenance::logs::{ReadLog, WriteLog};
 use moka_maintenance::maintenance::{Maintenance, Need};
 use moka_published::counts::{CountPass, Counts, Publisher};
 use moka_published::rule::Published;
@@ -37,7 +37,7 @@ use moka_shard::shard::Shard;
 use std::alloc::Allocator;
 use std::hash::{BuildHasher, Hash};
 use std::marker::Model;
-use std::sync::atomic::{AtomicU64, AtomicUsize, Ordering};
+use std::sync::atomic::{AtomicU64, Ordering};
 use std::sync::{Mutex, Wait};
 
 /// The locks of a cache, and what lies beside them. What threads write to lies on lines of its own.
@@ -54,15 +54,10 @@ pub(crate) struct Inner<
     pub(crate) weigher: W,
     pub(crate) alloc: A,
     shards: Vec<CachePadded<Mutex<RuledShard<K, V, S, P, A>>>, A>,
-    read_log: CachePadded<Mutex<ReadLog<A>>>,
-    write_log: CachePadded<Mutex<WriteLog<A>>>,
+    logs: Logs<A>,
     /// Nothing while a maintenance is under way: then whoever runs it has the lock.
     maintenance: CachePadded<Mutex<Option<Resting<A>>>>,
     housekeeper: CachePadded<Housekeeper>,
-    /// How many operations the read log held when it was left last.
-    reads: CachePadded<AtomicUsize>,
-    /// How many the write log did.
-    writes: CachePadded<AtomicUsize>,
     valid_after: AtomicU64,
     /// How many entries were charged when a maintenance last ended.
     entry_count: AtomicU64,
@@ -110,20 +105,18 @@ impl<
         ensures { IfOk result (λ inner. inner ≡ new_cache
             (record { hash_state = parts.hash_state; policy = parts.policy; is_weighed = parts.is_weighed }) parts.weigher (counts_of publisher)) }
     {
-        let hash_state = Shared::new(alloc.clone()?, parts.hash_state)?;
-        let shards = locked_shards(alloc.clone()?, &hash_state, parts.capacity)?;
+        let logs = Logs::new(&alloc)?;
         let counts = counts_of(&publisher)?;
         let maintenance = Resting::new(Maintenance::new(alloc.clone()?)?, publisher);
+        let hash_state = Shared::new(alloc.clone()?, parts.hash_state)?;
+        let shards = locked_shards(alloc.clone()?, &hash_state, parts.capacity)?;
         Ok(Inner {
             settings: Settings::new(hash_state, parts.policy, parts.is_weighed),
             weigher: parts.weigher,
             shards,
-            read_log: CachePadded::new(Mutex::new(ReadLog::new(alloc.clone()?)?)),
-            write_log: CachePadded::new(Mutex::new(WriteLog::new(alloc.clone()?)?)),
+            logs,
             maintenance: CachePadded::new(Mutex::new(Some(maintenance))),
             housekeeper: CachePadded::new(Housekeeper::default()),
-            reads: CachePadded::new(AtomicUsize::new(0)),
-            writes: CachePadded::new(AtomicUsize::new(0)),
             valid_after: AtomicU64::new(0),
             entry_count: AtomicU64::new(0),
             weighted_size: AtomicU64::new(0),
@@ -271,38 +264,27 @@ impl<
         }
     }
 
-    /// Puts a read into its log. Answers whether there was room. A log that its word tells full is not looked at.
+    /// Puts a read into its log. Answers whether there was room.
     pub(crate) fn push_read<R: Wait>(&self, rt: &R, read: Read) -> bool {
-        if self.reads.load(Ordering::Acquire) >= READ_LOG_SIZE {
-            return false;
-        }
-        let mut log = lock(rt, &self.read_log);
-        let is_pushed = log.push(read).is_ok();
-        self.reads.store(log.len(), Ordering::Release);
-        is_pushed
+        self.logs.push_read(rt, read)
     }
 
-    /// Puts a write into its log. Answers whether there was room. While its word tells it full it is not looked at: the writer waits on the word.
+    /// Puts a write into its log, once there is room. Answers whether there was.
     pub(crate) fn push_write<R: Wait>(&self, rt: &R, write: Write) -> bool {
-        if !goes_below(&self.writes, WRITE_LOG_SIZE) {
-            return false;
-        }
-        let mut log = lock(rt, &self.write_log);
-        let is_pushed = log.push(write).is_ok();
-        self.writes.store(log.len(), Ordering::Release);
-        is_pushed
+        self.logs.push_write(rt, write)
     }
 
     /// Whether a maintenance is due, as a get asks, and nobody else runs one. Then nobody does until `end_maintenance`.
     pub(crate) fn win_for_reads(&self, now: Instant) -> bool {
-        let reads = self.reads.load(Ordering::Acquire);
-        self.housekeeper.should_apply_reads(reads, now) && self.housekeeper.try_begin(now)
+        self.housekeeper.should_apply_reads(self.logs.reads(), now)
+            && self.housekeeper.try_begin(now)
     }
 
     /// The same, as an insert or an invalidation asks.
     pub(crate) fn win_for_writes(&self, now: Instant) -> bool {
-        let writes = self.writes.load(Ordering::Acquire);
-        self.housekeeper.should_apply_writes(writes, now) && self.housekeeper.try_begin(now)
+        self.housekeeper
+            .should_apply_writes(self.logs.writes(), now)
+            && self.housekeeper.try_begin(now)
     }
 
     /// Others may run a maintenance again.
@@ -325,14 +307,14 @@ impl<
         match maintenance.need::<K, V, S>(&self.settings, valid_after) {
             Need::Nothing => maintenance.turn_alone::<K, V, S>(&self.settings, valid_after),
             Need::Reads => {
-                let mut log = lock(rt, &self.read_log);
+                let mut log = self.logs.lock_reads(rt);
                 maintenance.turn_with_reads::<K, V, S>(&self.settings, valid_after, &mut log);
-                self.reads.store(log.len(), Ordering::Release);
+                self.logs.tell_reads(log.len());
             }
             Need::Writes => {
-                let mut log = lock(rt, &self.write_log);
+                let mut log = self.logs.lock_writes(rt);
                 maintenance.turn_with_writes::<K, V, S>(&self.settings, valid_after, &mut log);
-                self.writes.store(log.len(), Ordering::Release);
+                self.logs.tell_writes(log.len());
             }
             Need::Entry(ticket) => {
                 let mut shard = lock(rt, self.shard(ticket.hash));

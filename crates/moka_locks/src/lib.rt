@@ -7,6 +7,7 @@ pub mod housekeeper;
 mod inner;
 pub mod iter;
 mod locked;
+mod logs;
 pub mod mapref;
 mod resting;
 pub mod rule;
