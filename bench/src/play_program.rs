@@ -67,6 +67,7 @@ impl PlayProgram {
                 Call::Get(key) => writeln!(self.requests, "get {key}")?,
                 Call::Insert(key) => writeln!(self.requests, "insert {key}")?,
                 Call::Count => writeln!(self.requests, "count")?,
+                Call::Sync => writeln!(self.requests, "sync")?,
             }
         }
         Ok(())

@@ -8,6 +8,8 @@ pub enum Call {
     Insert(u64),
     /// How many entries were counted last.
     Count,
+    /// A whole maintenance.
+    Sync,
 }
 
 pub const CAPACITY: u64 = 100_000;
@@ -65,4 +67,9 @@ impl Mix {
 /// For each of so many threads a list of nothing but looks at what is counted.
 pub fn counting(threads: usize) -> Vec<Vec<Call>> {
     vec![vec![Call::Count; CALLS]; threads]
+}
+
+/// A list of nothing but maintenances, which find nothing to do and publish what is counted.
+pub fn maintaining() -> Vec<Vec<Call>> {
+    vec![vec![Call::Sync; CALLS]]
 }

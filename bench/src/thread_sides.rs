@@ -146,6 +146,9 @@ fn make_calls<S: ThreadSide>(side: &S, calls: &[Call]) -> (u64, u64) {
             Call::Count => {
                 black_box(side.count());
             }
+            Call::Sync => {
+                black_box(side.entries());
+            }
         }
     }
     (hits, sum)

@@ -3,7 +3,7 @@ use moka_trace_bench::machine::{describe, Watch};
 use moka_trace_bench::play_program::{Kind, PlayProgram};
 use moka_trace_bench::rust_sides::{original, shared_original};
 use moka_trace_bench::table;
-use moka_trace_bench::thread_loads::{counting, filling, Call, Mix, CALLS, CAPACITY};
+use moka_trace_bench::thread_loads::{counting, filling, maintaining, Call, Mix, CALLS, CAPACITY};
 use moka_trace_bench::thread_sides::{play, LockedOriginal, Played};
 use moka_trace_bench::timing::{clock_nanos, keep_memory};
 use moka_trace_bench::traces::Settings;
@@ -108,7 +108,7 @@ impl Bench {
         }
     }
 
-    /// The sides in turn, repeat by repeat.
+    /// The sides in turn, repeat by repeat, and in every other repeat the other way round.
     fn measure<const N: usize>(
         &mut self,
         sides: [Side; N],
@@ -117,9 +117,10 @@ impl Bench {
     ) -> io::Result<[Repeats; N]> {
         self.program.send_lists(lists)?;
         let mut all = sides.map(|_| Repeats(Vec::new()));
-        for _ in 0..repeats {
-            for (side, repeats) in sides.into_iter().zip(&mut all) {
-                repeats.0.push(self.play(side, lists)?);
+        for repeat in 0..repeats {
+            for turn in 0..N {
+                let place = if repeat % 2 == 0 { turn } else { N - 1 - turn };
+                all[place].0.push(self.play(sides[place], lists)?);
             }
         }
         Ok(all)
@@ -159,6 +160,26 @@ impl Bench {
             counted.text(),
             format!("{:.3}", counted.ratio_in_pairs(&port)),
             "".into(),
+            table::number(watch.free()),
+        ]);
+        Ok(())
+    }
+
+    /// Prints what a maintenance takes that finds nothing to do, so that what it does is to publish.
+    fn print_maintenance_row(&mut self) -> io::Result<()> {
+        let watch = Watch::start(&[process::id(), self.program.process()]);
+        let [port, counted, original] = self.measure(
+            [Side::Port, Side::Counted, Side::Original],
+            &maintaining(),
+            self.repeats,
+        )?;
+        table::print_row(&[
+            "a maintenance with nothing to do".into(),
+            "1".into(),
+            port.text(),
+            counted.text(),
+            table::ratio(counted.median(), port.median()),
+            original.text(),
             table::number(watch.free()),
         ]);
         Ok(())
@@ -204,7 +225,7 @@ fn is_right(all: &[Repeats; 4], threads: usize) -> bool {
 /// Prints the second table: the port's cache beside itself with its counts published.
 fn print_counted_table(bench: &mut Bench) -> io::Result<()> {
     println!();
-    println!("The same times, of the port's sync and of one whose counts are published. A look is entry_count, and published of the latter. The rows of calls have {PAIRS} plays for each repeat, and their ratio is the median of those of neighbouring plays.");
+    println!("The same times, of the port's sync and of one whose counts are published. A look is entry_count, and published of the latter. The rows of calls have {PAIRS} plays for each repeat, and their ratio is the median of those of neighbouring plays. A maintenance comes once in 64 reads or writes at most.");
     println!();
     table::print_head(&[
         "what",
@@ -221,6 +242,7 @@ fn print_counted_table(bench: &mut Bench) -> io::Result<()> {
             bench.print_counted_row(&mix, threads)?;
         }
     }
+    bench.print_maintenance_row()?;
     for threads in THREADS {
         bench.print_looks_row(threads)?;
     }

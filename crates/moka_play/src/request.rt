@@ -9,6 +9,8 @@ pub(crate) enum Call {
     Insert(u64),
     /// `count`: how many entries were counted last. Nothing is made of it.
     Count,
+    /// `sync`: a whole maintenance, where the cache has one. Nothing is made of it.
+    Sync,
 }
 
 /// Which cache threads share.
@@ -56,6 +58,7 @@ fn alone(name: &str) -> Option<Request> {
         "clear" => Some(Request::Clear),
         "nanos" => Some(Request::Nanos),
         "count" => Some(Request::Call(Call::Count)),
+        "sync" => Some(Request::Call(Call::Sync)),
         _ => None,
     }
 }

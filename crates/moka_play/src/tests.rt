@@ -70,6 +70,7 @@ fn each_request_is_read(rt: HostRuntime) {
         ("play counted", Request::Play(Kind::Counted)),
         ("play unsync", Request::Play(Kind::Unsync)),
         ("count", Request::Call(Call::Count)),
+        ("sync", Request::Call(Call::Sync)),
         ("nanos", Request::Nanos),
     ];
     for (line, request) in read {

@@ -117,6 +117,9 @@ fn play_call<S: Side, R: Wait>(
         Call::Count => {
             let _ = side.count(rt);
         }
+        Call::Sync => {
+            let _ = side.entries(rt);
+        }
     }
     Ok(())
 }
