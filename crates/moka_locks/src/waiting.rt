@@ -3,16 +3,33 @@ use crossbeam_utils::Backoff;
 use std::sync::atomic::{AtomicUsize, Ordering};
 use std::sync::{Mutex, MutexGuard, Wait};
 
-/// How often a thread looks at a lock, each time after a longer pause, before it sleeps in wait for it.
+/// How many pauses, each twice as long as the one before, a thread makes at once where it finds a lock held. Together they take about as long
+/// as a part of a cache is held.
+const FIRST_PAUSES: usize = 4;
+
+/// How often a thread looks at a lock then, each time after a longer pause, before it sleeps in wait for it.
 const LOCK_LOOKS: usize = 64;
 
 /// How often a writer looks whether a full log has got room, before it asks again whether a maintenance is due.
 const ROOM_LOOKS: usize = 16;
 
-/// Takes a lock. A part of a cache is held for some hundred instructions, so a thread that finds it held looks again for a while, ever more
-/// seldom, before it sleeps: to put a thread to sleep and to wake it takes longer than that.
+/// For how many operations there is to be room then. Where several writers wait, they push by turns of so many, and don't all ask for the lock at
+/// each operation that leaves the log.
+const ROOM_AWAITED: usize = 16;
+
+/// Takes a lock.
 pub(crate) fn lock<'a, T, R: Wait>(rt: &R, part: &'a Mutex<T>) -> MutexGuard<'a, T> {
-    let backoff = Backoff::new();
+    match part.try_lock() {
+        Some(guard) => guard,
+        None => wait_for(rt, part),
+    }
+}
+
+/// Takes a lock that was found held. A part of a cache is held for some hundred instructions, so a thread looks again for a while, ever more
+/// seldom, before it sleeps: to put a thread to sleep and to wake it takes longer than that. Each look takes the line of the lock from whoever
+/// holds it.
+fn wait_for<'a, T, R: Wait>(rt: &R, part: &'a Mutex<T>) -> MutexGuard<'a, T> {
+    let backoff = pause();
     for _ in 0..LOCK_LOOKS {
         if let Some(guard) = part.try_lock() {
             return guard;
@@ -22,14 +39,28 @@ pub(crate) fn lock<'a, T, R: Wait>(rt: &R, part: &'a Mutex<T>) -> MutexGuard<'a,
     part.lock(rt)
 }
 
-/// Whether a word goes below a limit while one looks at it, ever more seldom.
-pub(crate) fn goes_below(word: &AtomicUsize, limit: usize) -> bool {
-    let backoff = Backoff::new();
+/// Whether a log has room, or gets it while one waits, by the word that tells its length.
+pub(crate) fn has_room(len: &AtomicUsize, size: usize) -> bool {
+    len.load(Ordering::Acquire) < size || gets_room(len, size)
+}
+
+/// Whether a log that was found full gets room while one looks at its word, ever more seldom.
+fn gets_room(len: &AtomicUsize, size: usize) -> bool {
+    let backoff = pause();
     for _ in 0..ROOM_LOOKS {
-        if word.load(Ordering::Acquire) < limit {
+        if len.load(Ordering::Acquire) < size.saturating_sub(ROOM_AWAITED) {
             return true;
         }
         backoff.snooze();
     }
-    false
+    len.load(Ordering::Acquire) < size
+}
+
+/// The first pauses of a wait.
+fn pause() -> Backoff {
+    let backoff = Backoff::new();
+    for _ in 0..FIRST_PAUSES {
+        backoff.snooze();
+    }
+    backoff
 }
