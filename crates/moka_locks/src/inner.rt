@@ -22,6 +22,7 @@ use crate::shard::RuledShard;
 use crate::waiting::lock;
 use crossbeam_utils::CachePadded;
 use moka_base::error::{InsertError, OutOfMemory};
+use moka_base::policy::Policy;
 use moka_base::shared::Shared;
 use moka_base::time::Instant;
 use moka_core::engine::CoreParts;
@@ -40,6 +41,9 @@ use std::marker::Model;
 use std::sync::atomic::{AtomicU64, Ordering};
 use std::sync::{Mutex, Wait};
 
+/// The shards, each behind its lock and on lines of its own.
+type LockedShards<K, V, S, P, A> = Vec<CachePadded<Mutex<RuledShard<K, V, S, P, A>>>, A>;
+
 /// The locks of a cache, and what lies beside them. What threads write to lies on lines of its own.
 #[derive(Drop)]
 pub(crate) struct Inner<
@@ -53,7 +57,7 @@ pub(crate) struct Inner<
     pub(crate) settings: Settings<S, A>,
     pub(crate) weigher: W,
     pub(crate) alloc: A,
-    shards: Vec<CachePadded<Mutex<RuledShard<K, V, S, P, A>>>, A>,
+    shards: LockedShards<K, V, S, P, A>,
     logs: Logs<A>,
     /// Nothing while a maintenance is under way: then whoever runs it has the lock.
     maintenance: CachePadded<Mutex<Option<Resting<A>>>>,
@@ -105,13 +109,17 @@ impl<
         ensures { IfOk result (λ inner. inner ≡ new_cache
             (record { hash_state = parts.hash_state; policy = parts.policy; is_weighed = parts.is_weighed }) parts.weigher (counts_of publisher)) }
     {
-        let logs = Logs::new(&alloc)?;
         let counts = counts_of(&publisher)?;
-        let maintenance = Resting::new(Maintenance::new(alloc.clone()?)?, publisher);
-        let hash_state = Shared::new(alloc.clone()?, parts.hash_state)?;
-        let shards = locked_shards(alloc.clone()?, &hash_state, parts.capacity)?;
+        let (settings, shards) = settings_and_shards(
+            &alloc,
+            parts.hash_state,
+            parts.policy,
+            parts.is_weighed,
+            parts.capacity,
+        )?;
+        let (logs, maintenance) = logs_and_maintenance(&alloc, publisher)?;
         Ok(Inner {
-            settings: Settings::new(hash_state, parts.policy, parts.is_weighed),
+            settings,
             weigher: parts.weigher,
             shards,
             logs,
@@ -368,6 +376,40 @@ fn counts_of(publisher: &Option<Publisher>) -> Result<Option<Counts>, OutOfMemor
     }
 }
 
+/// Empty logs, and a maintenance that has done nothing, with its publisher, if there is one.
+fn logs_and_maintenance<A: Allocator + Clone + Drop>(
+    alloc: &A,
+    publisher: Option<Publisher>,
+) -> Result<(Logs<A>, Resting<A>), OutOfMemory>
+    requires { IfSome publisher (λ p. p.published ≡ opening ∷ []) }
+{
+    let logs = Logs::new(alloc)?;
+    let maintenance = Maintenance::new(alloc.clone()?)?;
+    Ok((logs, Resting::new(maintenance, publisher)))
+}
+
+/// The settings of a new cache, and its shards, with room for `capacity` entries in each.
+fn settings_and_shards<
+    K: Eq + Hash + Drop,
+    V: Drop,
+    S: BuildHasher + Drop,
+    P: PairRule<K, V>,
+    A: Allocator + Clone + Drop,
+>(
+    alloc: &A,
+    hash_state: S,
+    policy: Policy,
+    is_weighed: bool,
+    capacity: usize,
+) -> Result<(Settings<S, A>, LockedShards<K, V, S, P, A>), OutOfMemory>
+    ensures settings { IfOk result (λ made. made.0 ≡ record { hash_state = hash_state; policy = policy; is_weighed = is_weighed }) }
+    ensures shards { IfOk result (λ made. vec_len made.1 ≡ SHARDS) }
+{
+    let hash_state = Shared::new(alloc.clone()?, hash_state)?;
+    let shards = locked_shards(alloc, &hash_state, capacity)?;
+    Ok((Settings::new(hash_state, policy, is_weighed), shards))
+}
+
 /// The shards of a new cache, each behind its lock, with room for `capacity` entries in each.
 fn locked_shards<
     K: Eq + Hash + Drop,
@@ -376,10 +418,10 @@ fn locked_shards<
     P: PairRule<K, V>,
     A: Allocator + Clone + Drop,
 >(
-    alloc: A,
+    alloc: &A,
     hash_state: &Shared<S, A>,
     capacity: usize,
-) -> Result<Vec<CachePadded<Mutex<RuledShard<K, V, S, P, A>>>, A>, OutOfMemory>
+) -> Result<LockedShards<K, V, S, P, A>, OutOfMemory>
     ensures { IfOk result (λ shards. vec_len shards ≡ SHARDS) }
 {
     let mut shards = Vec::with_capacity(alloc.clone()?, SHARDS)?;

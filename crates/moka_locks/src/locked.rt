@@ -202,7 +202,8 @@ impl<
     }
 
     fn begin<R: Wait>(&mut self, rt: &R, now: Instant) {
-        self.running = Some(self.inner.begin(rt, now));
+        let running = self.inner.begin(rt, now);
+        drop(self.running.replace(running));
     }
 
     fn turn<R: Wait>(&mut self, rt: &R) -> Place {

@@ -1,5 +1,5 @@
 // What lies behind the lock of a recording cache: its record, and how many calls each pass has made.
-ghost use Rattle.std.specs.Prelude.{◌≡◌, ◌<◌, ◌+◌, ℕ, length, slice_index, sum_by, IfOk, IsTrue, MatchResult};
+ghost use Rattle.std.specs.Prelude.{◌≡◌, ◌<◌, ◌+◌, ℕ, length, slice_index, sum_by, IfNone, IfOk, IsTrue, MatchResult};
 ghost use Rattle.moka_base.specs.Keys.{keys_by};
 ghost use Rattle.moka_engine.specs.CoreState.{IsNew};
 ghost use Rattle.moka_record.specs.Passes.{made_by};
@@ -61,20 +61,16 @@ impl<
     Q: WeightRule<K, V>,
     A: Allocator + Clone + Drop,
 > Counted<K, V, S, W, Q, A> {
-    /// A record without calls, and so many passes that have made none.
-    pub(crate) fn new(
-        alloc: A,
-        core: Core<K, V, S, W, A>,
-        places: usize,
-    ) -> Result<Self, OutOfMemory>
-        requires { IsNew core.state }
+    /// A record without calls, and for each pass a count of those that it has made, which is none.
+    pub(crate) fn new(alloc: A, core: Core<K, V, S, W, A>, made: Vec<u64, A>) -> Self
+        requires new { IsNew core.state }
+        requires none { sum_by (λ made. made) made.items ≡ 0 }
     {
-        let made = none_made(alloc.clone()?, places)?;
-        Ok(Counted {
+        Counted {
             record: Record::new(alloc, core),
             made,
             rule: PhantomData,
-        })
+        }
     }
 
     /// Makes a call for a pass, and writes it down with its reply, which is the answer. A pass that has made another number of calls here than it
@@ -115,20 +111,30 @@ impl<
         ensures replays { IfOk result (λ kept. Replays (keys_by K.Hash S.BuildHasher S.Hasher.Hasher) Q.weighs kept.state) }
         ensures made { IfOk result (λ kept. length kept.state.calls ≡ made_by passes.now) }
     {
+        match self.fault(passes) {
+            Some(fault) => Err(fault),
+            None => Ok(self.record),
+        }
+    }
+
+    /// Why the record isn't given out for these passes, if there is a reason.
+    fn fault(&self, passes: &[CallPass]) -> Option<CloseError>
+        ensures { IfNone result (length self.now.kept.state.calls ≡ made_by passes.now) }
+    {
         if !have_all_places(passes, self.made.len()) {
-            return Err(CloseError::PassMissing);
+            return Some(CloseError::PassMissing);
         }
         if passes.len() != self.made.len() || !self.are_own(passes) {
-            return Err(CloseError::StrangePass);
+            return Some(CloseError::StrangePass);
         }
         // As many as the counts say, which are the same.
         let Some(made) = made_by(passes) else {
-            return Err(CloseError::StrangePass);
+            return Some(CloseError::StrangePass);
         };
         if made != self.record.calls().len() as u64 {
-            return Err(CloseError::StrangePass);
+            return Some(CloseError::StrangePass);
         }
-        Ok(self.record)
+        None
     }
 
     /// Whether each pass has made as many calls here as it says.
@@ -153,7 +159,7 @@ impl<
 }
 
 /// So many counts of no calls.
-fn none_made<A: Allocator>(alloc: A, places: usize) -> Result<Vec<u64, A>, OutOfMemory>
+pub(crate) fn none_made<A: Allocator>(alloc: A, places: usize) -> Result<Vec<u64, A>, OutOfMemory>
     ensures { IfOk result (λ made. sum_by (λ m. m) made.items ≡ 0) }
 {
     let mut made = Vec::with_capacity(alloc, places)?;

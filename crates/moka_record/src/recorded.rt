@@ -1,12 +1,12 @@
 //! A recording cache that threads share: one lock round a record, and a pass for each caller.
-ghost use Rattle.std.specs.Prelude.{◌≡◌, ◌+◌, ℕ, length, IfOk, MatchResult};
+ghost use Rattle.std.specs.Prelude.{◌≡◌, ◌+◌, ℕ, length, sum_by, IfOk, MatchResult};
 ghost use Rattle.moka_base.specs.Keys.{keys_by};
 ghost use Rattle.moka_engine.specs.CoreState.{IsNew};
 ghost use Rattle.moka_record.specs.Passes.{made_by, new_passes};
 ghost use Rattle.moka_record.specs.Record.{IsAnswer};
 ghost use Rattle.moka_record.specs.Replay.{Replays};
 
-use crate::counted::Counted;
+use crate::counted::{Counted, none_made};
 use crate::pass::{CallPass, CloseError, new_passes};
 use crate::record::{Answer, NotRecorded, Record, SharedCall};
 use crate::rule::WeightRule;
@@ -54,14 +54,9 @@ impl<
         requires { IsNew core.state }
         ensures { IfOk result (λ opened. opened.1.items ≡ new_passes callers) }
     {
-        let passes = new_passes(alloc.clone()?, callers)?;
-        let counted = Counted::new(alloc, core, callers)?;
-        Ok((
-            Recorded {
-                counted: Mutex::new(counted),
-            },
-            passes,
-        ))
+        let (passes, made) = passes_of(&alloc, callers)?;
+        let counted = Mutex::new(Counted::new(alloc, core, made));
+        Ok((Recorded { counted }, passes))
     }
 
     /// Makes one call, writes it down with its reply, and answers the reply; the pass has made one call more then. Where memory for that is refused,
@@ -99,4 +94,17 @@ impl<
     {
         self.counted.into_inner().close(&passes)
     }
+}
+
+/// A pass for each of so many callers, and as many counts of the calls that they have made.
+fn passes_of<A: Allocator + Clone + Drop>(
+    alloc: &A,
+    callers: usize,
+) -> Result<(Vec<CallPass, A>, Vec<u64, A>), OutOfMemory>
+    ensures passes { IfOk result (λ made. made.0.items ≡ new_passes callers) }
+    ensures none { IfOk result (λ made. sum_by (λ m. m) made.1.items ≡ 0) }
+{
+    let passes = new_passes(alloc.clone()?, callers)?;
+    let made = none_made(alloc.clone()?, callers)?;
+    Ok((passes, made))
 }

@@ -58,12 +58,12 @@ pub fn core_replies<A: Allocator + Clone + Drop>(
 {
     if options.weighed {
         return match first_core(alloc.clone()?, options, StoredWeight) {
-            Ok(core) => replies_of(alloc, core, lines),
+            Ok(mut core) => replies_of(alloc, &mut core, lines),
             Err(error) => refusal(alloc, error),
         };
     }
     match first_core(alloc.clone()?, options, UnitWeight) {
-        Ok(core) => replies_of(alloc, core, lines),
+        Ok(mut core) => replies_of(alloc, &mut core, lines),
         Err(error) => refusal(alloc, error),
     }
 }
@@ -71,18 +71,18 @@ pub fn core_replies<A: Allocator + Clone + Drop>(
 /// Takes the steps of the lines in turn on the core, and writes the replies.
 fn replies_of<A: Allocator + Clone + Drop, W: WeighShared<u64, Stored<Text<A>>>>(
     alloc: A,
-    mut core: ScriptCore<W, A>,
+    core: &mut ScriptCore<W, A>,
     lines: Vec<CoreLine<Text<A>>, A>,
 ) -> Result<Vec<u8, A>, OutOfMemory>
-    requires ready { W.ready core.weigher }
+    requires ready { W.ready core.old.weigher }
     ensures { IfOk result (λ text. (replies : List ℕ)
-        × AreReplies (W.weighs core.weigher) core.state lines.items replies
+        × AreReplies (W.weighs core.old.weigher) core.old.state lines.items replies
         × (text.items ≡ reply_line Ready ++ replies)) }
 {
     let mut text = Vec::new(alloc.clone()?);
     push_reply(&mut text, ReplyValue::Ready)?;
     for line in lines {
-        reply_to(alloc.clone()?, &mut core, &mut text, line)?;
+        reply_to(alloc.clone()?, core, &mut text, line)?;
     }
     Ok(text)
 }

@@ -63,7 +63,7 @@ pub fn recorded_replies<A: Allocator + Clone + Drop>(
     }
 }
 
-/// Makes the calls of the lines in turn on the cache, with a record of them, and writes the replies.
+/// Makes the calls of the lines in turn on a cache with this core, with a record of them, and writes the replies.
 fn replies_of<A: Allocator + Clone + Drop, W: WeighShared<u64, Stored<Text<A>>>>(
     alloc: A,
     core: ScriptCore<W, A>,
@@ -77,10 +77,25 @@ fn replies_of<A: Allocator + Clone + Drop, W: WeighShared<u64, Stored<Text<A>>>>
         × (text.items ≡ reply_line Ready ++ replies)) }
 {
     let mut cache = Record::new(alloc.clone()?, core);
+    replies_on(alloc, &mut cache, lines)
+}
+
+/// Makes the calls of the lines in turn on the cache, and writes the replies.
+fn replies_on<A: Allocator + Clone + Drop, W: WeighShared<u64, Stored<Text<A>>>>(
+    alloc: A,
+    cache: &mut ScriptRecord<W, A>,
+    lines: Vec<Line<Text<A>>, A>,
+) -> Result<Vec<u8, A>, OutOfMemory>
+    requires ready { W.ready cache.old.weigher }
+    requires allowed { AllByRecursion (λ line. IsTrue (allows Mode.Recorded line.request)) lines.items }
+    ensures { IfOk result (λ text. (replies : List ℕ)
+        × AreReplies A (W.weighs cache.old.weigher) cache.old.state lines.items replies
+        × (text.items ≡ reply_line Ready ++ replies)) }
+{
     let mut text = Vec::new(alloc.clone()?);
     push_reply(&mut text, ReplyValue::Ready)?;
     for line in lines {
-        reply_to(alloc.clone()?, &mut cache, &mut text, line)?;
+        reply_to(alloc.clone()?, cache, &mut text, line)?;
     }
     Ok(text)
 }

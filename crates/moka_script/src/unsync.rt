@@ -41,12 +41,12 @@ pub fn unsync_replies<A: Allocator + Clone + Drop>(
     let builder = builder_of(alloc.clone()?, header.options);
     if header.options.weighed {
         return match builder.weigher(StoredWeight).build_with_hasher(KeyState) {
-            Ok(cache) => replies_of(alloc, cache, lines),
+            Ok(mut cache) => replies_of(alloc, &mut cache, lines),
             Err(error) => refusal(alloc, error),
         };
     }
     match builder.build_with_hasher(KeyState) {
-        Ok(cache) => replies_of(alloc, cache, lines),
+        Ok(mut cache) => replies_of(alloc, &mut cache, lines),
         Err(error) => refusal(alloc, error),
     }
 }
@@ -72,19 +72,19 @@ fn builder_of<A: Allocator + Clone + Drop>(alloc: A, options: CacheOptions) -> S
 /// Makes the calls of the lines in turn on the cache, and writes the replies.
 fn replies_of<A: Allocator + Clone + Drop, W: Weigh<u64, Stored<Text<A>>>>(
     alloc: A,
-    mut cache: ScriptCache<W, A>,
+    cache: &mut ScriptCache<W, A>,
     lines: Vec<Line<Text<A>>, A>,
 ) -> Result<Vec<u8, A>, OutOfMemory>
-    requires ready { W.ready cache.weigher }
+    requires ready { W.ready cache.old.weigher }
     requires weighs { AllByRecursion (AnswersLine W.weighs) lines.items }
     requires allowed { AllByRecursion (λ line. IsTrue (allows Mode.Unsync line.request)) lines.items }
-    ensures { IfOk result (λ text. (replies : List ℕ) × AreUnsyncReplies cache lines.items replies
+    ensures { IfOk result (λ text. (replies : List ℕ) × AreUnsyncReplies cache.old lines.items replies
         × (text.items ≡ reply_line Ready ++ replies)) }
 {
     let mut text = Vec::new(alloc);
     push_reply(&mut text, ReplyValue::Ready)?;
     for line in lines {
-        reply_to(&mut cache, &mut text, line)?;
+        reply_to(cache, &mut text, line)?;
     }
     Ok(text)
 }

@@ -13,7 +13,7 @@ loop-line-init g c =
       weigher = refl;
       answered = λ rest replies. (
         rest,
-        AreReplies-same g.W.WeighShared.weighs c.args.core.weigher c.args.core.state
+        AreReplies-same g.W.WeighShared.weighs c.args.core.now.weigher c.args.core.now.state
             (into_iter_items c.into_iter-line-iterator.result) c.args.lines.items rest all replies,
         ap (λ t. t ++ rest) (c.in_ok-push_reply.ensures ∙ ap (λ t. t ++ reply_line Ready) c.new-text.ensures.items),
       );
@@ -27,7 +27,7 @@ loop-line-preserved g c =
       weigher = c.in_ok-reply_to.ensures.weigher ∙ c.loop-line.invariant.weigher;
       answered = λ rest replies.
           let (all, answers, whole) = c.loop-line.invariant.answered (reply_line reply ++ rest)
-          (AreReplies-cons g.W.WeighShared.weighs c.args.core.weigher c.loop-line.core.weigher
+          (AreReplies-cons g.W.WeighShared.weighs c.args.core.now.weigher c.loop-line.core.weigher
           c.loop-line.core.state c.reply_to.new.core.state _ _ _ reply rest
           c.loop-line.invariant.weigher c.in-Some.ensures.steps.0 does replies) in
           (all, answers, ap (λ t. t ++ rest) text_is ∙ append_assoc c.loop-line.text.items (reply_line reply) rest ∙ whole);
@@ -38,6 +38,6 @@ returns g c =
     let none : into_iter_items c.loop-line.line-iterator ≡ [] =
     nil_from_length (into_iter_items c.loop-line.line-iterator) (sym c.loop-line.line-iterator.rest.ok.0 ∙ c.in-None.ensures.steps.0) in
     let (all, answers, whole) = c.loop-line.invariant.answered []
-    (AreReplies-nil g.W.WeighShared.weighs c.args.core.weigher c.loop-line.core.state
+    (AreReplies-nil g.W.WeighShared.weighs c.args.core.now.weigher c.loop-line.core.state
     (into_iter_items c.loop-line.line-iterator) none) in
     (all, answers, sym (append-nil _) ∙ whole)

@@ -1,47 +1,14 @@
-use Rattle.std.proofs.Common.{◌≡◌, [], ◌++◌, sym, ap, ◌∙◌, subst, append_assoc}
-use Rattle.std.proofs.lemmas.List.{append-nil, nil_from_length}
-use Rattle.std.specs.Vec.Iter.{into_iter_items}
-use Rattle.moka_record.specs.Record.{new_record}
+use Rattle.std.proofs.Common.{◌≡◌, ℕ, List, ◌++◌, IfOk, subst}
+use Rattle.moka_script.specs.RecordedRun.{AreReplies}
 use Rattle.moka_script.specs.Reply.{Ready, reply_line}
-use Rattle.moka_script.proofs.RecordedRunLemmas.{AreReplies-cons, AreReplies-nil, AreReplies-same}
 use Rattle.moka_script.proofs.recorded.replies_of.Goals as goal
-
-pub loop-line-init : goal.loop-line-init
-loop-line-init g c =
-    let all : into_iter_items c.into_iter-line-iterator.result ≡ c.args.lines.items = c.into_iter-line-iterator.ensures.into_iter_gives.0 in
-    record {
-      ready = subst g.W.WeighShared.ready (sym c.new-cache.ensures.weigher) c.requires.ready;
-      weigher = c.new-cache.ensures.weigher;
-      allowed = rw all c.requires.allowed;
-      answered = λ rest replies. (
-        rest,
-        AreReplies-same g.row.A.Denot g.W.WeighShared.weighs c.args.core.weigher c.new-cache.result.state (new_record c.args.core.state)
-            (into_iter_items c.into_iter-line-iterator.result) c.args.lines.items rest c.new-cache.ensures.state all replies,
-        ap (λ t. t ++ rest) (c.in_ok-push_reply.ensures ∙ ap (λ t. t ++ reply_line Ready) c.new-text.ensures.items),
-      );
-    }
-
-pub loop-line-preserved : goal.loop-line-preserved
-loop-line-preserved g c =
-    let (reply, answered, text_is) = c.in_ok-reply_to.ensures.step in
-    let allowed = rw c.in-Some.ensures.steps.0 at c.loop-line.invariant.allowed in
-    record {
-      ready = subst g.W.WeighShared.ready (sym c.in_ok-reply_to.ensures.weigher) c.loop-line.invariant.ready;
-      weigher = c.in_ok-reply_to.ensures.weigher ∙ c.loop-line.invariant.weigher;
-      allowed = allowed.1;
-      answered = λ rest replies.
-          let (all, answers, whole) = c.loop-line.invariant.answered (reply_line reply ++ rest)
-          (AreReplies-cons g.row.A.Denot g.W.WeighShared.weighs c.args.core.weigher c.loop-line.cache.weigher
-          c.loop-line.cache.state c.reply_to.new.cache.state _ _ _ reply rest
-          c.loop-line.invariant.weigher c.in-Some.ensures.steps.0 answered replies) in
-          (all, answers, ap (λ t. t ++ rest) text_is ∙ append_assoc c.loop-line.text.items (reply_line reply) rest ∙ whole);
-    }
 
 pub returns : goal.returns
 returns g c =
-    let none : into_iter_items c.loop-line.line-iterator ≡ [] =
-    nil_from_length (into_iter_items c.loop-line.line-iterator) (sym c.loop-line.line-iterator.rest.ok.0 ∙ c.in-None.ensures.steps.0) in
-    let (all, answers, whole) = c.loop-line.invariant.answered []
-    (AreReplies-nil g.row.A.Denot g.W.WeighShared.weighs c.args.core.weigher c.loop-line.cache.state
-    (into_iter_items c.loop-line.line-iterator) none) in
-    (all, answers, sym (append-nil _) ∙ whole)
+    let core = c.args.core in
+    let by_weigher = subst (λ w. IfOk c.replies_on.result (λ text. (replies : List ℕ)
+    × AreReplies g.row.A.Denot (g.W.WeighShared.weighs w) c.new-cache.result.state c.args.lines.items replies
+    × (text.items ≡ reply_line Ready ++ replies))) c.new-cache.ensures.weigher c.replies_on.ensures in
+    subst (λ state. IfOk c.replies_on.result (λ text. (replies : List ℕ)
+    × AreReplies g.row.A.Denot (g.W.WeighShared.weighs core.weigher) state c.args.lines.items replies
+    × (text.items ≡ reply_line Ready ++ replies))) c.new-cache.ensures.state by_weigher
