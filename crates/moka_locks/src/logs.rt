@@ -1,51 +1,50 @@
-// The two logs of a cache, each behind a lock of its own, with a word beside it that tells how many operations it holds.
+// The two logs of a cache, each behind a lock of its own, with a word beside it that tells what callers ask before they take the lock.
 use crate::waiting::{has_room, lock};
 use crossbeam_utils::CachePadded;
 use moka_base::error::OutOfMemory;
-use moka_engine::constants::{READ_LOG_SIZE, WRITE_LOG_SIZE};
+use moka_engine::constants::{FLUSH_POINT, READ_LOG_SIZE, WRITE_LOG_SIZE};
 use moka_engine::operation::{Read, Write};
 use moka_maintenance::logs::{ReadLog, WriteLog};
 use std::alloc::{Allocator, Global};
 use std::sync::atomic::{AtomicUsize, Ordering};
 use std::sync::{Mutex, MutexGuard, Wait};
 
-/// A log behind its lock, and the word beside it. Whoever has taken the lock writes the word, so both lie on one line.
+/// The write log behind its lock. Whoever has taken the lock writes the word beside it, so both lie on one line.
 #[derive(Drop)]
-struct ToldLog<L: Drop> {
+struct ToldLog<A: Allocator + Clone + Drop> {
     /// How many operations the log held when it was left last.
     len: AtomicUsize,
-    log: Mutex<L>,
+    log: Mutex<WriteLog<A>>,
 }
 
-impl<L: Drop> ToldLog<L> {
-    /// A log that is empty.
-    fn new(log: L) -> Self {
-        ToldLog {
-            len: AtomicUsize::new(0),
-            log: Mutex::new(log),
-        }
-    }
-}
-
-/// The logs. Each lies on lines of its own.
+/// The logs. What threads write to lies on lines of its own.
 #[derive(Drop)]
 pub(crate) struct Logs<A: Allocator + Clone + Drop = Global> {
-    reads: CachePadded<ToldLog<ReadLog<A>>>,
-    writes: CachePadded<ToldLog<WriteLog<A>>>,
+    read_log: CachePadded<Mutex<ReadLog<A>>>,
+    /// How many operations the read log held at least when it was left last, as `told_reads` has it. It seldom changes, so it lies apart from the lock,
+    /// where those who look at it keep the line.
+    reads: CachePadded<AtomicUsize>,
+    writes: CachePadded<ToldLog<A>>,
 }
 
 impl<A: Allocator + Clone + Drop> Logs<A> {
     /// Empty logs, with room for all that they will hold.
     pub(crate) fn new(alloc: &A) -> Result<Self, OutOfMemory> {
+        let read_log = ReadLog::new(alloc.clone()?)?;
+        let writes = ToldLog {
+            len: AtomicUsize::new(0),
+            log: Mutex::new(WriteLog::new(alloc.clone()?)?),
+        };
         Ok(Logs {
-            reads: CachePadded::new(ToldLog::new(ReadLog::new(alloc.clone()?)?)),
-            writes: CachePadded::new(ToldLog::new(WriteLog::new(alloc.clone()?)?)),
+            read_log: CachePadded::new(Mutex::new(read_log)),
+            reads: CachePadded::new(AtomicUsize::new(0)),
+            writes: CachePadded::new(writes),
         })
     }
 
-    /// How many reads there were when their log was left last. It is one load.
+    /// How many reads there were at least when their log was left last: as many as it can hold, the flush point, or none. It is one load.
     pub(crate) fn reads(&self) -> usize {
-        self.reads.len.load(Ordering::Acquire)
+        self.reads.load(Ordering::Acquire)
     }
 
     /// How many writes there were when theirs was.
@@ -55,7 +54,7 @@ impl<A: Allocator + Clone + Drop> Logs<A> {
 
     /// The read log, locked. Before it is left, `tell_reads` is to have its length.
     pub(crate) fn lock_reads<R: Wait>(&self, rt: &R) -> MutexGuard<'_, ReadLog<A>> {
-        lock(rt, &self.reads.log)
+        lock(rt, &self.read_log)
     }
 
     /// The write log, locked. Before it is left, `tell_writes` is to have its length.
@@ -63,9 +62,12 @@ impl<A: Allocator + Clone + Drop> Logs<A> {
         lock(rt, &self.writes.log)
     }
 
-    /// Tells how many reads there are.
+    /// Tells how many reads there are. A store would take the line from all who look at it, so there is one only where what is told changes.
     pub(crate) fn tell_reads(&self, len: usize) {
-        self.reads.len.store(len, Ordering::Release);
+        let told = told_reads(len);
+        if self.reads() != told {
+            self.reads.store(told, Ordering::Release);
+        }
     }
 
     /// Tells how many writes there are.
@@ -93,5 +95,16 @@ impl<A: Allocator + Clone + Drop> Logs<A> {
         let is_pushed = log.push(write).is_ok();
         self.tell_writes(log.len());
         is_pushed
+    }
+}
+
+/// What is told of the length of the read log: callers ask whether it is full, and whether it has come to the flush point.
+fn told_reads(len: usize) -> usize {
+    if len >= READ_LOG_SIZE {
+        READ_LOG_SIZE
+    } else if len >= FLUSH_POINT {
+        FLUSH_POINT
+    } else {
+        0
     }
 }
