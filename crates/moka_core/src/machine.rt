@@ -4,7 +4,7 @@ ghost use Rattle.moka_base.specs.Keys.{keys_by};
 ghost use Rattle.moka_core.specs.Machine.{FindsFor, IsUntouched, KeepsRoom, RefusesFor};
 ghost use Rattle.moka_core.specs.Pending.{HasRoomFor};
 ghost use Rattle.moka_engine.specs.CoreCall.{IsAtRest};
-ghost use Rattle.moka_engine.specs.CoreState.{IsNew, new_core};
+ghost use Rattle.moka_engine.specs.CoreState.{IsNew, new_core, new_maintenance};
 ghost use Rattle.moka_engine.specs.Run.{Happens, RunsTo};
 ghost use Rattle.moka_engine.specs.Turn.Turn.{after_turn};
 
@@ -96,14 +96,17 @@ impl<
     {
         let hash_state = Shared::new(alloc.clone()?, parts.hash_state)?;
         let settings = Settings::new(hash_state, parts.policy, parts.is_weighed);
+        let map = Map::new(alloc.clone()?, settings, parts.capacity)?;
+        let (read_log, write_log) = empty_logs(&alloc)?;
+        let (pending, maintenance) = nothing_under_way(&alloc)?;
         Ok(Machine {
-            map: Map::new(alloc.clone()?, settings, parts.capacity)?,
+            map,
             weigher: parts.weigher,
             valid_after: Instant::from_nanos(0),
-            read_log: ReadLog::new(alloc.clone()?)?,
-            write_log: WriteLog::new(alloc.clone()?)?,
-            pending: PendingOperations::new(alloc.clone()?)?,
-            maintenance: Maintenance::new(alloc.clone()?)?,
+            read_log,
+            write_log,
+            pending,
+            maintenance,
             sync_after: None,
             alloc,
         })
@@ -437,4 +440,26 @@ impl<
         }
         Ok(replies)
     }
+}
+
+/// Both logs, with nothing in them.
+fn empty_logs<A: Allocator + Clone + Drop>(
+    alloc: &A,
+) -> Result<(ReadLog<A>, WriteLog<A>), OutOfMemory>
+    ensures { IfOk result (λ logs. (logs.0 ≡ []) × (logs.1 ≡ [])) }
+{
+    let read_log = ReadLog::new(alloc.clone()?)?;
+    let write_log = WriteLog::new(alloc.clone()?)?;
+    Ok((read_log, write_log))
+}
+
+/// No pending operation, with room for that of one caller, and a maintenance that is idle.
+fn nothing_under_way<A: Allocator + Clone + Drop>(
+    alloc: &A,
+) -> Result<(PendingOperations<A>, Maintenance<A>), OutOfMemory>
+    ensures { IfOk result (λ parts. (parts.0 ≡ record { operations = []; room = 1 }) × (parts.1 ≡ new_maintenance)) }
+{
+    let pending = PendingOperations::new(alloc.clone()?)?;
+    let maintenance = Maintenance::new(alloc.clone()?)?;
+    Ok((pending, maintenance))
 }

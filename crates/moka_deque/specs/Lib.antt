@@ -5,3 +5,4 @@ pub mod Linked
 pub mod Lends
 pub mod Nodes
 pub mod NodesChanges
+pub mod Link

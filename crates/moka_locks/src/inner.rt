@@ -384,7 +384,7 @@ fn logs_and_maintenance<A: Allocator + Clone + Drop>(
     requires { IfSome publisher (λ p. p.published ≡ opening ∷ []) }
 {
     let logs = Logs::new(alloc)?;
-    let maintenance = Maintenance::new(alloc.clone()?)?;
+    let maintenance = Box::new(alloc.clone()?, Maintenance::new(alloc.clone()?)?)?;
     Ok((logs, Resting::new(maintenance, publisher)))
 }
 

@@ -1,5 +1,5 @@
 // The two logs of a cache, each behind a lock of its own, with a word beside it that tells what callers ask before they take the lock.
-use crate::waiting::{has_room, lock};
+use crate::waiting::{ROOM_AWAITED, has_room, lock};
 use crossbeam_utils::CachePadded;
 use moka_base::error::OutOfMemory;
 use moka_engine::constants::{FLUSH_POINT, READ_LOG_SIZE, WRITE_LOG_SIZE};
@@ -12,7 +12,7 @@ use std::sync::{Mutex, MutexGuard, Wait};
 /// The write log behind its lock. Whoever has taken the lock writes the word beside it, so both lie on one line.
 #[derive(Drop)]
 struct ToldLog<A: Allocator + Clone + Drop> {
-    /// How many operations the log held when it was left last.
+    /// How many operations the log held at least when it was left last, as `told_writes` has it.
     len: AtomicUsize,
     log: Mutex<WriteLog<A>>,
 }
@@ -47,17 +47,19 @@ impl<A: Allocator + Clone + Drop> Logs<A> {
         self.reads.load(Ordering::Acquire)
     }
 
-    /// How many writes there were when theirs was.
+    /// How many writes there were at least when theirs was: a multiple of `ROOM_AWAITED`.
     pub(crate) fn writes(&self) -> usize {
         self.writes.len.load(Ordering::Acquire)
     }
 
     /// The read log, locked. Before it is left, `tell_reads` is to have its length.
+    #[inline]
     pub(crate) fn lock_reads<R: Wait>(&self, rt: &R) -> MutexGuard<'_, ReadLog<A>> {
         lock(rt, &self.read_log)
     }
 
     /// The write log, locked. Before it is left, `tell_writes` is to have its length.
+    #[inline]
     pub(crate) fn lock_writes<R: Wait>(&self, rt: &R) -> MutexGuard<'_, WriteLog<A>> {
         lock(rt, &self.writes.log)
     }
@@ -70,9 +72,12 @@ impl<A: Allocator + Clone + Drop> Logs<A> {
         }
     }
 
-    /// Tells how many writes there are.
+    /// Tells how many writes there are. A store is an exchange here, so there is one only where what is told changes.
     pub(crate) fn tell_writes(&self, len: usize) {
-        self.writes.len.store(len, Ordering::Release);
+        let told = told_writes(len);
+        if self.writes() != told {
+            self.writes.len.store(told, Ordering::Release);
+        }
     }
 
     /// Puts a read into its log. Answers whether there was room. A log that its word tells full is not looked at.
@@ -107,4 +112,10 @@ fn told_reads(len: usize) -> usize {
     } else {
         0
     }
+}
+
+/// What is told of the length of the write log: callers ask whether it is full, whether it has come to the flush point, and whether it has room for
+/// `ROOM_AWAITED` operations, and all these lengths are multiples of that.
+fn told_writes(len: usize) -> usize {
+    len - len % ROOM_AWAITED
 }

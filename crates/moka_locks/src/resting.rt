@@ -10,10 +10,11 @@ use std::alloc::{Allocator, Global};
 use std::marker::Model;
 use std::sync::Wait;
 
-/// A maintenance that is not under way. What was published last is what it has charged, where counts are published.
+/// A maintenance that is not under way. What was published last is what it has charged, where counts are published. It lies in memory of its own, so
+/// that it is short to hand on.
 #[derive(Drop)]
 pub(crate) struct Resting<A: Allocator + Clone + Drop = Global> {
-    maintenance: Maintenance<A>,
+    maintenance: Box<Maintenance<A>, A>,
     publisher: Option<Publisher>,
 }
 
@@ -25,17 +26,17 @@ impl<A: Allocator + Clone + Drop> Model for Resting<A> {
 
     ghost Value = { MaintenanceState };
 
-    ghost view = { λ r. r.maintenance };
+    ghost view = { λ r. r.maintenance.value };
 
-    ghost invariant = { λ r. (r.maintenance.place ≡ Idle) × IfSome r.publisher (λ p. IsCharged r.maintenance p.published) };
+    ghost invariant = { λ r. (r.maintenance.value.place ≡ Idle) × IfSome r.publisher (λ p. IsCharged r.maintenance.value p.published) };
 }
 
 impl<A: Allocator + Clone + Drop> Resting<A> {
     /// This maintenance, with which nothing has been done.
-    pub(crate) fn new(maintenance: Maintenance<A>, publisher: Option<Publisher>) -> Self
-        requires idle { maintenance.place ≡ Idle }
-        requires charged { IfSome publisher (λ p. IsCharged maintenance p.published) }
-        ensures { result ≡ maintenance }
+    pub(crate) fn new(maintenance: Box<Maintenance<A>, A>, publisher: Option<Publisher>) -> Self
+        requires idle { maintenance.value.place ≡ Idle }
+        requires charged { IfSome publisher (λ p. IsCharged maintenance.value p.published) }
+        ensures { result ≡ maintenance.value }
     {
         Resting {
             maintenance,
@@ -46,11 +47,11 @@ impl<A: Allocator + Clone + Drop> Resting<A> {
     /// This maintenance, which has ended, with its counts published.
     pub(crate) fn ended<R: Wait>(
         rt: &R,
-        maintenance: Maintenance<A>,
+        maintenance: Box<Maintenance<A>, A>,
         publisher: Option<Publisher>,
     ) -> Self
-        requires { maintenance.place ≡ Idle }
-        ensures { result ≡ maintenance }
+        requires { maintenance.value.place ≡ Idle }
+        ensures { result ≡ maintenance.value }
     {
         let Some(mut publisher) = publisher else {
             return Resting::new(maintenance, None);
@@ -61,9 +62,9 @@ impl<A: Allocator + Clone + Drop> Resting<A> {
     }
 
     /// The maintenance, for the one who has the lock to begin it.
-    pub(crate) fn wake(self) -> (Maintenance<A>, Option<Publisher>)
-        ensures value { result.0 ≡ self }
-        ensures idle { result.0.place ≡ Idle }
+    pub(crate) fn wake(self) -> (Box<Maintenance<A>, A>, Option<Publisher>)
+        ensures value { result.0.value ≡ self }
+        ensures idle { result.0.value.place ≡ Idle }
     {
         (self.maintenance, self.publisher)
     }

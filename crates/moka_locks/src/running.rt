@@ -21,7 +21,7 @@ use std::sync::{Mutex, MutexGuard, Wait};
 #[derive(Drop)]
 pub(crate) struct Running<'a, A: Allocator + Clone + Drop> {
     guard: MutexGuard<'a, Option<Resting<A>>>,
-    maintenance: Maintenance<A>,
+    maintenance: Box<Maintenance<A>, A>,
     publisher: Option<Publisher>,
 }
 
@@ -30,7 +30,7 @@ impl<'a, A: Allocator + Clone + Drop> Model for Running<'a, A> {
 
     ghost Value = { MaintenanceState };
 
-    ghost view = { λ r. r.maintenance };
+    ghost view = { λ r. r.maintenance.value };
 }
 
 impl<'a, A: Allocator + Clone + Drop> Running<'a, A> {

@@ -15,9 +15,10 @@ const ROOM_LOOKS: usize = 16;
 
 /// For how many operations there is to be room then. Where several writers wait, they push by turns of so many, and don't all ask for the lock at
 /// each operation that leaves the log.
-const ROOM_AWAITED: usize = 16;
+pub(crate) const ROOM_AWAITED: usize = 16;
 
 /// Takes a lock.
+#[inline]
 pub(crate) fn lock<'a, T, R: Wait>(rt: &R, part: &'a Mutex<T>) -> MutexGuard<'a, T> {
     match part.try_lock() {
         Some(guard) => guard,
@@ -28,6 +29,8 @@ pub(crate) fn lock<'a, T, R: Wait>(rt: &R, part: &'a Mutex<T>) -> MutexGuard<'a,
 /// Takes a lock that was found held. A part of a cache is held for some hundred instructions, so a thread looks again for a while, ever more
 /// seldom, before it sleeps: to put a thread to sleep and to wake it takes longer than that. Each look takes the line of the lock from whoever
 /// holds it.
+#[cold]
+#[inline(never)]
 fn wait_for<'a, T, R: Wait>(rt: &R, part: &'a Mutex<T>) -> MutexGuard<'a, T> {
     let backoff = pause();
     for _ in 0..LOCK_LOOKS {
@@ -45,6 +48,8 @@ pub(crate) fn has_room(len: &AtomicUsize, size: usize) -> bool {
 }
 
 /// Whether a log that was found full gets room while one looks at its word, ever more seldom.
+#[cold]
+#[inline(never)]
 fn gets_room(len: &AtomicUsize, size: usize) -> bool {
     let backoff = pause();
     for _ in 0..ROOM_LOOKS {

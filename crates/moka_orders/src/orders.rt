@@ -13,6 +13,7 @@ ghost use Rattle.moka_orders.specs.OrdersState.{AddsNode, AtNode, IsNodeOf, orde
 use moka_base::error::OutOfMemory;
 use moka_base::limits::Limits;
 use moka_deque::deque::{CacheRegion, Deque, NodeId};
+use moka_deque::link::Link;
 use moka_engine::ticket::Ticket;
 use moka_index::hash_index::HashIndex;
 use std::alloc::{AllocError, Allocator, Global};
@@ -25,7 +26,7 @@ pub struct Node {
     pub charge: u32,
     /// A scan's mark: the entry stood when it was looked at.
     pub is_present: bool,
-    write: Option<NodeId>,
+    write: Link,
 }
 
 /// The nodes of the entries that are charged, least recently used first, and with a time to live their tickets in order of writing. A node is
@@ -163,6 +164,7 @@ impl<A: Allocator + Clone + Drop> Orders<A> {
     }
 
     /// The node becomes the most recently used one.
+    #[inline]
     pub fn use_node(&mut self, id: NodeId)
         requires { IsIn self.old.nodes id }
         ensures step { self.new ≡ record self.old { nodes = moved_to_back id self.old.nodes } }
@@ -196,7 +198,7 @@ impl<A: Allocator + Clone + Drop> Orders<A> {
         ensures step { self.new ≡ record self.old { written = self.new.written } }
         ensures orders { AtNode self.old id (λ n. orders_of self.new ≡ rewritten n.ticket (orders_of self.old)) }
     {
-        let write = self.access.get(id).write;
+        let write = self.access.get(id).write.id();
         if let Some(write) = write {
             self.writes.move_to_back(write);
         }
@@ -237,12 +239,15 @@ impl<A: Allocator + Clone + Drop> Orders<A> {
             ticket,
             charge,
             is_present: false,
-            write: None,
+            write: Link::none(),
         };
         if !limits.has_time_to_live() {
             return push_node(&mut self.access, &mut self.index, node);
         }
-        node.write = Some(self.writes.push_reserved(ticket));
+        let write = self.writes.push_reserved(ticket);
+        // Its id is below the capacity, which is a word.
+        let _ = self.writes.capacity();
+        node.write = Link::to(write);
         push_node(&mut self.access, &mut self.index, node)
     }
 
@@ -256,7 +261,7 @@ impl<A: Allocator + Clone + Drop> Orders<A> {
         let node = self.access.unlink(id);
         self.index.remove(id.number(), node.ticket.hash);
         self.total -= u128::from(node.charge);
-        unlink_write(&mut self.writes, node.write);
+        unlink_write(&mut self.writes, node.write.id());
     }
 }
 

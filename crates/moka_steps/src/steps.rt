@@ -181,7 +181,10 @@ pub fn get<K: Drop, V: Clone, A: Allocator + Drop, T: Steps<K, V, A>, R: Wait>(
         push_read(rt, steps, now);
         return Ok(None);
     };
-    let Ok(copy) = value.get().clone() else {
+    let copy: Result<_, _> = value.get().clone();
+    // Others count the value too: it is let go of before the log is seen to, which may take a maintenance.
+    drop(value);
+    let Ok(copy) = copy else {
         steps.forget();
         return Err(OutOfMemory);
     };

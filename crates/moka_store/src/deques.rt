@@ -10,14 +10,13 @@ ghost use Rattle.moka_store.specs.Store.{Enters, IsFront, IsOldest, Removes, Tou
 ghost use Rattle.moka_store.specs.Turns.{contents_of};
 
 mod entries;
-mod link;
 
 pub use entries::Entries;
-use link::Link;
 use moka_base::error::OutOfMemory;
 use moka_base::policy::Policy;
 use moka_base::time::Instant;
 use moka_deque::deque::{CacheRegion, Deque, NodeId};
+use moka_deque::link::Link;
 use moka_machine::entry::Entry;
 use std::alloc::{AllocError, Allocator, Global};
 use std::marker::Model;

@@ -16,7 +16,7 @@ invariant_of-self g c =
     let m : Rattle.moka_orders.specs.declared.orders.Node.Node = record { ticket = c.args.ticket; charge = c.args.charge; is_present = false; write = None } in
     let absent : charge_of c.args.ticket (orders_of (seen old.access.items old.writes.items old.access.room old.writes.room old.index.ids)) ≡ None =
     subst (λ v. charge_of c.args.ticket (orders_of v) ≡ None) (sym c.self.view_is) c.requires.absent in (
-      rw (step.items, c.with_charge-self-inside.ensures.value)
+      rw (step.items, c.with_charge-self-inside.ensures.value, c.none.ensures)
           (IsKept-unwritten c.self.invariant.0 step.id m step.new_id
           (ticket_absent c.self.invariant.0 c.args.ticket (values_of old.writes.items) absent)
           c.with_charge-self-inside.ensures.small refl),
@@ -27,13 +27,13 @@ pub invariant_of-self-2 : goal.invariant_of-self-2
 invariant_of-self-2 g c =
     let old = c.self.inside in
     let step = c.push_node-2.ensures.pushes in
-    let w = c.push_reserved.result in
+    let w = c.push_reserved-write.result in
     let m : Rattle.moka_orders.specs.declared.orders.Node.Node = record { ticket = c.args.ticket; charge = c.args.charge; is_present = false; write = Some w } in
     let absent : charge_of c.args.ticket (orders_of (seen old.access.items old.writes.items old.access.room old.writes.room old.index.ids)) ≡ None =
     subst (λ v. charge_of c.args.ticket (orders_of v) ≡ None) (sym c.self.view_is) c.requires.absent in (
-      rw (step.items, c.push_reserved.ensures.items, c.with_charge-self-inside.ensures.value)
+      rw (step.items, c.push_reserved-write.ensures.items, c.with_charge-self-inside.ensures.value, c.to-node.ensures)
           (IsKept-enter c.self.invariant.0 step.id m step.new_id
           (ticket_absent c.self.invariant.0 c.args.ticket (values_of old.writes.items) absent)
-          c.with_charge-self-inside.ensures.small w refl c.push_reserved.ensures.new_id),
+          c.with_charge-self-inside.ensures.small w refl c.push_reserved-write.ensures.new_id),
       c.push_node-2.ensures.indexed,
     )

@@ -17,7 +17,7 @@ overflow_sub-self g c = rw c.from.ensures (charge_in_total c.self.invariant.0 c.
 pub invariant_of-self : goal.invariant_of-self
 invariant_of-self g c =
     let n = c.unlink-node.result in
-    rw (c.unlink-node.ensures.step, c.unlink_write.ensures.items, c.from.ensures) (
+    rw (c.unlink-node.ensures.step, c.unlink_write.ensures.items, c.from.ensures, c.id.ensures) (
       IsKept-remove c.self.invariant.0 c.args.id n c.unlink-node.ensures.value,
       IsIndexed-remove c.self.invariant.1 c.args.id c.self.invariant.0.once c.remove.new.self
           (subst (λ i. Removes c.self.inside.index i c.remove.new.self) c.number.ensures c.remove.ensures.step),
@@ -27,7 +27,7 @@ pub returns-clause-room : goal.returns-clause-room
 returns-clause-room g c =
     let old = c.self.inside in
     let n = c.unlink-node.result in
-    rw (← c.self.view_is, c.unlink-node.ensures.step, c.unlink_write.ensures.room)
+    rw (← c.self.view_is, c.unlink-node.ensures.step, c.unlink_write.ensures.room, c.id.ensures)
     (room_removed old.access.items (remove_entry (nat_eq c.args.id) old.access.items) old.access.room (old.access.room + 1)
     old.writes.room old.index.ids c.remove.new.self.ids n.write
     (length-remove c.args.id old.access.items (ap is_some c.unlink-node.ensures.value)) refl c.remove.ensures.step.ids)
@@ -36,7 +36,7 @@ pub returns-clause-orders : goal.returns-clause-orders
 returns-clause-orders g c =
     let old = c.self.inside in
     let first = c.unlink-node.result in
-    rw (← c.self.view_is, c.unlink-node.ensures.step, c.unlink_write.ensures.items)
+    rw (← c.self.view_is, c.unlink-node.ensures.step, c.unlink_write.ensures.items, c.id.ensures)
     (λ n stood.
     removed_orders c.self.invariant.0 c.args.id first c.unlink-node.ensures.value old.access.room old.writes.room old.index.ids 0 0 0
     ∙ ap (λ m.
