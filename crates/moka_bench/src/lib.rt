@@ -1,6 +1,8 @@
-//! The tests of scripts with their replies, and of what `mini_moka` alone has.
+//! The tests of scripts with their replies, of what `mini_moka` alone has, and of the docs' examples.
 #![tactic(auto)]
 
+#[cfg(test)]
+mod examples;
 #[cfg(test)]
 mod faults;
 #[cfg(test)]

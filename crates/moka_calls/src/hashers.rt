@@ -1,4 +1,6 @@
-// A hasher that tells no keys apart.
+// A hasher that tells no keys apart, and one by which a test chooses the shards of its keys.
+ghost use Rattle.moka_calls.specs.Hashers.{hasher_after};
+
 use std::hash::{BuildHasher, Hasher};
 
 /// Each key has the hash 0.
@@ -24,5 +26,42 @@ impl BuildHasher for Zero {
 
     fn build_hasher(&self) -> Zero {
         *self
+    }
+}
+
+/// Hashes a number to itself.
+#[derive(Clone, Copy)]
+pub struct OwnHasher {
+    number: u64,
+}
+
+impl Hasher for OwnHasher {
+    ghost write = { hasher_after };
+
+    ghost finish = { λ hasher. hasher.number };
+
+    fn finish(&self) -> u64 {
+        self.number
+    }
+
+    // A number is written as its eight bytes.
+    fn write(&mut self, bytes: &[u8]) {
+        if let [a, b, c, d, e, f, g, h] = bytes {
+            self.number = u64::from_le_bytes([*a, *b, *c, *d, *e, *f, *g, *h]);
+        }
+    }
+}
+
+/// The hash state of such keys.
+#[derive(Clone, Copy, Drop)]
+pub struct OwnState;
+
+impl BuildHasher for OwnState {
+    type Hasher = OwnHasher;
+
+    ghost build_hasher = { λ _. record { number = 0 } };
+
+    fn build_hasher(&self) -> OwnHasher {
+        OwnHasher { number: 0 }
     }
 }

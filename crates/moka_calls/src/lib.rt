@@ -7,12 +7,15 @@ mod common;
 mod deque;
 #[cfg(test)]
 mod engine;
-#[cfg(test)]
 mod hashers;
 #[cfg(test)]
 mod heap;
 #[cfg(test)]
 mod housekeeper;
+#[cfg(test)]
+mod play;
+#[cfg(test)]
+mod shared;
 #[cfg(test)]
 mod sketch;
 #[cfg(test)]

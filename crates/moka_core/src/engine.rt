@@ -24,7 +24,6 @@ use std::hash::{BuildHasher, Hash};
 use std::marker::Model;
 
 /// The cache without its locks.
-#[derive(Drop)]
 pub struct Core<
     K: Eq + Hash + Drop,
     V: Drop,
@@ -33,6 +32,14 @@ pub struct Core<
     A: Allocator + Clone + Drop = Global,
 > {
     machine: Machine<K, V, S, W, A>,
+}
+
+// By hand, and not derived: wherever a core may end, there is one call to prove then, in place of one for each of its parts.
+impl<K: Eq + Hash + Drop, V: Drop, S: BuildHasher + Drop, W: Drop, A: Allocator + Clone + Drop> Drop
+    for Core<K, V, S, W, A> {
+    fn drop(self) {
+        let Core { machine: _ } = self;
+    }
 }
 
 impl<

@@ -84,6 +84,17 @@ fn is_same(one: &Answer<u64, u64>, other: &Answer<u64, u64>) -> bool {
     }
 }
 
+/// Makes the calls of a record on another one, and says whether each was answered as it was answered then.
+fn answers_alike(again: &mut Record<u64, u64>, record: &Record<u64, u64>) -> Result<bool, Error> {
+    for made in record.calls() {
+        let call = made.call.try_clone().map_err(|_| OutOfMemory)?;
+        if !is_same(&again.apply(call)?, &made.reply) {
+            return Ok(false);
+        }
+    }
+    Ok(true)
+}
+
 /// Whether a core with which nothing has been done answers each call of a record as it was answered then.
 pub fn is_replayed(
     alloc: Global,
@@ -93,11 +104,5 @@ pub fn is_replayed(
     requires { IsNew core.state }
 {
     let mut again = Record::new(alloc, core);
-    for made in record.calls() {
-        let call = made.call.try_clone().map_err(|_| OutOfMemory)?;
-        if !is_same(&again.apply(call)?, &made.reply) {
-            return Ok(false);
-        }
-    }
-    Ok(true)
+    answers_alike(&mut again, record)
 }

@@ -1,4 +1,4 @@
-// Why the program ends before its input does.
+//! Why the program ends before its input does.
 use moka_common::error::{BuildError, InsertError, OutOfMemory};
 use std::alloc::{AllocError, AllocFailed};
 use std::io;
@@ -6,7 +6,7 @@ use thiserror::Error;
 
 /// Why the program ends before its input does.
 #[derive(Clone, Copy, Debug, PartialEq, Eq, Error)]
-pub(crate) enum PlayError {
+pub enum PlayError {
     /// The line of this number, counted from 1, is no request, or comes before what it needs.
     #[error("bad line {0}")]
     BadLine(u64),
@@ -25,7 +25,7 @@ pub(crate) enum PlayError {
 
 impl PlayError {
     /// The program's status: 2 for bad input, and 1 for all else.
-    pub(crate) fn status(self) -> u8 {
+    pub fn status(self) -> u8 {
         match self {
             PlayError::BadLine(_) => 2,
             _ => 1,

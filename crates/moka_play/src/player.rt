@@ -1,4 +1,4 @@
-// What the lines have asked for so far, and the plays.
+//! What the lines have asked for so far, and the plays.
 ghost use Rattle.std.specs.Prelude.{◌≤◌, length, IfOk};
 
 use crate::error::PlayError;
@@ -13,7 +13,7 @@ use std::{fmt, mem};
 
 /// What a line is replied to.
 #[derive(Clone, Copy, Debug, PartialEq, Eq)]
-pub(crate) enum Reply {
+pub enum Reply {
     /// What a play gave: how many look-ups found their key, the sum of the found values modulo 2^64, and how many entries there were in the end.
     Played { hits: u64, sum: u64, entries: u64 },
     /// How long the last play took, from the moment when the first thread began to that when the last one ended.
@@ -33,7 +33,7 @@ impl fmt::Display for Reply {
 
 /// What the lines have asked for so far.
 #[derive(Drop)]
-pub(crate) struct Player {
+pub struct Player {
     alloc: Global,
     /// How many lines were taken.
     lines: u64,
@@ -47,7 +47,7 @@ pub(crate) struct Player {
 }
 
 impl Player {
-    pub(crate) fn new(alloc: Global) -> Player {
+    pub fn new(alloc: Global) -> Player {
         Player {
             alloc,
             lines: 0,
@@ -59,7 +59,7 @@ impl Player {
     }
 
     /// Takes the next line, and answers it where it has a reply.
-    pub(crate) fn take<R: Wait + Threads + Clock + Copy + Send + 'static>(
+    pub fn take<R: Wait + Threads + Clock + Copy + Send + 'static>(
         &mut self,
         rt: R,
         line: &str,

@@ -1,8 +1,8 @@
-// Lines of input as requests.
+//! Lines of input as requests.
 
 /// One call of a thread. An insert stores the key itself as its value.
 #[derive(Clone, Copy, Debug, PartialEq, Eq)]
-pub(crate) enum Call {
+pub enum Call {
     /// `get KEY`
     Get(u64),
     /// `insert KEY`
@@ -15,7 +15,7 @@ pub(crate) enum Call {
 
 /// Which cache threads share.
 #[derive(Clone, Copy, Debug, PartialEq, Eq)]
-pub(crate) enum Kind {
+pub enum Kind {
     /// `sync`: the cache that is made for it.
     Sync,
     /// `counted`: the same, with its counts published.
@@ -26,7 +26,7 @@ pub(crate) enum Kind {
 
 /// One line of input.
 #[derive(Clone, Copy, Debug, PartialEq, Eq)]
-pub(crate) enum Request {
+pub enum Request {
     /// `capacity NUMBER`: how many entries the caches have at most that are made from here on. Before the first such line they have no limit.
     Capacity(u64),
     /// `thread`: the calls that follow are those of one more thread. The calls that come before the first thread's fill each new cache.
@@ -43,7 +43,7 @@ pub(crate) enum Request {
 
 impl Request {
     /// The request that a line spells, if it spells one.
-    pub(crate) fn parse(line: &str) -> Option<Request> {
+    pub fn parse(line: &str) -> Option<Request> {
         match line.split_once(' ') {
             Some((name, word)) => with_word(name, word),
             None => alone(line),

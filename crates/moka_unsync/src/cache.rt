@@ -91,7 +91,6 @@ pub(crate) struct Parts<S: Drop, W: Drop> {
 /// Moments are handed in. Building and inserting answer a `Result`: want of memory, and a duration of more than 1000 years, are named refusals in
 /// place of an abort or a panic. Counts and weights follow every removal. Keys are looked up by `&K`. `iter` and the predicate of
 /// `invalidate_entries_if` go in order of use, `iter` leaves expired entries out, and `Debug` shows every stored one.
-#[derive(Drop)]
 pub struct Cache<
     K: Eq + Hash + Drop,
     V: Drop,
@@ -105,6 +104,21 @@ pub struct Cache<
     weigher: W,
     store: Store<K, V, A>,
     sketch: FrequencySketch<A>,
+}
+
+// By hand, and not derived: wherever a cache may end, there is one call to prove then, in place of one for each of its parts.
+impl<K: Eq + Hash + Drop, V: Drop, S: BuildHasher + Drop, W: Drop, A: Allocator + Clone + Drop> Drop
+    for Cache<K, V, S, W, A> {
+    fn drop(self) {
+        let Cache {
+            hash_state: _,
+            limits: _,
+            is_weighed: _,
+            weigher: _,
+            store: _,
+            sketch: _,
+        } = self;
+    }
 }
 
 impl<

@@ -5,18 +5,8 @@
 //! it was is written to standard error.
 #![tactic(auto)]
 
-mod constants;
-mod error;
-mod hasher;
-mod player;
-mod request;
-mod side;
-#[cfg(test)]
-mod tests;
-mod thread;
-
-use crate::error::PlayError;
-use crate::player::Player;
+use moka_play::error::PlayError;
+use moka_play::player::Player;
 use std::alloc::Global;
 use std::io::{BufRead, BufReader};
 use std::process::ExitCode;

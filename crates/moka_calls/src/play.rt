@@ -1,7 +1,7 @@
-// Which lines are refused, and what a limit does. What the other requests do is shown by the stored run.
-use crate::error::PlayError;
-use crate::player::{Player, Reply};
-use crate::request::{Call, Kind, Request};
+// The lines of plays: which are refused, and what a limit does. What the other requests do is shown by the stored run of `moka_play_run`.
+use moka_play::error::PlayError;
+use moka_play::player::{Player, Reply};
+use moka_play::request::{Call, Kind, Request};
 use std::test::Fail;
 
 /// Lines that are no request.
