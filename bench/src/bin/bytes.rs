@@ -37,8 +37,6 @@ mod recorder {
     pub struct Totals {
         /// That total which was held for longest.
         pub longest: usize,
-        /// Once the last block was taken.
-        pub last: usize,
         pub peak: usize,
     }
 
@@ -76,7 +74,6 @@ mod recorder {
             }
             self.blocks.insert(block, size);
             self.held += size;
-            self.totals.last = self.held;
             self.totals.peak = self.totals.peak.max(self.held);
         }
 
@@ -188,7 +185,7 @@ fn settings_of(entries: u64) -> [(&'static str, Settings); 3] {
     ]
 }
 
-/// The core of the cache that threads share, beside its original. The core takes its last block for the key of the last look-up, when it is full.
+/// The core of the cache that threads share, beside its original. While keys are looked up the core takes no block.
 fn print_shared() {
     println!("Bytes an entry of two numbers of 64 bits, in a full cache that threads share; in brackets the most at once while it grew.");
     println!();
@@ -202,7 +199,7 @@ fn print_shared() {
             let original = count(rust_sides::shared_original, &trace);
             table::print_row(&[
                 format!("{entries}{name}"),
-                cell(entries, (core.last, core.peak)),
+                cell(entries, (core.longest, core.peak)),
                 cell(entries, original),
             ]);
         }

@@ -1,25 +1,84 @@
 -- A maintenance of a core, turn by turn.
-use Rattle.std.proofs.Common.{◌≡◌, ℕ, ◌<◌, Bool, true, false, refl, sym, ◌∙◌, ap, subst}
+use Rattle.std.proofs.Common.{◌≡◌, ℕ, ◌<◌, ◌==◌, Bool, true, false, if◌then◌else◌, List, [], ◌∷◌, refl, sym, ◌∙◌, ap, subst, arith}
 use Rattle.std.specs.Cmp.{IsEquivalence}
 use Rattle.std.proofs.lemmas.Bool.{false≢true}
 use Rattle.moka_base.specs.Keys.{Keys}
 use Rattle.moka_engine.specs.declared.event.Event.TheVariants.{Begin, Turn}
 use Rattle.moka_engine.specs.declared.event.Reply.TheVariants.{At, Done}
+use Rattle.moka_engine.specs.declared.operation.Read.{Read}
+use Rattle.moka_engine.specs.declared.operation.Read.TheVariants.{Hit, Miss}
+use Rattle.moka_engine.specs.declared.place.Place.{Place as PlaceName}
 use Rattle.moka_engine.specs.declared.place.Place.TheVariants as name
 use Rattle.moka_engine.specs.Place as place
-use Rattle.moka_engine.specs.Place.{is_idle, name_of}
+use Rattle.moka_engine.specs.Place.{Place, Work, is_idle, name_of}
 use Rattle.moka_engine.specs.CoreState.{CoreState}
 use Rattle.moka_engine.specs.Consistent.{IsConsistent}
 use Rattle.moka_engine.specs.CoreCall.{CoreTurns}
 use Rattle.moka_engine.specs.Event.{IsBeginning, IsTurn}
 use Rattle.moka_engine.specs.Reply.{Reply}
 use Rattle.moka_engine.specs.Run.{Happens}
-use Rattle.moka_engine.specs.Turn.Turn.{after_turn}
+use Rattle.moka_engine.specs.Turn.Plan.{after_plan, reads_or_on}
+use Rattle.moka_engine.specs.Turn.Turn.{after_read_taken, after_turn, turn_at}
 use Rattle.moka_engine.specs.TurnsLeft.{turns_left}
 use Rattle.moka_engine.specs.WholeCall.{LastTurn, NextTurn}
 use Rattle.moka_engine_laws.proofs.CallLemmas.{consistent_step}
 use Rattle.moka_engine_laws.proofs.EndLemmas.{turn_falls}
 use Rattle.moka_engine_laws.proofs.EventLemmas.{idle_is}
+use Rattle.moka_core.specs.Calls.{AppliesNextRead}
+use Rattle.moka_maintenance.specs.Taken.{TakesRead}
+
+-- ---- places that aren't idle
+
+pub not_idle : (p : Place) → is_idle p ≡ false → p ≡ place.Idle → ⊥
+not_idle p busy is = false≢true (sym busy ∙ ap is_idle is)
+
+abbrev is_idle_name : PlaceName → Bool
+is_idle_name name.Idle = true
+is_idle_name other = false
+
+same_idle : (p : Place) → is_idle_name (name_of p) ≡ is_idle p
+same_idle place.Idle = refl
+same_idle p = refl
+
+pub not_named_idle : (p : Place) → is_idle p ≡ false → name_of p ≡ name.Idle → ⊥
+not_named_idle p busy is = false≢true (sym busy ∙ sym (same_idle p) ∙ ap is_idle_name is)
+
+-- a read is to be applied there, or to be taken
+data IsReading : Place → Type 0 where
+  Takes : (work : Work) → IsReading (place.Reads work)
+  Applies : (work : Work) (read : Read) → IsReading (place.ReadApply work read)
+
+reading_busy : (p : Place) → IsReading p → is_idle p ≡ false
+reading_busy _ (Takes work) = refl
+reading_busy _ (Applies work read) = refl
+
+on_busy : (work : Work) → is_idle (reads_or_on work) ≡ false
+on_busy work = by (work.left == 0)
+  where
+    by : (none : Bool) → is_idle (if none then place.WriteCount work.round else place.Reads work) ≡ false
+    by true = refl
+    by false = refl
+
+module _ {K V S : Type 0} (refused : Bool) (core : CoreState K V S) where
+  abbrev after_at : Place → CoreState K V S
+  after_at p = after_plan (turn_at core.settings core.valid_after refused p core.maintenance) core
+
+  -- a turn that is to take a read leaves one to apply or to take
+  taken_is_read : TakesRead core.maintenance → IsReading (after_turn refused core).maintenance.place
+  taken_is_read (work, at) = subst (λ p. IsReading (after_at p).maintenance.place) (sym at) (by core.read_log)
+    where
+      by : (log : List Read) → IsReading (after_read_taken work core.maintenance log).0.place
+      by [] = subst IsReading (sym at) (Takes work)
+      by (read ∷ log) = Applies _ read
+
+  -- one that applies it leaves a maintenance that is under way
+  applied_busy : (p : Place) → IsReading p → p ≡ core.maintenance.place → is_idle (after_turn refused core).maintenance.place ≡ false
+  applied_busy _ (Takes work) at = reading_busy _ (taken_is_read (work, sym at))
+  applied_busy _ (Applies work read) at = subst (λ p. is_idle (after_at p).maintenance.place ≡ false) at (by read)
+    where
+      by : (read : Read) → is_idle (after_at (place.ReadApply work read)).maintenance.place ≡ false
+      by (Hit t moment) = on_busy work
+      by (Miss hash) = on_busy work
 
 module _ {K V S : Type 0} (keys : Keys K S) (laws : IsEquivalence keys.eq) (weighs : K → V → ℕ → Type 0) where
   abbrev Core : Type 0
@@ -52,6 +111,45 @@ module _ {K V S : Type 0} (keys : Keys K S) (laws : IsEquivalence keys.eq) (weig
     pub turn_leaves : IsConsistent keys old → turns_left new < turns_left old
     turn_leaves good =
         subst (λ c. turns_left c < turns_left old) (sym is) (turn_falls keys old good.entries refused busy good.queues.round).0
+
+  -- two turns that take a read and apply it
+  module _ (old new : Core) (applies : AppliesNextRead old true new) where
+    abbrev mid : Core
+    mid = after_turn false old
+
+    busy : old.maintenance.place ≡ place.Idle → ⊥
+    busy idle = false≢true (ap is_idle (sym applies.0.1 ∙ idle))
+
+    reading : IsReading mid.maintenance.place
+    reading = taken_is_read false old applies.0
+
+    between : is_idle mid.maintenance.place ≡ false
+    between = reading_busy mid.maintenance.place reading
+
+    behind : is_idle new.maintenance.place ≡ false
+    behind = ap (λ (c : Core). is_idle c.maintenance.place) applies.1 ∙ applied_busy false mid mid.maintenance.place reading refl
+
+    -- others follow
+    pub next_two_turns : (end : Core) → CoreTurns keys weighs new end → CoreTurns keys weighs old end
+    next_two_turns end later =
+        next_turn false old mid busy refl (not_named_idle mid.maintenance.place between) end
+        (next_turn false mid new (not_idle mid.maintenance.place between) applies.1 (not_named_idle new.maintenance.place behind) end later)
+
+    -- they leave a consistent core
+    pub two_turns_keep : IsConsistent keys old → IsConsistent keys new
+    two_turns_keep good =
+        turn_keeps false mid new (not_idle mid.maintenance.place between) applies.1 (turn_keeps false old mid busy refl good)
+
+    -- they leave fewer turns
+    pub two_turns_leave : IsConsistent keys old → turns_left new < turns_left old
+    two_turns_leave good =
+        let first = turn_leaves false old mid busy refl good in
+        let second = turn_leaves false mid new (not_idle mid.maintenance.place between) applies.1 (turn_keeps false old mid busy refl good) in
+        omega (arith, first, second)
+
+    -- the maintenance is still under way
+    pub two_turns_busy : new.maintenance.place ≡ place.Idle → ⊥
+    two_turns_busy = not_idle new.maintenance.place behind
 
   -- under way, unless its name says idle
   pub still_busy : (core : Core) → (name_of core.maintenance.place ≡ name.Idle → ⊥) → core.maintenance.place ≡ place.Idle → ⊥

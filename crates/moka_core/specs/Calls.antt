@@ -1,5 +1,5 @@
 -- Where a whole call of a core is between its steps. No public clause cites this module.
-use Rattle.std.specs.Prelude.{◌≡◌, ℕ, [], ◌∷◌}
+use Rattle.std.specs.Prelude.{◌≡◌, ℕ, [], ◌∷◌, Bool, true, false}
 use Rattle.moka_base.specs.Keys.{Keys}
 use Rattle.moka_engine.specs.declared.constants.TheConstants.{CALLER}
 use Rattle.moka_engine.specs.declared.operation.Operation.{Operation}
@@ -10,8 +10,15 @@ use Rattle.moka_engine.specs.Place.{Idle}
 use Rattle.moka_engine.specs.CoreState.{CoreState, with_pending}
 use Rattle.moka_engine.specs.Consistent.{IsConsistent}
 use Rattle.moka_engine.specs.Run.{Happens}
+use Rattle.moka_engine.specs.Turn.Turn.{after_turn}
 use Rattle.moka_engine.specs.CoreCall.{Decides, has_pending, log_length}
+use Rattle.moka_maintenance.specs.Taken.{TakesRead}
 use Rattle.moka_engine.specs.WholeCall.{Log, Maintains, MaintainsIfDue, PushesRead, PushesWrite}
+
+-- two turns, of which the first takes a read and the other applies it: no memory is asked for; where no read is to be taken, nothing is done
+abbrev pub AppliesNextRead : {K V S : Type 0} → CoreState K V S → Bool → CoreState K V S → Type 0
+AppliesNextRead old false new = (new ≡ old) × (TakesRead old.maintenance → old.read_log ≡ [])
+AppliesNextRead old true new = TakesRead old.maintenance × (new ≡ after_turn false (after_turn false old))
 
 -- the core, with this read of the caller pending
 abbrev pub having_read : {K V S : Type 0} → Read → CoreState K V S → CoreState K V S

@@ -5,6 +5,7 @@ ghost use Rattle.moka_core.specs.Core.{unlimited};
 ghost use Rattle.moka_engine.specs.Consistent.{IsConsistent};
 ghost use Rattle.moka_engine.specs.CoreCall.{Finishes, IsAtRest, IsCall};
 ghost use Rattle.moka_engine.specs.CoreState.{IsNew, new_core};
+ghost use Rattle.moka_engine.specs.declared.call.Call.TheVariants as call;
 ghost use Rattle.moka_engine.specs.Run.{RunsTo};
 
 mod steps;
@@ -15,6 +16,7 @@ use moka_base::error::{BuildError, OutOfMemory};
 use moka_base::hash::FixedState;
 use moka_base::policy::Policy;
 use moka_base::shared::Shared;
+use moka_base::time::Instant;
 use moka_base::weigh::UnitWeight;
 use moka_engine::call::Call;
 use moka_engine::event::{Event, Reply};
@@ -191,6 +193,17 @@ impl<
         ensures weigher { self.new.weigher ≡ self.old.weigher }
     {
         self.machine.call(call)
+    }
+
+    /// The whole call `Get`, as `call` makes it, by a key that need not be shared.
+    pub fn get(&mut self, key: &K, now: Instant) -> Reply<Shared<V, A>, Rows<K, V, A>>
+        requires rest { IsAtRest self.old.state }
+        ensures step { IsCall (keys_by K.Hash S.BuildHasher S.Hasher.Hasher) (W.weighs self.old.weigher)
+            self.old.state (call.Get key.now now) result self.new.state }
+        ensures rest { IsAtRest self.new.state }
+        ensures weigher { self.new.weigher ≡ self.old.weigher }
+    {
+        self.machine.call_get(key, now)
     }
 
     /// Takes turns until no maintenance is under way. Answers whether one was.

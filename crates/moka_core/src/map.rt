@@ -6,6 +6,8 @@ ghost use Rattle.moka_engine.specs.Entry.{entry_at};
 ghost use Rattle.moka_shard.specs.Shard.{entries_in, state_of, unexpired};
 ghost use Rattle.moka_engine.specs.Parts.{NeedsShard, entries_of, need_of};
 ghost use Rattle.moka_engine.specs.Turn.Turn.{turn_at};
+ghost use Rattle.moka_engine.specs.declared.operation.Read.TheVariants.{Hit};
+ghost use Rattle.moka_maintenance.specs.Taken.{TakesRead, having_taken};
 ghost use Rattle.moka_core.specs.MapTurn.{TurnsOnMap, TurnsOnShard};
 ghost use Rattle.std.specs.List.{All};
 ghost use Rattle.moka_core.specs.MapState.{IsInserted, IsInvalidated, IsNewMap, pairs_in};
@@ -204,6 +206,29 @@ impl<K: Eq + Hash + Drop, V: Drop, S: BuildHasher + Drop, A: Allocator + Clone +
         turn_with_shard(maintenance, shard, ticket, &self.settings, valid_after);
         let _ = shard.len();
     }
+
+    /// The turn that applies a hit, which the maintenance has just taken from its log.
+    pub(crate) fn turn_with_hit(
+        &mut self,
+        maintenance: &mut Maintenance<A>,
+        ticket: Ticket,
+        moment: Instant,
+        valid_after: Instant,
+    )
+        requires { TakesRead maintenance.old }
+        ensures { TurnsOnMap self.old self.new valid_after false (having_taken (Hit ticket moment) maintenance.old) maintenance.new }
+    {
+        let shard = &mut self.shards[(ticket.hash % SHARDS as u64) as usize];
+        apply_hit(
+            maintenance,
+            shard,
+            ticket,
+            moment,
+            &self.settings,
+            valid_after,
+        );
+        let _ = shard.len();
+    }
 }
 
 /// A turn of the maintenance that needs the entry of a ticket, with the shard in which that would stand.
@@ -225,6 +250,25 @@ fn turn_with_shard<
 {
     let slot = shard.find_ticket(ticket);
     let change = maintenance.turn_at_entry(settings, valid_after, shard.entry(slot));
+    shard.change(slot, change);
+}
+
+/// The turn that applies a hit, with the shard in which the ticket's entry would stand.
+fn apply_hit<K: Eq + Hash + Drop, V: Drop, S: BuildHasher + Drop, A: Allocator + Clone + Drop>(
+    maintenance: &mut Maintenance<A>,
+    shard: &mut Shard<K, V, S, A>,
+    ticket: Ticket,
+    moment: Instant,
+    settings: &Settings<S, A>,
+    valid_after: Instant,
+)
+    requires { TakesRead maintenance.old }
+    ensures { TurnsOnShard settings.now valid_after false ticket (having_taken (Hit ticket moment) maintenance.old) maintenance.new
+        (state_of shard.old) (state_of shard.new) }
+{
+    let slot = shard.find_ticket(ticket);
+    let found = shard.entry(slot);
+    let change = maintenance.turn_with_hit(settings, valid_after, ticket, moment, found);
     shard.change(slot, change);
 }
 

@@ -1,10 +1,11 @@
 -- What a turn of the maintenance does behind its lock, whatever it finds behind another.
-use Rattle.std.specs.Prelude.{◌≡◌, ℕ, Bool, List, Option}
+use Rattle.std.specs.Prelude.{◌≡◌, ◌⊎◌, ℕ, Bool, false, List, Option}
 use Rattle.moka_base.specs.Settings.{Settings}
 use Rattle.moka_engine.specs.declared.operation.Read.{Read}
 use Rattle.moka_engine.specs.declared.operation.Write.{Write}
 use Rattle.moka_engine.specs.CoreState.{Maintenance}
 use Rattle.moka_engine.specs.Entry.{Entry}
+use Rattle.moka_engine.specs.Place.{is_idle}
 use Rattle.moka_engine.specs.Turn.Plan.{Plan, Alone, AtReads, AtWrites, AtEntry}
 use Rattle.moka_engine.specs.Turn.Turn.{turn_at}
 
@@ -19,3 +20,9 @@ IsPlanned {K} {V} (AtEntry t looks) new = (found : Option (Entry K V)) × (new �
 abbrev pub IsTurn : (K V : Type 0) → {S : Type 0} → Settings S → Maintenance → Maintenance → Type 0
 IsTurn K V settings old new =
     (valid_after : ℕ) × (refused : Bool) × IsPlanned (turn_at {K = K} {V = V} settings valid_after refused old.place old) new
+
+-- one turn, or two of which the first doesn't end the maintenance
+abbrev pub AreTurns : (K V : Type 0) → {S : Type 0} → Settings S → Maintenance → Maintenance → Type 0
+AreTurns K V settings old new =
+    IsTurn K V settings old new
+    ⊎ ((between : Maintenance) × (is_idle between.place ≡ false) × IsTurn K V settings old between × IsTurn K V settings between new)

@@ -11,7 +11,8 @@ ghost use Rattle.moka_locks.specs.Rule.{PairsMeet};
 ghost use Rattle.moka_locks.specs.Snapshot.{IsSnapshot, own_pairs};
 ghost use Rattle.moka_engine.specs.CoreState.{Maintenance as MaintenanceState};
 ghost use Rattle.moka_engine.specs.Place.{Idle, ReadCount};
-ghost use Rattle.moka_locks.specs.MaintenanceTurn.{IsTurn};
+ghost use Rattle.moka_locks.specs.MaintenanceTurn.{AreTurns};
+ghost use Rattle.moka_maintenance.specs.Taken.{TakesRead};
 
 use crate::housekeeper::Housekeeper;
 use crate::logs::Logs;
@@ -307,11 +308,15 @@ impl<
         Running::begin(rt, &self.maintenance, now)
     }
 
-    /// One turn of the maintenance, with the lock of what it needs.
+    /// One turn of the maintenance, with the lock of what it needs; or two, where a read leaves its log and is applied at once.
     pub(crate) fn turn<R: Wait>(&self, rt: &R, maintenance: &mut Maintenance<A>)
-        ensures { IsTurn K V self.now.settings maintenance.old maintenance.new }
+        ensures { AreTurns K V self.now.settings maintenance.old maintenance.new }
     {
         let valid_after = self.valid_after();
+        if maintenance.takes_read() {
+            self.apply_next_read(rt, maintenance, valid_after);
+            return;
+        }
         match maintenance.need::<K, V, S>(&self.settings, valid_after) {
             Need::Nothing => maintenance.turn_alone::<K, V, S>(&self.settings, valid_after),
             Need::Reads => {
@@ -329,6 +334,40 @@ impl<
                 shard.turn(maintenance, ticket, &self.settings, valid_after);
             }
         }
+    }
+
+    /// The turn that takes a read, and the one that applies it, if there is one.
+    fn apply_next_read<R: Wait>(
+        &self,
+        rt: &R,
+        maintenance: &mut Maintenance<A>,
+        valid_after: Instant,
+    )
+        requires { TakesRead maintenance.old }
+        ensures { AreTurns K V self.now.settings maintenance.old maintenance.new }
+    {
+        let Some(read) = self.next_read(rt, maintenance) else {
+            return;
+        };
+        match read {
+            Read::Hit { ticket, moment } => {
+                let mut shard = lock(rt, self.shard(ticket.hash));
+                shard.turn_with_hit(maintenance, ticket, moment, &self.settings, valid_after);
+            }
+            Read::Miss { hash } => maintenance.turn_with_miss::<K, V, S>(
+                &self.settings,
+                valid_after,
+                hash,
+            ),
+        }
+    }
+
+    /// The read that the maintenance is to take next leaves its log.
+    fn next_read<R: Wait>(&self, rt: &R, maintenance: &Maintenance<A>) -> Option<Read> {
+        let mut log = self.logs.lock_reads(rt);
+        let read = maintenance.take_read(&mut log);
+        self.logs.tell_reads(log.len());
+        read
     }
 
     /// Publishes what a maintenance that has ended has left.

@@ -2,7 +2,7 @@
 ghost use Rattle.std.specs.Prelude.{◌≡◌};
 ghost use Rattle.moka_engine.specs.CoreState.{Maintenance as MaintenanceState};
 ghost use Rattle.moka_engine.specs.Place.{Idle, ReadCount, name_of};
-ghost use Rattle.moka_locks.specs.MaintenanceTurn.{IsTurn};
+ghost use Rattle.moka_locks.specs.MaintenanceTurn.{AreTurns};
 
 use crate::inner::Inner;
 use crate::resting::Resting;
@@ -64,7 +64,7 @@ impl<'a, A: Allocator + Clone + Drop> Running<'a, A> {
         &self.maintenance
     }
 
-    /// One turn, with the lock of what it needs. The answer is where the maintenance is then.
+    /// One turn, with the lock of what it needs, or two. The answer is where the maintenance is then.
     pub(crate) fn turn<
         R: Wait,
         K: Eq + Hash + Drop,
@@ -73,7 +73,7 @@ impl<'a, A: Allocator + Clone + Drop> Running<'a, A> {
         P: PairRule<K, V>,
         W: Drop,
     >(&mut self, rt: &R, inner: &Inner<K, V, S, P, W, A>) -> Place
-        ensures turn { IsTurn K V inner.now.settings self.old self.new }
+        ensures turns { AreTurns K V inner.now.settings self.old self.new }
         ensures place { result ≡ name_of self.new.place }
     {
         inner.turn(rt, &mut self.maintenance);

@@ -4,4 +4,5 @@ pub mod NextLemmas
 pub mod WalkLemmas
 pub mod ScanLemmas
 pub mod PlanLemmas
+pub mod TakenLemmas
 pub mod NewLemmas

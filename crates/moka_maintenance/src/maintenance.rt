@@ -6,8 +6,10 @@ ghost use Rattle.moka_engine.specs.Orders.{charged_weight};
 ghost use Rattle.moka_engine.specs.Parts.{NeedsNothing, NeedsReads, NeedsShard, NeedsWrites, TurnsAlone, TurnsAtEntry, TurnsWithReads, TurnsWithWrites, need_of};
 ghost use Rattle.moka_engine.specs.Place.{Idle, ReadCount, name_of};
 ghost use Rattle.moka_engine.specs.Turn.Turn.{turn_at};
+ghost use Rattle.moka_engine.specs.declared.operation.Read.TheVariants.{Hit, Miss};
 ghost use Rattle.moka_maintenance.specs.Need.{need_at_front, need_named, need_to_read, need_to_write};
 ghost use Rattle.moka_maintenance.specs.Published.{published_of};
+ghost use Rattle.moka_maintenance.specs.Taken.{IsTaken, TakesRead, having_taken};
 
 mod admission;
 mod eviction;
@@ -172,6 +174,66 @@ impl<A: Allocator + Clone + Drop> Maintenance<A> {
             Stage::Reads { work } => self.state.take_read(work, log),
             Stage::MoreReads { round } => self.state.look_for_reads(round, log.len()),
             _ => {}
+        }
+    }
+
+    /// Whether the next turn is to take a read.
+    pub fn takes_read(&self) -> bool
+        ensures { IsTrue result ↔ TakesRead self.now }
+    {
+        matches!(self.state.stage, Stage::Reads { .. })
+    }
+
+    /// The first read of the log, where the next turn is to take one. The turn after that is to follow at once: `turn_with_hit`, or `turn_with_miss`.
+    pub fn take_read(&self, log: &mut ReadLog<A>) -> Option<Read>
+        ensures { IsTaken self.now result log.old log.new }
+    {
+        let Stage::Reads { .. } = self.state.stage else {
+            return None;
+        };
+        log.pop()
+    }
+
+    /// The turn that applies a hit, which `take_read` has taken, at the entry of its ticket, which is given where it stands. What becomes of the
+    /// entry is for its owner to do.
+    pub fn turn_with_hit<K: Drop, V: Drop, S: Drop>(
+        &mut self,
+        settings: &Settings<S, A>,
+        valid_after: Instant,
+        ticket: Ticket,
+        moment: Instant,
+        found: Option<&Entry<K, V, A>>,
+    ) -> EntryChange
+        requires { TakesRead self.old }
+        ensures { TurnsAtEntry K V settings.now valid_after false (having_taken (Hit ticket moment) self.old) self.new
+            (option_copied found.entry) result }
+    {
+        let _ = settings;
+        let _ = valid_after;
+        match self.state.stage {
+            Stage::Reads { work } => {
+                self.state
+                    .apply_hit(work.less_one(), ticket, place_of(found));
+                EntryChange::Touched(moment)
+            }
+            _ => EntryChange::Stays,
+        }
+    }
+
+    /// The turn that applies a miss, which `take_read` has taken.
+    pub fn turn_with_miss<K: Drop, V: Drop, S: Drop>(
+        &mut self,
+        settings: &Settings<S, A>,
+        valid_after: Instant,
+        hash: u64,
+    )
+        requires { TakesRead self.old }
+        ensures { TurnsAlone K V settings.now valid_after false (having_taken (Miss hash) self.old) self.new }
+    {
+        let _ = settings;
+        let _ = valid_after;
+        if let Stage::Reads { work } = self.state.stage {
+            self.state.apply_miss(work.less_one(), hash);
         }
     }
 

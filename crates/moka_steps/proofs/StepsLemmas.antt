@@ -1,10 +1,27 @@
 -- What a caller has under way, step by step.
-use Rattle.std.proofs.Common.{◌≡◌, true, refl}
+use Rattle.std.proofs.Common.{◌≡◌, ℕ, Bool, true, refl}
 use Rattle.moka_engine.specs.declared.place.Place.{Place as PlaceName}
 use Rattle.moka_engine.specs.declared.place.Place.TheVariants as name
-use Rattle.moka_steps.specs.Steps.{goes_on}
+use Rattle.moka_engine.specs.declared.event.Event.{Event}
+use Rattle.moka_engine.specs.Reply.{Reply}
+use Rattle.moka_engine.specs.WholeCall.{Log, Turns, LastTurn, NextTurn}
+use Rattle.moka_steps.specs.Steps.{OneTurn, TakesTurns, TwoTurns, goes_on}
 
 -- a maintenance goes on wherever it isn't idle
 pub goes_on_elsewhere : (place : PlaceName) → (place ≡ name.Idle → ⊥) → goes_on place ≡ true
 goes_on_elsewhere name.Idle other = absurd (other refl)
 goes_on_elsewhere place other = refl
+
+module _ {W K V : Type 0} (allowed : W → Event K V → Reply K V → W → Type 0) (decides : W → Log → ℕ → Bool → W → Type 0)
+    (is_pending : W → Bool) (caller : ℕ) where
+  -- turns that end a maintenance
+  pub turns_end : (old new : W) → TakesTurns allowed name.Idle old new → Turns allowed decides is_pending caller old new
+  turns_end old new (OneTurn _ _ _ turn) = LastTurn old new turn
+  turns_end old new (TwoTurns _ between _ next _ more first second) = NextTurn old next new between more first (LastTurn next new second)
+
+  -- turns that others follow
+  pub turns_follow : (place : PlaceName) → (place ≡ name.Idle → ⊥) → (old new end : W) → TakesTurns allowed place old new
+      → Turns allowed decides is_pending caller new end → Turns allowed decides is_pending caller old end
+  turns_follow place on old new end (OneTurn _ _ _ turn) later = NextTurn old new end place on turn later
+  turns_follow place on old new end (TwoTurns _ between _ next _ more first second) later =
+      NextTurn old next end between more first (NextTurn next new end place on second later)

@@ -1,11 +1,12 @@
 -- What a caller has under way between its atomic steps, and what these steps and its whole calls answer.
-use Rattle.std.specs.Prelude.{◌⊎◌, ℕ, Bool, true, false, Option, None, Some, Result, Ok, Err}
+use Rattle.std.specs.Prelude.{◌⊎◌, ◌≢◌, ℕ, Bool, true, false, Option, None, Some, Result, Ok, Err}
 use Rattle.moka_base.specs.declared.error.InsertError.{InsertError}
 use Rattle.moka_base.specs.declared.error.InsertError.TheVariants as refused
 use Rattle.moka_base.specs.declared.error.OutOfMemory.{OutOfMemory as MemoryError}
 use Rattle.moka_engine.specs.declared.constants.TheConstants.{CALLER}
 use Rattle.moka_engine.specs.declared.event.Event.{Event}
-use Rattle.moka_engine.specs.declared.event.Reply.TheVariants.{Done, Found, Discarded, NotPossible, OutOfMemory, TicketsUsedUp}
+use Rattle.moka_engine.specs.declared.event.Event.TheVariants.{Turn}
+use Rattle.moka_engine.specs.declared.event.Reply.TheVariants.{At, Done, Found, Discarded, NotPossible, OutOfMemory, TicketsUsedUp}
 use Rattle.moka_engine.specs.declared.place.Place.{Place as PlaceName}
 use Rattle.moka_engine.specs.declared.place.Place.TheVariants as name
 use Rattle.moka_engine.specs.Reply.{Reply}
@@ -101,6 +102,13 @@ module _ {K V : Type 0} where
   abbrev pub write_reply : WritePush → Reply K V
   write_reply write.Pushed = Done
   write_reply write.Full = NotPossible
+
+module _ {W K V : Type 0} (allowed : W → Event K V → Reply K V → W → Type 0) where
+  -- one turn of a maintenance, which is at this place then; or two, of which the first doesn't end it
+  pub data TakesTurns : PlaceName → W → W → Type 0 where
+    OneTurn : (place : PlaceName) (old new : W) → allowed old Turn (At place) new → TakesTurns place old new
+    TwoTurns : (place between : PlaceName) (old next new : W) → between ≢ name.Idle → allowed old Turn (At between) next
+        → allowed next Turn (At place) new → TakesTurns place old new
 
 module _ {W K V : Type 0} (allowed : W → Event K V → Reply K V → W → Type 0) (decides : W → Log → ℕ → Bool → W → Type 0)
     (caller : W → Caller) (is_clone : V → V → Type 0) (is_infallible : V → Type 0) where

@@ -3,7 +3,7 @@ ghost use Rattle.std.specs.Prelude.{◌≡◌, ℕ, Bool, true, false};
 ghost use Rattle.moka_engine.specs.declared.event.Event.{Event as StepEvent};
 ghost use Rattle.moka_engine.specs.Reply.{Reply as StepReply};
 ghost use Rattle.moka_engine.specs.WholeCall.{Log, CallsContains, CallsInsert, CallsInvalidate, CallsInvalidateAll, CallsSync, Maintains, MaintainsIfDue, PushesRead, PushesWrite, Turns};
-ghost use Rattle.moka_steps.specs.Steps.{ARead, AWrite, AnswersGet, Caller, at_rest, get_reply, goes_on, insert_reply, left_by_get, left_by_insert, left_by_invalidate, left_by_push, log_of, maintaining, pends, pends_by, read_reply, write_reply};
+ghost use Rattle.moka_steps.specs.Steps.{ARead, AWrite, AnswersGet, Caller, TakesTurns, at_rest, get_reply, goes_on, insert_reply, left_by_get, left_by_insert, left_by_invalidate, left_by_push, log_of, maintaining, pends, pends_by, read_reply, write_reply};
 
 mod engine;
 
@@ -139,10 +139,10 @@ pub trait Steps<K: Drop, V: Drop, A: Allocator + Drop> {
         ensures step { allowed self.old (Event.Begin now) Reply.Done self.new }
         ensures caller { caller self.new ≡ maintaining true (caller self.old) };
 
-    /// Goes on with the caller's maintenance by one turn, and says where it is then. At `Idle` it has ended.
+    /// Goes on with the caller's maintenance by one turn or by two, and says where it is then. At `Idle` it has ended.
     fn turn<R: Wait>(&mut self, rt: &R) -> Place
         requires { (caller self.old).is_maintaining ≡ true }
-        ensures step { allowed self.old Event.Turn (Reply.At result) self.new }
+        ensures turns { TakesTurns allowed result self.old self.new }
         ensures caller { caller self.new ≡ maintaining (goes_on result) (caller self.old) };
 }
 

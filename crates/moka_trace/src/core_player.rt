@@ -136,7 +136,7 @@ fn play<S: BuildHasher + Drop, W: WeighShared<u64, u64>>(
     })
 }
 
-/// Makes one operation. Its key is moved into memory of its own, which a look-up and the insert after it share.
+/// Makes one operation.
 fn play_one<S: BuildHasher + Drop, W: WeighShared<u64, u64>>(
     core: &mut Core<u64, u64, S, W>,
     alloc: Global,
@@ -150,7 +150,7 @@ fn play_one<S: BuildHasher + Drop, W: WeighShared<u64, u64>>(
     ensures rest { IsAtRest core.new.state }
     ensures hits { found.new.hits ≤ found.old.hits + 1 }
 {
-    let key = Shared::new(alloc, operation.key)?;
+    let key = operation.key;
     let value = u64::from(operation.value);
     match operation.kind {
         GET => {
@@ -158,12 +158,12 @@ fn play_one<S: BuildHasher + Drop, W: WeighShared<u64, u64>>(
         }
         INSERT => insert(core, alloc, key, value, now)?,
         READ_THROUGH => {
-            if !look(core, key.try_clone()?, now, found)? {
+            if !look(core, key, now, found)? {
                 insert(core, alloc, key, value, now)?;
             }
         }
         GET_AND_INSERT => {
-            look(core, key.try_clone()?, now, found)?;
+            look(core, key, now, found)?;
             insert(core, alloc, key, value, now)?;
         }
         _ => return Err(PlayError::UnknownKind),
@@ -174,7 +174,7 @@ fn play_one<S: BuildHasher + Drop, W: WeighShared<u64, u64>>(
 /// Looks a key up, and says whether it was found.
 fn look<S: BuildHasher + Drop, W: WeighShared<u64, u64>>(
     core: &mut Core<u64, u64, S, W>,
-    key: Shared<u64>,
+    key: u64,
     now: Instant,
     found: &mut Found,
 ) -> Result<bool, PlayError>
@@ -184,7 +184,7 @@ fn look<S: BuildHasher + Drop, W: WeighShared<u64, u64>>(
     ensures rest { IsAtRest core.new.state }
     ensures hits { found.new.hits ≤ found.old.hits + 1 }
 {
-    match core.call(Call::Get { key, now }) {
+    match core.get(&key, now) {
         Reply::Found(Some(value)) => {
             found.add(*value.get());
             Ok(true)
@@ -194,11 +194,11 @@ fn look<S: BuildHasher + Drop, W: WeighShared<u64, u64>>(
     }
 }
 
-/// Inserts a pair. Ticket numbers last longer than any trace, so it is memory that an insert is refused.
+/// Inserts a pair, whose key and value are moved into memory of their own. Ticket numbers last longer than any trace, so it is memory that an insert is refused.
 fn insert<S: BuildHasher + Drop, W: WeighShared<u64, u64>>(
     core: &mut Core<u64, u64, S, W>,
     alloc: Global,
-    key: Shared<u64>,
+    key: u64,
     value: u64,
     now: Instant,
 ) -> Result<(), PlayError>
@@ -207,6 +207,7 @@ fn insert<S: BuildHasher + Drop, W: WeighShared<u64, u64>>(
     ensures ready { W.ready core.new.weigher }
     ensures rest { IsAtRest core.new.state }
 {
+    let key = Shared::new(alloc, key)?;
     let value = Shared::new(alloc, value)?;
     match core.call(Call::Insert { key, value, now }) {
         Reply::Done => Ok(()),

@@ -1,7 +1,8 @@
 //! Whole calls of one caller, each a chain of steps.
 ghost use Rattle.std.specs.Prelude.{◌≡◌, ◌≢◌, true};
 ghost use Rattle.moka_base.specs.Keys.{keys_by};
-ghost use Rattle.moka_core.specs.Calls.{CoreMaintains, CorePushesRead, CorePushesWrite, MaintainsAsDue, Pends, PendsRead, PendsWrite, having_read};
+ghost use Rattle.moka_core.specs.Calls.{AppliesNextRead, CoreMaintains, CorePushesRead, CorePushesWrite, MaintainsAsDue, Pends, PendsRead, PendsWrite, having_read};
+ghost use Rattle.moka_core.specs.Machine.{KeepsRoom};
 ghost use Rattle.moka_engine.specs.Consistent.{IsConsistent};
 ghost use Rattle.moka_engine.specs.CoreCall.{CoreTurns, Finishes, IsAtRest, IsCall, scheduled};
 ghost use Rattle.moka_engine.specs.Place.{Idle};
@@ -75,7 +76,8 @@ impl<
         reply
     }
 
-    fn call_get(&mut self, key: &K, now: Instant) -> Reply<Shared<V, A>, Rows<K, V, A>>
+    /// The whole call `Get`.
+    pub(crate) fn call_get(&mut self, key: &K, now: Instant) -> Reply<Shared<V, A>, Rows<K, V, A>>
         requires good { IsConsistent (keys_by K.Hash S.BuildHasher S.Hasher.Hasher) self.old.state }
         requires rest { IsAtRest self.old.state }
         ensures step { IsCall (keys_by K.Hash S.BuildHasher S.Hasher.Hasher) (W.weighs self.old.weigher)
@@ -213,10 +215,33 @@ impl<
         ensures weigher { self.new.weigher ≡ self.old.weigher }
     {
         loop {
+            if self.apply_next_read() {
+                continue;
+            }
             self.take_turn();
             if let Place::Idle = self.maintenance.place() {
                 return;
             }
         }
+    }
+
+    /// Two turns, where the first one is to take a read and there is one: it is taken, and applied. Answers whether that was so.
+    fn apply_next_read(&mut self) -> bool
+        ensures turns { AppliesNextRead self.old.state result self.new.state }
+        ensures kept { KeepsRoom self.old self.new }
+    {
+        let Some(read) = self.maintenance.take_read(&mut self.read_log) else {
+            return false;
+        };
+        match read {
+            Read::Hit { ticket, moment } => {
+                self.map
+                    .turn_with_hit(&mut self.maintenance, ticket, moment, self.valid_after)
+            }
+            Read::Miss { hash } => self
+                .maintenance
+                .turn_with_miss::<K, V, S>(self.map.settings(), self.valid_after, hash),
+        }
+        true
     }
 }

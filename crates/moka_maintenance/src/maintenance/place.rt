@@ -1,5 +1,5 @@
 // Where a maintenance is, and what it has at hand there.
-ghost use Rattle.std.specs.Prelude.{◌≡◌, ℕ, List};
+ghost use Rattle.std.specs.Prelude.{◌≡◌, ◌-◌, ℕ, List};
 ghost use Rattle.moka_engine.specs.Place.{name_of};
 ghost use Rattle.moka_orders.specs.declared.orders.Node.{Node};
 ghost use Rattle.moka_maintenance.specs.Held.{place_of};
@@ -14,6 +14,19 @@ use moka_engine::ticket::Ticket;
 pub(crate) struct Work {
     pub(crate) round: usize,
     pub(crate) left: usize,
+}
+
+impl Work {
+    /// What is left once an operation is taken.
+    pub(crate) fn less_one(self) -> Work
+        ensures round { result.round ≡ self.round }
+        ensures left { result.left ≡ self.left - 1 }
+    {
+        Work {
+            round: self.round,
+            left: self.left.saturating_sub(1),
+        }
+    }
 }
 
 /// An entry that asks to enter, with its weight and its estimate as they were applied.

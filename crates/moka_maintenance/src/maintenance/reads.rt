@@ -60,12 +60,8 @@ impl<A: Allocator + Clone + Drop> State<A> {
         ensures holds { IsAtHand self.new.orders self.new.stage }
     {
         if let Some(read) = log.pop() {
-            let left = work.left.saturating_sub(1);
             self.stage = Stage::ReadApply {
-                work: Work {
-                    round: work.round,
-                    left,
-                },
+                work: work.less_one(),
                 read,
             };
         }

@@ -7,8 +7,8 @@ use Rattle.moka_engine.specs.TurnsLeft.{turns_left}
 use Rattle.moka_core.proofs.machine.Machine.finish.Given as goal
 
 -- a maintenance is under way, and the turns that it takes from here on follow those that it has taken
-abbrev pub invariant-loop : goal.invariant-loop
-invariant-loop g l = record {
+abbrev pub invariant-loop-self : goal.invariant-loop-self
+invariant-loop-self g l = record {
   weigher : l.self.weigher ≡ l.fn.self.weigher;
   good : IsConsistent (keys_by (record { eq = g.K.PartialEq.eq; hash_input = g.K.Hash.hash_input }) g.S.BuildHasher g.S.Hasher.Hasher) l.self.state;
   busy : l.self.state.maintenance.place ≡ Idle → ⊥;
@@ -19,5 +19,5 @@ invariant-loop g l = record {
       (g.W.WeighShared.weighs l.fn.self.weigher) l.fn.self.state end;
 }
 
-abbrev pub decreases-loop : goal.decreases-loop
-decreases-loop g l = turns_left l.self.state
+abbrev pub decreases-loop-self : goal.decreases-loop-self
+decreases-loop-self g l = turns_left l.self.state

@@ -1,8 +1,8 @@
-use Rattle.std.proofs.Common.{◌≡◌, Some, true, ap}
-use Rattle.moka_locks.specs.Locked.{Locked, locked_caller}
+use Rattle.std.proofs.Common.{◌≡◌, ◌∙◌, Some, None, true, ap}
+use Rattle.moka_locks.specs.Locked.{Locked, locked_caller, running}
 use Rattle.moka_steps.specs.Steps.{maintaining}
 use Rattle.moka_steps.proofs.StepsLemmas.{goes_on_elsewhere}
-use Rattle.moka_locks.proofs.TurnLemmas.{kept_elsewhere}
+use Rattle.moka_locks.proofs.TurnLemmas.{given_back, kept_elsewhere, turns_allowed}
 use Rattle.moka_locks.proofs.locked.LockedSteps.turn.Goals.{In_default-place}
 use Rattle.moka_locks.proofs.locked.LockedSteps.turn.Given.{Over}
 use Rattle.moka_locks.proofs.locked.LockedSteps.turn.Goals as goal
@@ -13,15 +13,21 @@ had g c = rw (← c.self.view_is) c.in-Some.is
 
 pub returns-in_default-place : goal.returns-in_default-place
 returns-in_default-place g c = record {
-  step = (
-    c.in-Some.running,
-    c.turn-place.new.self,
-    had g c,
-    rw (← c.self.view_is) c.turn-place.ensures.turn,
-    c.turn-place.ensures.place,
-    rw (kept_elsewhere c.turn-place.new.self c.turn-place.result c.turn-place.ensures.place c.in_default-place.not-Idle)
-        (ap (λ (l : Locked g.row.S.Denot g.row.W.Denot). record l { maintenance = Some c.turn-place.new.self }) c.self.view_is),
-  );
+  turns =
+      turns_allowed g.P.PairRule.holds c.args.self.now c.in-Some.running c.turn-place.new.self (had g c) c.turn-place.result
+      c.turn-place.ensures.place _
+      (rw (kept_elsewhere c.turn-place.new.self c.turn-place.result c.turn-place.ensures.place c.in_default-place.not-Idle)
+      (ap (λ (l : Locked g.row.S.Denot g.row.W.Denot). record l { maintenance = Some c.turn-place.new.self }) c.self.view_is))
+      (rw (← c.self.view_is) c.turn-place.ensures.turns);
   caller = rw (goes_on_elsewhere c.turn-place.result c.in_default-place.not-Idle)
       (ap (λ (l : Locked g.row.S.Denot g.row.W.Denot). maintaining true (locked_caller l)) c.self.view_is);
 }
+
+pub returns-in-Idle-clause-turns : goal.returns-in-Idle-clause-turns
+returns-in-Idle-clause-turns g c =
+    let next = c.turn-place.new.self in
+    let place = c.turn-place.ensures.place in
+    turns_allowed g.P.PairRule.holds c.args.self.now c.in-Some.running next (rw (← c.self.view_is) c.in-Some.is) c.turn-place.result place _
+    (rw (given_back next c.turn-place.result place c.in-Idle.is)
+    (c.end.ensures ∙ ap (λ (l : Locked g.row.S.Denot g.row.W.Denot). running None l) c.self.view_is))
+    (rw (← c.self.view_is) c.turn-place.ensures.turns)

@@ -1,8 +1,10 @@
-use Rattle.std.proofs.Common.{◌∙◌, ap, sym}
+use Rattle.std.proofs.Common.{◌∙◌, ap, subst, sym}
 use Rattle.moka_base.specs.Keys.{Keys, keys_by}
+use Rattle.moka_engine.specs.declared.event.Event.TheVariants.{Turn}
 use Rattle.moka_engine.specs.Place.{name_of}
-use Rattle.moka_steps.specs.CoreCaller.{core_caller}
-use Rattle.moka_steps.specs.Steps.{goes_on, maintaining}
+use Rattle.moka_engine.specs.Run.{Happens}
+use Rattle.moka_steps.specs.CoreCaller.{core_allows, core_caller}
+use Rattle.moka_steps.specs.Steps.{OneTurn, TakesTurns, goes_on, maintaining}
 use Rattle.moka_steps.proofs.CoreCallerLemmas.{turned, turned_to}
 use Rattle.moka_steps.proofs.steps.engine.CoreSteps.turn.Given.{Over}
 use Rattle.moka_steps.proofs.steps.engine.CoreSteps.turn.Goals as goal
@@ -24,4 +26,20 @@ returns-clause-caller g c =
       | in_default w ↦
           absurd (w.in_default.not-At (name_of new.maintenance.place)
           (turned (keys g) weighs old.state new c.requires c.step_turn.result c.step_turn.ensures.step).0)
+    ]
+
+pub returns-clause-turns : goal.returns-clause-turns
+returns-clause-turns g c =
+    let old = c.args.self.now in
+    let weighs = g.W.WeighShared.weighs old.weigher in
+    let new = c.step_turn.new.self in
+    elim c.match-step_turn.branch [
+      | in-At w ↦
+          subst (λ p. TakesTurns (core_allows (keys g) g.W.WeighShared.weighs) p old new) (sym w.result-is) (
+          OneTurn w.in-At.place old new
+          (subst (λ r. Happens (keys g) weighs old.state Turn r new.state) w.in-At.is c.step_turn.ensures.step, c.step_turn.ensures.weigher)
+          )
+      | in_default w ↦
+          absurd (w.in_default.not-At (name_of new.state.maintenance.place)
+          (turned (keys g) weighs old.state new.state c.requires c.step_turn.result c.step_turn.ensures.step).0)
     ]
