@@ -30,7 +30,10 @@ use Rattle.moka_engine.specs.Run.{Happens, RunsTo}
 use Rattle.moka_engine.specs.WholeCall.{AfterGet, AfterInsert, LastTurn, NextTurn, OfReads, OfWrites, MaintainsIfDue, Pushed, PushesIf}
 use Rattle.moka_engine_laws.proofs.CallLemmas as law
 use Rattle.moka_engine_laws.proofs.ReturnLemmas.{room_left}
-use Rattle.moka_core.specs.Calls.{CoreMaintains, CorePushesRead, CorePushesWrite, MaintainsAsDue, PendsOne, PendsRead, PendsWrite, having_read}
+use Rattle.moka_base.specs.declared.error.InsertError.{InsertError}
+use Rattle.moka_base.specs.declared.error.InsertError.TheVariants as insert_error
+use Rattle.moka_core.specs.Machine.{refusal_reply}
+use Rattle.moka_core.specs.Calls.{CoreMaintains, CorePushesRead, CorePushesWrite, MaintainsAsDue, PendsOne, PendsRead, PendsWrite, having}
 
 module _ {K V S : Type 0} (keys : Keys K S) (laws : IsEquivalence keys.eq) (weighs : K → V → ℕ → Type 0) where
   abbrev Core : Type 0
@@ -145,28 +148,64 @@ module _ {K V S : Type 0} (keys : Keys K S) (laws : IsEquivalence keys.eq) (weig
   -- it is as if it had been pending, where none was
   pub logs_read : (now : ℕ) (old : Core) (read : Read) (log : List Read) → old.pending ≡ []
       → is_due (length old.read_log) FLUSH_POINT old.sync_after now ≡ false → log ≡ old.read_log ++ read ∷ []
-      → CorePushesRead keys weighs now (having_read read old) (record old { read_log = log })
+      → CorePushesRead keys weighs now (having (Reading read) old) (record old { read_log = log })
   logs_read now old read log none rests is = record {
-    next = having;
-    maintains = record { runs = false; decided = having; decision = (sym rests, refl); maintains = refl };
+    next = waiting;
+    maintains = record { runs = false; decided = waiting; decision = (sym rests, refl); maintains = refl };
     pushes = inl (record { weight = 0; refused = false; weighed = tt; step = pushed });
   }
     where
-      having : Core
-      having = having_read read old
+      waiting : Core
+      waiting = having (Reading read) old
 
-      pending : having.pending ≡ (CALLER, Reading read) ∷ []
+      pending : waiting.pending ≡ (CALLER, Reading read) ∷ []
       pending = ap (λ ps. ps ++ (CALLER, Reading read) ∷ []) none
 
-      pushed : IsPush keys having CALLER (pending_of CALLER having) Done (record old { read_log = log })
+      pushed : IsPush keys waiting CALLER (pending_of CALLER waiting) Done (record old { read_log = log })
       pushed =
           rw (
-            law.pending_is keys laws weighs (Reading read) having pending,
+            law.pending_is keys laws weighs (Reading read) waiting pending,
             lt-ltb (length old.read_log) READ_LOG_SIZE (room_where_not_due (length old.read_log) old.sync_after now rests),
           ) (
             refl,
             λ i. record old { read_log = is i; pending = (none ∙ sym (ap (remove_entry (nat_eq CALLER)) pending)) i },
           )
+
+  -- a write that goes to its log at once is as if it had been pending
+  pub logs_write : (now : ℕ) (old : Core) (write : Write) (log : List Write) → old.pending ≡ []
+      → is_due (length old.write_log) FLUSH_POINT old.sync_after now ≡ false → log ≡ old.write_log ++ write ∷ []
+      → CorePushesWrite keys weighs now (having (Writing write) old) (record old { write_log = log })
+  logs_write now old write log none rests is =
+      Pushed waiting waiting (record old { write_log = log })
+      (record { runs = false; decided = waiting; decision = (sym rests, refl); maintains = refl })
+      (record { weight = 0; refused = false; weighed = tt; step = pushed })
+    where
+      waiting : Core
+      waiting = having (Writing write) old
+
+      pending : waiting.pending ≡ (CALLER, Writing write) ∷ []
+      pending = ap (λ ps. ps ++ (CALLER, Writing write) ∷ []) none
+
+      pushed : IsPush keys waiting CALLER (pending_of CALLER waiting) Done (record old { write_log = log })
+      pushed =
+          rw (
+            law.pending_is keys laws weighs (Writing write) waiting pending,
+            lt-ltb (length old.write_log) WRITE_LOG_SIZE (room_where_not_due (length old.write_log) old.sync_after now rests),
+          ) (
+            refl,
+            λ i. record old { write_log = is i; pending = (none ∙ sym (ap (remove_entry (nat_eq CALLER)) pending)) i },
+          )
+
+  -- what is left pending where nothing was
+  pub left_is_pending : (old new : Core) (operation : Operation) → old.pending ≡ [] → new.pending ≡ old.pending
+      → pending_of CALLER (having operation new) ≡ Some operation
+  left_is_pending old new operation none same =
+      law.pending_is keys laws weighs operation (having operation new) (ap (λ ps. ps ++ (CALLER, operation) ∷ []) (same ∙ none))
+
+  -- a refusal is no acceptance
+  pub refusal_not_done : (error : InsertError) → refusal_reply {K = K} {V = V} error ≡ Done → ⊥
+  refusal_not_done insert_error.OutOfMemory is = cc
+  refusal_not_done insert_error.TicketsUsedUp is = cc
 
   -- ---- the first step
 

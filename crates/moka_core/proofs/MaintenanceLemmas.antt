@@ -1,5 +1,5 @@
 -- A maintenance of a core, turn by turn.
-use Rattle.std.proofs.Common.{◌≡◌, ℕ, ◌<◌, ◌==◌, Bool, true, false, if◌then◌else◌, List, [], ◌∷◌, refl, sym, ◌∙◌, ap, subst, arith}
+use Rattle.std.proofs.Common.{◌≡◌, ℕ, ◌<◌, ◌==◌, Bool, true, false, if◌then◌else◌, List, [], ◌∷◌, inl, inr, refl, sym, ◌∙◌, ap, subst, arith}
 use Rattle.std.specs.Cmp.{IsEquivalence}
 use Rattle.std.proofs.lemmas.Bool.{false≢true}
 use Rattle.moka_base.specs.Keys.{Keys}
@@ -7,6 +7,9 @@ use Rattle.moka_engine.specs.declared.event.Event.TheVariants.{Begin, Turn}
 use Rattle.moka_engine.specs.declared.event.Reply.TheVariants.{At, Done}
 use Rattle.moka_engine.specs.declared.operation.Read.{Read}
 use Rattle.moka_engine.specs.declared.operation.Read.TheVariants.{Hit, Miss}
+use Rattle.moka_engine.specs.declared.operation.Write.{Write}
+use Rattle.moka_engine.specs.declared.operation.Write.TheVariants.{Remove, Upsert}
+use Rattle.moka_engine.specs.Entry.{entry_of}
 use Rattle.moka_engine.specs.declared.place.Place.{Place as PlaceName}
 use Rattle.moka_engine.specs.declared.place.Place.TheVariants as name
 use Rattle.moka_engine.specs.Place as place
@@ -18,14 +21,15 @@ use Rattle.moka_engine.specs.Event.{IsBeginning, IsTurn}
 use Rattle.moka_engine.specs.Reply.{Reply}
 use Rattle.moka_engine.specs.Run.{Happens}
 use Rattle.moka_engine.specs.Turn.Plan.{after_plan, reads_or_on}
-use Rattle.moka_engine.specs.Turn.Turn.{after_read_taken, after_turn, turn_at}
+use Rattle.moka_engine.specs.Turn.Turn.{after_read_taken, after_turn, after_write_taken, turn_at}
 use Rattle.moka_engine.specs.TurnsLeft.{turns_left}
 use Rattle.moka_engine.specs.WholeCall.{LastTurn, NextTurn}
 use Rattle.moka_engine_laws.proofs.CallLemmas.{consistent_step}
 use Rattle.moka_engine_laws.proofs.EndLemmas.{turn_falls}
 use Rattle.moka_engine_laws.proofs.EventLemmas.{idle_is}
-use Rattle.moka_core.specs.Calls.{AppliesNextRead}
-use Rattle.moka_maintenance.specs.Taken.{TakesRead}
+use Rattle.moka_core.specs.Calls.{AppliesNext}
+use Rattle.moka_maintenance.proofs.TakenLemmas.{upsert_busy, writes_on_busy}
+use Rattle.moka_maintenance.specs.Taken.{TakesRead, TakesWrite}
 
 -- ---- places that aren't idle
 
@@ -80,6 +84,64 @@ module _ {K V S : Type 0} (refused : Bool) (core : CoreState K V S) where
       by (Hit t moment) = on_busy work
       by (Miss hash) = on_busy work
 
+-- a write is to be applied there, or to be taken
+data IsWriting : Place → Type 0 where
+  TakesOne : (work : Work) → IsWriting (place.Writes work)
+  AppliesOne : (work : Work) (write : Write) → IsWriting (place.Apply work write)
+
+writing_busy : (p : Place) → IsWriting p → is_idle p ≡ false
+writing_busy _ (TakesOne work) = refl
+writing_busy _ (AppliesOne work write) = refl
+
+module _ {K V S : Type 0} (refused : Bool) (core : CoreState K V S) where
+  -- a turn that is to take a write leaves one to apply or to take
+  taken_is_write : TakesWrite core.maintenance → IsWriting (after_turn refused core).maintenance.place
+  taken_is_write (work, at) = subst (λ p. IsWriting (after_at refused core p).maintenance.place) (sym at) (by core.write_log)
+    where
+      by : (log : List Write) → IsWriting (after_write_taken work core.maintenance log).0.place
+      by [] = subst IsWriting (sym at) (TakesOne work)
+      by (write ∷ log) = AppliesOne _ write
+
+  -- one that applies it leaves a maintenance that is under way
+  written_busy : (p : Place) → IsWriting p → p ≡ core.maintenance.place → is_idle (after_turn refused core).maintenance.place ≡ false
+  written_busy _ (TakesOne work) at = writing_busy _ (taken_is_write (work, sym at))
+  written_busy _ (AppliesOne work write) at = subst (λ p. is_idle (after_at refused core p).maintenance.place ≡ false) at (by write)
+    where
+      by : (write : Write) → is_idle (after_at refused core (place.Apply work write)).maintenance.place ≡ false
+      by (Upsert t) = upsert_busy core.settings refused work t core.maintenance (entry_of t core.entries)
+      by (Remove t) = writes_on_busy work
+
+-- two turns that leave the maintenance under way, as the first one finds it
+record TwoTurns {K V S : Type 0} (old new : CoreState K V S) : Type 0 where
+  refused : Bool
+  busy : old.maintenance.place ≡ place.Idle → ⊥
+  between : is_idle (after_turn false old).maintenance.place ≡ false
+  is : new ≡ after_turn refused (after_turn false old)
+  behind : is_idle new.maintenance.place ≡ false
+
+-- such are those that take an operation and apply it
+two_turns : {K V S : Type 0} (old new : CoreState K V S) → AppliesNext old true new → TwoTurns old new
+two_turns old new (inl applies) =
+    let mid = after_turn false old in
+    let reading = taken_is_read false old applies.0 in
+    record {
+      refused = false;
+      busy = λ idle. false≢true (ap is_idle (sym applies.0.1 ∙ idle));
+      between = reading_busy mid.maintenance.place reading;
+      is = applies.1;
+      behind = ap (λ c. is_idle c.maintenance.place) applies.1 ∙ applied_busy false mid mid.maintenance.place reading refl;
+    }
+two_turns old new (inr applies) =
+    let mid = after_turn false old in
+    let writing = taken_is_write false old applies.0 in
+    record {
+      refused = applies.1;
+      busy = λ idle. false≢true (ap is_idle (sym applies.0.1 ∙ idle));
+      between = writing_busy mid.maintenance.place writing;
+      is = applies.2;
+      behind = ap (λ c. is_idle c.maintenance.place) applies.2 ∙ written_busy applies.1 mid mid.maintenance.place writing refl;
+    }
+
 module _ {K V S : Type 0} (keys : Keys K S) (laws : IsEquivalence keys.eq) (weighs : K → V → ℕ → Type 0) where
   abbrev Core : Type 0
   Core = CoreState K V S
@@ -112,44 +174,37 @@ module _ {K V S : Type 0} (keys : Keys K S) (laws : IsEquivalence keys.eq) (weig
     turn_leaves good =
         subst (λ c. turns_left c < turns_left old) (sym is) (turn_falls keys old good.entries refused busy good.queues.round).0
 
-  -- two turns that take a read and apply it
-  module _ (old new : Core) (applies : AppliesNextRead old true new) where
+  -- two turns that take an operation and apply it
+  module _ (old new : Core) (applies : AppliesNext old true new) where
     abbrev mid : Core
     mid = after_turn false old
 
-    busy : old.maintenance.place ≡ place.Idle → ⊥
-    busy idle = false≢true (ap is_idle (sym applies.0.1 ∙ idle))
-
-    reading : IsReading mid.maintenance.place
-    reading = taken_is_read false old applies.0
-
-    between : is_idle mid.maintenance.place ≡ false
-    between = reading_busy mid.maintenance.place reading
-
-    behind : is_idle new.maintenance.place ≡ false
-    behind = ap (λ (c : Core). is_idle c.maintenance.place) applies.1 ∙ applied_busy false mid mid.maintenance.place reading refl
+    both : TwoTurns old new
+    both = two_turns old new applies
 
     -- others follow
     pub next_two_turns : (end : Core) → CoreTurns keys weighs new end → CoreTurns keys weighs old end
     next_two_turns end later =
-        next_turn false old mid busy refl (not_named_idle mid.maintenance.place between) end
-        (next_turn false mid new (not_idle mid.maintenance.place between) applies.1 (not_named_idle new.maintenance.place behind) end later)
+        next_turn false old mid both.busy refl (not_named_idle mid.maintenance.place both.between) end
+        (next_turn both.refused mid new (not_idle mid.maintenance.place both.between) both.is (not_named_idle new.maintenance.place both.behind)
+        end later)
 
     -- they leave a consistent core
     pub two_turns_keep : IsConsistent keys old → IsConsistent keys new
     two_turns_keep good =
-        turn_keeps false mid new (not_idle mid.maintenance.place between) applies.1 (turn_keeps false old mid busy refl good)
+        turn_keeps both.refused mid new (not_idle mid.maintenance.place both.between) both.is (turn_keeps false old mid both.busy refl good)
 
     -- they leave fewer turns
     pub two_turns_leave : IsConsistent keys old → turns_left new < turns_left old
     two_turns_leave good =
-        let first = turn_leaves false old mid busy refl good in
-        let second = turn_leaves false mid new (not_idle mid.maintenance.place between) applies.1 (turn_keeps false old mid busy refl good) in
+        let first = turn_leaves false old mid both.busy refl good in
+        let second =
+        turn_leaves both.refused mid new (not_idle mid.maintenance.place both.between) both.is (turn_keeps false old mid both.busy refl good) in
         omega (arith, first, second)
 
     -- the maintenance is still under way
     pub two_turns_busy : new.maintenance.place ≡ place.Idle → ⊥
-    two_turns_busy = not_idle new.maintenance.place behind
+    two_turns_busy = not_idle new.maintenance.place both.behind
 
   -- under way, unless its name says idle
   pub still_busy : (core : Core) → (name_of core.maintenance.place ≡ name.Idle → ⊥) → core.maintenance.place ≡ place.Idle → ⊥

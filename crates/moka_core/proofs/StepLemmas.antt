@@ -3,6 +3,7 @@ use Rattle.std.proofs.Common.{◌≡◌, ◌≢◌, ◌<◌, ◌≤◌, ℕ, ◌
 use Rattle.std.proofs.Common.{◌∙◌, inl, inr, arith}
 use Rattle.std.specs.Bool.{MatchBool}
 use Rattle.std.specs.Map.{lookup, remove_entry}
+use Rattle.std.specs.Option.{is_some}
 use Rattle.std.proofs.lemmas.Bool.{cases_Bool, lt-ltb, false_from_ne_true, ltb-true}
 use Rattle.moka_engine.proofs.ListLemmas.{count-cons}
 use Rattle.moka_base.specs.Keys.{Keys}
@@ -43,6 +44,11 @@ module _ {K V S : Type 0} (keys : Keys K S) (core : CoreState K V S) (shard : �
       rw (false_from_ne_true (nat_lt shard SHARDS) (λ below. above (ltb-true shard SHARDS below))) (refl, refl)
 
 -- ---- what is pending once it is pushed or forgotten
+
+-- nothing is there where nothing was found
+pub none_found : {X : Type 0} (found : Option X) → false ≡ is_some found → found ≡ None
+none_found None is = refl
+none_found (Some x) is = cc
 
 -- none is looked up where none passes
 none_of : {X : Type 0} (test : ℕ → Bool) (es : List (ℕ × X)) → count_by (λ e. test e.0) es ≡ 0 → lookup test es ≡ None

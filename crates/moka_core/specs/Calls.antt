@@ -1,5 +1,5 @@
 -- Where a whole call of a core is between its steps. No public clause cites this module.
-use Rattle.std.specs.Prelude.{◌≡◌, ℕ, [], ◌∷◌, Bool, true, false}
+use Rattle.std.specs.Prelude.{◌≡◌, ◌⊎◌, ℕ, [], ◌∷◌, Bool, true, false}
 use Rattle.moka_base.specs.Keys.{Keys}
 use Rattle.moka_engine.specs.declared.constants.TheConstants.{CALLER}
 use Rattle.moka_engine.specs.declared.operation.Operation.{Operation}
@@ -7,12 +7,13 @@ use Rattle.moka_engine.specs.declared.operation.Operation.TheVariants.{Reading, 
 use Rattle.moka_engine.specs.declared.operation.Read.{Read}
 use Rattle.moka_engine.specs.declared.operation.Write.{Write}
 use Rattle.moka_engine.specs.Place.{Idle}
-use Rattle.moka_engine.specs.CoreState.{CoreState, with_pending}
+use Rattle.moka_engine.specs.CoreState.{CoreState}
 use Rattle.moka_engine.specs.Consistent.{IsConsistent}
 use Rattle.moka_engine.specs.Run.{Happens}
 use Rattle.moka_engine.specs.Turn.Turn.{after_turn}
 use Rattle.moka_engine.specs.CoreCall.{Decides, has_pending, log_length}
-use Rattle.moka_maintenance.specs.Taken.{TakesRead}
+use Rattle.moka_core.specs.Machine.{left_pending}
+use Rattle.moka_maintenance.specs.Taken.{TakesRead, TakesWrite}
 use Rattle.moka_engine.specs.WholeCall.{Log, Maintains, MaintainsIfDue, PushesRead, PushesWrite}
 
 -- two turns, of which the first takes a read and the other applies it: no memory is asked for; where no read is to be taken, nothing is done
@@ -20,9 +21,19 @@ abbrev pub AppliesNextRead : {K V S : Type 0} → CoreState K V S → Bool → C
 AppliesNextRead old false new = (new ≡ old) × (TakesRead old.maintenance → old.read_log ≡ [])
 AppliesNextRead old true new = TakesRead old.maintenance × (new ≡ after_turn false (after_turn false old))
 
--- the core, with this read of the caller pending
-abbrev pub having_read : {K V S : Type 0} → Read → CoreState K V S → CoreState K V S
-having_read read core = record core { pending = with_pending CALLER (Reading read) core }
+-- the same of a write, of which memory may be refused a node
+abbrev pub AppliesNextWrite : {K V S : Type 0} → CoreState K V S → Bool → CoreState K V S → Type 0
+AppliesNextWrite old false new = (new ≡ old) × (TakesWrite old.maintenance → old.write_log ≡ [])
+AppliesNextWrite old true new = TakesWrite old.maintenance × (refused : Bool) × (new ≡ after_turn refused (after_turn false old))
+
+-- the same of the one or the other
+abbrev pub AppliesNext : {K V S : Type 0} → CoreState K V S → Bool → CoreState K V S → Type 0
+AppliesNext old false new = new ≡ old
+AppliesNext old true new = AppliesNextRead old true new ⊎ AppliesNextWrite old true new
+
+-- the core, with this operation of the caller of whole calls pending
+abbrev pub having : {K V S : Type 0} → Operation → CoreState K V S → CoreState K V S
+having operation core = left_pending CALLER operation core
 
 module _ {K V S : Type 0} (keys : Keys K S) (core : CoreState K V S) where
   -- this operation of the caller is pending, and nothing else is under way

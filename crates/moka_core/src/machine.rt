@@ -1,7 +1,7 @@
 //! What takes one atomic step at a time: the map, the logs, what is pending and the maintenance, each by itself.
 ghost use Rattle.std.specs.Prelude.{◌≡◌, ◌<◌, ◌↔◌, Bool, [], replicate, IsTrue, slice_index, IfErr, IfOk, OnErr};
 ghost use Rattle.moka_base.specs.Keys.{keys_by};
-ghost use Rattle.moka_core.specs.Machine.{FindsFor, IsUntouched, KeepsRoom, RefusesFor};
+ghost use Rattle.moka_core.specs.Machine.{FindsFor, InsertsFor, IsUntouched, KeepsAllButMap, KeepsRoom, RefusesFor, RefusesInsertFor, TakesFor, refusal_reply};
 ghost use Rattle.moka_core.specs.Pending.{HasRoomFor};
 ghost use Rattle.moka_engine.specs.CoreCall.{IsAtRest};
 ghost use Rattle.moka_engine.specs.CoreState.{IsNew, new_core, new_maintenance};
@@ -182,15 +182,31 @@ impl<
         if self.pending.of(caller).is_some() {
             return Reply::NotPossible;
         }
-        match self.map.insert(key, value, &self.weigher, now) {
-            Ok(ticket) => {
-                self.pending
-                    .put(caller, Operation::Writing(Write::Upsert { ticket }));
+        match self.insert_into_map(key, value, now) {
+            Ok(write) => {
+                self.pending.put(caller, Operation::Writing(write));
                 Reply::Done
             }
-            Err(InsertError::OutOfMemory) => Reply::OutOfMemory,
-            Err(InsertError::TicketsUsedUp) => Reply::TicketsUsedUp,
+            Err(error) => refusal(error),
         }
+    }
+
+    /// What an insert by any caller does to the map that has nothing pending, and the write that it leaves pending.
+    fn insert_into_map(
+        &mut self,
+        key: Shared<K, A>,
+        value: Shared<V, A>,
+        now: Instant,
+    ) -> Result<Write, InsertError>
+        requires ready { W.ready self.old.weigher }
+        ensures inserted { IfOk result (InsertsFor (keys_by K.Hash S.BuildHasher S.Hasher.Hasher) (W.weighs self.old.weigher)
+            self.old.state self.new.state key value now) }
+        ensures refused { IfErr result (RefusesInsertFor (keys_by K.Hash S.BuildHasher S.Hasher.Hasher) (W.weighs self.old.weigher)
+            self.old.state self.new.state key value now) }
+        ensures kept { KeepsAllButMap self.old self.new }
+    {
+        let ticket = self.map.insert(key, value, &self.weigher, now)?;
+        Ok(Write::Upsert { ticket })
     }
 
     /// A get by a caller.
@@ -258,11 +274,21 @@ impl<
         if self.pending.of(caller).is_some() {
             return Reply::NotPossible;
         }
-        if let Some(ticket) = self.map.invalidate(key) {
-            self.pending
-                .put(caller, Operation::Writing(Write::Remove { ticket }));
-        }
+        let Some(write) = self.take_from_map(key) else {
+            return Reply::Done;
+        };
+        self.pending.put(caller, Operation::Writing(write));
         Reply::Done
+    }
+
+    /// What an invalidation by any caller does to the map that has nothing pending, and the write that it leaves pending, if there was an entry.
+    fn take_from_map(&mut self, key: &K) -> Option<Write>
+        ensures taken { TakesFor (keys_by K.Hash S.BuildHasher S.Hasher.Hasher) (W.weighs self.old.weigher)
+            self.old.state self.new.state key.now result }
+        ensures kept { KeepsAllButMap self.old self.new }
+    {
+        let ticket = self.map.invalidate(key)?;
+        Some(Write::Remove { ticket })
     }
 
     /// Hides all entries from before a moment.
@@ -439,6 +465,18 @@ impl<
             replies.push_reserved(self.step(event));
         }
         Ok(replies)
+    }
+}
+
+/// The reply to an insert that was refused.
+fn refusal<K: Drop, V: Drop, A: Allocator + Drop>(
+    error: InsertError,
+) -> Reply<Shared<V, A>, Rows<K, V, A>>
+    ensures { result ≡ refusal_reply error }
+{
+    match error {
+        InsertError::OutOfMemory => Reply::OutOfMemory,
+        InsertError::TicketsUsedUp => Reply::TicketsUsedUp,
     }
 }
 

@@ -7,7 +7,8 @@ ghost use Rattle.moka_shard.specs.Shard.{entries_in, state_of, unexpired};
 ghost use Rattle.moka_engine.specs.Parts.{NeedsShard, entries_of, need_of};
 ghost use Rattle.moka_engine.specs.Turn.Turn.{turn_at};
 ghost use Rattle.moka_engine.specs.declared.operation.Read.TheVariants.{Hit};
-ghost use Rattle.moka_maintenance.specs.Taken.{TakesRead, having_taken};
+ghost use Rattle.moka_engine.specs.declared.operation.Write.TheVariants.{Upsert};
+ghost use Rattle.moka_maintenance.specs.Taken.{TakesRead, TakesWrite, having_taken, having_taken_write};
 ghost use Rattle.moka_core.specs.MapTurn.{TurnsOnMap, TurnsOnShard};
 ghost use Rattle.std.specs.List.{All};
 ghost use Rattle.moka_core.specs.MapState.{IsInserted, IsInvalidated, IsNewMap, pairs_in};
@@ -229,6 +230,22 @@ impl<K: Eq + Hash + Drop, V: Drop, S: BuildHasher + Drop, A: Allocator + Clone +
         );
         let _ = shard.len();
     }
+
+    /// The turn that applies an upsert, which the maintenance has just taken from its log.
+    pub(crate) fn turn_with_upsert(
+        &mut self,
+        maintenance: &mut Maintenance<A>,
+        ticket: Ticket,
+        valid_after: Instant,
+    )
+        requires { TakesWrite maintenance.old }
+        ensures { (refused : Bool)
+            × TurnsOnMap self.old self.new valid_after refused (having_taken_write (Upsert ticket) maintenance.old) maintenance.new }
+    {
+        let shard = &mut self.shards[(ticket.hash % SHARDS as u64) as usize];
+        apply_upsert(maintenance, shard, ticket, &self.settings, valid_after);
+        let _ = shard.len();
+    }
 }
 
 /// A turn of the maintenance that needs the entry of a ticket, with the shard in which that would stand.
@@ -269,6 +286,24 @@ fn apply_hit<K: Eq + Hash + Drop, V: Drop, S: BuildHasher + Drop, A: Allocator +
     let slot = shard.find_ticket(ticket);
     let found = shard.entry(slot);
     let change = maintenance.turn_with_hit(settings, valid_after, ticket, moment, found);
+    shard.change(slot, change);
+}
+
+/// The turn that applies an upsert, with the shard in which the ticket's entry would stand.
+fn apply_upsert<K: Eq + Hash + Drop, V: Drop, S: BuildHasher + Drop, A: Allocator + Clone + Drop>(
+    maintenance: &mut Maintenance<A>,
+    shard: &mut Shard<K, V, S, A>,
+    ticket: Ticket,
+    settings: &Settings<S, A>,
+    valid_after: Instant,
+)
+    requires { TakesWrite maintenance.old }
+    ensures { (refused : Bool)
+        × TurnsOnShard settings.now valid_after refused ticket (having_taken_write (Upsert ticket) maintenance.old) maintenance.new
+        (state_of shard.old) (state_of shard.new) }
+{
+    let slot = shard.find_ticket(ticket);
+    let change = maintenance.turn_with_upsert(settings, valid_after, ticket, shard.entry(slot));
     shard.change(slot, change);
 }
 

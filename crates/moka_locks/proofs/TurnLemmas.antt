@@ -4,16 +4,19 @@ use Rattle.moka_base.specs.Settings.{Settings}
 use Rattle.moka_engine.specs.declared.entry.EntryChange.{EntryChange}
 use Rattle.moka_engine.specs.declared.operation.Read.{Read}
 use Rattle.moka_engine.specs.declared.operation.Read.TheVariants.{Miss}
+use Rattle.moka_engine.specs.declared.operation.Write.{Write}
+use Rattle.moka_engine.specs.declared.operation.Write.TheVariants.{Remove}
+use Rattle.moka_engine.specs.declared.ticket.Ticket.{Ticket}
 use Rattle.moka_engine.specs.declared.place.Place.{Place as PlaceName}
 use Rattle.moka_engine.specs.declared.place.Place.TheVariants as name
 use Rattle.moka_engine.specs.CoreState.{Maintenance}
 use Rattle.moka_engine.specs.Entry.{Entry}
 use Rattle.moka_engine.specs.Parts.{TurnsAlone, TurnsAtEntry}
 use Rattle.moka_engine.specs.Place.{Place, Idle, is_idle, name_of}
-use Rattle.moka_engine.specs.Turn.Plan.{AtReads, gone_to}
-use Rattle.moka_engine.specs.Turn.Turn.{after_read_taken, turn_at}
+use Rattle.moka_engine.specs.Turn.Plan.{AtReads, AtWrites, gone_to}
+use Rattle.moka_engine.specs.Turn.Turn.{after_read_taken, after_write_taken, turn_at}
 use Rattle.moka_core.proofs.MaintenanceLemmas.{not_named_idle}
-use Rattle.moka_maintenance.specs.Taken.{TakesRead, having_taken, place_with}
+use Rattle.moka_maintenance.specs.Taken.{TakesRead, TakesWrite, having_taken, having_taken_write, place_with, place_with_write}
 use Rattle.moka_steps.specs.Steps.{OneTurn, TakesTurns, TwoTurns}
 use Rattle.moka_locks.specs.Locked.{Locked, kept_running, locked_allows, running}
 use Rattle.moka_locks.specs.MaintenanceTurn.{AreTurns, IsPlanned, IsTurn}
@@ -76,6 +79,37 @@ module _ (K V : Type 0) {S : Type 0} (settings : Settings S) (m : Maintenance) (
       → TurnsAlone K V settings valid_after false (having_taken (Miss hash) m) new → AreTurns K V settings m new
   taken_and_missed valid_after hash new turn =
       taken_and_applied (Miss hash) new (alone K V settings valid_after false (having_taken (Miss hash) m) new turn)
+
+-- ---- a write that is
+
+module _ (K V : Type 0) {S : Type 0} (settings : Settings S) (m : Maintenance) (takes : TakesWrite m) where
+  with_write_log : (log : List Write) → IsTurn K V settings m (after_write_taken takes.0 m log).0
+  with_write_log log =
+      let is : turn_at {K = K} {V = V} settings 0 false m.place m ≡ AtWrites (after_write_taken takes.0 m) =
+      ap (λ p. turn_at settings 0 false p m) takes.1 in
+      (0, false, subst (λ plan. IsPlanned plan (after_write_taken takes.0 m log).0) (sym is) (log, refl))
+
+  -- where the log is empty, nothing changes
+  pub takes_no_write : AreTurns K V settings m m
+  takes_no_write = inl (with_write_log [])
+
+  -- two turns
+  pub written : (write : Write) (new : Maintenance) → IsTurn K V settings (having_taken_write write m) new → AreTurns K V settings m new
+  written write new applied =
+      let is : gone_to (place_with_write write m.place) m ≡ (after_write_taken takes.0 m (write ∷ [])).0 =
+      ap (λ p. gone_to (place_with_write write p) m) takes.1 in
+      inr (
+        having_taken_write write m,
+        ap (λ p. is_idle (place_with_write write p)) takes.1,
+        subst (IsTurn K V settings m) (sym is) (with_write_log (write ∷ [])),
+        applied,
+      )
+
+  -- of which the second applies a removal
+  pub removed : (valid_after : ℕ) (t : Ticket) (new : Maintenance)
+      → TurnsAlone K V settings valid_after false (having_taken_write (Remove t) m) new → AreTurns K V settings m new
+  removed valid_after t new turn =
+      written (Remove t) new (alone K V settings valid_after false (having_taken_write (Remove t) m) new turn)
 
 -- ---- turns of a locked cache
 

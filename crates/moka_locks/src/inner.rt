@@ -12,7 +12,7 @@ ghost use Rattle.moka_locks.specs.Snapshot.{IsSnapshot, own_pairs};
 ghost use Rattle.moka_engine.specs.CoreState.{Maintenance as MaintenanceState};
 ghost use Rattle.moka_engine.specs.Place.{Idle, ReadCount};
 ghost use Rattle.moka_locks.specs.MaintenanceTurn.{AreTurns};
-ghost use Rattle.moka_maintenance.specs.Taken.{TakesRead};
+ghost use Rattle.moka_maintenance.specs.Taken.{TakesRead, TakesWrite};
 
 use crate::housekeeper::Housekeeper;
 use crate::logs::Logs;
@@ -308,13 +308,17 @@ impl<
         Running::begin(rt, &self.maintenance, now)
     }
 
-    /// One turn of the maintenance, with the lock of what it needs; or two, where a read leaves its log and is applied at once.
+    /// One turn of the maintenance, with the lock of what it needs; or two, where an operation leaves its log and is applied at once.
     pub(crate) fn turn<R: Wait>(&self, rt: &R, maintenance: &mut Maintenance<A>)
         ensures { AreTurns K V self.now.settings maintenance.old maintenance.new }
     {
         let valid_after = self.valid_after();
         if maintenance.takes_read() {
             self.apply_next_read(rt, maintenance, valid_after);
+            return;
+        }
+        if maintenance.takes_write() {
+            self.apply_next_write(rt, maintenance, valid_after);
             return;
         }
         match maintenance.need::<K, V, S>(&self.settings, valid_after) {
@@ -368,6 +372,40 @@ impl<
         let read = maintenance.take_read(&mut log);
         self.logs.tell_reads(log.len());
         read
+    }
+
+    /// The turn that takes a write, and the one that applies it, if there is one.
+    fn apply_next_write<R: Wait>(
+        &self,
+        rt: &R,
+        maintenance: &mut Maintenance<A>,
+        valid_after: Instant,
+    )
+        requires { TakesWrite maintenance.old }
+        ensures { AreTurns K V self.now.settings maintenance.old maintenance.new }
+    {
+        let Some(write) = self.next_write(rt, maintenance) else {
+            return;
+        };
+        match write {
+            Write::Upsert { ticket } => {
+                let mut shard = lock(rt, self.shard(ticket.hash));
+                shard.turn_with_upsert(maintenance, ticket, &self.settings, valid_after);
+            }
+            Write::Remove { ticket } => maintenance.turn_with_removal::<K, V, S>(
+                &self.settings,
+                valid_after,
+                ticket,
+            ),
+        }
+    }
+
+    /// The write that the maintenance is to take next leaves its log.
+    fn next_write<R: Wait>(&self, rt: &R, maintenance: &Maintenance<A>) -> Option<Write> {
+        let mut log = self.logs.lock_writes(rt);
+        let write = maintenance.take_write(&mut log);
+        self.logs.tell_writes(log.len());
+        write
     }
 
     /// Publishes what a maintenance that has ended has left.

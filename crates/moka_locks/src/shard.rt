@@ -2,11 +2,12 @@
 ghost use Rattle.std.specs.Prelude.{◌≡◌, [], false, map, IfOk, IfSome};
 ghost use Rattle.std.specs.List.{IsDistinct};
 ghost use Rattle.moka_engine.specs.declared.operation.Read.TheVariants.{Hit};
+ghost use Rattle.moka_engine.specs.declared.operation.Write.TheVariants.{Upsert};
 ghost use Rattle.moka_engine.specs.Parts.{NeedsShard, need_of};
 ghost use Rattle.moka_engine.specs.Turn.Turn.{turn_at};
 ghost use Rattle.moka_locks.specs.MaintenanceTurn.{IsTurn};
 ghost use Rattle.moka_locks.specs.Rule.{PairsMeet};
-ghost use Rattle.moka_maintenance.specs.Taken.{TakesRead, having_taken};
+ghost use Rattle.moka_maintenance.specs.Taken.{TakesRead, TakesWrite, having_taken, having_taken_write};
 ghost use Rattle.moka_shard.specs.Shard.{entries_in};
 
 use crate::rule::PairRule;
@@ -176,6 +177,23 @@ impl<
         let slot = self.shard.find_ticket(ticket);
         let found = self.shard.entry(slot);
         let change = maintenance.turn_with_hit(settings, valid_after, ticket, moment, found);
+        self.shard.change(slot, change);
+    }
+
+    /// The turn that applies an upsert, which the maintenance has just taken from its log.
+    pub(crate) fn turn_with_upsert(
+        &mut self,
+        maintenance: &mut Maintenance<A>,
+        ticket: Ticket,
+        settings: &Settings<S, A>,
+        valid_after: Instant,
+    )
+        requires { TakesWrite maintenance.old }
+        ensures { IsTurn K V settings.now (having_taken_write (Upsert ticket) maintenance.old) maintenance.new }
+    {
+        let slot = self.shard.find_ticket(ticket);
+        let found = self.shard.entry(slot);
+        let change = maintenance.turn_with_upsert(settings, valid_after, ticket, found);
         self.shard.change(slot, change);
     }
 }

@@ -1,32 +1,37 @@
--- A read that leaves its log.
-use Rattle.std.proofs.Common.{◌≡◌, ◌∙◌, ◌-◌, ℕ, Bool, true, false, List, [], ◌∷◌, drop, slice_get, Option, refl, sym, ap, subst}
+-- An operation that leaves its log.
+use Rattle.std.proofs.Common.{◌≡◌, ◌∙◌, ◌+◌, ◌-◌, ◌==◌, ℕ, if◌then◌else◌, Bool, true, false, List, [], ◌∷◌, drop, slice_get, Option, Some, None, refl, sym, ap, subst}
 use Rattle.std.proofs.lemmas.Bool.{false≢true}
+use Rattle.moka_base.specs.Admission.{is_within}
 use Rattle.moka_base.specs.Settings.{Settings}
+use Rattle.moka_sketch.specs.Sketch.{estimate}
+use Rattle.moka_engine.specs.declared.entry.EntryChange.{EntryChange}
 use Rattle.moka_engine.specs.declared.entry.EntryChange.TheVariants as change
-use Rattle.moka_engine.specs.declared.operation.Read.{Read}
+use Rattle.moka_engine.specs.EntryChange.{change_of}
 use Rattle.moka_engine.specs.declared.operation.Read.TheVariants.{Hit}
+use Rattle.moka_engine.specs.declared.operation.Write.TheVariants.{Remove, Upsert}
 use Rattle.moka_engine.specs.declared.ticket.Ticket.{Ticket}
 use Rattle.moka_engine.specs.CoreState.{Maintenance}
 use Rattle.moka_engine.specs.Entry.{Entry, touched}
-use Rattle.moka_engine.specs.Orders.{used}
-use Rattle.moka_engine.specs.Parts.{TurnsAtEntry}
+use Rattle.moka_engine.specs.Orders.{charge_of, charged_weight, used}
+use Rattle.moka_engine.specs.Parts.{TurnsAlone, TurnsAtEntry}
 use Rattle.moka_engine.specs.Place as place
-use Rattle.moka_engine.specs.Place.{Place, Work}
-use Rattle.moka_engine.specs.Turn.Apply.{after_hit, after_miss}
-use Rattle.moka_engine.specs.Turn.Plan.{Becomes, moved_on, reads_or_on}
+use Rattle.moka_engine.specs.Place.{Place, Work, is_idle}
+use Rattle.moka_engine.specs.Turn.Apply.{after_entry, after_first_upsert, after_hit, after_miss, after_present_upsert, after_refusal, after_removal, after_upsert, no_tally}
+use Rattle.moka_engine.specs.Turn.Plan.{Alone, Becomes, Outcome, Stays, gone_to, moved_on, outcome, reads_or_on, writes_or_on}
 use Rattle.moka_engine.specs.Turn.Turn.{turn_at}
 use Rattle.moka_orders.specs.declared.orders.Node.{Node}
 use Rattle.moka_maintenance.specs.declared.maintenance.place.Stage.{Stage}
 use Rattle.moka_maintenance.specs.declared.maintenance.place.Stage.TheVariants as stage
 use Rattle.moka_maintenance.specs.declared.maintenance.place.Work as stage_work
 use Rattle.moka_maintenance.specs.Held.{place_of}
-use Rattle.moka_maintenance.specs.Taken.{IsTaken, TakesRead, having_taken, place_with}
+use Rattle.moka_maintenance.specs.Taken.{IsTaken, having_taken, having_taken_write, place_with, place_with_write}
 
 -- the first one is taken, if there is one
-pub taken : (m : Maintenance) → TakesRead m → (old new : List Read) (read : Option Read) → read ≡ slice_get old 0 → new ≡ drop 1 old
-    → IsTaken m read old new
-taken m takes [] new read is rest = subst (λ r. IsTaken m r [] new) (sym is) (rest, λ again. refl)
-taken m takes (x ∷ old) new read is rest = subst (λ r. IsTaken m r (x ∷ old) new) (sym is) (takes, ap (λ xs. x ∷ xs) (sym rest))
+pub taken : {X : Type 0} (Takes : Type 0) → Takes → (old new : List X) (operation : Option X) → operation ≡ slice_get old 0 → new ≡ drop 1 old
+    → IsTaken Takes operation old new
+taken Takes takes [] new operation is rest = subst (λ o. IsTaken Takes o [] new) (sym is) (rest, λ again. refl)
+taken Takes takes (x ∷ old) new operation is rest =
+    subst (λ o. IsTaken Takes o (x ∷ old) new) (sym is) (takes, ap (λ xs. x ∷ xs) (sym rest))
 
 -- the part of a round with one operation less
 abbrev pub less_one : Work → Work
@@ -44,6 +49,77 @@ hit_turn {K} {V} settings valid_after m new work at t moment found is = record {
   ends = ap (λ m. record { change = Becomes (touched moment); maintenance = m }) (sym is);
 }
 
+-- what becomes of an upsert is the same wherever the maintenance was
+placed_upsert : {K V S : Type 0} (settings : Settings S) (refused : Bool) (work : Work) (t : Ticket) (p : Place) (m : Maintenance)
+    → (found : Option (Entry K V)) → after_upsert settings refused work t (gone_to p m) found ≡ after_upsert settings refused work t m found
+placed_upsert settings refused work t p m None = refl
+placed_upsert {K} {V} {S} settings refused work t p m (Some e) = by (charge_of t m.orders)
+  where
+    by : (charge : Option ℕ)
+        → after_present_upsert {K = K} {V = V} settings refused work t e charge (gone_to p m)
+        ≡ after_present_upsert settings refused work t e charge m
+    by None = refl
+    by (Some charge) = refl
+
+-- an upsert that was taken is applied
+pub upsert_turn : {K V S : Type 0} (settings : Settings S) (valid_after : ℕ) (refused : Bool) (m new : Maintenance) (work : Work)
+    → m.place ≡ place.Writes work → (t : Ticket) (found : Option (Entry K V)) (became : EntryChange) (left : Work) → left ≡ less_one work
+    → record { change = change_of became; maintenance = new } ≡ after_upsert settings refused left t m found
+    → TurnsAtEntry K V settings valid_after refused (having_taken_write (Upsert t) m) new found became
+upsert_turn {K} {V} settings valid_after refused m new work at t found became left less is = record {
+  ticket = t;
+  looks = after_upsert settings refused (less_one work) t (having_taken_write (Upsert t) m);
+  is = ap (λ p. turn_at settings valid_after refused (place_with_write (Upsert t) p) (having_taken_write (Upsert t) m)) at;
+  ends =
+      placed_upsert settings refused (less_one work) t (place_with_write (Upsert t) m.place) m found
+      ∙ ap (λ w. after_upsert settings refused w t m found) (sym less)
+      ∙ sym is;
+}
+
+-- a maintenance that goes on with writes is under way
+pub writes_on_busy : (work : Work) → is_idle (writes_or_on work) ≡ false
+writes_on_busy work = by (work.left == 0)
+  where
+    by : (none : Bool) → is_idle (if none then place.Sketch work.round else place.Writes work) ≡ false
+    by true = refl
+    by false = refl
+
+-- so is one that has applied an upsert
+pub upsert_busy : {K V S : Type 0} (settings : Settings S) (refused : Bool) (work : Work) (t : Ticket) (m : Maintenance)
+    (found : Option (Entry K V)) → is_idle (after_upsert settings refused work t m found).maintenance.place ≡ false
+upsert_busy settings refused work t m None = writes_on_busy work
+upsert_busy {K} {V} settings refused work t m (Some e) = charged (charge_of t m.orders)
+  where
+    begun : Outcome K V
+    begun =
+        outcome Stays m m.orders
+        (place.Scan work (record { ticket = t; weight = e.weight; estimate = estimate m.sketch t.hash }) no_tally [])
+
+    scans : (fits : Bool) → is_idle (if fits then begun else after_refusal settings work m).maintenance.place ≡ false
+    scans true = refl
+    scans false = writes_on_busy work
+
+    enters : (fits : Bool)
+        → is_idle (if fits then after_entry settings work t e m
+        else if is_within settings.policy.max_capacity e.weight then begun else after_refusal settings work m).maintenance.place ≡ false
+    enters true = writes_on_busy work
+    enters false = scans (is_within settings.policy.max_capacity e.weight)
+
+    uncharged : (refused : Bool) → is_idle (after_first_upsert settings refused work t e m).maintenance.place ≡ false
+    uncharged true = writes_on_busy work
+    uncharged false = enters (is_within settings.policy.max_capacity (charged_weight m.orders + e.weight))
+
+    charged : (charge : Option ℕ) → is_idle (after_present_upsert settings refused work t e charge m).maintenance.place ≡ false
+    charged None = uncharged refused
+    charged (Some charge) = writes_on_busy work
+
+-- a removal that was taken is applied
+pub removal_turn : (K V : Type 0) {S : Type 0} (settings : Settings S) (valid_after : ℕ) (m new : Maintenance) (work : Work)
+    → m.place ≡ place.Writes work → (t : Ticket) → new ≡ after_removal (less_one work) t m
+    → TurnsAlone K V settings valid_after false (having_taken_write (Remove t) m) new
+removal_turn K V settings valid_after m new work at t is =
+    ap (λ p. turn_at settings valid_after false (place_with_write (Remove t) p) (having_taken_write (Remove t) m)) at ∙ ap Alone (sym is)
+
 abbrev is_reads : Place → Bool
 is_reads (place.Reads work) = true
 is_reads other = false
@@ -55,4 +131,17 @@ takes_none nodes s other work is = false≢true (sym (by s other) ∙ ap is_read
   where
     by : (s : Stage) → ((work : stage_work.Work) → s ≡ stage.Reads work → ⊥) → is_reads (place_of nodes s) ≡ false
     by (stage.Reads work) other = absurd (other work refl)
+    by s other = refl
+
+abbrev is_writes : Place → Bool
+is_writes (place.Writes work) = true
+is_writes other = false
+
+-- nor is a write
+pub takes_no_write : (nodes : List (ℕ × Node)) (s : Stage) → ((work : stage_work.Work) → s ≡ stage.Writes work → ⊥) → (work : Work)
+    → place_of nodes s ≡ place.Writes work → ⊥
+takes_no_write nodes s other work is = false≢true (sym (by s other) ∙ ap is_writes is)
+  where
+    by : (s : Stage) → ((work : stage_work.Work) → s ≡ stage.Writes work → ⊥) → is_writes (place_of nodes s) ≡ false
+    by (stage.Writes work) other = absurd (other work refl)
     by s other = refl

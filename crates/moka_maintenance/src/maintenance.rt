@@ -7,9 +7,10 @@ ghost use Rattle.moka_engine.specs.Parts.{NeedsNothing, NeedsReads, NeedsShard, 
 ghost use Rattle.moka_engine.specs.Place.{Idle, ReadCount, name_of};
 ghost use Rattle.moka_engine.specs.Turn.Turn.{turn_at};
 ghost use Rattle.moka_engine.specs.declared.operation.Read.TheVariants.{Hit, Miss};
+ghost use Rattle.moka_engine.specs.declared.operation.Write.TheVariants.{Remove, Upsert};
 ghost use Rattle.moka_maintenance.specs.Need.{need_at_front, need_named, need_to_read, need_to_write};
 ghost use Rattle.moka_maintenance.specs.Published.{published_of};
-ghost use Rattle.moka_maintenance.specs.Taken.{IsTaken, TakesRead, having_taken};
+ghost use Rattle.moka_maintenance.specs.Taken.{IsTaken, TakesRead, TakesWrite, having_taken, having_taken_write};
 
 mod admission;
 mod eviction;
@@ -186,7 +187,7 @@ impl<A: Allocator + Clone + Drop> Maintenance<A> {
 
     /// The first read of the log, where the next turn is to take one. The turn after that is to follow at once: `turn_with_hit`, or `turn_with_miss`.
     pub fn take_read(&self, log: &mut ReadLog<A>) -> Option<Read>
-        ensures { IsTaken self.now result log.old log.new }
+        ensures { IsTaken (TakesRead self.now) result log.old log.new }
     {
         let Stage::Reads { .. } = self.state.stage else {
             return None;
@@ -234,6 +235,64 @@ impl<A: Allocator + Clone + Drop> Maintenance<A> {
         let _ = valid_after;
         if let Stage::Reads { work } = self.state.stage {
             self.state.apply_miss(work.less_one(), hash);
+        }
+    }
+
+    /// Whether the next turn is to take a write.
+    pub fn takes_write(&self) -> bool
+        ensures { IsTrue result ↔ TakesWrite self.now }
+    {
+        matches!(self.state.stage, Stage::Writes { .. })
+    }
+
+    /// The first write of the log, where the next turn is to take one. The turn after that is to follow at once: `turn_with_upsert`, or
+    /// `turn_with_removal`.
+    pub fn take_write(&self, log: &mut WriteLog<A>) -> Option<Write>
+        ensures { IsTaken (TakesWrite self.now) result log.old log.new }
+    {
+        let Stage::Writes { .. } = self.state.stage else {
+            return None;
+        };
+        log.pop()
+    }
+
+    /// The turn that applies an upsert, which `take_write` has taken, at the entry of its ticket, which is given where it stands. What becomes of the
+    /// entry is for its owner to do.
+    pub fn turn_with_upsert<K: Drop, V: Drop, S: Drop>(
+        &mut self,
+        settings: &Settings<S, A>,
+        valid_after: Instant,
+        ticket: Ticket,
+        found: Option<&Entry<K, V, A>>,
+    ) -> EntryChange
+        requires { TakesWrite self.old }
+        ensures { (refused : Bool) × TurnsAtEntry K V settings.now valid_after refused (having_taken_write (Upsert ticket) self.old) self.new
+            (option_copied found.entry) result }
+    {
+        let _ = valid_after;
+        match self.state.stage {
+            Stage::Writes { work } => {
+                self.state
+                    .apply_upsert(settings, work.less_one(), ticket, found)
+            }
+            _ => EntryChange::Stays,
+        }
+    }
+
+    /// The turn that applies a removal, which `take_write` has taken.
+    pub fn turn_with_removal<K: Drop, V: Drop, S: Drop>(
+        &mut self,
+        settings: &Settings<S, A>,
+        valid_after: Instant,
+        ticket: Ticket,
+    )
+        requires { TakesWrite self.old }
+        ensures { TurnsAlone K V settings.now valid_after false (having_taken_write (Remove ticket) self.old) self.new }
+    {
+        let _ = settings;
+        let _ = valid_after;
+        if let Stage::Writes { work } = self.state.stage {
+            self.state.apply_removal(work.less_one(), ticket);
         }
     }
 

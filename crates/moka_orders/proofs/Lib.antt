@@ -3,3 +3,4 @@ pub mod KeptLemmas
 pub mod IndexLemmas
 pub mod RoomLemmas
 pub mod ChangeLemmas
+pub mod HighWaterLemmas

@@ -2,3 +2,4 @@ pub mod OrdersState
 -- inside
 pub mod Kept
 pub mod Indexed
+pub mod HighWater

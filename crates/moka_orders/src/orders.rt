@@ -10,6 +10,7 @@ ghost use Rattle.moka_orders.specs.Indexed.{IsIndexed};
 ghost use Rattle.moka_orders.specs.Kept.{PushesNode, room_after, with_write_last, without_write};
 ghost use Rattle.moka_orders.specs.OrdersState.{AddsNode, AtNode, IsNodeOf, orders_of};
 
+use crate::high_water::HighWater;
 use moka_base::error::OutOfMemory;
 use moka_base::limits::Limits;
 use moka_deque::deque::{CacheRegion, Deque, NodeId};
@@ -37,6 +38,7 @@ pub struct Orders<A: Allocator + Clone + Drop = Global> {
     writes: Deque<Ticket, A>,
     index: HashIndex<A>,
     total: u128,
+    high_water: HighWater,
 }
 
 impl<A: Allocator + Clone + Drop> Model for Orders<A> {
@@ -44,6 +46,7 @@ impl<A: Allocator + Clone + Drop> Model for Orders<A> {
     ghost use Rattle.moka_orders.specs.OrdersState.{OrdersState};
     ghost use Rattle.moka_orders.specs.Kept.{IsKept, room_of};
     ghost use Rattle.moka_orders.specs.Indexed.{IsIndexed};
+    ghost use Rattle.moka_orders.specs.HighWater.{AreCovered};
 
     ghost Value = { OrdersState };
 
@@ -53,7 +56,7 @@ impl<A: Allocator + Clone + Drop> Model for Orders<A> {
       room = room_of o.access.items o.access.room o.writes.room o.index.ids;
     } };
 
-    ghost invariant = { λ o. IsKept o.access.items o.writes.items o.total × IsIndexed o.access.items o.index };
+    ghost invariant = { λ o. IsKept o.access.items o.writes.items o.total × IsIndexed o.access.items o.index × AreCovered o.access.items o.high_water };
 }
 
 impl<A: Allocator + Clone + Drop> Orders<A> {
@@ -66,6 +69,7 @@ impl<A: Allocator + Clone + Drop> Orders<A> {
             writes: Deque::new(alloc.clone()?, CacheRegion::Other),
             index: HashIndex::new(alloc),
             total: 0,
+            high_water: HighWater::new(),
         })
     }
 
@@ -118,7 +122,7 @@ impl<A: Allocator + Clone + Drop> Orders<A> {
     }
 
     /// The node of a ticket, which is looked for at a place first: that where `enter` has put it, as far as the caller knows it. It spares the look-up
-    /// in the index.
+    /// in the index, as it is spared where the ticket is above all of its shard that were charged.
     pub fn find_at(&self, ticket: Ticket, place: usize) -> Option<NodeId>
         ensures found { IfSome result (λ id. IsNodeOf self.now ticket id) }
         ensures absent { IsNone result → charge_of ticket (orders_of self.now) ≡ None }
@@ -127,6 +131,9 @@ impl<A: Allocator + Clone + Drop> Orders<A> {
         let id = NodeId::from_number(place);
         if self.access.contains(id) && self.access.get(id).ticket == ticket {
             return Some(id);
+        }
+        if self.high_water.is_below(ticket) {
+            return None;
         }
         self.find(ticket)
     }
@@ -235,6 +242,7 @@ impl<A: Allocator + Clone + Drop> Orders<A> {
         ensures orders { orders_of self.new ≡ with_node (keeps_writes limits.now) ticket charge (orders_of self.old) }
     {
         self.total = with_charge(&self.access, self.total, charge);
+        self.high_water.rise_to(ticket);
         let mut node = Node {
             ticket,
             charge,

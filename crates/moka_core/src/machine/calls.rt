@@ -1,22 +1,23 @@
 //! Whole calls of one caller, each a chain of steps.
 ghost use Rattle.std.specs.Prelude.{◌≡◌, ◌≢◌, true};
 ghost use Rattle.moka_base.specs.Keys.{keys_by};
-ghost use Rattle.moka_core.specs.Calls.{AppliesNextRead, CoreMaintains, CorePushesRead, CorePushesWrite, MaintainsAsDue, Pends, PendsRead, PendsWrite, having_read};
+ghost use Rattle.moka_core.specs.Calls.{AppliesNext, AppliesNextRead, AppliesNextWrite, CoreMaintains, CorePushesRead, CorePushesWrite, MaintainsAsDue, Pends, PendsRead, PendsWrite, having};
 ghost use Rattle.moka_core.specs.Machine.{KeepsRoom};
 ghost use Rattle.moka_engine.specs.Consistent.{IsConsistent};
 ghost use Rattle.moka_engine.specs.CoreCall.{CoreTurns, Finishes, IsAtRest, IsCall, scheduled};
 ghost use Rattle.moka_engine.specs.Place.{Idle};
 ghost use Rattle.moka_engine.specs.declared.call.Call.TheVariants as call;
+ghost use Rattle.moka_engine.specs.declared.operation.Operation.TheVariants.{Reading, Writing};
 
 use crate::housekeeper::is_due;
-use crate::machine::Machine;
+use crate::machine::{Machine, refusal};
 use crate::rows::Rows;
 use moka_base::shared::Shared;
 use moka_base::time::Instant;
 use moka_engine::call::Call;
 use moka_engine::constants::{CALLER, FLUSH_POINT, SYNC_INTERVAL};
 use moka_engine::event::Reply;
-use moka_engine::operation::{Operation, Read};
+use moka_engine::operation::{Operation, Read, Write};
 use moka_engine::place::Place;
 use moka_engine::weigh::WeighShared;
 use std::alloc::Allocator;
@@ -68,12 +69,13 @@ impl<
             self.old.state (call.Insert key value now) result self.new.state }
         ensures weigher { self.new.weigher ≡ self.old.weigher }
     {
-        let reply = self.insert(CALLER, key, value, now);
-        let Reply::Done = &reply else {
-            return reply;
-        };
-        self.push_write(now);
-        reply
+        match self.insert_into_map(key, value, now) {
+            Ok(write) => {
+                self.log_write(write, now);
+                Reply::Done
+            }
+            Err(error) => refusal(error),
+        }
     }
 
     /// The whole call `Get`.
@@ -98,12 +100,11 @@ impl<
             self.old.state (call.Invalidate key.now now) result self.new.state }
         ensures weigher { self.new.weigher ≡ self.old.weigher }
     {
-        let reply = self.invalidate(CALLER, key, now);
-        let Some(_) = self.pending.of(CALLER) else {
-            return reply;
+        let Some(write) = self.take_from_map(key) else {
+            return Reply::Done;
         };
-        self.push_write(now);
-        reply
+        self.log_write(write, now);
+        Reply::Done
     }
 
     /// What was published last.
@@ -121,9 +122,9 @@ impl<
     /// A read goes to its log: at once where no maintenance is due, and else it is pending while one is run.
     fn log_read(&mut self, read: Read, now: Instant)
         requires rest { IsAtRest self.old.state }
-        requires pends { PendsRead (keys_by K.Hash S.BuildHasher S.Hasher.Hasher) (having_read read self.old.state) }
+        requires pends { PendsRead (keys_by K.Hash S.BuildHasher S.Hasher.Hasher) (having (Reading read) self.old.state) }
         ensures step { CorePushesRead (keys_by K.Hash S.BuildHasher S.Hasher.Hasher) (W.weighs self.old.weigher)
-            now (having_read read self.old.state) self.new.state }
+            now (having (Reading read) self.old.state) self.new.state }
         ensures weigher { self.new.weigher ≡ self.old.weigher }
     {
         if is_due(self.read_log.len(), FLUSH_POINT, self.sync_after, now) {
@@ -132,6 +133,22 @@ impl<
             return;
         }
         let _ = self.read_log.push(read);
+    }
+
+    /// A write goes to its log: at once where no maintenance is due, and else it is pending while one is run.
+    fn log_write(&mut self, write: Write, now: Instant)
+        requires rest { IsAtRest self.old.state }
+        requires pends { PendsWrite (keys_by K.Hash S.BuildHasher S.Hasher.Hasher) (having (Writing write) self.old.state) }
+        ensures step { CorePushesWrite (keys_by K.Hash S.BuildHasher S.Hasher.Hasher) (W.weighs self.old.weigher)
+            now (having (Writing write) self.old.state) self.new.state }
+        ensures weigher { self.new.weigher ≡ self.old.weigher }
+    {
+        if is_due(self.write_log.len(), FLUSH_POINT, self.sync_after, now) {
+            self.pending.put(CALLER, Operation::Writing(write));
+            self.push_write(now);
+            return;
+        }
+        let _ = self.write_log.push(write);
     }
 
     /// The pending read goes to its log, once a maintenance was run where one is due.
@@ -215,7 +232,7 @@ impl<
         ensures weigher { self.new.weigher ≡ self.old.weigher }
     {
         loop {
-            if self.apply_next_read() {
+            if self.apply_next() {
                 continue;
             }
             self.take_turn();
@@ -225,7 +242,15 @@ impl<
         }
     }
 
-    /// Two turns, where the first one is to take a read and there is one: it is taken, and applied. Answers whether that was so.
+    /// Two turns, where the first one is to take an operation and there is one: it is taken, and applied. Answers whether that was so.
+    fn apply_next(&mut self) -> bool
+        ensures turns { AppliesNext self.old.state result self.new.state }
+        ensures weigher { self.new.weigher ≡ self.old.weigher }
+    {
+        self.apply_next_read() || self.apply_next_write()
+    }
+
+    /// The same of a read.
     fn apply_next_read(&mut self) -> bool
         ensures turns { AppliesNextRead self.old.state result self.new.state }
         ensures kept { KeepsRoom self.old self.new }
@@ -241,6 +266,26 @@ impl<
             Read::Miss { hash } => self
                 .maintenance
                 .turn_with_miss::<K, V, S>(self.map.settings(), self.valid_after, hash),
+        }
+        true
+    }
+
+    /// The same of a write.
+    fn apply_next_write(&mut self) -> bool
+        ensures turns { AppliesNextWrite self.old.state result self.new.state }
+        ensures kept { KeepsRoom self.old self.new }
+    {
+        let Some(write) = self.maintenance.take_write(&mut self.write_log) else {
+            return false;
+        };
+        match write {
+            Write::Upsert { ticket } => {
+                self.map
+                    .turn_with_upsert(&mut self.maintenance, ticket, self.valid_after)
+            }
+            Write::Remove { ticket } => self
+                .maintenance
+                .turn_with_removal::<K, V, S>(self.map.settings(), self.valid_after, ticket),
         }
         true
     }

@@ -1,7 +1,12 @@
-use Rattle.std.proofs.Common.{subst}
+use Rattle.std.proofs.Common.{refl, subst}
 use Rattle.moka_base.specs.Keys.{Keys, keys_by}
-use Rattle.moka_core.proofs.CallLemmas.{accepted_pends, called_insert, refused_insert}
-use Rattle.moka_core.specs.Calls.{CorePushesWrite}
+use Rattle.moka_engine.specs.declared.constants.TheConstants.{CALLER}
+use Rattle.moka_engine.specs.declared.event.Reply.TheVariants.{Done}
+use Rattle.moka_engine.specs.declared.operation.Operation.TheVariants.{Writing}
+use Rattle.moka_engine_laws.proofs.CallLemmas.{none_pending}
+use Rattle.moka_core.proofs.CallLemmas.{accepted_pends, called_insert, refusal_not_done, refused_insert}
+use Rattle.moka_core.specs.Calls.{CorePushesWrite, having}
+use Rattle.moka_core.specs.Machine.{refusal_reply}
 use Rattle.moka_core.proofs.machine.Machine.call_insert.Given.{Over}
 use Rattle.moka_core.proofs.machine.Machine.call_insert.Goals as goal
 
@@ -9,28 +14,32 @@ use Rattle.moka_core.proofs.machine.Machine.call_insert.Goals as goal
 abbrev keys : (g : Over) → Keys g.row.K.Denot g.row.S.Denot
 keys g = keys_by (record { eq = g.K.PartialEq.eq; hash_input = g.K.Hash.hash_input }) g.S.BuildHasher g.S.Hasher.Hasher
 
-pub returns-in_default : goal.returns-in_default
-returns-in_default g c =
+pub log_write-requires-clause-pends : goal.log_write-requires-clause-pends
+log_write-requires-clause-pends g c =
     let weighs = g.W.WeighShared.weighs c.args.self.now.weigher in
-    record {
-      step = refused_insert (keys g) g.met.K.Eq.laws weighs c.args.self.now.state c.insert-reply.new.self.state c.requires.good c.requires.rest
-          c.args.key c.args.value c.args.now c.insert-reply.result c.in_default.not-Done c.insert-reply.ensures.step;
-      weigher = c.insert-reply.ensures.kept.weigher;
-    }
+    let old = c.args.self.now.state in
+    let none = none_pending (keys g) g.met.K.Eq.laws weighs old c.requires.rest.pending in
+    accepted_pends (keys g) g.met.K.Eq.laws weighs old (having (Writing c.in-Ok.write) c.insert_into_map.new.self.state) c.requires.good
+    c.requires.rest c.args.key c.args.value c.args.now Done refl (c.in-Ok.ensures.inserted CALLER none)
 
-pub push_write-requires : goal.push_write-requires
-push_write-requires g c =
+pub returns-in-Ok-clause-step : goal.returns-in-Ok-clause-step
+returns-in-Ok-clause-step g c =
     let weighs = g.W.WeighShared.weighs c.args.self.now.weigher in
-    record {
-      pends = accepted_pends (keys g) g.met.K.Eq.laws weighs c.args.self.now.state c.insert-reply.new.self.state c.requires.good c.requires.rest
-          c.args.key c.args.value c.args.now c.insert-reply.result c.in-Done.is c.insert-reply.ensures.step;
-    }
+    let old = c.args.self.now.state in
+    let none = none_pending (keys g) g.met.K.Eq.laws weighs old c.requires.rest.pending in
+    let next = having (Writing c.in-Ok.write) c.insert_into_map.new.self.state in
+    called_insert (keys g) g.met.K.Eq.laws weighs old next c.requires.good c.requires.rest c.args.key c.args.value c.args.now
+    c.log_write.new.self.state Done refl (c.in-Ok.ensures.inserted CALLER none)
+    (subst (λ w. CorePushesWrite (keys g) (g.W.WeighShared.weighs w) c.args.now next c.log_write.new.self.state)
+    c.insert_into_map.ensures.kept.weigher c.log_write.ensures.step)
 
-pub returns-clause-step : goal.returns-clause-step
-returns-clause-step g c =
+pub returns-in-Err-clause-step : goal.returns-in-Err-clause-step
+returns-in-Err-clause-step g c =
     let weighs = g.W.WeighShared.weighs c.args.self.now.weigher in
-    let next = c.insert-reply.new.self.state in
-    called_insert (keys g) g.met.K.Eq.laws weighs c.args.self.now.state next c.requires.good c.requires.rest c.args.key c.args.value c.args.now
-    c.push_write.new.self.state c.insert-reply.result c.in-Done.is c.insert-reply.ensures.step
-    (subst (λ w. CorePushesWrite (keys g) (g.W.WeighShared.weighs w) c.args.now next c.push_write.new.self.state)
-    c.insert-reply.ensures.kept.weigher c.push_write.ensures.step)
+    let old = c.args.self.now.state in
+    let none = none_pending (keys g) g.met.K.Eq.laws weighs old c.requires.rest.pending in
+    rw c.refusal.ensures (
+    refused_insert (keys g) g.met.K.Eq.laws weighs old c.insert_into_map.new.self.state c.requires.good c.requires.rest c.args.key c.args.value
+    c.args.now (refusal_reply c.in-Err.error) (refusal_not_done (keys g) g.met.K.Eq.laws weighs c.in-Err.error)
+    (c.in-Err.ensures.refused CALLER none)
+    )

@@ -13,20 +13,20 @@ use Rattle.moka_core.proofs.machine.Machine.finish.Goals as goal
 abbrev keys : (g : Over) → Keys g.row.K.Denot g.row.S.Denot
 keys g = keys_by (record { eq = g.K.PartialEq.eq; hash_input = g.K.Hash.hash_input }) g.S.BuildHasher g.S.Hasher.Hasher
 
-pub loop-self-smaller-then-apply_next_read : goal.loop-self-smaller-then-apply_next_read
-loop-self-smaller-then-apply_next_read g c =
+pub loop-self-smaller-then-apply_next : goal.loop-self-smaller-then-apply_next
+loop-self-smaller-then-apply_next g c =
     let weighs = g.W.WeighShared.weighs c.args.self.now.weigher in
-    two_turns_leave (keys g) g.met.K.Eq.laws weighs c.loop-self.self.state c.apply_next_read.new.self.state c.if-apply_next_read.ensures.turns
+    two_turns_leave (keys g) g.met.K.Eq.laws weighs c.loop-self.self.state c.apply_next.new.self.state c.if-apply_next.ensures.turns
     c.loop-self.invariant.good
 
-pub loop-self-preserved-then-apply_next_read : goal.loop-self-preserved-then-apply_next_read
-loop-self-preserved-then-apply_next_read g c =
+pub loop-self-preserved-then-apply_next : goal.loop-self-preserved-then-apply_next
+loop-self-preserved-then-apply_next g c =
     let weighs = g.W.WeighShared.weighs c.args.self.now.weigher in
     let old = c.loop-self.self.state in
-    let new = c.apply_next_read.new.self.state in
-    let turns = c.if-apply_next_read.ensures.turns in
+    let new = c.apply_next.new.self.state in
+    let turns = c.if-apply_next.ensures.turns in
     record {
-      weigher = c.apply_next_read.ensures.kept.weigher ∙ c.loop-self.invariant.weigher;
+      weigher = c.apply_next.ensures.weigher ∙ c.loop-self.invariant.weigher;
       good = two_turns_keep (keys g) g.met.K.Eq.laws weighs old new turns c.loop-self.invariant.good;
       busy = two_turns_busy (keys g) g.met.K.Eq.laws weighs old new turns;
       took = λ end later.
@@ -38,10 +38,10 @@ returns-in-Idle-clause-turns g c =
     let weighs = g.W.WeighShared.weighs c.args.self.now.weigher in
     let turn = c.take_turn.ensures.turn in
     let new = c.take_turn.new.self.state in
-    let same : c.apply_next_read.new.self.state ≡ c.loop-self.self.state = c.if-apply_next_read.ensures.turns.0 in
+    let same : c.apply_next.new.self.state ≡ c.loop-self.self.state = c.if-apply_next.ensures.turns in
     c.loop-self.invariant.took new
     (subst (λ s. CoreTurns (keys g) weighs s new) same
-    (last_turn (keys g) g.met.K.Eq.laws weighs turn.0 c.apply_next_read.new.self.state new
+    (last_turn (keys g) g.met.K.Eq.laws weighs turn.0 c.apply_next.new.self.state new
     (λ idle. c.loop-self.invariant.busy (sym (ap (λ s. s.maintenance.place) same) ∙ idle)) turn.1
     (rw (← c.self.view_is) (sym c.place.ensures ∙ c.in-Idle.is))))
 
@@ -50,9 +50,9 @@ loop-self-smaller g c =
     let weighs = g.W.WeighShared.weighs c.args.self.now.weigher in
     let turn = c.take_turn.ensures.turn in
     let new = c.take_turn.new.self.state in
-    let same : c.apply_next_read.new.self.state ≡ c.loop-self.self.state = c.if-apply_next_read.ensures.turns.0 in
+    let same : c.apply_next.new.self.state ≡ c.loop-self.self.state = c.if-apply_next.ensures.turns in
     subst (λ s. turns_left new < turns_left s) same
-    (turn_leaves (keys g) g.met.K.Eq.laws weighs turn.0 c.apply_next_read.new.self.state new
+    (turn_leaves (keys g) g.met.K.Eq.laws weighs turn.0 c.apply_next.new.self.state new
     (λ idle. c.loop-self.invariant.busy (sym (ap (λ s. s.maintenance.place) same) ∙ idle)) turn.1
     (subst (IsConsistent (keys g)) (sym same) c.loop-self.invariant.good))
 
@@ -61,18 +61,18 @@ loop-self-preserved g c =
     let weighs = g.W.WeighShared.weighs c.args.self.now.weigher in
     let turn = c.take_turn.ensures.turn in
     let new = c.take_turn.new.self.state in
-    let same : c.apply_next_read.new.self.state ≡ c.loop-self.self.state = c.if-apply_next_read.ensures.turns.0 in
-    let busy : c.apply_next_read.new.self.state.maintenance.place ≡ Idle → ⊥ =
+    let same : c.apply_next.new.self.state ≡ c.loop-self.self.state = c.if-apply_next.ensures.turns in
+    let busy : c.apply_next.new.self.state.maintenance.place ≡ Idle → ⊥ =
     λ idle. c.loop-self.invariant.busy (sym (ap (λ s. s.maintenance.place) same) ∙ idle) in
     let more : name_of new.maintenance.place ≡ name.Idle → ⊥ =
     rw (← c.self.view_is) (λ idle. c.in_default.not-Idle (c.place.ensures ∙ idle)) in
     record {
-      weigher = c.take_turn.ensures.kept.weigher ∙ c.apply_next_read.ensures.kept.weigher ∙ c.loop-self.invariant.weigher;
-      good = turn_keeps (keys g) g.met.K.Eq.laws weighs turn.0 c.apply_next_read.new.self.state new busy turn.1
+      weigher = c.take_turn.ensures.kept.weigher ∙ c.apply_next.ensures.weigher ∙ c.loop-self.invariant.weigher;
+      good = turn_keeps (keys g) g.met.K.Eq.laws weighs turn.0 c.apply_next.new.self.state new busy turn.1
           (subst (IsConsistent (keys g)) (sym same) c.loop-self.invariant.good);
       busy = still_busy (keys g) g.met.K.Eq.laws weighs new more;
       took = λ end later.
           c.loop-self.invariant.took end
           (subst (λ s. CoreTurns (keys g) weighs s end) same
-          (next_turn (keys g) g.met.K.Eq.laws weighs turn.0 c.apply_next_read.new.self.state new busy turn.1 more end later));
+          (next_turn (keys g) g.met.K.Eq.laws weighs turn.0 c.apply_next.new.self.state new busy turn.1 more end later));
     }

@@ -3,6 +3,7 @@ use Rattle.std.specs.Map.{values_of}
 use Rattle.moka_engine.specs.Orders.{charge_of}
 use Rattle.moka_orders.specs.OrdersState.{orders_of}
 use Rattle.moka_orders.proofs.ChangeLemmas.{seen}
+use Rattle.moka_orders.proofs.HighWaterLemmas.{AreCovered-enter}
 use Rattle.moka_orders.proofs.KeptLemmas.{IsKept-enter, IsKept-unwritten, total_bound, ticket_absent}
 use Rattle.moka_orders.proofs.orders.Orders.enter.Goals as goal
 
@@ -21,6 +22,9 @@ invariant_of-self g c =
           (ticket_absent c.self.invariant.0 c.args.ticket (values_of old.writes.items) absent)
           c.with_charge-self-inside.ensures.small refl),
       c.push_node.ensures.indexed,
+      rw (step.items, c.none.ensures)
+          (AreCovered-enter old.access.items old.high_water c.self.invariant.2 step.id m c.rise_to.new.self step.new_id c.rise_to.ensures.covers
+          c.rise_to.ensures.kept),
     )
 
 pub invariant_of-self-2 : goal.invariant_of-self-2
@@ -36,4 +40,7 @@ invariant_of-self-2 g c =
           (ticket_absent c.self.invariant.0 c.args.ticket (values_of old.writes.items) absent)
           c.with_charge-self-inside.ensures.small w refl c.push_reserved-write.ensures.new_id),
       c.push_node-2.ensures.indexed,
+      rw (step.items, c.to-node.ensures)
+          (AreCovered-enter old.access.items old.high_water c.self.invariant.2 step.id m c.rise_to.new.self step.new_id c.rise_to.ensures.covers
+          c.rise_to.ensures.kept),
     )

@@ -2,6 +2,7 @@ use Rattle.std.proofs.Common.{◌∙◌, ap, arith, nat_eq, refl, sym}
 use Rattle.std.specs.Map.{set_value}
 use Rattle.moka_deque.proofs.IdLemmas.{some_parts}
 use Rattle.moka_orders.proofs.ChangeLemmas.{seen, set_is, marked_orders, set_indexed}
+use Rattle.moka_orders.proofs.HighWaterLemmas.{AreCovered-set}
 use Rattle.moka_orders.proofs.KeptLemmas.{IsKept-set, charge_in_total}
 use Rattle.moka_orders.proofs.orders.Orders.mark.Goals as goal
 
@@ -13,6 +14,7 @@ invariant_of-self g c =
           (c.self.invariant.0.small c.args.id n c.get_mut.ensures.value) c.self.inside.total
           (omega (arith, charge_in_total c.self.invariant.0 c.args.id n c.get_mut.ensures.value)),
       set_indexed c.self.invariant.0 c.args.id n c.get_mut.ensures.value m refl c.self.inside.index c.self.invariant.1,
+      AreCovered-set c.self.inside.access.items c.self.inside.high_water c.self.invariant.2 c.args.id n m c.get_mut.ensures.value refl,
     )
 
 pub returns-clause-step : goal.returns-clause-step

@@ -1,7 +1,12 @@
+use Rattle.moka_orders.proofs.HighWaterLemmas.{AreCovered-none}
 use Rattle.moka_orders.proofs.KeptLemmas.{IsKept-moved, IsKept-set, IsKept-remove, IsKept-rewritten, IsKept-enter, IsKept-unwritten, IsKept-oldest, written-oldest, oldest_stands, charge_found, charge_in_total, total_bound, rest_bound, ticket_absent}
 use Rattle.moka_orders.proofs.IndexLemmas.{IsIndexed-none}
 use Rattle.moka_orders.proofs.orders.Orders.new.Goals as goal
 
 pub invariant_of-result : goal.invariant_of-result
 invariant_of-result g c =
-    rw (c.new.ensures.items, c.new-2.ensures.items) (Rattle.moka_orders.proofs.KeptLemmas.IsKept-new, IsIndexed-none c.new-3.result c.new-3.ensures.empty)
+    rw (c.new.ensures.items, c.new-2.ensures.items) (
+      Rattle.moka_orders.proofs.KeptLemmas.IsKept-new,
+      IsIndexed-none c.new-3.result c.new-3.ensures.empty,
+      AreCovered-none c.new-4.result,
+    )

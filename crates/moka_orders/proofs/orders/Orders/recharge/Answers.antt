@@ -4,6 +4,7 @@ use Rattle.moka_engine.specs.Orders.{recharged}
 use Rattle.moka_orders.specs.OrdersState.{orders_of}
 use Rattle.moka_deque.proofs.IdLemmas.{some_parts}
 use Rattle.moka_orders.proofs.ChangeLemmas.{seen, set_is, recharged_orders, set_indexed}
+use Rattle.moka_orders.proofs.HighWaterLemmas.{AreCovered-set}
 use Rattle.moka_orders.proofs.KeptLemmas.{IsKept-set, charge_in_total, rest_bound}
 use Rattle.moka_orders.proofs.orders.Orders.recharge.Goals as goal
 
@@ -23,6 +24,7 @@ invariant_of-self g c =
           (c.with_charge-self-inside.ensures.value
           ∙ ap (λ w. c.self.inside.total - w + c.args.weight) (c.from.ensures ∙ ap (λ k. k.charge) same)),
       set_indexed c.self.invariant.0 c.args.id n c.get_mut.ensures.value m refl c.self.inside.index c.self.invariant.1,
+      AreCovered-set c.self.inside.access.items c.self.inside.high_water c.self.invariant.2 c.args.id n m c.get_mut.ensures.value refl,
     )
 
 pub returns-clause-step : goal.returns-clause-step

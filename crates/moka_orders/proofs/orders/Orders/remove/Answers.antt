@@ -7,6 +7,7 @@ use Rattle.moka_orders.specs.OrdersState.{orders_of}
 use Rattle.moka_deque.proofs.IdLemmas.{some_parts}
 use Rattle.moka_orders.proofs.ChangeLemmas.{seen, removed_orders}
 use Rattle.moka_orders.proofs.KeptLemmas.{IsKept-remove, charge_in_total}
+use Rattle.moka_orders.proofs.HighWaterLemmas.{AreCovered-remove}
 use Rattle.moka_orders.proofs.IndexLemmas.{IsIndexed-remove}
 use Rattle.moka_orders.proofs.RoomLemmas.{room_removed}
 use Rattle.moka_orders.proofs.orders.Orders.remove.Goals as goal
@@ -21,6 +22,7 @@ invariant_of-self g c =
       IsKept-remove c.self.invariant.0 c.args.id n c.unlink-node.ensures.value,
       IsIndexed-remove c.self.invariant.1 c.args.id c.self.invariant.0.once c.remove.new.self
           (subst (λ i. Removes c.self.inside.index i c.remove.new.self) c.number.ensures c.remove.ensures.step),
+      AreCovered-remove c.self.inside.access.items c.self.inside.high_water c.self.invariant.2 c.args.id c.self.invariant.0.once,
     )
 
 pub returns-clause-room : goal.returns-clause-room

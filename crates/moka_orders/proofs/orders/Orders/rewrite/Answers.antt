@@ -14,6 +14,7 @@ invariant_of-self g c =
       IsKept-rewritten c.self.invariant.0 c.in-Some.write n.ticket
           (write_in c.self.invariant.0 c.args.id n c.get.ensures c.in-Some.write (sym c.id-write.ensures ∙ c.in-Some.is)),
       c.self.invariant.1,
+      c.self.invariant.2,
     )
 
 pub returns-in-Some-clause-orders : goal.returns-in-Some-clause-orders

@@ -1,6 +1,7 @@
 use Rattle.std.proofs.Common.{subst, sym}
 use Rattle.moka_deque.specs.Deque.{moved_to_back}
 use Rattle.moka_orders.proofs.ChangeLemmas.{node_in, moved_indexed, moved_is, moved_orders}
+use Rattle.moka_orders.proofs.HighWaterLemmas.{AreCovered-moved}
 use Rattle.moka_orders.proofs.KeptLemmas.{IsKept-moved}
 use Rattle.moka_orders.proofs.orders.Orders.use_node.Goals as goal
 
@@ -8,8 +9,11 @@ pub invariant_of-self : goal.invariant_of-self
 invariant_of-self g c =
     let old = c.self.inside in
     let here = node_in old.access.items c.args.id (subst (λ v. Rattle.moka_deque.specs.Deque.IsIn v.nodes c.args.id) (sym c.self.view_is) c.requires) in
-    rw c.move_to_back.ensures
-    (IsKept-moved c.self.invariant.0 c.args.id here.0 here.1, moved_indexed c.self.invariant.0 c.args.id here.0 here.1 old.index c.self.invariant.1)
+    rw c.move_to_back.ensures (
+      IsKept-moved c.self.invariant.0 c.args.id here.0 here.1,
+      moved_indexed c.self.invariant.0 c.args.id here.0 here.1 old.index c.self.invariant.1,
+      AreCovered-moved old.access.items old.high_water c.self.invariant.2 c.args.id here.0 here.1 c.self.invariant.0.once,
+    )
 
 pub returns-clause-step : goal.returns-clause-step
 returns-clause-step g c =
