@@ -1,5 +1,6 @@
 pub mod ShardsLemmas
 pub mod MapLemmas
+pub mod MapTurnLemmas
 pub mod FindLemmas
 pub mod PendingLemmas
 pub mod RoomLemmas

@@ -283,10 +283,8 @@ fn apply_hit<K: Eq + Hash + Drop, V: Drop, S: BuildHasher + Drop, A: Allocator +
     ensures { TurnsOnShard settings.now valid_after false ticket (having_taken (Hit ticket moment) maintenance.old) maintenance.new
         (state_of shard.old) (state_of shard.new) }
 {
-    let slot = shard.find_ticket(ticket);
-    let found = shard.entry(slot);
-    let change = maintenance.turn_with_hit(settings, valid_after, ticket, moment, found);
-    shard.change(slot, change);
+    let place = shard.touch(ticket, moment);
+    maintenance.turn_with_hit::<K, V, S>(settings, valid_after, ticket, moment, place);
 }
 
 /// The turn that applies an upsert, with the shard in which the ticket's entry would stand.

@@ -195,3 +195,11 @@ impl<K: Drop, V: Drop, A: Allocator + Drop> Entry<K, V, A> {
         self.outstanding = self.outstanding.saturating_sub(1);
     }
 }
+
+/// Where the maintenance may find what it charges for an entry: nowhere where there is none.
+pub fn place_of<K: Drop, V: Drop, A: Allocator + Drop>(found: Option<&Entry<K, V, A>>) -> usize {
+    match found {
+        Some(entry) => entry.place(),
+        None => NO_PLACE as usize,
+    }
+}

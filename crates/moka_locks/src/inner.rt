@@ -355,8 +355,14 @@ impl<
         };
         match read {
             Read::Hit { ticket, moment } => {
-                let mut shard = lock(rt, self.shard(ticket.hash));
-                shard.turn_with_hit(maintenance, ticket, moment, &self.settings, valid_after);
+                let place = self.touch(rt, ticket, moment);
+                maintenance.turn_with_hit::<K, V, S>(
+                    &self.settings,
+                    valid_after,
+                    ticket,
+                    moment,
+                    place,
+                );
             }
             Read::Miss { hash } => maintenance.turn_with_miss::<K, V, S>(
                 &self.settings,
@@ -364,6 +370,13 @@ impl<
                 hash,
             ),
         }
+    }
+
+    /// The entry of a ticket, if it stands, was used at a moment. The answer is where what is charged for it may be found. The shard is free again before
+    /// that is looked at, which lies in memory of its own.
+    fn touch<R: Wait>(&self, rt: &R, ticket: Ticket, moment: Instant) -> usize {
+        let mut shard = lock(rt, self.shard(ticket.hash));
+        shard.touch(ticket, moment)
     }
 
     /// The read that the maintenance is to take next leaves its log.

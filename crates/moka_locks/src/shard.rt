@@ -1,13 +1,12 @@
 // What lies behind the lock of a shard: its entries, whose pairs meet the rule.
 ghost use Rattle.std.specs.Prelude.{◌≡◌, [], false, map, IfOk, IfSome};
 ghost use Rattle.std.specs.List.{IsDistinct};
-ghost use Rattle.moka_engine.specs.declared.operation.Read.TheVariants.{Hit};
 ghost use Rattle.moka_engine.specs.declared.operation.Write.TheVariants.{Upsert};
 ghost use Rattle.moka_engine.specs.Parts.{NeedsShard, need_of};
 ghost use Rattle.moka_engine.specs.Turn.Turn.{turn_at};
 ghost use Rattle.moka_locks.specs.MaintenanceTurn.{IsTurn};
 ghost use Rattle.moka_locks.specs.Rule.{PairsMeet};
-ghost use Rattle.moka_maintenance.specs.Taken.{TakesRead, TakesWrite, having_taken, having_taken_write};
+ghost use Rattle.moka_maintenance.specs.Taken.{TakesWrite, having_taken_write};
 ghost use Rattle.moka_shard.specs.Shard.{entries_in};
 
 use crate::rule::PairRule;
@@ -162,22 +161,9 @@ impl<
         self.shard.change(slot, change);
     }
 
-    /// The turn that applies a hit, which the maintenance has just taken from its log.
-    pub(crate) fn turn_with_hit(
-        &mut self,
-        maintenance: &mut Maintenance<A>,
-        ticket: Ticket,
-        moment: Instant,
-        settings: &Settings<S, A>,
-        valid_after: Instant,
-    )
-        requires { TakesRead maintenance.old }
-        ensures { IsTurn K V settings.now (having_taken (Hit ticket moment) maintenance.old) maintenance.new }
-    {
-        let slot = self.shard.find_ticket(ticket);
-        let found = self.shard.entry(slot);
-        let change = maintenance.turn_with_hit(settings, valid_after, ticket, moment, found);
-        self.shard.change(slot, change);
+    /// The entry of a ticket, if it stands, was used at a moment. The answer is where what is charged for it may be found.
+    pub(crate) fn touch(&mut self, ticket: Ticket, moment: Instant) -> usize {
+        self.shard.touch(ticket, moment)
     }
 
     /// The turn that applies an upsert, which the maintenance has just taken from its log.

@@ -1,11 +1,13 @@
 //! The maintenance of the cache that threads share: it applies what callers have left in the logs, decides which entries enter and leave, and
 //! publishes the counts. It goes on by turns, each of which needs at most one log or one entry besides it.
-ghost use Rattle.std.specs.Prelude.{◌≡◌, ◌↔◌, Bool, IfOk, IsTrue, false, length, option_copied};
+ghost use Rattle.std.specs.Prelude.{◌≡◌, ◌↔◌, Bool, IfOk, IsTrue, Option, false, length, option_copied};
 ghost use Rattle.moka_engine.specs.CoreState.{new_maintenance};
 ghost use Rattle.moka_engine.specs.Orders.{charged_weight};
 ghost use Rattle.moka_engine.specs.Parts.{NeedsNothing, NeedsReads, NeedsShard, NeedsWrites, TurnsAlone, TurnsAtEntry, TurnsWithReads, TurnsWithWrites, need_of};
 ghost use Rattle.moka_engine.specs.Place.{Idle, ReadCount, name_of};
 ghost use Rattle.moka_engine.specs.Turn.Turn.{turn_at};
+ghost use Rattle.moka_engine.specs.Entry.{Entry as EntryState};
+ghost use Rattle.moka_engine.specs.declared.entry.EntryChange.TheVariants.{Touched};
 ghost use Rattle.moka_engine.specs.declared.operation.Read.TheVariants.{Hit, Miss};
 ghost use Rattle.moka_engine.specs.declared.operation.Write.TheVariants.{Remove, Upsert};
 ghost use Rattle.moka_maintenance.specs.Need.{need_at_front, need_named, need_to_read, need_to_write};
@@ -27,7 +29,7 @@ use crate::logs::{ReadLog, WriteLog};
 use crate::maintenance::place::Stage;
 use crate::maintenance::state::State;
 use moka_base::time::Instant;
-use moka_engine::entry::{Entry, EntryChange};
+use moka_engine::entry::{Entry, EntryChange, place_of};
 use moka_engine::operation::{Read, Write};
 use moka_engine::place::Place;
 use moka_engine::settings::Settings;
@@ -195,29 +197,25 @@ impl<A: Allocator + Clone + Drop> Maintenance<A> {
         log.pop()
     }
 
-    /// The turn that applies a hit, which `take_read` has taken, at the entry of its ticket, which is given where it stands. What becomes of the
-    /// entry is for its owner to do.
+    /// The turn that applies a hit, which `take_read` has taken. Whichever entry its ticket has, it is touched: that is for its owner to do, before the
+    /// turn or after it. The node is looked for at a place first.
     pub fn turn_with_hit<K: Drop, V: Drop, S: Drop>(
         &mut self,
         settings: &Settings<S, A>,
         valid_after: Instant,
         ticket: Ticket,
         moment: Instant,
-        found: Option<&Entry<K, V, A>>,
-    ) -> EntryChange
+        place: usize,
+    )
         requires { TakesRead self.old }
-        ensures { TurnsAtEntry K V settings.now valid_after false (having_taken (Hit ticket moment) self.old) self.new
-            (option_copied found.entry) result }
+        ensures { (found : Option (EntryState K V)) → TurnsAtEntry K V settings.now valid_after false (having_taken (Hit ticket moment) self.old) self.new
+            found (Touched moment) }
     {
         let _ = settings;
         let _ = valid_after;
-        match self.state.stage {
-            Stage::Reads { work } => {
-                self.state
-                    .apply_hit(work.less_one(), ticket, place_of(found));
-                EntryChange::Touched(moment)
-            }
-            _ => EntryChange::Stays,
+        let _ = moment;
+        if let Stage::Reads { work } = self.state.stage {
+            self.state.apply_hit(work.less_one(), ticket, place);
         }
     }
 
@@ -403,14 +401,6 @@ impl<A: Allocator + Clone + Drop> Maintenance<A> {
             },
             _ => EntryChange::Stays,
         }
-    }
-}
-
-/// Where what is charged for an entry may be found: nowhere where there is no entry.
-fn place_of<K: Drop, V: Drop, A: Allocator + Drop>(found: Option<&Entry<K, V, A>>) -> usize {
-    match found {
-        Some(entry) => entry.place(),
-        None => usize::MAX,
     }
 }
 

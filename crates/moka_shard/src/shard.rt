@@ -7,6 +7,7 @@ ghost use Rattle.moka_engine.specs.EntryChange.{change_of};
 ghost use Rattle.moka_engine.specs.Entry.{entry_at, entry_of};
 ghost use Rattle.moka_engine.specs.Parts.{IsValidShard};
 ghost use Rattle.moka_engine.specs.Ticket.{shard_of};
+ghost use Rattle.moka_engine.specs.declared.entry.EntryChange.TheVariants.{Touched};
 ghost use Rattle.moka_engine.specs.declared.ticket.Ticket.{Ticket};
 ghost use Rattle.moka_engine.specs.Turn.Plan.{after_change};
 ghost use Rattle.moka_shard.specs.Shard.{entries_in, entry_found, entry_in, state_of, unexpired};
@@ -18,7 +19,7 @@ use moka_base::hash::FixedState;
 use moka_base::shared::Shared;
 use moka_base::time::Instant;
 use moka_engine::constants::{MAX_OUTSTANDING, NO_TICKET, SHARDS};
-use moka_engine::entry::{Entry, EntryChange};
+use moka_engine::entry::{Entry, EntryChange, place_of};
 use moka_engine::settings::Settings;
 use moka_engine::ticket::Ticket;
 use moka_engine::weigh::WeighShared;
@@ -354,6 +355,18 @@ impl<K: Eq + Hash + Drop, V: Drop, S: BuildHasher + Drop, A: Allocator + Clone +
         let ticket = entry.ticket();
         self.index.remove(slot, ticket.hash);
         ticket
+    }
+
+    /// The entry of a ticket, if it stands, was used at a moment. The answer is where what is charged for it may be found.
+    pub fn touch(&mut self, ticket: Ticket, moment: Instant) -> usize
+        ensures step { state_of self.new ≡ record (state_of self.old) {
+          entries = after_change ticket (change_of (Touched moment)) (entries_in self.old.slots);
+        } }
+    {
+        let slot = self.find_ticket(ticket);
+        let place = place_of(self.entry(slot));
+        self.change(slot, EntryChange::Touched(moment));
+        place
     }
 
     /// Makes this of the entry in a slot, if a search has found one.

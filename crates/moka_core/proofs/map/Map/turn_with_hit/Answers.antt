@@ -1,14 +1,8 @@
-use Rattle.std.proofs.Common.{false, refl, subst, sym}
-use Rattle.std.proofs.lemmas.List.{map-set}
+use Rattle.std.proofs.Common.{false}
 use Rattle.moka_base.specs.Keys.{Keys, keys_by}
 use Rattle.moka_engine.specs.declared.operation.Read.TheVariants.{Hit}
-use Rattle.moka_engine.specs.Ticket.{shard_of}
 use Rattle.moka_maintenance.specs.Taken.{having_taken}
-use Rattle.moka_shard.specs.Shard.{state_of}
-use Rattle.moka_core.specs.MapTurn.{TurnsOnMap}
-use Rattle.moka_core.specs.Shards.{AreOwn, map_in, states_of}
-use Rattle.moka_core.proofs.MapLemmas.{own_turned, turned}
-use Rattle.moka_core.proofs.ShardsLemmas.{AreOwn-set, here_below, here_own, here_state}
+use Rattle.moka_core.proofs.MapTurnLemmas.{still_own, turned_at}
 use Rattle.moka_core.proofs.map.Map.turn_with_hit.Given.{Over}
 use Rattle.moka_core.proofs.map.Map.turn_with_hit.Goals as goal
 
@@ -18,34 +12,16 @@ keys g = keys_by (record { eq = g.K.PartialEq.eq; hash_input = g.K.Hash.hash_inp
 
 pub invariant_of-self : goal.invariant_of-self
 invariant_of-self g c =
-    let items = c.self.inside.shards.items in
-    let hash = c.args.ticket.hash in
-    let i = shard_of hash in
-    let was = here_own (keys g) _ items c.self.invariant hash _ c.index_mut-shard.ensures.value in
-    let new = c.apply_hit.new.shard in
     let taken = having_taken (Hit c.args.ticket c.args.moment) c.args.maintenance.now in
-    subst (AreOwn (keys g) c.self.inside.settings.hash_state) (sym (map-set state_of items i new))
-    (AreOwn-set (keys g) _ (states_of items) i (state_of new) c.self.invariant
-    (own_turned (keys g) _ i _ (state_of new) was c.len.ensures.valid c.self.inside.settings c.args.valid_after false c.args.ticket
-    taken c.apply_hit.new.maintenance c.apply_hit.ensures))
+    still_own (keys g) c.self.inside.settings c.self.inside.shards.items c.self.invariant c.args.ticket _ c.apply_hit.new.shard
+    c.index_mut-shard.ensures.value c.len.ensures.valid c.args.valid_after false taken
+    c.apply_hit.new.maintenance c.apply_hit.ensures
 
 pub returns : goal.returns
 returns g c =
-    let items = c.self.inside.shards.items in
-    let settings = c.self.inside.settings in
-    let hash = c.args.ticket.hash in
-    let i = shard_of hash in
-    let there = c.index_mut-shard.ensures.value in
-    let old = c.index_mut-shard.result.now in
-    let new = c.apply_hit.new.shard in
-    let was = here_own (keys g) _ items c.self.invariant hash old there in
-    let at = here_state (keys g) _ items c.self.invariant hash old there in
-    let below = here_below (keys g) _ items c.self.invariant hash old there in
     let taken = having_taken (Hit c.args.ticket c.args.moment) c.args.maintenance.now in
-    let after = c.apply_hit.new.maintenance in
-    let done =
-    turned (keys g) settings (states_of items) c.self.invariant i (state_of old) below at was hash refl (state_of new) c.args.valid_after false
-    c.args.ticket taken after refl c.apply_hit.ensures in
-    rw (← c.self.view_is)
-    (subst (λ m. TurnsOnMap (map_in settings (states_of items)) (map_in settings m) c.args.valid_after false taken after)
-    (sym (map-set state_of items i new)) done)
+    rw (← c.self.view_is) (
+    turned_at (keys g) c.self.inside.settings c.self.inside.shards.items c.self.invariant c.args.ticket _ c.apply_hit.new.shard
+    c.index_mut-shard.ensures.value c.len.ensures.valid c.args.valid_after false taken
+    c.apply_hit.new.maintenance c.apply_hit.ensures
+    )

@@ -1,5 +1,7 @@
+use Rattle.std.proofs.Common.{None, false}
 use Rattle.moka_engine.specs.declared.operation.Read.TheVariants.{Hit}
-use Rattle.moka_locks.proofs.TurnLemmas.{taken_and_applied, taken_and_missed, takes_nothing}
+use Rattle.moka_maintenance.specs.Taken.{having_taken}
+use Rattle.moka_locks.proofs.TurnLemmas.{at_entry, taken_and_applied, taken_and_missed, takes_nothing}
 use Rattle.moka_locks.proofs.inner.Inner.apply_next_read.Goals as goal
 
 pub returns-in_default : goal.returns-in_default
@@ -7,9 +9,11 @@ returns-in_default g c = takes_nothing g.row.K.Denot g.row.V.Denot c.args.self.n
 
 pub returns-in-Hit : goal.returns-in-Hit
 returns-in-Hit g c =
+    let read = Hit c.in-Hit.ticket c.in-Hit.moment in
+    let new = c.turn_with_hit.new.self in
     rw (← c.self.view_is) (
-    taken_and_applied g.row.K.Denot g.row.V.Denot c.self.inside.settings c.args.maintenance.now c.requires
-    (Hit c.in-Hit.ticket c.in-Hit.moment) c.turn_with_hit.new.maintenance c.turn_with_hit.ensures
+    taken_and_applied g.row.K.Denot g.row.V.Denot c.self.inside.settings c.args.maintenance.now c.requires read new
+    (at_entry c.self.inside.settings c.args.valid_after false (having_taken read c.args.maintenance.now) new None _ (c.turn_with_hit.ensures None))
     )
 
 pub returns-in-Miss : goal.returns-in-Miss

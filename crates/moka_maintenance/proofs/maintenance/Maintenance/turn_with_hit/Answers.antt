@@ -14,9 +14,10 @@ returns-in-Reads g c =
     let is = ap (λ m. m.state.stage) (sym c.self-inside.view_is) ∙ c.in-Reads.is in
     let left : work_of c.less_one.result ≡ less_one (work_of c.in-Reads.work) =
     λ i. record { round = c.less_one.ensures.round i; left = c.less_one.ensures.left i } in
+    λ found.
     rw (← c.self.view_is) (
     hit_turn c.args.settings.now c.args.valid_after (maintenance_of held) _ (work_of c.in-Reads.work) (ap (place_of held.orders.nodes) is) t
-    c.args.moment _
+    c.args.moment found
     (c.apply_hit.ensures.step
     ∙ ap (λ w. moved_on (after_miss w t.hash (maintenance_of held)) (used t (orders_of held.orders)) (reads_or_on w)) left)
     )
