@@ -5,7 +5,7 @@ use moka_common::time::Instant;
 use moka_core::pending::{Operation, PendingOperations};
 use moka_engine::call::Call;
 use moka_engine::operation::Read;
-use moka_maintenance::logs::{ReadLog, WriteLog};
+use moka_maintenance::logs::{LoggedRead, NO_READ, ReadLog, WriteLog};
 use std::alloc::Global;
 use std::test::Fail;
 
@@ -51,6 +51,26 @@ fn logs_hold_384_operations(rt: HostRuntime) -> Result<(), Fail> {
     assert!(rt; reads.push(Read::Miss { hash: 384 }).is_err());
     assert!(rt; matches!(reads.pop(), Some(Read::Miss { hash: 0 })));
     assert_eq!(rt; (reads.len(), writes.len()), (383, 0));
+    Ok(())
+}
+
+/// No contract speaks of hints. A read has its own wherever it lies in the ring.
+#[test]
+fn reads_are_taken_with_their_hints(rt: HostRuntime) -> Result<(), Fail> {
+    let mut reads = ReadLog::new(rt.alloc())?;
+    for hash in 0..384u64 {
+        assert!(rt; reads.push(Read::Miss { hash }).is_ok());
+    }
+    let mut taken = [NO_READ; 381];
+    assert_eq!(rt; reads.take_first(400, &mut taken), 381);
+    for hint in 1..4 {
+        let read = Read::Miss { hash: 9 };
+        assert!(rt; reads.push_logged(LoggedRead { read, hint }).is_ok());
+    }
+    let mut rest = [NO_READ; 8];
+    assert_eq!(rt; reads.take_first(5, &mut rest), 5);
+    assert_eq!(rt; (rest[2].hint, rest[3].hint, rest[4].hint), (0, 1, 2));
+    assert_eq!(rt; (rest[5].hint, reads.len()), (0, 1));
     Ok(())
 }
 

@@ -1,7 +1,8 @@
 -- A maintenance of a core, turn by turn.
-use Rattle.std.proofs.Common.{◌≡◌, ℕ, ◌<◌, ◌==◌, Bool, true, false, if◌then◌else◌, List, [], ◌∷◌, inl, inr, refl, sym, ◌∙◌, ap, subst, arith}
+use Rattle.std.proofs.Common.{◌≡◌, ℕ, ◌<◌, ◌≤◌, ◌-◌, ◌==◌, Bool, true, false, if◌then◌else◌, List, [], ◌∷◌, ◌++◌, length, inl, inr, refl, sym, ◌∙◌, ap, subst, arith}
+use Rattle.std.specs.List.{fold}
 use Rattle.std.specs.Cmp.{IsEquivalence}
-use Rattle.std.proofs.lemmas.Bool.{false≢true}
+use Rattle.std.proofs.lemmas.Bool.{eqb-true, false≢true}
 use Rattle.moka_base.specs.Keys.{Keys}
 use Rattle.moka_engine.specs.declared.event.Event.TheVariants.{Begin, Turn}
 use Rattle.moka_engine.specs.declared.event.Reply.TheVariants.{At, Done}
@@ -14,22 +15,22 @@ use Rattle.moka_engine.specs.declared.place.Place.{Place as PlaceName}
 use Rattle.moka_engine.specs.declared.place.Place.TheVariants as name
 use Rattle.moka_engine.specs.Place as place
 use Rattle.moka_engine.specs.Place.{Place, Work, is_idle, name_of}
-use Rattle.moka_engine.specs.CoreState.{CoreState}
+use Rattle.moka_engine.specs.CoreState.{CoreState, Maintenance}
 use Rattle.moka_engine.specs.Consistent.{IsConsistent}
 use Rattle.moka_engine.specs.CoreCall.{CoreTurns}
 use Rattle.moka_engine.specs.Event.{IsBeginning, IsTurn}
 use Rattle.moka_engine.specs.Reply.{Reply}
 use Rattle.moka_engine.specs.Run.{Happens}
-use Rattle.moka_engine.specs.Turn.Plan.{after_plan, reads_or_on}
+use Rattle.moka_engine.specs.Turn.Plan.{after_plan, gone_to, reads_or_on}
 use Rattle.moka_engine.specs.Turn.Turn.{after_read_taken, after_turn, after_write_taken, turn_at}
 use Rattle.moka_engine.specs.TurnsLeft.{turns_left}
 use Rattle.moka_engine.specs.WholeCall.{LastTurn, NextTurn}
 use Rattle.moka_engine_laws.proofs.CallLemmas.{consistent_step}
 use Rattle.moka_engine_laws.proofs.EndLemmas.{turn_falls}
 use Rattle.moka_engine_laws.proofs.EventLemmas.{idle_is}
-use Rattle.moka_core.specs.Calls.{AppliesNext}
+use Rattle.moka_core.specs.Calls.{AppliesNext, AppliesNextWrite, touched_by}
 use Rattle.moka_maintenance.proofs.TakenLemmas.{upsert_busy, writes_on_busy}
-use Rattle.moka_maintenance.specs.Taken.{TakesRead, TakesWrite}
+use Rattle.moka_maintenance.specs.Taken.{TakesRead, TakesWrite, counted, having_applied, reads_left, used_by}
 
 -- ---- places that aren't idle
 
@@ -119,19 +120,23 @@ record TwoTurns {K V S : Type 0} (old new : CoreState K V S) : Type 0 where
   is : new ≡ after_turn refused (after_turn false old)
   behind : is_idle new.maintenance.place ≡ false
 
--- such are those that take an operation and apply it
-two_turns : {K V S : Type 0} (old new : CoreState K V S) → AppliesNext old true new → TwoTurns old new
-two_turns old new (inl applies) =
+-- such are those that take a read and apply it
+read_turns : {K V S : Type 0} (old new : CoreState K V S) → TakesRead old.maintenance → new ≡ after_turn false (after_turn false old)
+    → TwoTurns old new
+read_turns old new takes is =
     let mid = after_turn false old in
-    let reading = taken_is_read false old applies.0 in
+    let reading = taken_is_read false old takes in
     record {
       refused = false;
-      busy = λ idle. false≢true (ap is_idle (sym applies.0.1 ∙ idle));
+      busy = λ idle. false≢true (ap is_idle (sym takes.1 ∙ idle));
       between = reading_busy mid.maintenance.place reading;
-      is = applies.1;
-      behind = ap (λ c. is_idle c.maintenance.place) applies.1 ∙ applied_busy false mid mid.maintenance.place reading refl;
+      is = is;
+      behind = ap (λ c. is_idle c.maintenance.place) is ∙ applied_busy false mid mid.maintenance.place reading refl;
     }
-two_turns old new (inr applies) =
+
+-- and those that do so with a write
+write_turns : {K V S : Type 0} (old new : CoreState K V S) → AppliesNextWrite old true new → TwoTurns old new
+write_turns old new applies =
     let mid = after_turn false old in
     let writing = taken_is_write false old applies.0 in
     record {
@@ -141,6 +146,53 @@ two_turns old new (inr applies) =
       is = applies.2;
       behind = ap (λ c. is_idle c.maintenance.place) applies.2 ∙ written_busy applies.1 mid mid.maintenance.place writing refl;
     }
+
+-- a round goes on while reads of it are left
+pub reads_on : (work : Work) → 0 < work.left → reads_or_on work ≡ place.Reads work
+reads_on work some = by (work.left == 0) refl
+  where
+    by : (none : Bool) → (work.left == 0) ≡ none → (if none then place.WriteCount work.round else place.Reads work) ≡ place.Reads work
+    by true none = absurd (omega (arith, eqb-true work.left 0 none, some))
+    by false other = refl
+
+-- one read, and then others
+pub applied_later : (work : Work) (read : Read) (later : List Read) (m : Maintenance) → length (read ∷ later) ≤ work.left
+    → having_applied (record work { left = work.left - 1 }) later (having_applied work (read ∷ []) m) ≡ having_applied work (read ∷ later) m
+applied_later work read later m left =
+    ap (λ n. record m {
+      orders = fold used_by m.orders (read ∷ later);
+      sketch = fold counted m.sketch (read ∷ later);
+      place = reads_or_on (record work { left = n });
+    }) (omega (arith, left))
+
+module _ {K V S : Type 0} where
+  -- the core once reads have been taken from the front of their log and applied, of which these are behind them
+  abbrev having_read : Work → List Read → List Read → CoreState K V S → CoreState K V S
+  having_read work reads rest core = record core {
+    entries = fold touched_by core.entries reads;
+    read_log = rest;
+    maintenance = having_applied work reads core.maintenance;
+  }
+
+  -- one read takes two turns
+  one_read : (work : Work) (read : Read) (rest : List Read) (core : CoreState K V S) → core.maintenance.place ≡ place.Reads work
+      → core.read_log ≡ read ∷ rest → having_read work (read ∷ []) rest core ≡ after_turn false (after_turn false core)
+  one_read work read rest core at log = by read ∙ sym (ap (after_turn false) taken)
+    where
+      taking : Read → CoreState K V S
+      taking read = record core {
+        read_log = rest;
+        maintenance = gone_to (place.ReadApply (record work { left = work.left - 1 }) read) core.maintenance;
+      }
+
+      taken : after_turn false core ≡ taking read
+      taken =
+          ap (after_at false core) at
+          ∙ ap (λ log. let end = after_read_taken work core.maintenance log in record core { read_log = end.1; maintenance = end.0 }) log
+
+      by : (read : Read) → having_read work (read ∷ []) rest core ≡ after_turn false (taking read)
+      by (Hit t moment) = refl
+      by (Miss hash) = refl
 
 module _ {K V S : Type 0} (keys : Keys K S) (laws : IsEquivalence keys.eq) (weighs : K → V → ℕ → Type 0) where
   abbrev Core : Type 0
@@ -174,37 +226,75 @@ module _ {K V S : Type 0} (keys : Keys K S) (laws : IsEquivalence keys.eq) (weig
     turn_leaves good =
         subst (λ c. turns_left c < turns_left old) (sym is) (turn_falls keys old good.entries refused busy good.queues.round).0
 
-  -- two turns that take an operation and apply it
-  module _ (old new : Core) (applies : AppliesNext old true new) where
-    abbrev mid : Core
-    mid = after_turn false old
-
-    both : TwoTurns old new
-    both = two_turns old new applies
-
+  -- turns that leave the maintenance under way
+  pub record Advances (old new : Core) : Type 0 where
     -- others follow
-    pub next_two_turns : (end : Core) → CoreTurns keys weighs new end → CoreTurns keys weighs old end
-    next_two_turns end later =
-        next_turn false old mid both.busy refl (not_named_idle mid.maintenance.place both.between) end
-        (next_turn both.refused mid new (not_idle mid.maintenance.place both.between) both.is (not_named_idle new.maintenance.place both.behind)
-        end later)
-
+    pub follow : (end : Core) → CoreTurns keys weighs new end → CoreTurns keys weighs old end
     -- they leave a consistent core
-    pub two_turns_keep : IsConsistent keys old → IsConsistent keys new
-    two_turns_keep good =
-        turn_keeps both.refused mid new (not_idle mid.maintenance.place both.between) both.is (turn_keeps false old mid both.busy refl good)
-
+    pub keep : IsConsistent keys old → IsConsistent keys new
     -- they leave fewer turns
-    pub two_turns_leave : IsConsistent keys old → turns_left new < turns_left old
-    two_turns_leave good =
-        let first = turn_leaves false old mid both.busy refl good in
-        let second =
-        turn_leaves both.refused mid new (not_idle mid.maintenance.place both.between) both.is (turn_keeps false old mid both.busy refl good) in
-        omega (arith, first, second)
-
+    pub leave : IsConsistent keys old → turns_left new < turns_left old
     -- the maintenance is still under way
-    pub two_turns_busy : new.maintenance.place ≡ place.Idle → ⊥
-    two_turns_busy = not_idle new.maintenance.place both.behind
+    pub busy : new.maintenance.place ≡ place.Idle → ⊥
+
+  -- so do these, and then those
+  then_advances : (old mid new : Core) → Advances old mid → Advances mid new → Advances old new
+  then_advances old mid new first second = record {
+    follow = λ end later. first.follow end (second.follow end later);
+    keep = λ good. second.keep (first.keep good);
+    leave = λ good. omega (arith, first.leave good, second.leave (first.keep good));
+    busy = second.busy;
+  }
+
+  -- so do two turns
+  two_advance : (old new : Core) → TwoTurns old new → Advances old new
+  two_advance old new both =
+      let mid = after_turn false old in
+      let between = not_idle mid.maintenance.place both.between in
+      record {
+        follow = λ end later.
+            next_turn false old mid both.busy refl (not_named_idle mid.maintenance.place both.between) end
+            (next_turn both.refused mid new between both.is (not_named_idle new.maintenance.place both.behind) end later);
+        keep = λ good. turn_keeps both.refused mid new between both.is (turn_keeps false old mid both.busy refl good);
+        leave = λ good.
+            omega (
+              arith,
+              turn_leaves false old mid both.busy refl good,
+              turn_leaves both.refused mid new between both.is (turn_keeps false old mid both.busy refl good),
+            );
+        busy = not_idle new.maintenance.place both.behind;
+      }
+
+  -- so do those of many reads
+  reads_advance : (reads : List Read) (work : Work) (rest : List Read) (core : Core) → core.maintenance.place ≡ place.Reads work
+      → core.read_log ≡ reads ++ rest → 0 < length reads → length reads ≤ work.left → Advances core (having_read work reads rest core)
+  reads_advance [] work rest core at log some left = absurd (omega (arith, some))
+  reads_advance (read ∷ []) work rest core at log some left =
+      two_advance core (having_read work (read ∷ []) rest core)
+      (read_turns core (having_read work (read ∷ []) rest core) (work, at) (one_read work read rest core at log))
+  reads_advance (read ∷ (next ∷ reads)) work rest core at log some left =
+      let less : Work = record work { left = work.left - 1 } in
+      let later = next ∷ reads in
+      let mid = having_read work (read ∷ []) (later ++ rest) core in
+      let first = two_advance core mid (read_turns core mid (work, at) (one_read work read (later ++ rest) core at log)) in
+      let on : mid.maintenance.place ≡ place.Reads less = reads_on less (omega (arith, left)) in
+      let second = reads_advance (next ∷ reads) less rest mid on refl (omega arith) (omega (arith, left)) in
+      let same : having_read less later rest mid ≡ having_read work (read ∷ later) rest core =
+      ap (λ m. record core { entries = fold touched_by core.entries (read ∷ later); read_log = rest; maintenance = m })
+      (applied_later work read later core.maintenance left) in
+      then_advances core mid (having_read work (read ∷ later) rest core) first (subst (Advances mid) same second)
+
+  -- so do those that take the next operations of a log and apply them
+  pub next_advance : (old new : Core) → AppliesNext old true new → Advances old new
+  next_advance old new (inr applies) = two_advance old new (write_turns old new applies)
+  next_advance old new (inl (reads, applies)) =
+      let work = applies.applies.0 in
+      let at = applies.applies.1 in
+      let left : length reads ≤ work.left = subst (λ p. length reads ≤ reads_left p) at applies.left in
+      subst (Advances old)
+      (ap (λ m. record old { entries = fold touched_by old.entries reads; read_log = applies.rest; maintenance = m }) (sym applies.applies.2)
+      ∙ sym applies.is)
+      (reads_advance reads work applies.rest old at applies.log applies.some left)
 
   -- under way, unless its name says idle
   pub still_busy : (core : Core) → (name_of core.maintenance.place ≡ name.Idle → ⊥) → core.maintenance.place ≡ place.Idle → ⊥

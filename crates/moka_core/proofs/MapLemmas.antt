@@ -40,7 +40,7 @@ module _ {K V S : Type 0} (keys : Keys K S) (settings : Settings S) (shards : Li
   same_map new is = ap the_map (ap (set shards i) (is ∙ there) ∙ set-get_or shards i old)
 
   -- where an entry of the shard is changed, it is changed in the map
-  changed_map : (t : Ticket) (change : Change K V) (new : ShardState K V S) → shard_of t.hash ≡ i
+  pub changed_map : (t : Ticket) (change : Change K V) (new : ShardState K V S) → shard_of t.hash ≡ i
       → new ≡ record old { entries = after_change t change old.entries }
       → the_map (set shards i new) ≡ record (the_map shards) { entries = after_change t change (entries_of shards) }
   changed_map t change new own is =
@@ -157,7 +157,7 @@ module _ {K V S : Type 0} (keys : Keys K S) (state : S) (i : ℕ) (old new : Sha
     valid = valid;
   }
 
-  changed_still : (es : List (Entry K V)) (number : ℕ) → new ≡ record old { entries = es; next_number = number } → IsOwnShard keys state i new
+  pub changed_still : (es : List (Entry K V)) (number : ℕ) → new ≡ record old { entries = es; next_number = number } → IsOwnShard keys state i new
   changed_still es number is = record {
     numbered = ap (λ (s : ShardState K V S). s.number) is ∙ was.numbered;
     shared = ap (λ (s : ShardState K V S). s.hash_state) is ∙ was.shared;

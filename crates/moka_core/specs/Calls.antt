@@ -1,27 +1,46 @@
 -- Where a whole call of a core is between its steps. No public clause cites this module.
-use Rattle.std.specs.Prelude.{◌≡◌, ◌⊎◌, ℕ, [], ◌∷◌, Bool, true, false}
+use Rattle.std.specs.Prelude.{◌≡◌, ◌<◌, ◌≤◌, ◌⊎◌, ℕ, List, [], ◌∷◌, ◌++◌, length, Bool, true, false}
+use Rattle.std.specs.List.{fold}
 use Rattle.moka_base.specs.Keys.{Keys}
 use Rattle.moka_engine.specs.declared.constants.TheConstants.{CALLER}
 use Rattle.moka_engine.specs.declared.operation.Operation.{Operation}
 use Rattle.moka_engine.specs.declared.operation.Operation.TheVariants.{Reading, Writing}
 use Rattle.moka_engine.specs.declared.operation.Read.{Read}
+use Rattle.moka_engine.specs.declared.operation.Read.TheVariants.{Hit, Miss}
 use Rattle.moka_engine.specs.declared.operation.Write.{Write}
 use Rattle.moka_engine.specs.Place.{Idle}
-use Rattle.moka_engine.specs.CoreState.{CoreState}
+use Rattle.moka_engine.specs.CoreState.{CoreState, Maintenance}
+use Rattle.moka_engine.specs.Entry.{Entry, touched}
+use Rattle.moka_engine.specs.Turn.Plan.{Becomes, after_change}
 use Rattle.moka_engine.specs.Consistent.{IsConsistent}
 use Rattle.moka_engine.specs.Run.{Happens}
 use Rattle.moka_engine.specs.Turn.Turn.{after_turn}
 use Rattle.moka_engine.specs.CoreCall.{Decides, has_pending, log_length}
 use Rattle.moka_core.specs.Machine.{left_pending}
-use Rattle.moka_maintenance.specs.Taken.{TakesRead, TakesWrite}
+use Rattle.moka_maintenance.specs.Taken.{AppliesReads, TakesWrite, reads_left}
 use Rattle.moka_engine.specs.WholeCall.{Log, Maintains, MaintainsIfDue, PushesRead, PushesWrite}
 
--- two turns, of which the first takes a read and the other applies it: no memory is asked for; where no read is to be taken, nothing is done
-abbrev pub AppliesNextRead : {K V S : Type 0} → CoreState K V S → Bool → CoreState K V S → Type 0
-AppliesNextRead old false new = (new ≡ old) × (TakesRead old.maintenance → old.read_log ≡ [])
-AppliesNextRead old true new = TakesRead old.maintenance × (new ≡ after_turn false (after_turn false old))
+-- the entries once that of a hit was used
+abbrev pub touched_by : {K V : Type 0} → List (Entry K V) → Read → List (Entry K V)
+touched_by entries (Hit t moment) = after_change t (Becomes (touched moment)) entries
+touched_by entries (Miss hash) = entries
 
--- the same of a write, of which memory may be refused a node
+-- these reads have been taken from the front of their log and applied together, no more than are left of the round; no memory is asked for
+pub record AppliesTogether {K V S : Type 0} (reads : List Read) (old new : CoreState K V S) : Type 0 where
+  pub rest : List Read
+  pub log : old.read_log ≡ reads ++ rest
+  pub some : 0 < length reads
+  pub left : length reads ≤ reads_left old.maintenance.place
+  pub maintenance : Maintenance
+  pub applies : AppliesReads reads old.maintenance maintenance
+  pub is : new ≡ record old { entries = fold touched_by old.entries reads; read_log = rest; maintenance = maintenance }
+
+-- the next reads have; where no read is to be taken, or there is none, nothing is done
+abbrev pub AppliesNextReads : {K V S : Type 0} → CoreState K V S → Bool → CoreState K V S → Type 0
+AppliesNextReads old false new = new ≡ old
+AppliesNextReads old true new = (reads : List Read) × AppliesTogether reads old new
+
+-- two turns, of which the first takes a write and the other applies it, for which memory may refuse a node
 abbrev pub AppliesNextWrite : {K V S : Type 0} → CoreState K V S → Bool → CoreState K V S → Type 0
 AppliesNextWrite old false new = (new ≡ old) × (TakesWrite old.maintenance → old.write_log ≡ [])
 AppliesNextWrite old true new = TakesWrite old.maintenance × (refused : Bool) × (new ≡ after_turn refused (after_turn false old))
@@ -29,7 +48,7 @@ AppliesNextWrite old true new = TakesWrite old.maintenance × (refused : Bool) �
 -- the same of the one or the other
 abbrev pub AppliesNext : {K V S : Type 0} → CoreState K V S → Bool → CoreState K V S → Type 0
 AppliesNext old false new = new ≡ old
-AppliesNext old true new = AppliesNextRead old true new ⊎ AppliesNextWrite old true new
+AppliesNext old true new = AppliesNextReads old true new ⊎ AppliesNextWrite old true new
 
 -- the core, with this operation of the caller of whole calls pending
 abbrev pub having : {K V S : Type 0} → Operation → CoreState K V S → CoreState K V S

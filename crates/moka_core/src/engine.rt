@@ -196,6 +196,7 @@ impl<
     }
 
     /// The whole call `Get`, as `call` makes it, by a key that need not be shared.
+    #[inline(always)]
     pub fn get(&mut self, key: &K, now: Instant) -> Reply<Shared<V, A>, Rows<K, V, A>>
         requires rest { IsAtRest self.old.state }
         ensures step { IsCall (keys_by K.Hash S.BuildHasher S.Hasher.Hasher) (W.weighs self.old.weigher)

@@ -27,7 +27,7 @@ use moka_engine::operation::{Operation, Read, Write};
 use moka_engine::place::Place;
 use moka_engine::settings::Settings;
 use moka_engine::weigh::WeighShared;
-use moka_maintenance::logs::{ReadLog, WriteLog};
+use moka_maintenance::logs::{LoggedRead, ReadLog, WriteLog};
 use moka_maintenance::maintenance::{Maintenance, Need};
 use std::alloc::{Allocator, Global};
 use std::hash::{BuildHasher, Hash};
@@ -224,30 +224,39 @@ impl<
         if self.pending.of(caller).is_some() {
             return Reply::NotPossible;
         }
-        let Ok((found, read)) = self.look_up(key, now) else {
+        let Ok((found, logged)) = self.look_up(key, now) else {
             return Reply::OutOfMemory;
         };
-        self.pending.put(caller, Operation::Reading(read));
+        self.pending.put(caller, Operation::Reading(logged.read));
         Reply::Found(found)
     }
 
     /// What a get by any caller finds that has nothing pending, and the read that it leaves pending.
-    fn look_up(&self, key: &K, now: Instant) -> Result<(Option<Shared<V, A>>, Read), OutOfMemory>
+    #[inline(always)]
+    fn look_up(
+        &self,
+        key: &K,
+        now: Instant,
+    ) -> Result<(Option<Shared<V, A>>, LoggedRead), OutOfMemory>
         ensures found { IfOk result (λ found. FindsFor (keys_by K.Hash S.BuildHasher S.Hasher.Hasher) (W.weighs self.now.weigher)
-            self.now.state key.now now found.0 found.1) }
+            self.now.state key.now now found.0 found.1.read) }
         ensures refused { OnErr result (RefusesFor (keys_by K.Hash S.BuildHasher S.Hasher.Hasher) (W.weighs self.now.weigher)
             self.now.state key.now now) }
     {
         let hash = self.map.hash_of(key);
-        match self.map.get(key, hash, self.valid_after, now)? {
+        let (found, hint) = self.map.get(key, hash, self.valid_after, now)?;
+        match found {
             Some((value, ticket)) => {
                 let read = Read::Hit {
                     ticket,
                     moment: now,
                 };
-                Ok((Some(value), read))
+                Ok((Some(value), LoggedRead { read, hint }))
             }
-            None => Ok((None, Read::Miss { hash })),
+            None => {
+                let read = Read::Miss { hash };
+                Ok((None, LoggedRead { read, hint }))
+            }
         }
     }
 
@@ -387,6 +396,14 @@ impl<
         ensures kept { KeepsRoom self.old self.new }
     {
         let settings = self.map.settings();
+        if let Some(ticket) = self
+            .maintenance
+            .need_to_scan::<K, V, S>(settings, self.valid_after)
+        {
+            self.map
+                .turn_of_scan(&mut self.maintenance, ticket, self.valid_after);
+            return;
+        }
         match self.maintenance.need::<K, V, S>(settings, self.valid_after) {
             Need::Nothing => self
                 .maintenance

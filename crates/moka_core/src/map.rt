@@ -2,15 +2,16 @@
 ghost use Rattle.std.specs.Prelude.{◌≡◌, ◌≢◌, ◌<◌, ◌↔◌, ℕ, Bool, IsTrue, slice_index, false, [], map, replicate, IfOk, OnOk, IsSome, IsErr, is_some, option_map};
 ghost use Rattle.moka_base.specs.Keys.{keys_by};
 ghost use Rattle.moka_engine.specs.declared.constants.TheConstants.{SHARDS};
-ghost use Rattle.moka_engine.specs.Entry.{entry_at};
+ghost use Rattle.moka_engine.specs.Entry.{entry_at, touched};
+ghost use Rattle.moka_engine.specs.Turn.Plan.{Becomes, after_change};
 ghost use Rattle.moka_shard.specs.Shard.{entries_in, state_of, unexpired};
 ghost use Rattle.moka_engine.specs.Parts.{NeedsShard, entries_of, need_of};
 ghost use Rattle.moka_engine.specs.Turn.Turn.{turn_at};
-ghost use Rattle.moka_engine.specs.declared.operation.Read.TheVariants.{Hit};
 ghost use Rattle.moka_engine.specs.declared.operation.Write.TheVariants.{Upsert};
-ghost use Rattle.moka_maintenance.specs.Taken.{TakesRead, TakesWrite, having_taken, having_taken_write};
+ghost use Rattle.moka_maintenance.specs.Taken.{IsScan, TakesWrite, having_taken_write, reads_of};
+ghost use Rattle.moka_core.specs.Calls.{touched_by};
 ghost use Rattle.moka_core.specs.MapTurn.{TurnsOnMap, TurnsOnShard};
-ghost use Rattle.std.specs.List.{All};
+ghost use Rattle.std.specs.List.{All, fold};
 ghost use Rattle.moka_core.specs.MapState.{IsInserted, IsInvalidated, IsNewMap, pairs_in};
 ghost use Rattle.moka_core.specs.Shards.{AreOwn, IsAsBuilt, started, states_of};
 
@@ -20,9 +21,11 @@ use moka_base::hash::FixedState;
 use moka_base::shared::Shared;
 use moka_base::time::Instant;
 use moka_engine::constants::SHARDS;
+use moka_engine::operation::Read;
 use moka_engine::settings::Settings;
 use moka_engine::ticket::Ticket;
 use moka_engine::weigh::WeighShared;
+use moka_maintenance::logs::LoggedRead;
 use moka_maintenance::maintenance::Maintenance;
 use moka_shard::shard::Shard;
 use std::alloc::{Allocator, Global};
@@ -118,16 +121,17 @@ impl<K: Eq + Hash + Drop, V: Drop, S: BuildHasher + Drop, A: Allocator + Clone +
         shard.contains_key(key, hash, &self.settings, valid_after, now)
     }
 
-    /// The value at a key, shared once more, and the ticket of its entry, if that counts at a moment.
+    /// The value at a key, shared once more, and the ticket of its entry, if that counts at a moment; and the slot in which it may be found again.
+    #[inline(always)]
     pub(crate) fn get(
         &self,
         key: &K,
         hash: u64,
         valid_after: Instant,
         now: Instant,
-    ) -> Result<Option<(Shared<V, A>, Ticket)>, OutOfMemory>
+    ) -> Result<(Option<(Shared<V, A>, Ticket)>, usize), OutOfMemory>
         requires { hash ≡ (keys_by K.Hash S.BuildHasher S.Hasher.Hasher).hash_of self.now.settings.hash_state key.now }
-        ensures value { IfOk result (λ found. found ≡ option_map (λ e. (e.value, e.ticket))
+        ensures value { IfOk result (λ found. found.0 ≡ option_map (λ e. (e.value, e.ticket))
             (unexpired self.now.settings valid_after now (entry_at K.eq key.now self.now.entries))) }
         ensures refused { IsErr result → IsSome (unexpired self.now.settings valid_after now (entry_at K.eq key.now self.now.entries)) }
     {
@@ -208,30 +212,58 @@ impl<K: Eq + Hash + Drop, V: Drop, S: BuildHasher + Drop, A: Allocator + Clone +
         let _ = shard.len();
     }
 
-    /// The turn that applies a hit, which the maintenance has just taken from its log.
-    pub(crate) fn turn_with_hit(
+    /// A turn of a scan that needs the entry of a ticket.
+    #[inline(always)]
+    pub(crate) fn turn_of_scan(
         &mut self,
         maintenance: &mut Maintenance<A>,
         ticket: Ticket,
-        moment: Instant,
         valid_after: Instant,
     )
-        requires { TakesRead maintenance.old }
-        ensures { TurnsOnMap self.old self.new valid_after false (having_taken (Hit ticket moment) maintenance.old) maintenance.new }
+        requires scans { IsScan maintenance.old.place }
+        requires need { need_of (turn_at {K = K} {V = V} self.old.settings valid_after false maintenance.old.place maintenance.old)
+            ≡ NeedsShard ticket }
+        ensures { TurnsOnMap self.old self.new valid_after false maintenance.old maintenance.new }
     {
         let shard = &mut self.shards[(ticket.hash % SHARDS as u64) as usize];
-        apply_hit(
-            maintenance,
-            shard,
-            ticket,
-            moment,
-            &self.settings,
-            valid_after,
-        );
+        scan_with_shard(maintenance, shard, ticket, &self.settings, valid_after);
         let _ = shard.len();
     }
 
+    /// The entry of a hit, if it stands, was used; it is looked for in a slot first. The answer is where its node may be found.
+    #[inline(always)]
+    fn touch(&mut self, read: Read, slot: usize) -> usize
+        ensures { self.new ≡ record self.old { entries = touched_by self.old.entries read } }
+    {
+        match read {
+            Read::Hit { ticket, moment } => self.touch_entry(ticket, slot, moment),
+            Read::Miss { .. } => 0,
+        }
+    }
+
+    /// The same of a ticket, at a moment.
+    #[inline(always)]
+    fn touch_entry(&mut self, ticket: Ticket, slot: usize, moment: Instant) -> usize
+        ensures { self.new ≡ record self.old { entries = after_change ticket (Becomes (touched moment)) self.old.entries } }
+    {
+        let shard = &mut self.shards[(ticket.hash % SHARDS as u64) as usize];
+        let place = shard.touch(ticket, slot, moment);
+        let _ = shard.len();
+        place
+    }
+
+    /// The entries of hits were used, one after another. Their hints tell then where their nodes may be found.
+    pub(crate) fn touch_all(&mut self, reads: &mut [LoggedRead])
+        ensures entries { self.new ≡ record self.old { entries = fold touched_by self.old.entries (reads_of reads.old) } }
+        ensures reads { reads_of reads.new ≡ reads_of reads.old }
+    {
+        for logged in reads.iter_mut() {
+            logged.hint = self.touch(logged.read, logged.hint);
+        }
+    }
+
     /// The turn that applies an upsert, which the maintenance has just taken from its log.
+    #[inline(always)]
     pub(crate) fn turn_with_upsert(
         &mut self,
         maintenance: &mut Maintenance<A>,
@@ -270,24 +302,31 @@ fn turn_with_shard<
     shard.change(slot, change);
 }
 
-/// The turn that applies a hit, with the shard in which the ticket's entry would stand.
-fn apply_hit<K: Eq + Hash + Drop, V: Drop, S: BuildHasher + Drop, A: Allocator + Clone + Drop>(
+/// A turn of a scan that needs the entry of a ticket, with the shard in which that would stand.
+#[inline(always)]
+fn scan_with_shard<
+    K: Eq + Hash + Drop,
+    V: Drop,
+    S: BuildHasher + Drop,
+    A: Allocator + Clone + Drop,
+>(
     maintenance: &mut Maintenance<A>,
     shard: &mut Shard<K, V, S, A>,
     ticket: Ticket,
-    moment: Instant,
     settings: &Settings<S, A>,
     valid_after: Instant,
 )
-    requires { TakesRead maintenance.old }
-    ensures { TurnsOnShard settings.now valid_after false ticket (having_taken (Hit ticket moment) maintenance.old) maintenance.new
-        (state_of shard.old) (state_of shard.new) }
+    requires scans { IsScan maintenance.old.place }
+    requires need { need_of (turn_at {K = K} {V = V} settings.now valid_after false maintenance.old.place maintenance.old) ≡ NeedsShard ticket }
+    ensures { TurnsOnShard settings.now valid_after false ticket maintenance.old maintenance.new (state_of shard.old) (state_of shard.new) }
 {
-    let place = shard.touch(ticket, moment);
-    maintenance.turn_with_hit::<K, V, S>(settings, valid_after, ticket, moment, place);
+    let slot = shard.find_ticket(ticket);
+    let change = maintenance.scan::<K, V, S>(settings, valid_after, shard.weight(slot));
+    shard.change(slot, change);
 }
 
 /// The turn that applies an upsert, with the shard in which the ticket's entry would stand.
+#[inline(always)]
 fn apply_upsert<K: Eq + Hash + Drop, V: Drop, S: BuildHasher + Drop, A: Allocator + Clone + Drop>(
     maintenance: &mut Maintenance<A>,
     shard: &mut Shard<K, V, S, A>,

@@ -16,8 +16,16 @@ use Rattle.moka_engine.specs.Reply.{Reply}
 use Rattle.moka_engine.specs.WholeCall.{Log}
 use Rattle.moka_steps.specs.CoreCaller.{kind_of}
 use Rattle.moka_steps.specs.Steps.{Caller}
+use Rattle.moka_locks.specs.declared.locked.Pending.{Pending}
+use Rattle.moka_locks.specs.declared.locked.Pending.TheVariants as pending
 use Rattle.moka_locks.specs.Cache.{Cache}
 use Rattle.moka_locks.specs.MaintenanceTurn.{IsTurn}
+
+-- the operation that is pending
+abbrev pub operation_of : Pending → Option Operation
+operation_of pending.Nothing = None
+operation_of (pending.Read logged) = Some (Reading logged.read)
+operation_of (pending.Write write) = Some (Writing write)
 
 -- the cache, the operation that the caller has not pushed yet, and the maintenance that it runs
 pub record Locked (S W : Type 0) : Type 0 where

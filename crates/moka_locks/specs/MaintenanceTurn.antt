@@ -1,5 +1,5 @@
 -- What a turn of the maintenance does behind its lock, whatever it finds behind another.
-use Rattle.std.specs.Prelude.{◌≡◌, ◌⊎◌, ℕ, Bool, false, List, Option}
+use Rattle.std.specs.Prelude.{◌≡◌, ℕ, Bool, false, List, Option}
 use Rattle.moka_base.specs.Settings.{Settings}
 use Rattle.moka_engine.specs.declared.operation.Read.{Read}
 use Rattle.moka_engine.specs.declared.operation.Write.{Write}
@@ -21,8 +21,8 @@ abbrev pub IsTurn : (K V : Type 0) → {S : Type 0} → Settings S → Maintenan
 IsTurn K V settings old new =
     (valid_after : ℕ) × (refused : Bool) × IsPlanned (turn_at {K = K} {V = V} settings valid_after refused old.place old) new
 
--- one turn, or two of which the first doesn't end the maintenance
-abbrev pub AreTurns : (K V : Type 0) → {S : Type 0} → Settings S → Maintenance → Maintenance → Type 0
-AreTurns K V settings old new =
-    IsTurn K V settings old new
-    ⊎ ((between : Maintenance) × (is_idle between.place ≡ false) × IsTurn K V settings old between × IsTurn K V settings between new)
+-- one turn, or several, of which only the last may end the maintenance
+pub data AreTurns (K V : Type 0) {S : Type 0} (settings : Settings S) : Maintenance → Maintenance → Type 0 where
+  OneTurn : (old new : Maintenance) → IsTurn K V settings old new → AreTurns K V settings old new
+  MoreTurns : (old between new : Maintenance) → is_idle between.place ≡ false → IsTurn K V settings old between
+      → AreTurns K V settings between new → AreTurns K V settings old new

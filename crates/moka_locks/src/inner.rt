@@ -1,5 +1,5 @@
 // What all clones of a cache share: its shards, its logs and its maintenance, each behind a lock, and some words.
-ghost use Rattle.std.specs.Prelude.{◌≡◌, ◌<◌, ◌+◌, ◌++◌, [], ◌∷◌, List, Some, map, IfOk, IfSome, OnOk};
+ghost use Rattle.std.specs.Prelude.{◌≡◌, ◌<◌, ◌+◌, ◌++◌, [], ◌∷◌, List, Some, length, map, IfOk, IfSome, OnOk};
 ghost use Rattle.std.specs.List.{IsDistinct};
 ghost use Rattle.std.specs.Vec.{vec_len};
 ghost use Rattle.moka_engine.specs.declared.constants.TheConstants.{SHARDS};
@@ -32,6 +32,7 @@ use moka_engine::operation::{Read, Write};
 use moka_engine::settings::Settings;
 use moka_engine::ticket::Ticket;
 use moka_engine::weigh::WeighShared;
+use moka_maintenance::logs::{LoggedRead, NO_READ, READS_AT_ONCE};
 use moka_maintenance::maintenance::{Maintenance, Need};
 use moka_published::counts::{CountPass, Counts, Publisher};
 use moka_published::rule::Published;
@@ -151,15 +152,16 @@ impl<
         Instant::from_nanos(self.valid_after.load(Ordering::Acquire))
     }
 
-    /// The value at a key, shared once more, and the ticket of its entry, if that counts at a moment.
+    /// The value at a key, shared once more, and the ticket of its entry, if that counts at a moment; and the slot in which it may be found again.
+    #[inline(always)]
     pub(crate) fn get<R: Wait>(
         &self,
         rt: &R,
         key: &K,
         hash: u64,
         now: Instant,
-    ) -> Result<Option<(Shared<V, A>, Ticket)>, OutOfMemory>
-        ensures ruled { IfOk result (λ found. IfSome found (λ f. P.holds key.now f.0)) }
+    ) -> Result<(Option<(Shared<V, A>, Ticket)>, usize), OutOfMemory>
+        ensures ruled { IfOk result (λ found. IfSome found.0 (λ f. P.holds key.now f.0)) }
     {
         let valid_after = self.valid_after();
         let shard = lock(rt, self.shard(hash));
@@ -274,8 +276,8 @@ impl<
     }
 
     /// Puts a read into its log. Answers whether there was room.
-    pub(crate) fn push_read<R: Wait>(&self, rt: &R, read: Read) -> bool {
-        self.logs.push_read(rt, read)
+    pub(crate) fn push_read<R: Wait>(&self, rt: &R, logged: LoggedRead) -> bool {
+        self.logs.push_read(rt, logged)
     }
 
     /// Puts a write into its log, once there is room. Answers whether there was.
@@ -308,13 +310,13 @@ impl<
         Running::begin(rt, &self.maintenance, now)
     }
 
-    /// One turn of the maintenance, with the lock of what it needs; or two, where an operation leaves its log and is applied at once.
+    /// One turn of the maintenance, with the lock of what it needs; or several, where operations leave their log and are applied at once.
     pub(crate) fn turn<R: Wait>(&self, rt: &R, maintenance: &mut Maintenance<A>)
         ensures { AreTurns K V self.now.settings maintenance.old maintenance.new }
     {
         let valid_after = self.valid_after();
         if maintenance.takes_read() {
-            self.apply_next_read(rt, maintenance, valid_after);
+            self.apply_next_reads(rt, maintenance);
             return;
         }
         if maintenance.takes_write() {
@@ -340,51 +342,40 @@ impl<
         }
     }
 
-    /// The turn that takes a read, and the one that applies it, if there is one.
-    fn apply_next_read<R: Wait>(
-        &self,
-        rt: &R,
-        maintenance: &mut Maintenance<A>,
-        valid_after: Instant,
-    )
+    /// The turns that take the next reads and apply them, if there are any. No lock is held while their hashes are counted and nodes move, which lie in
+    /// memory of their own.
+    fn apply_next_reads<R: Wait>(&self, rt: &R, maintenance: &mut Maintenance<A>)
         requires { TakesRead maintenance.old }
         ensures { AreTurns K V self.now.settings maintenance.old maintenance.new }
     {
-        let Some(read) = self.next_read(rt, maintenance) else {
+        let mut copy = [NO_READ; READS_AT_ONCE];
+        let count = self
+            .logs
+            .take_reads(rt, maintenance.reads_left(), &mut copy);
+        if count == 0 {
             return;
-        };
-        match read {
-            Read::Hit { ticket, moment } => {
-                let place = self.touch(rt, ticket, moment);
-                maintenance.turn_with_hit::<K, V, S>(
-                    &self.settings,
-                    valid_after,
-                    ticket,
-                    moment,
-                    place,
-                );
-            }
-            Read::Miss { hash } => maintenance.turn_with_miss::<K, V, S>(
-                &self.settings,
-                valid_after,
-                hash,
-            ),
+        }
+        let reads = &mut copy[..count];
+        self.touch_all(rt, reads);
+        maintenance.apply_reads(reads);
+    }
+
+    /// The entries of hits were used, one after another, each behind the lock of its shard. Their hints tell then where their nodes may be found.
+    fn touch_all<R: Wait>(&self, rt: &R, reads: &mut [LoggedRead])
+        ensures { length reads.new ≡ length reads.old }
+    {
+        for logged in reads.iter_mut() {
+            logged.hint = self.touch(rt, logged.read, logged.hint);
         }
     }
 
-    /// The entry of a ticket, if it stands, was used at a moment. The answer is where what is charged for it may be found. The shard is free again before
-    /// that is looked at, which lies in memory of its own.
-    fn touch<R: Wait>(&self, rt: &R, ticket: Ticket, moment: Instant) -> usize {
+    /// The entry of a hit, if it stands, was used; it is looked for in a slot first. The answer is where its node may be found.
+    fn touch<R: Wait>(&self, rt: &R, read: Read, slot: usize) -> usize {
+        let Read::Hit { ticket, moment } = read else {
+            return 0;
+        };
         let mut shard = lock(rt, self.shard(ticket.hash));
-        shard.touch(ticket, moment)
-    }
-
-    /// The read that the maintenance is to take next leaves its log.
-    fn next_read<R: Wait>(&self, rt: &R, maintenance: &Maintenance<A>) -> Option<Read> {
-        let mut log = self.logs.lock_reads(rt);
-        let read = maintenance.take_read(&mut log);
-        self.logs.tell_reads(log.len());
-        read
+        shard.touch(ticket, slot, moment)
     }
 
     /// The turn that takes a write, and the one that applies it, if there is one.

@@ -9,14 +9,23 @@ use crate::running::Running;
 use moka_base::error::{InsertError, OutOfMemory};
 use moka_base::shared::Shared;
 use moka_base::time::Instant;
-use moka_engine::operation::{Operation, Read, Write};
+use moka_engine::operation::{Read, Write};
 use moka_engine::place::Place;
 use moka_engine::weigh::WeighShared;
+use moka_maintenance::logs::LoggedRead;
 use moka_steps::steps::{ReadPush, Steps, WhichLog, WritePush};
 use std::alloc::Allocator;
 use std::hash::{BuildHasher, Hash};
 use std::marker::Model;
 use std::sync::Wait;
+
+/// What the caller has left and not pushed to a log yet.
+#[derive(Clone, Copy, Debug)]
+enum Pending {
+    Nothing,
+    Read(LoggedRead),
+    Write(Write),
+}
 
 /// A cache as one caller has it for the time of a call.
 #[derive(Drop)]
@@ -30,7 +39,7 @@ pub(crate) struct Locked<
     A: Allocator + Clone + Drop,
 > {
     inner: &'a Inner<K, V, S, P, W, A>,
-    pending: Option<Operation>,
+    pending: Pending,
     /// The maintenance that the caller runs.
     running: Option<Running<'a, A>>,
     /// Whether the caller has been told to run it, and nobody else is until it has ended.
@@ -46,11 +55,11 @@ impl<
     W: Drop,
     A: Allocator + Clone + Drop,
 > Model for Locked<'a, K, V, S, P, W, A> {
-    ghost use Rattle.moka_locks.specs.Locked.{Locked as LockedValue};
+    ghost use Rattle.moka_locks.specs.Locked.{Locked as LockedValue, operation_of};
 
     ghost Value = { LockedValue S W };
 
-    ghost view = { λ l. record { cache = l.inner.now; pending = l.pending; maintenance = l.running } };
+    ghost view = { λ l. record { cache = l.inner.now; pending = operation_of l.pending; maintenance = l.running } };
 }
 
 impl<
@@ -68,7 +77,7 @@ impl<
     {
         Locked {
             inner,
-            pending: None,
+            pending: Pending::Nothing,
             running: None,
             has_won: false,
         }
@@ -126,7 +135,7 @@ impl<
         now: Instant,
     ) -> Result<(), InsertError> {
         let ticket = self.inner.insert(rt, key, value, now)?;
-        self.pending = Some(Operation::Writing(Write::Upsert { ticket }));
+        self.pending = Pending::Write(Write::Upsert { ticket });
         Ok(())
     }
 
@@ -137,15 +146,17 @@ impl<
         now: Instant,
     ) -> Result<Option<Shared<V, A>>, OutOfMemory> {
         let hash = self.inner.hash_of(key);
-        let Some((value, ticket)) = self.inner.get(rt, key, hash, now)? else {
-            self.pending = Some(Operation::Reading(Read::Miss { hash }));
+        let (found, hint) = self.inner.get(rt, key, hash, now)?;
+        let Some((value, ticket)) = found else {
+            let read = Read::Miss { hash };
+            self.pending = Pending::Read(LoggedRead { read, hint });
             return Ok(None);
         };
         let read = Read::Hit {
             ticket,
             moment: now,
         };
-        self.pending = Some(Operation::Reading(read));
+        self.pending = Pending::Read(LoggedRead { read, hint });
         Ok(Some(value))
     }
 
@@ -157,7 +168,7 @@ impl<
         let Some(ticket) = self.inner.invalidate(rt, key) else {
             return false;
         };
-        self.pending = Some(Operation::Writing(Write::Remove { ticket }));
+        self.pending = Pending::Write(Write::Remove { ticket });
         true
     }
 
@@ -165,12 +176,13 @@ impl<
         self.inner.invalidate_all(now);
     }
 
+    #[inline]
     fn push_read<R: Wait>(&mut self, rt: &R) -> ReadPush {
-        let Some(Operation::Reading(read)) = self.pending else {
+        let Pending::Read(logged) = self.pending else {
             return ReadPush::Discarded;
         };
-        self.pending = None;
-        if self.inner.push_read(rt, read) {
+        self.pending = Pending::Nothing;
+        if self.inner.push_read(rt, logged) {
             ReadPush::Pushed
         } else {
             ReadPush::Discarded
@@ -178,18 +190,18 @@ impl<
     }
 
     fn push_write<R: Wait>(&mut self, rt: &R) -> WritePush {
-        let Some(Operation::Writing(write)) = self.pending else {
+        let Pending::Write(write) = self.pending else {
             return WritePush::Full;
         };
         if !self.inner.push_write(rt, write) {
             return WritePush::Full;
         }
-        self.pending = None;
+        self.pending = Pending::Nothing;
         WritePush::Pushed
     }
 
     fn forget(&mut self) {
-        self.pending = None;
+        self.pending = Pending::Nothing;
     }
 
     fn decide(&mut self, log: WhichLog, now: Instant) -> bool {

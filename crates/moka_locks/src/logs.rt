@@ -1,10 +1,12 @@
 // The two logs of a cache, each behind a lock of its own, with a word beside it that tells what callers ask before they take the lock.
+ghost use Rattle.std.specs.Prelude.{◌≡◌, ◌≤◌, length};
+
 use crate::waiting::{ROOM_AWAITED, has_room, lock};
 use crossbeam_utils::CachePadded;
 use moka_base::error::OutOfMemory;
 use moka_engine::constants::{FLUSH_POINT, READ_LOG_SIZE, WRITE_LOG_SIZE};
-use moka_engine::operation::{Read, Write};
-use moka_maintenance::logs::{ReadLog, WriteLog};
+use moka_engine::operation::Write;
+use moka_maintenance::logs::{LoggedRead, ReadLog, WriteLog};
 use std::alloc::{Allocator, Global};
 use std::sync::atomic::{AtomicUsize, Ordering};
 use std::sync::{Mutex, MutexGuard, Wait};
@@ -81,14 +83,31 @@ impl<A: Allocator + Clone + Drop> Logs<A> {
     }
 
     /// Puts a read into its log. Answers whether there was room. A log that its word tells full is not looked at.
-    pub(crate) fn push_read<R: Wait>(&self, rt: &R, read: Read) -> bool {
+    pub(crate) fn push_read<R: Wait>(&self, rt: &R, logged: LoggedRead) -> bool {
         if self.reads() >= READ_LOG_SIZE {
             return false;
         }
         let mut log = self.lock_reads(rt);
-        let is_pushed = log.push(read).is_ok();
+        let is_pushed = log.push_logged(logged).is_ok();
         self.tell_reads(log.len());
         is_pushed
+    }
+
+    /// Takes the first reads, and puts them to the front of a slice: as many as there are, as it holds, and as are wanted. Answers how many.
+    pub(crate) fn take_reads<R: Wait>(
+        &self,
+        rt: &R,
+        wanted: usize,
+        reads: &mut [LoggedRead],
+    ) -> usize
+        ensures wanted { result ≤ wanted }
+        ensures held { result ≤ length reads.old }
+        ensures same { length reads.new ≡ length reads.old }
+    {
+        let mut log = self.lock_reads(rt);
+        let count = log.take_first(wanted, reads);
+        self.tell_reads(log.len());
+        count
     }
 
     /// Puts a write into its log. Answers whether there was room. While its word tells it full it is not looked at: the writer waits on the word.

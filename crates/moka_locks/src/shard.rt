@@ -70,7 +70,9 @@ impl<
         }
     }
 
-    /// The value at a key, found by its hash and shared once more, and the ticket of its entry, if that counts at a moment.
+    /// The value at a key, found by its hash and shared once more, and the ticket of its entry, if that counts at a moment; and the slot in which it may
+    /// be found again.
+    #[inline(always)]
     pub(crate) fn get(
         &self,
         key: &K,
@@ -78,11 +80,12 @@ impl<
         settings: &Settings<S, A>,
         valid_after: Instant,
         now: Instant,
-    ) -> Result<Option<(Shared<V, A>, Ticket)>, OutOfMemory>
-        ensures ruled { IfOk result (λ found. IfSome found (λ f. P.holds key.now f.0)) }
+    ) -> Result<(Option<(Shared<V, A>, Ticket)>, usize), OutOfMemory>
+        ensures ruled { IfOk result (λ found. IfSome found.0 (λ f. P.holds key.now f.0)) }
     {
         let slot = self.shard.find(key, hash);
-        self.shard.value(slot, settings, valid_after, now)
+        let found = self.shard.value(slot, settings, valid_after, now)?;
+        Ok((found, slot.unwrap_or(0)))
     }
 
     /// Whether a key has an entry, found by its hash, that counts at a moment.
@@ -161,9 +164,10 @@ impl<
         self.shard.change(slot, change);
     }
 
-    /// The entry of a ticket, if it stands, was used at a moment. The answer is where what is charged for it may be found.
-    pub(crate) fn touch(&mut self, ticket: Ticket, moment: Instant) -> usize {
-        self.shard.touch(ticket, moment)
+    /// The entry of a ticket, if it stands, was used at a moment. It is looked for in a slot first. The answer is where what is charged for it may be
+    /// found.
+    pub(crate) fn touch(&mut self, ticket: Ticket, slot: usize, moment: Instant) -> usize {
+        self.shard.touch(ticket, slot, moment)
     }
 
     /// The turn that applies an upsert, which the maintenance has just taken from its log.

@@ -1,6 +1,6 @@
 -- What a scan and the removals make of their place.
 use Rattle.std.proofs.Common.{◌≡◌, ◌<◌, ◌≤◌, ◌+◌, ◌-◌, ◌==◌, ℕ, suc, Bool, true, false, cond, nat_eq, List, [], ◌∷◌, ◌++◌, map, take, drop, length, Option}
-use Rattle.std.proofs.Common.{Some, None, is_some, unwrap_or, refl, sym, ap, ◌∙◌, subst, arith, inl, inr}
+use Rattle.std.proofs.Common.{Some, None, is_some, option_map, unwrap_or, refl, sym, ap, ◌∙◌, subst, arith, inl, inr}
 use Rattle.std.proofs.lemmas.Bool.{eqb-true, false_from_ne_true, false≢true}
 use Rattle.std.proofs.lemmas.Map.{length-set_value}
 use Rattle.std.specs.List.{IsDistinct}
@@ -9,6 +9,7 @@ use Rattle.moka_deque.specs.Deque.{first_id, next_id}
 use Rattle.moka_deque.proofs.DequeLemmas.{length-remove}
 use Rattle.moka_engine.specs.declared.constants.TheConstants.{MAX_ROUNDS}
 use Rattle.moka_engine.specs.declared.ticket.Ticket.{Ticket}
+use Rattle.moka_engine.specs.Entry.{Entry}
 use Rattle.moka_engine.specs.Orders.{Orders, charge_of, without_node}
 use Rattle.moka_engine.specs.Place as place
 use Rattle.moka_engine.specs.Turn.Admission.{removing_or_enter}
@@ -237,6 +238,7 @@ module _ (o : OrdersState) (scan : Scan) (once : IsDistinct nat_eq (keys_of o.no
               ∙ drop_past o.nodes scan.seen s.within (id, record scanned_node.x { is_present = b }) scanned_node.rest)));
         }
 
-pub is_some_copied : {X : Type 0} (o : Option (Rattle.std.specs.Borrow.Bor X)) → is_some (Rattle.std.specs.Option.option_copied o) ≡ is_some o
-is_some_copied None = refl
-is_some_copied (Some x) = refl
+-- what weighs something stands
+pub is_some_weighed : {K V : Type 0} (found : Option (Entry K V)) → is_some (option_map (λ e. e.weight) found) ≡ is_some found
+is_some_weighed None = refl
+is_some_weighed (Some e) = refl

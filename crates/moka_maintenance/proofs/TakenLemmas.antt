@@ -5,26 +5,24 @@ use Rattle.moka_base.specs.Admission.{is_within}
 use Rattle.moka_base.specs.Settings.{Settings}
 use Rattle.moka_sketch.specs.Sketch.{estimate}
 use Rattle.moka_engine.specs.declared.entry.EntryChange.{EntryChange}
-use Rattle.moka_engine.specs.declared.entry.EntryChange.TheVariants as change
 use Rattle.moka_engine.specs.EntryChange.{change_of}
-use Rattle.moka_engine.specs.declared.operation.Read.TheVariants.{Hit}
 use Rattle.moka_engine.specs.declared.operation.Write.TheVariants.{Remove, Upsert}
 use Rattle.moka_engine.specs.declared.ticket.Ticket.{Ticket}
 use Rattle.moka_engine.specs.CoreState.{Maintenance}
-use Rattle.moka_engine.specs.Entry.{Entry, touched}
-use Rattle.moka_engine.specs.Orders.{charge_of, charged_weight, used}
+use Rattle.moka_engine.specs.Entry.{Entry}
+use Rattle.moka_engine.specs.Orders.{charge_of, charged_weight}
 use Rattle.moka_engine.specs.Parts.{TurnsAlone, TurnsAtEntry}
 use Rattle.moka_engine.specs.Place as place
 use Rattle.moka_engine.specs.Place.{Place, Work, is_idle}
-use Rattle.moka_engine.specs.Turn.Apply.{after_entry, after_first_upsert, after_hit, after_miss, after_present_upsert, after_refusal, after_removal, after_upsert, no_tally}
-use Rattle.moka_engine.specs.Turn.Plan.{Alone, Becomes, Outcome, Stays, gone_to, moved_on, outcome, reads_or_on, writes_or_on}
+use Rattle.moka_engine.specs.Turn.Apply.{after_entry, after_first_upsert, after_present_upsert, after_refusal, after_removal, after_upsert, no_tally}
+use Rattle.moka_engine.specs.Turn.Plan.{Alone, Outcome, Stays, gone_to, outcome, writes_or_on}
 use Rattle.moka_engine.specs.Turn.Turn.{turn_at}
 use Rattle.moka_orders.specs.declared.orders.Node.{Node}
 use Rattle.moka_maintenance.specs.declared.maintenance.place.Stage.{Stage}
 use Rattle.moka_maintenance.specs.declared.maintenance.place.Stage.TheVariants as stage
 use Rattle.moka_maintenance.specs.declared.maintenance.place.Work as stage_work
 use Rattle.moka_maintenance.specs.Held.{place_of}
-use Rattle.moka_maintenance.specs.Taken.{IsTaken, having_taken, having_taken_write, place_with, place_with_write}
+use Rattle.moka_maintenance.specs.Taken.{IsTaken, having_taken_write, place_with_write}
 
 -- the first one is taken, if there is one
 pub taken : {X : Type 0} (Takes : Type 0) → Takes → (old new : List X) (operation : Option X) → operation ≡ slice_get old 0 → new ≡ drop 1 old
@@ -36,18 +34,6 @@ taken Takes takes (x ∷ old) new operation is rest =
 -- the part of a round with one operation less
 abbrev pub less_one : Work → Work
 less_one work = record work { left = work.left - 1 }
-
--- a hit that was taken is applied
-pub hit_turn : {K V S : Type 0} (settings : Settings S) (valid_after : ℕ) (m new : Maintenance) (work : Work) → m.place ≡ place.Reads work
-    → (t : Ticket) (moment : ℕ) (found : Option (Entry K V))
-    → new ≡ moved_on (after_miss (less_one work) t.hash m) (used t m.orders) (reads_or_on (less_one work))
-    → TurnsAtEntry K V settings valid_after false (having_taken (Hit t moment) m) new found (change.Touched moment)
-hit_turn {K} {V} settings valid_after m new work at t moment found is = record {
-  ticket = t;
-  looks = after_hit (less_one work) t moment (having_taken (Hit t moment) m);
-  is = ap (λ p. turn_at settings valid_after false (place_with (Hit t moment) p) (having_taken (Hit t moment) m)) at;
-  ends = ap (λ m. record { change = Becomes (touched moment); maintenance = m }) (sym is);
-}
 
 -- what becomes of an upsert is the same wherever the maintenance was
 placed_upsert : {K V S : Type 0} (settings : Settings S) (refused : Bool) (work : Work) (t : Ticket) (p : Place) (m : Maintenance)
@@ -120,24 +106,11 @@ pub removal_turn : (K V : Type 0) {S : Type 0} (settings : Settings S) (valid_af
 removal_turn K V settings valid_after m new work at t is =
     ap (λ p. turn_at settings valid_after false (place_with_write (Remove t) p) (having_taken_write (Remove t) m)) at ∙ ap Alone (sym is)
 
-abbrev is_reads : Place → Bool
-is_reads (place.Reads work) = true
-is_reads other = false
-
--- no read is taken at another stage
-pub takes_none : (nodes : List (ℕ × Node)) (s : Stage) → ((work : stage_work.Work) → s ≡ stage.Reads work → ⊥) → (work : Work)
-    → place_of nodes s ≡ place.Reads work → ⊥
-takes_none nodes s other work is = false≢true (sym (by s other) ∙ ap is_reads is)
-  where
-    by : (s : Stage) → ((work : stage_work.Work) → s ≡ stage.Reads work → ⊥) → is_reads (place_of nodes s) ≡ false
-    by (stage.Reads work) other = absurd (other work refl)
-    by s other = refl
-
 abbrev is_writes : Place → Bool
 is_writes (place.Writes work) = true
 is_writes other = false
 
--- nor is a write
+-- no write is taken at another stage
 pub takes_no_write : (nodes : List (ℕ × Node)) (s : Stage) → ((work : stage_work.Work) → s ≡ stage.Writes work → ⊥) → (work : Work)
     → place_of nodes s ≡ place.Writes work → ⊥
 takes_no_write nodes s other work is = false≢true (sym (by s other) ∙ ap is_writes is)

@@ -1,11 +1,16 @@
 -- An operation that leaves its log and is applied at once: two turns, with no stage between them.
-use Rattle.std.specs.Prelude.{◌≡◌, ◌-◌, List, [], ◌∷◌, Option, None, Some}
+use Rattle.std.specs.Prelude.{◌≡◌, ◌-◌, ℕ, List, [], ◌∷◌, length, map, Option, None, Some}
+use Rattle.std.specs.List.{fold}
+use Rattle.moka_sketch.specs.Sketch.{Table, after_increment}
 use Rattle.moka_engine.specs.declared.operation.Read.{Read}
+use Rattle.moka_engine.specs.declared.operation.Read.TheVariants.{Hit, Miss}
 use Rattle.moka_engine.specs.declared.operation.Write.{Write}
 use Rattle.moka_engine.specs.CoreState.{Maintenance}
 use Rattle.moka_engine.specs.Place as place
-use Rattle.moka_engine.specs.Place.{Place, Work}
-use Rattle.moka_engine.specs.Turn.Plan.{gone_to}
+use Rattle.moka_engine.specs.Place.{Candidate, Place, Seen, Tally, Work}
+use Rattle.moka_engine.specs.Orders.{Orders, used}
+use Rattle.moka_engine.specs.Turn.Plan.{gone_to, reads_or_on}
+use Rattle.moka_maintenance.specs.declared.logs.LoggedRead.{LoggedRead}
 
 -- its next turn is to take a read
 abbrev pub TakesRead : Maintenance → Type 0
@@ -36,3 +41,42 @@ having_taken_write write m = gone_to (place_with_write write m.place) m
 abbrev pub IsTaken : {X : Type 0} → Type 0 → Option X → List X → List X → Type 0
 IsTaken Takes None old new = (new ≡ old) × (Takes → old ≡ [])
 IsTaken Takes (Some operation) old new = Takes × (old ≡ operation ∷ new)
+
+-- a scan is under way
+abbrev pub IsScan : Place → Type 0
+IsScan at = (work : Work) × (c : Candidate) × (tally : Tally) × (seen : List Seen) × (at ≡ place.Scan work c tally seen)
+
+-- how many reads its round is still to take, where its next turn is to take one
+abbrev pub reads_left : Place → ℕ
+reads_left (place.Reads work) = work.left
+reads_left other = 0
+
+-- the reads among what is logged of them
+abbrev pub reads_of : List LoggedRead → List Read
+reads_of logged = map (λ l. l.read) logged
+
+-- the hash that a read counts
+abbrev pub hash_of_read : Read → ℕ
+hash_of_read (Hit t moment) = t.hash
+hash_of_read (Miss hash) = hash
+
+-- the sketch once it is counted
+abbrev pub counted : Option Table → Read → Option Table
+counted sketch read = after_increment sketch (hash_of_read read)
+
+-- the orders once the node of a hit is the most recently used one
+abbrev pub used_by : Orders → Read → Orders
+used_by orders (Hit t moment) = used t orders
+used_by orders (Miss hash) = orders
+
+-- the maintenance once it has taken these reads and applied them, one after another, where this part of a round was left
+abbrev pub having_applied : Work → List Read → Maintenance → Maintenance
+having_applied work reads m = record m {
+  orders = fold used_by m.orders reads;
+  sketch = fold counted m.sketch reads;
+  place = reads_or_on (record work { left = work.left - length reads });
+}
+
+-- these are the next reads that it takes, and has applied
+abbrev pub AppliesReads : List Read → Maintenance → Maintenance → Type 0
+AppliesReads reads old new = (work : Work) × (old.place ≡ place.Reads work) × (new ≡ having_applied work reads old)

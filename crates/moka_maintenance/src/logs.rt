@@ -1,5 +1,5 @@
 //! The two logs, in which callers leave what the maintenance is to do. Each lies in a ring whose memory is taken once.
-ghost use Rattle.std.specs.Prelude.{◌≡◌, ◌↔◌, ◌<◌, ◌≤◌, ◌==◌, ◌++◌, [], ◌∷◌, length, drop, slice_get, IfOk, IfErr, OnOk, OnErr, IsOk};
+ghost use Rattle.std.specs.Prelude.{◌≡◌, ◌↔◌, ◌<◌, ◌≤◌, ◌==◌, ◌++◌, [], ◌∷◌, length, map, min, take, drop, slice_get, IfOk, IfErr, OnOk, OnErr, IsOk};
 ghost use Rattle.moka_engine.specs.declared.constants.TheConstants.{READ_LOG_SIZE, WRITE_LOG_SIZE};
 
 use circular_buffer::HeapCircularBuffer;
@@ -9,20 +9,36 @@ pub use moka_engine::operation::{Read, Write};
 use std::alloc::{Allocator, Global};
 use std::marker::Model;
 
+/// How many reads a maintenance takes and applies at once, at most. Each of them waits for memory, and so they wait together.
+pub const READS_AT_ONCE: usize = 16;
+
+/// A read, and a hint for that of a hit: in which slot its entry may be found, and once that was touched, at which place its node may.
+#[derive(Clone, Copy, Debug)]
+pub struct LoggedRead {
+    pub read: Read,
+    pub hint: usize,
+}
+
+/// What a place for a read has before one is copied to it.
+pub const NO_READ: LoggedRead = LoggedRead {
+    read: Read::Miss { hash: 0 },
+    hint: 0,
+};
+
 /// The reads that are to be applied, the first one first.
 #[derive(Drop)]
 pub struct ReadLog<A: Allocator + Drop = Global> {
-    reads: HeapCircularBuffer<Read, A>,
+    reads: HeapCircularBuffer<LoggedRead, A>,
 }
 
 impl<A: Allocator + Drop> Model for ReadLog<A> {
-    ghost use Rattle.std.specs.Prelude.{◌≡◌, List};
+    ghost use Rattle.std.specs.Prelude.{◌≡◌, List, map};
     ghost use Rattle.moka_engine.specs.declared.constants.TheConstants.{READ_LOG_SIZE};
     ghost use Rattle.moka_engine.specs.declared.operation.Read.{Read as ReadState};
 
     ghost Value = { List ReadState };
 
-    ghost view = { λ log. log.reads.items };
+    ghost view = { λ log. map (λ l. l.read) log.reads.items };
 
     ghost invariant = { λ log. log.reads.capacity ≡ READ_LOG_SIZE };
 }
@@ -52,7 +68,20 @@ impl<A: Allocator + Drop> ReadLog<A> {
         ensures err { OnErr result (self.new ≡ self.old) }
         ensures value_returned { IfErr result (λ back. back ≡ read) }
     {
-        self.reads.try_push_back(read)
+        self.push_logged(LoggedRead { read, hint: 0 })
+    }
+
+    /// The same of a read with its hint.
+    pub fn push_logged(&mut self, logged: LoggedRead) -> Result<(), Read>
+        ensures variant { IsOk result ↔ (length self.old < READ_LOG_SIZE) }
+        ensures ok { OnOk result (self.new ≡ self.old ++ logged.read ∷ []) }
+        ensures err { OnErr result (self.new ≡ self.old) }
+        ensures value_returned { IfErr result (λ back. back ≡ logged.read) }
+    {
+        match self.reads.try_push_back(logged) {
+            Ok(()) => Ok(()),
+            Err(back) => Err(back.read),
+        }
     }
 
     /// Takes the first read.
@@ -60,7 +89,19 @@ impl<A: Allocator + Drop> ReadLog<A> {
         ensures value { result ≡ slice_get self.old 0 }
         ensures rest { self.new ≡ drop 1 self.old }
     {
-        self.reads.pop_front()
+        let logged = self.reads.pop_front()?;
+        Some(logged.read)
+    }
+
+    /// Takes the first reads, and puts them to the front of a slice: as many as there are, as it holds, and as are wanted. Answers how many.
+    pub fn take_first(&mut self, wanted: usize, reads: &mut [LoggedRead]) -> usize
+        ensures count { result ≡ min (min wanted (length reads.old)) (length self.old) }
+        ensures reads { map (λ l. l.read) (take result reads.new) ≡ take result self.old }
+        ensures same { length reads.new ≡ length reads.old }
+        ensures rest { self.new ≡ drop result self.old }
+    {
+        let wanted = wanted.min(reads.len());
+        self.reads.read_into(&mut reads[..wanted])
     }
 }
 

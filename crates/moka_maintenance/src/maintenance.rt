@@ -1,18 +1,16 @@
 //! The maintenance of the cache that threads share: it applies what callers have left in the logs, decides which entries enter and leave, and
 //! publishes the counts. It goes on by turns, each of which needs at most one log or one entry besides it.
-ghost use Rattle.std.specs.Prelude.{◌≡◌, ◌↔◌, Bool, IfOk, IsTrue, Option, false, length, option_copied};
+ghost use Rattle.std.specs.Prelude.{◌≡◌, ◌≤◌, ◌<◌, ◌↔◌, Bool, IfOk, IfSome, IsTrue, Option, false, length, option_copied, option_map};
 ghost use Rattle.moka_engine.specs.CoreState.{new_maintenance};
 ghost use Rattle.moka_engine.specs.Orders.{charged_weight};
 ghost use Rattle.moka_engine.specs.Parts.{NeedsNothing, NeedsReads, NeedsShard, NeedsWrites, TurnsAlone, TurnsAtEntry, TurnsWithReads, TurnsWithWrites, need_of};
 ghost use Rattle.moka_engine.specs.Place.{Idle, ReadCount, name_of};
 ghost use Rattle.moka_engine.specs.Turn.Turn.{turn_at};
 ghost use Rattle.moka_engine.specs.Entry.{Entry as EntryState};
-ghost use Rattle.moka_engine.specs.declared.entry.EntryChange.TheVariants.{Touched};
-ghost use Rattle.moka_engine.specs.declared.operation.Read.TheVariants.{Hit, Miss};
 ghost use Rattle.moka_engine.specs.declared.operation.Write.TheVariants.{Remove, Upsert};
 ghost use Rattle.moka_maintenance.specs.Need.{need_at_front, need_named, need_to_read, need_to_write};
 ghost use Rattle.moka_maintenance.specs.Published.{published_of};
-ghost use Rattle.moka_maintenance.specs.Taken.{IsTaken, TakesRead, TakesWrite, having_taken, having_taken_write};
+ghost use Rattle.moka_maintenance.specs.Taken.{AppliesReads, IsScan, IsTaken, TakesRead, TakesWrite, having_taken_write, reads_left, reads_of};
 
 mod admission;
 mod eviction;
@@ -25,7 +23,7 @@ mod sketch;
 mod state;
 mod writes;
 
-use crate::logs::{ReadLog, WriteLog};
+use crate::logs::{LoggedRead, ReadLog, WriteLog};
 use crate::maintenance::place::Stage;
 use crate::maintenance::state::State;
 use moka_base::time::Instant;
@@ -187,52 +185,25 @@ impl<A: Allocator + Clone + Drop> Maintenance<A> {
         matches!(self.state.stage, Stage::Reads { .. })
     }
 
-    /// The first read of the log, where the next turn is to take one. The turn after that is to follow at once: `turn_with_hit`, or `turn_with_miss`.
-    pub fn take_read(&self, log: &mut ReadLog<A>) -> Option<Read>
-        ensures { IsTaken (TakesRead self.now) result log.old log.new }
+    /// How many reads its round is still to take, where the next turn is to take one.
+    pub fn reads_left(&self) -> usize
+        ensures { result ≡ reads_left self.now.place }
     {
-        let Stage::Reads { .. } = self.state.stage else {
-            return None;
-        };
-        log.pop()
-    }
-
-    /// The turn that applies a hit, which `take_read` has taken. Whichever entry its ticket has, it is touched: that is for its owner to do, before the
-    /// turn or after it. The node is looked for at a place first.
-    pub fn turn_with_hit<K: Drop, V: Drop, S: Drop>(
-        &mut self,
-        settings: &Settings<S, A>,
-        valid_after: Instant,
-        ticket: Ticket,
-        moment: Instant,
-        place: usize,
-    )
-        requires { TakesRead self.old }
-        ensures { (found : Option (EntryState K V)) → TurnsAtEntry K V settings.now valid_after false (having_taken (Hit ticket moment) self.old) self.new
-            found (Touched moment) }
-    {
-        let _ = settings;
-        let _ = valid_after;
-        let _ = moment;
-        if let Stage::Reads { work } = self.state.stage {
-            self.state.apply_hit(work.less_one(), ticket, place);
+        match self.state.stage {
+            Stage::Reads { work } => work.left,
+            _ => 0,
         }
     }
 
-    /// The turn that applies a miss, which `take_read` has taken.
-    pub fn turn_with_miss<K: Drop, V: Drop, S: Drop>(
-        &mut self,
-        settings: &Settings<S, A>,
-        valid_after: Instant,
-        hash: u64,
-    )
-        requires { TakesRead self.old }
-        ensures { TurnsAlone K V settings.now valid_after false (having_taken (Miss hash) self.old) self.new }
+    /// The turns that take the next reads and apply them, one after another. They are still in their log, and the entries of the hits have been touched,
+    /// or will be: both is for others to do.
+    pub fn apply_reads(&mut self, reads: &[LoggedRead])
+        requires some { 0 < length reads.now }
+        requires left { length reads.now ≤ reads_left self.old.place }
+        ensures { AppliesReads (reads_of reads.now) self.old self.new }
     {
-        let _ = settings;
-        let _ = valid_after;
         if let Stage::Reads { work } = self.state.stage {
-            self.state.apply_miss(work.less_one(), hash);
+            self.state.apply_reads(work, reads);
         }
     }
 
@@ -350,6 +321,50 @@ impl<A: Allocator + Clone + Drop> Maintenance<A> {
         }
     }
 
+    /// The ticket whose entry the next turn needs, where it is a turn of a scan and needs one: `scan`.
+    #[inline(always)]
+    pub fn need_to_scan<K: Drop, V: Drop, S: Drop>(
+        &self,
+        settings: &Settings<S, A>,
+        valid_after: Instant,
+    ) -> Option<Ticket>
+        ensures scans { IfSome result (λ t. IsScan self.now.place) }
+        ensures need { IfSome result (λ t. need_of (turn_at {K = K} {V = V} settings.now valid_after false self.now.place self.now) ≡ NeedsShard t) }
+    {
+        let _ = settings;
+        let _ = valid_after;
+        let Stage::Scanning { scan, .. } = self.state.stage else {
+            return None;
+        };
+        match self.state.need_of_scan::<K, V>(scan) {
+            Need::Entry(ticket) => Some(ticket),
+            _ => None,
+        }
+    }
+
+    /// The turn of a scan that needs an entry, of which it sees no more than what it weighs, where it stands. What becomes of the entry is for its owner
+    /// to do.
+    #[inline(always)]
+    pub fn scan<K: Drop, V: Drop, S: Drop>(
+        &mut self,
+        settings: &Settings<S, A>,
+        valid_after: Instant,
+        weight: Option<u32>,
+    ) -> EntryChange
+        requires scans { IsScan self.old.place }
+        requires need { (t : Ticket)
+            × (need_of (turn_at {K = K} {V = V} settings.now valid_after false self.old.place self.old) ≡ NeedsShard t) }
+        ensures { (found : Option (EntryState K V)) → option_map (λ e. e.weight) found ≡ weight
+            → TurnsAtEntry K V settings.now valid_after false self.old self.new found result }
+    {
+        let _ = settings;
+        let _ = valid_after;
+        match self.state.stage {
+            Stage::Scanning { work, scan } => self.state.scan::<K, V>(work, scan, weight),
+            _ => EntryChange::Stays,
+        }
+    }
+
     /// A turn that needs the entry of a ticket, which is given where it stands. What becomes of it is for the owner of the entry to do.
     pub fn turn_at_entry<K: Drop, V: Drop, S: Drop>(
         &mut self,
@@ -373,7 +388,9 @@ impl<A: Allocator + Clone + Drop> Maintenance<A> {
             Stage::Apply { work, write } => self
                 .state
                 .apply_write(settings, valid_after, work, write, found),
-            Stage::Scanning { work, scan } => self.state.scan(work, scan, found),
+            Stage::Scanning { work, scan } => {
+                self.state.scan::<K, V>(work, scan, weight_of(found))
+            }
             Stage::Removing { work, removal } => self.state.remove(work, removal, found),
             Stage::Enter {
                 work,
@@ -402,6 +419,14 @@ impl<A: Allocator + Clone + Drop> Maintenance<A> {
             _ => EntryChange::Stays,
         }
     }
+}
+
+/// What an entry weighs, where it stands.
+#[inline(always)]
+fn weight_of<K: Drop, V: Drop, A: Allocator + Drop>(found: Option<&Entry<K, V, A>>) -> Option<u32>
+    ensures { result ≡ option_map (λ e. e.weight) (option_copied found.entry) }
+{
+    Some(found?.weight())
 }
 
 /// What a read needs to be applied.

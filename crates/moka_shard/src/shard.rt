@@ -164,11 +164,32 @@ impl<K: Eq + Hash + Drop, V: Drop, S: BuildHasher + Drop, A: Allocator + Clone +
         None
     }
 
+    /// The slot of the entry of a ticket, which is looked for in a slot first: that in which it was found before, as far as the caller knows it. It
+    /// spares the look-up in the index.
+    fn find_ticket_at(&self, ticket: Ticket, slot: usize) -> Option<usize>
+        ensures value { entry_found self.now.slots result ≡ entry_of ticket (entries_in self.now.slots) }
+        ensures found { IfSome result (λ slot. IsSome (entry_in self.now.slots slot)) }
+    {
+        if let Some(entry) = self.slots.get(slot) {
+            if entry.ticket() == ticket {
+                return Some(slot);
+            }
+        }
+        self.find_ticket(ticket)
+    }
+
     /// The entry in a slot, if a search has found one.
     pub fn entry(&self, slot: Option<usize>) -> Option<&Entry<K, V, A>>
         ensures { option_copied result ≡ entry_found self.now.slots slot }
     {
         self.slots.get(slot?)
+    }
+
+    /// What the entry in a slot weighs, if a search has found one.
+    pub fn weight(&self, slot: Option<usize>) -> Option<u32>
+        ensures { result ≡ option_map (λ e. e.weight) (entry_found self.now.slots slot) }
+    {
+        Some(self.entry(slot)?.weight())
     }
 
     /// The entry in a slot, if a search has found one and it counts at a moment.
@@ -237,7 +258,9 @@ impl<K: Eq + Hash + Drop, V: Drop, S: BuildHasher + Drop, A: Allocator + Clone +
         self.counts(self.find(key, hash), settings, valid_after, now)
     }
 
-    /// The value at a key, whose hash it is, shared once more, and the ticket of its entry, if that counts at a moment.
+    /// The value at a key, whose hash it is, shared once more, and the ticket of its entry, if that counts at a moment; and the slot in which it may be
+    /// found again.
+    #[inline(always)]
     pub fn get(
         &self,
         key: &K,
@@ -245,16 +268,18 @@ impl<K: Eq + Hash + Drop, V: Drop, S: BuildHasher + Drop, A: Allocator + Clone +
         settings: &Settings<S, A>,
         valid_after: Instant,
         now: Instant,
-    ) -> Result<Option<(Shared<V, A>, Ticket)>, OutOfMemory>
+    ) -> Result<(Option<(Shared<V, A>, Ticket)>, usize), OutOfMemory>
         requires { hash ≡ (keys_by K.Hash S.BuildHasher S.Hasher.Hasher).hash_of self.now.hash_state key.now }
-        ensures value { IfOk result (λ found. found ≡ option_map (λ e. (e.value, e.ticket))
+        ensures value { IfOk result (λ found. found.0 ≡ option_map (λ e. (e.value, e.ticket))
             (unexpired settings.now valid_after now (entry_at K.eq key.now (entries_in self.now.slots)))) }
 
         // Only a copy can be refused.
         ensures refused { IsErr result →
             IsSome (unexpired settings.now valid_after now (entry_at K.eq key.now (entries_in self.now.slots))) }
     {
-        self.value(self.find(key, hash), settings, valid_after, now)
+        let slot = self.find(key, hash);
+        let found = self.value(slot, settings, valid_after, now)?;
+        Ok((found, slot.unwrap_or(0)))
     }
 
     /// Puts the value at the key, whose hash it is. An equal key that is there stays, with its ticket, which is the answer; a new entry has the
@@ -357,13 +382,14 @@ impl<K: Eq + Hash + Drop, V: Drop, S: BuildHasher + Drop, A: Allocator + Clone +
         ticket
     }
 
-    /// The entry of a ticket, if it stands, was used at a moment. The answer is where what is charged for it may be found.
-    pub fn touch(&mut self, ticket: Ticket, moment: Instant) -> usize
+    /// The entry of a ticket, if it stands, was used at a moment. It is looked for in a slot first: that in which it was found before, as far as the
+    /// caller knows it. The answer is where what is charged for it may be found.
+    pub fn touch(&mut self, ticket: Ticket, slot: usize, moment: Instant) -> usize
         ensures step { state_of self.new ≡ record (state_of self.old) {
           entries = after_change ticket (change_of (Touched moment)) (entries_in self.old.slots);
         } }
     {
-        let slot = self.find_ticket(ticket);
+        let slot = self.find_ticket_at(ticket, slot);
         let place = place_of(self.entry(slot));
         self.change(slot, EntryChange::Touched(moment));
         place

@@ -5,7 +5,7 @@ use Rattle.moka_engine.specs.declared.place.Place.TheVariants as name
 use Rattle.moka_engine.specs.declared.event.Event.{Event}
 use Rattle.moka_engine.specs.Reply.{Reply}
 use Rattle.moka_engine.specs.WholeCall.{Log, Turns, LastTurn, NextTurn}
-use Rattle.moka_steps.specs.Steps.{OneTurn, TakesTurns, TwoTurns, goes_on}
+use Rattle.moka_steps.specs.Steps.{MoreTurns, OneTurn, TakesTurns, goes_on}
 
 -- a maintenance goes on wherever it isn't idle
 pub goes_on_elsewhere : (place : PlaceName) → (place ≡ name.Idle → ⊥) → goes_on place ≡ true
@@ -17,11 +17,11 @@ module _ {W K V : Type 0} (allowed : W → Event K V → Reply K V → W → Typ
   -- turns that end a maintenance
   pub turns_end : (old new : W) → TakesTurns allowed name.Idle old new → Turns allowed decides is_pending caller old new
   turns_end old new (OneTurn _ _ _ turn) = LastTurn old new turn
-  turns_end old new (TwoTurns _ between _ next _ more first second) = NextTurn old next new between more first (LastTurn next new second)
+  turns_end old new (MoreTurns _ between _ next _ more first later) = NextTurn old next new between more first (turns_end next new later)
 
   -- turns that others follow
   pub turns_follow : (place : PlaceName) → (place ≡ name.Idle → ⊥) → (old new end : W) → TakesTurns allowed place old new
       → Turns allowed decides is_pending caller new end → Turns allowed decides is_pending caller old end
   turns_follow place on old new end (OneTurn _ _ _ turn) later = NextTurn old new end place on turn later
-  turns_follow place on old new end (TwoTurns _ between _ next _ more first second) later =
-      NextTurn old next end between more first (NextTurn next new end place on second later)
+  turns_follow place on old new end (MoreTurns _ between _ next _ more first others) later =
+      NextTurn old next end between more first (turns_follow place on next new end others later)

@@ -104,11 +104,11 @@ module _ {K V : Type 0} where
   write_reply write.Full = NotPossible
 
 module _ {W K V : Type 0} (allowed : W → Event K V → Reply K V → W → Type 0) where
-  -- one turn of a maintenance, which is at this place then; or two, of which the first doesn't end it
+  -- one turn of a maintenance, which is at this place then; or several, of which only the last may end it
   pub data TakesTurns : PlaceName → W → W → Type 0 where
     OneTurn : (place : PlaceName) (old new : W) → allowed old Turn (At place) new → TakesTurns place old new
-    TwoTurns : (place between : PlaceName) (old next new : W) → between ≢ name.Idle → allowed old Turn (At between) next
-        → allowed next Turn (At place) new → TakesTurns place old new
+    MoreTurns : (place between : PlaceName) (old next new : W) → between ≢ name.Idle → allowed old Turn (At between) next
+        → TakesTurns place next new → TakesTurns place old new
 
 module _ {W K V : Type 0} (allowed : W → Event K V → Reply K V → W → Type 0) (decides : W → Log → ℕ → Bool → W → Type 0)
     (caller : W → Caller) (is_clone : V → V → Type 0) (is_infallible : V → Type 0) where

@@ -139,7 +139,8 @@ pub trait Steps<K: Drop, V: Drop, A: Allocator + Drop> {
         ensures step { allowed self.old (Event.Begin now) Reply.Done self.new }
         ensures caller { caller self.new ≡ maintaining true (caller self.old) };
 
-    /// Goes on with the caller's maintenance by one turn or by two, and says where it is then. At `Idle` it has ended.
+    /// Goes on with the caller's maintenance by one turn, or by several that follow each other at once, and says where it is then. At `Idle` it has
+    /// ended.
     fn turn<R: Wait>(&mut self, rt: &R) -> Place
         requires { (caller self.old).is_maintaining ≡ true }
         ensures turns { TakesTurns allowed result self.old self.new }
@@ -177,19 +178,19 @@ pub fn get<K: Drop, V: Clone, A: Allocator + Drop, T: Steps<K, V, A>, R: Wait>(
     ensures call { AnswersGet T.allowed T.decides T.caller V.is_clone V.is_infallible key.now now result steps.old steps.new }
     ensures rest { T.caller steps.new ≡ at_rest }
 {
-    let Some(value) = steps.get(rt, key, now)? else {
-        push_read(rt, steps, now);
-        return Ok(None);
-    };
-    let copy: Result<_, _> = value.get().clone();
-    // Others count the value too: it is let go of before the log is seen to, which may take a maintenance.
-    drop(value);
-    let Ok(copy) = copy else {
-        steps.forget();
-        return Err(OutOfMemory);
-    };
+    let mut found = None;
+    if let Some(value) = steps.get(rt, key, now)? {
+        let copy: Result<_, _> = value.get().clone();
+        // Others count the value too: it is let go of before the log is seen to, which may take a maintenance.
+        drop(value);
+        let Ok(copy) = copy else {
+            steps.forget();
+            return Err(OutOfMemory);
+        };
+        found = Some(copy);
+    }
     push_read(rt, steps, now);
-    Ok(Some(copy))
+    Ok(found)
 }
 
 /// Whether a key has an unexpired value. It leaves nothing behind.
@@ -245,6 +246,7 @@ pub fn sync<K: Drop, V: Drop, A: Allocator + Drop, T: Steps<K, V, A>, R: Wait>(
 }
 
 /// The pending read goes to its log, after a maintenance where one is due.
+#[inline(always)]
 fn push_read<K: Drop, V: Drop, A: Allocator + Drop, T: Steps<K, V, A>, R: Wait>(
     rt: &R,
     steps: &mut T,
@@ -278,6 +280,7 @@ fn push_write<K: Drop, V: Drop, A: Allocator + Drop, T: Steps<K, V, A>, R: Wait>
 }
 
 /// A whole maintenance, where the cache decides that the caller is to run one.
+#[inline(always)]
 fn maintain_if_due<K: Drop, V: Drop, A: Allocator + Drop, T: Steps<K, V, A>, R: Wait>(
     rt: &R,
     steps: &mut T,
@@ -294,6 +297,8 @@ fn maintain_if_due<K: Drop, V: Drop, A: Allocator + Drop, T: Steps<K, V, A>, R: 
 }
 
 /// A whole maintenance.
+#[cold]
+#[inline(never)]
 fn maintain<K: Drop, V: Drop, A: Allocator + Drop, T: Steps<K, V, A>, R: Wait>(
     rt: &R,
     steps: &mut T,

@@ -1,7 +1,7 @@
 //! Whole calls of one caller, each a chain of steps.
 ghost use Rattle.std.specs.Prelude.{◌≡◌, ◌≢◌, true};
 ghost use Rattle.moka_base.specs.Keys.{keys_by};
-ghost use Rattle.moka_core.specs.Calls.{AppliesNext, AppliesNextRead, AppliesNextWrite, CoreMaintains, CorePushesRead, CorePushesWrite, MaintainsAsDue, Pends, PendsRead, PendsWrite, having};
+ghost use Rattle.moka_core.specs.Calls.{AppliesNext, AppliesNextReads, AppliesNextWrite, CoreMaintains, CorePushesRead, CorePushesWrite, MaintainsAsDue, Pends, PendsRead, PendsWrite, having};
 ghost use Rattle.moka_core.specs.Machine.{KeepsRoom};
 ghost use Rattle.moka_engine.specs.Consistent.{IsConsistent};
 ghost use Rattle.moka_engine.specs.CoreCall.{CoreTurns, Finishes, IsAtRest, IsCall, scheduled};
@@ -17,9 +17,10 @@ use moka_base::time::Instant;
 use moka_engine::call::Call;
 use moka_engine::constants::{CALLER, FLUSH_POINT, SYNC_INTERVAL};
 use moka_engine::event::Reply;
-use moka_engine::operation::{Operation, Read, Write};
+use moka_engine::operation::{Operation, Write};
 use moka_engine::place::Place;
 use moka_engine::weigh::WeighShared;
+use moka_maintenance::logs::{LoggedRead, NO_READ, READS_AT_ONCE};
 use std::alloc::Allocator;
 use std::hash::{BuildHasher, Hash};
 
@@ -79,6 +80,7 @@ impl<
     }
 
     /// The whole call `Get`.
+    #[inline(always)]
     pub(crate) fn call_get(&mut self, key: &K, now: Instant) -> Reply<Shared<V, A>, Rows<K, V, A>>
         requires good { IsConsistent (keys_by K.Hash S.BuildHasher S.Hasher.Hasher) self.old.state }
         requires rest { IsAtRest self.old.state }
@@ -86,10 +88,10 @@ impl<
             self.old.state (call.Get key.now now) result self.new.state }
         ensures weigher { self.new.weigher ≡ self.old.weigher }
     {
-        let Ok((found, read)) = self.look_up(key, now) else {
+        let Ok((found, logged)) = self.look_up(key, now) else {
             return Reply::OutOfMemory;
         };
-        self.log_read(read, now);
+        self.log_read(logged, now);
         Reply::Found(found)
     }
 
@@ -120,19 +122,19 @@ impl<
     }
 
     /// A read goes to its log: at once where no maintenance is due, and else it is pending while one is run.
-    fn log_read(&mut self, read: Read, now: Instant)
+    fn log_read(&mut self, logged: LoggedRead, now: Instant)
         requires rest { IsAtRest self.old.state }
-        requires pends { PendsRead (keys_by K.Hash S.BuildHasher S.Hasher.Hasher) (having (Reading read) self.old.state) }
+        requires pends { PendsRead (keys_by K.Hash S.BuildHasher S.Hasher.Hasher) (having (Reading logged.read) self.old.state) }
         ensures step { CorePushesRead (keys_by K.Hash S.BuildHasher S.Hasher.Hasher) (W.weighs self.old.weigher)
-            now (having (Reading read) self.old.state) self.new.state }
+            now (having (Reading logged.read) self.old.state) self.new.state }
         ensures weigher { self.new.weigher ≡ self.old.weigher }
     {
         if is_due(self.read_log.len(), FLUSH_POINT, self.sync_after, now) {
-            self.pending.put(CALLER, Operation::Reading(read));
+            self.pending.put(CALLER, Operation::Reading(logged.read));
             self.push_read(now);
             return;
         }
-        let _ = self.read_log.push(read);
+        let _ = self.read_log.push_logged(logged);
     }
 
     /// A write goes to its log: at once where no maintenance is due, and else it is pending while one is run.
@@ -152,6 +154,8 @@ impl<
     }
 
     /// The pending read goes to its log, once a maintenance was run where one is due.
+    #[cold]
+    #[inline(never)]
     fn push_read(&mut self, now: Instant)
         requires pends { PendsRead (keys_by K.Hash S.BuildHasher S.Hasher.Hasher) self.old.state }
         ensures step { CorePushesRead (keys_by K.Hash S.BuildHasher S.Hasher.Hasher) (W.weighs self.old.weigher)
@@ -164,6 +168,8 @@ impl<
     }
 
     /// The pending write goes to its log, in which a maintenance has made room.
+    #[cold]
+    #[inline(never)]
     fn push_write(&mut self, now: Instant)
         requires pends { PendsWrite (keys_by K.Hash S.BuildHasher S.Hasher.Hasher) self.old.state }
         ensures step { CorePushesWrite (keys_by K.Hash S.BuildHasher S.Hasher.Hasher) (W.weighs self.old.weigher)
@@ -242,35 +248,38 @@ impl<
         }
     }
 
-    /// Two turns, where the first one is to take an operation and there is one: it is taken, and applied. Answers whether that was so.
+    /// The turns that take the next operations of a log and apply them, where the next turn is to take one and there is one. Answers whether that was
+    /// so.
     fn apply_next(&mut self) -> bool
         ensures turns { AppliesNext self.old.state result self.new.state }
         ensures weigher { self.new.weigher ≡ self.old.weigher }
     {
-        self.apply_next_read() || self.apply_next_write()
+        self.apply_next_reads() || self.apply_next_write()
     }
 
-    /// The same of a read.
-    fn apply_next_read(&mut self) -> bool
-        ensures turns { AppliesNextRead self.old.state result self.new.state }
+    /// The turns of the next reads, which are applied together: their entries are touched, their hashes counted, and then their nodes move. So they wait
+    /// for memory together, and not one after the other.
+    fn apply_next_reads(&mut self) -> bool
+        ensures turns { AppliesNextReads self.old.state result self.new.state }
         ensures kept { KeepsRoom self.old self.new }
     {
-        let Some(read) = self.maintenance.take_read(&mut self.read_log) else {
+        if !self.maintenance.takes_read() {
             return false;
-        };
-        match read {
-            Read::Hit { ticket, moment } => {
-                self.map
-                    .turn_with_hit(&mut self.maintenance, ticket, moment, self.valid_after)
-            }
-            Read::Miss { hash } => self
-                .maintenance
-                .turn_with_miss::<K, V, S>(self.map.settings(), self.valid_after, hash),
         }
+        let mut copy = [NO_READ; READS_AT_ONCE];
+        let count = self
+            .read_log
+            .take_first(self.maintenance.reads_left(), &mut copy);
+        if count == 0 {
+            return false;
+        }
+        let reads = &mut copy[..count];
+        self.map.touch_all(reads);
+        self.maintenance.apply_reads(reads);
         true
     }
 
-    /// The same of a write.
+    /// The two turns of the next write.
     fn apply_next_write(&mut self) -> bool
         ensures turns { AppliesNextWrite self.old.state result self.new.state }
         ensures kept { KeepsRoom self.old self.new }

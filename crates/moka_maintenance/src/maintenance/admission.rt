@@ -1,8 +1,9 @@
 // The turns that decide whether an entry enters: the scan, the removals and the entering.
-ghost use Rattle.std.specs.Prelude.{◌≡◌, ◌≤◌, ◌<◌, ◌+◌, ◌^◌, ℕ, [], ◌∷◌, ◌++◌, None, Some, drop, is_some, length, map, option_copied, option_map};
+ghost use Rattle.std.specs.Prelude.{◌≡◌, ◌≤◌, ◌<◌, ◌+◌, ◌^◌, ℕ, [], ◌∷◌, ◌++◌, None, Option, Some, drop, is_some, length, map, option_copied, option_map};
 ghost use Rattle.moka_engine.specs.declared.constants.TheConstants.{MAX_ABSENT, MAX_ROUNDS};
 ghost use Rattle.moka_base.specs.Settings.{keeps_writes};
 ghost use Rattle.moka_deque.specs.Deque.{first_id};
+ghost use Rattle.moka_engine.specs.Entry.{Entry as EntryState};
 ghost use Rattle.moka_engine.specs.Turn.Plan.{Alone, gone_to, moved_on};
 ghost use Rattle.moka_engine.specs.Parts.{NeedsNothing, NeedsShard, need_of};
 ghost use Rattle.moka_maintenance.specs.declared.maintenance.place.Work.{Work};
@@ -69,28 +70,29 @@ fn removing_or_enter(work: Work, removal: Removal) -> Stage
 }
 
 impl<A: Allocator + Clone + Drop> State<A> {
-    /// A scan that hasn't ended looks at the next node.
+    /// A scan that hasn't ended looks at the next node, whose entry weighs this, where it stands.
     pub(crate) fn see<K: Drop, V: Drop>(
         &mut self,
         work: Work,
         scan: Scan,
         id: NodeId,
-        found: Option<&Entry<K, V, A>>,
+        weight: Option<u32>,
     )
         requires round { work.round ≤ MAX_ROUNDS }
         requires scanning { IsScanning self.old.orders scan }
         requires next { next_id_if (is_decided (candidate_of scan.candidate) (tally_of scan.tally)) scan.next ≡ Some id }
-        ensures step { AtNode self.old.orders id (λ n. outcome_of EntryChange.Stays self.new
+        ensures step { (found : Option (EntryState K V)) → option_map (λ e. e.weight) found ≡ weight
+            → AtNode self.old.orders id (λ n. outcome_of EntryChange.Stays self.new
             ≡ after_seeing (work_of work) (candidate_of scan.candidate) (tally_of scan.tally) (first_seen scan.seen self.old.orders.nodes)
-            n.ticket (maintenance_of self.old) (option_copied found.entry)) }
+            n.ticket (maintenance_of self.old) found) }
         ensures holds { IsAtHand self.new.orders self.new.stage }
     {
         // There are fewer nodes than 2^64.
         let _ = self.orders.len();
         let ticket = self.orders.get(id).ticket;
-        let tally = self.with_found(scan.tally, ticket, found);
+        let tally = self.with_found::<K, V>(scan.tally, ticket, weight);
         let next = self.orders.next(id);
-        self.orders.mark(id, found.is_some());
+        self.orders.mark(id, weight.is_some());
         self.stage = Stage::Scanning {
             work,
             scan: Scan {
@@ -102,17 +104,18 @@ impl<A: Allocator + Clone + Drop> State<A> {
         };
     }
 
-    /// What a scan has found once it has looked at one more entry.
+    /// What a scan has found once it has looked at one more entry, which weighs this, where it stands.
     fn with_found<K: Drop, V: Drop>(
         &self,
         tally: Tally,
         ticket: Ticket,
-        found: Option<&Entry<K, V, A>>,
+        weight: Option<u32>,
     ) -> Tally
         requires small { (tally.weight < 2 ^ 32) × (tally.estimate < 2 ^ 8) × (tally.absent < MAX_ABSENT) }
-        ensures { tally_of result ≡ after_finding self.now.sketch ticket (tally_of tally) (option_copied found.entry) }
+        ensures { (found : Option (EntryState K V)) → option_map (λ e. e.weight) found ≡ weight
+            → tally_of result ≡ after_finding self.now.sketch ticket (tally_of tally) found }
     {
-        let Some(entry) = found else {
+        let Some(weight) = weight else {
             return Tally {
                 weight: tally.weight,
                 estimate: tally.estimate,
@@ -120,26 +123,20 @@ impl<A: Allocator + Clone + Drop> State<A> {
             };
         };
         Tally {
-            weight: tally.weight + u64::from(entry.weight()),
+            weight: tally.weight + u64::from(weight),
             estimate: tally.estimate + u32::from(self.sketch.frequency(ticket.hash)),
             absent: 0,
         }
     }
 
     /// The candidate is rejected: its entry leaves, and the nodes that were absent go to the back.
-    pub(crate) fn reject<K: Drop, V: Drop>(
-        &mut self,
-        work: Work,
-        scan: Scan,
-        found: Option<&Entry<K, V, A>>,
-    ) -> EntryChange
+    pub(crate) fn reject<K: Drop, V: Drop>(&mut self, work: Work, scan: Scan) -> EntryChange
         requires round { work.round ≤ MAX_ROUNDS }
         requires scanning { IsScanning self.old.orders scan }
-        ensures step { outcome_of result self.new
-            ≡ after_rejection (work_of work) (first_seen scan.seen self.old.orders.nodes) (maintenance_of self.old) (option_copied found.entry) }
+        ensures step { (found : Option (EntryState K V)) → outcome_of result self.new
+            ≡ after_rejection (work_of work) (first_seen scan.seen self.old.orders.nodes) (maintenance_of self.old) found }
         ensures holds { IsAtHand self.new.orders self.new.stage }
     {
-        let _ = found;
         send_absent_back(&mut self.orders, scan.seen);
         self.stage = writes_or_on(work);
         EntryChange::Leaves
@@ -291,25 +288,27 @@ impl<A: Allocator + Clone + Drop> State<A> {
         Need::Entry(scan.candidate.ticket)
     }
 
-    /// The turn of a scan that needs an entry.
+    /// The turn of a scan that needs an entry, which weighs this, where it stands.
+    #[inline(always)]
     pub(crate) fn scan<K: Drop, V: Drop>(
         &mut self,
         work: Work,
         scan: Scan,
-        found: Option<&Entry<K, V, A>>,
+        weight: Option<u32>,
     ) -> EntryChange
         requires round { work.round ≤ MAX_ROUNDS }
         requires scanning { IsScanning self.old.orders scan }
         requires need { (t : Ticket) × (need_of (scan_plan {K = K} {V = V} work scan self.old) ≡ NeedsShard t) }
-        ensures step { LooksAt (scan_plan work scan self.old) (option_copied found.entry) result self.new }
+        ensures step { (found : Option (EntryState K V)) → option_map (λ e. e.weight) found ≡ weight
+            → LooksAt (scan_plan work scan self.old) found result self.new }
         ensures holds { IsAtHand self.new.orders self.new.stage }
     {
         // No id stands twice.
         let _ = self.orders.len();
         let Some(id) = scan.next_seen() else {
-            return self.reject(work, scan, found);
+            return self.reject::<K, V>(work, scan);
         };
-        self.see(work, scan, id, found);
+        self.see::<K, V>(work, scan, id, weight);
         EntryChange::Stays
     }
 

@@ -27,6 +27,17 @@ impl Work {
             left: self.left.saturating_sub(1),
         }
     }
+
+    /// What is left once so many are taken.
+    pub(crate) fn less(self, count: usize) -> Work
+        ensures round { result.round ≡ self.round }
+        ensures left { result.left ≡ self.left - count }
+    {
+        Work {
+            round: self.round,
+            left: self.left.saturating_sub(count),
+        }
+    }
 }
 
 /// An entry that asks to enter, with its weight and its estimate as they were applied.

@@ -1,5 +1,6 @@
 // The turns that take and apply reads.
 ghost use Rattle.std.specs.Prelude.{◌≡◌, ◌≤◌};
+ghost use Rattle.std.specs.List.{fold};
 ghost use Rattle.moka_engine.specs.declared.constants.TheConstants.{MAX_ROUNDS};
 ghost use Rattle.moka_engine.specs.Orders.{used};
 ghost use Rattle.moka_engine.specs.Turn.Plan.{gone_to, moved_on, reads_or_on};
@@ -7,13 +8,17 @@ ghost use Rattle.moka_engine.specs.Turn.Apply.{after_miss};
 ghost use Rattle.moka_engine.specs.Turn.Turn.{after_more_reads, after_read_taken};
 ghost use Rattle.moka_orders.specs.OrdersState.{orders_of};
 ghost use Rattle.moka_maintenance.specs.Held.{IsAtHand, IsPlain, maintenance_of, work_of};
+ghost use Rattle.moka_maintenance.specs.Taken.{counted, hash_of_read, having_applied, reads_of, used_by};
 
-use crate::logs::ReadLog;
+use crate::logs::{LoggedRead, ReadLog};
 use crate::maintenance::fronts::use_ticket;
 use crate::maintenance::place::{Stage, Work};
 use crate::maintenance::state::State;
 use moka_engine::constants::{FLUSH_POINT, MAX_ROUNDS};
+use moka_engine::operation::Read;
 use moka_engine::ticket::Ticket;
+use moka_orders::orders::Orders;
+use moka_sketch::frequency_sketch::FrequencySketch;
 use std::alloc::{Allocator, Global};
 
 /// The stage after an operation, where so many reads are left.
@@ -39,6 +44,43 @@ fn after_more_reads(round: usize, len: usize) -> Stage
         return Stage::ReadCount { round: round + 1 };
     }
     Stage::MoreWrites { round }
+}
+
+/// The hash that a read counts.
+fn hash_of(read: Read) -> u64
+    ensures { result ≡ hash_of_read read }
+{
+    match read {
+        Read::Hit { ticket, .. } => ticket.hash,
+        Read::Miss { hash } => hash,
+    }
+}
+
+/// Counts the hashes of reads.
+fn count_hashes<A: Allocator + Clone + Drop>(sketch: &mut FrequencySketch<A>, reads: &[LoggedRead])
+    ensures { sketch.new ≡ fold counted sketch.old (reads_of reads.now) }
+{
+    for logged in reads {
+        sketch.increment(hash_of(logged.read));
+    }
+}
+
+/// The node of a hit becomes the most recently used one. It is looked for at the place of its hint first.
+fn use_node<A: Allocator + Clone + Drop>(orders: &mut Orders<A>, logged: LoggedRead)
+    ensures { orders_of orders.new ≡ used_by (orders_of orders.old) logged.read }
+{
+    if let Read::Hit { ticket, .. } = logged.read {
+        use_ticket(orders, ticket, logged.hint);
+    }
+}
+
+/// The nodes of hits do, one after another.
+fn use_nodes<A: Allocator + Clone + Drop>(orders: &mut Orders<A>, reads: &[LoggedRead])
+    ensures { orders_of orders.new ≡ fold used_by (orders_of orders.old) (reads_of reads.now) }
+{
+    for logged in reads {
+        use_node(orders, *logged);
+    }
 }
 
 impl<A: Allocator + Clone + Drop> State<A> {
@@ -95,5 +137,16 @@ impl<A: Allocator + Clone + Drop> State<A> {
     {
         use_ticket(&mut self.orders, ticket, place);
         self.apply_miss(work, ticket.hash);
+    }
+
+    /// Reads are applied: their hashes are counted, and then the nodes of the hits move.
+    pub(crate) fn apply_reads(&mut self, work: Work, reads: &[LoggedRead])
+        requires { work.round ≤ MAX_ROUNDS }
+        ensures step { maintenance_of self.new ≡ having_applied (work_of work) (reads_of reads.now) (maintenance_of self.old) }
+        ensures holds { IsAtHand self.new.orders self.new.stage }
+    {
+        count_hashes(&mut self.sketch, reads);
+        use_nodes(&mut self.orders, reads);
+        self.stage = reads_or_on(work.less(reads.len()));
     }
 }

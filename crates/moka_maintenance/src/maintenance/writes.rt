@@ -101,6 +101,7 @@ impl<A: Allocator + Clone + Drop> State<A> {
     }
 
     /// An upsert: it is dropped where its entry has left, and sets the charge where there is one.
+    #[inline(always)]
     pub(crate) fn apply_upsert<K: Drop, V: Drop, S: Drop>(
         &mut self,
         settings: &Settings<S, A>,
@@ -185,6 +186,7 @@ impl<A: Allocator + Clone + Drop> State<A> {
     }
 
     /// A scan decides: it has looked at no node yet.
+    #[inline(always)]
     fn begin_scan(&mut self, work: Work, ticket: Ticket, weight: u32)
         requires round { work.round ≤ MAX_ROUNDS }
         requires room { 0 < self.old.orders.room }

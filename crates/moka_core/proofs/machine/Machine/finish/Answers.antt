@@ -5,7 +5,7 @@ use Rattle.moka_engine.specs.Consistent.{IsConsistent}
 use Rattle.moka_engine.specs.CoreCall.{CoreTurns}
 use Rattle.moka_engine.specs.Place.{Idle, name_of}
 use Rattle.moka_engine.specs.TurnsLeft.{turns_left}
-use Rattle.moka_core.proofs.MaintenanceLemmas.{last_turn, next_turn, next_two_turns, still_busy, turn_keeps, turn_leaves, two_turns_busy, two_turns_keep, two_turns_leave}
+use Rattle.moka_core.proofs.MaintenanceLemmas.{last_turn, next_advance, next_turn, still_busy, turn_keeps, turn_leaves}
 use Rattle.moka_core.proofs.machine.Machine.finish.Given.{Over}
 use Rattle.moka_core.proofs.machine.Machine.finish.Goals as goal
 
@@ -16,21 +16,19 @@ keys g = keys_by (record { eq = g.K.PartialEq.eq; hash_input = g.K.Hash.hash_inp
 pub loop-self-smaller-then-apply_next : goal.loop-self-smaller-then-apply_next
 loop-self-smaller-then-apply_next g c =
     let weighs = g.W.WeighShared.weighs c.args.self.now.weigher in
-    two_turns_leave (keys g) g.met.K.Eq.laws weighs c.loop-self.self.state c.apply_next.new.self.state c.if-apply_next.ensures.turns
+    (next_advance (keys g) g.met.K.Eq.laws weighs c.loop-self.self.state c.apply_next.new.self.state c.if-apply_next.ensures.turns).leave
     c.loop-self.invariant.good
 
 pub loop-self-preserved-then-apply_next : goal.loop-self-preserved-then-apply_next
 loop-self-preserved-then-apply_next g c =
     let weighs = g.W.WeighShared.weighs c.args.self.now.weigher in
-    let old = c.loop-self.self.state in
-    let new = c.apply_next.new.self.state in
-    let turns = c.if-apply_next.ensures.turns in
+    let advances =
+    next_advance (keys g) g.met.K.Eq.laws weighs c.loop-self.self.state c.apply_next.new.self.state c.if-apply_next.ensures.turns in
     record {
       weigher = c.apply_next.ensures.weigher ∙ c.loop-self.invariant.weigher;
-      good = two_turns_keep (keys g) g.met.K.Eq.laws weighs old new turns c.loop-self.invariant.good;
-      busy = two_turns_busy (keys g) g.met.K.Eq.laws weighs old new turns;
-      took = λ end later.
-          c.loop-self.invariant.took end (next_two_turns (keys g) g.met.K.Eq.laws weighs old new turns end later);
+      good = advances.keep c.loop-self.invariant.good;
+      busy = advances.busy;
+      took = λ end later. c.loop-self.invariant.took end (advances.follow end later);
     }
 
 pub returns-in-Idle-clause-turns : goal.returns-in-Idle-clause-turns

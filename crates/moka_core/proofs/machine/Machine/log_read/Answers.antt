@@ -30,7 +30,7 @@ returns-clause-step g c =
     let rests : is_due (length inside.read_log) FLUSH_POINT inside.sync_after c.args.now ≡ false =
     subst (λ n. is_due n FLUSH_POINT inside.sync_after c.args.now ≡ false) c.len.ensures.len (sym c.is_due.ensures ∙ c.if-is_due.false) in
     let room = room_where_not_due (keys g) g.met.K.Eq.laws weighs (length inside.read_log) inside.sync_after c.args.now rests in
-    let log : c.push.new.self ≡ inside.read_log ++ c.args.read ∷ [] =
-    where_room (keys g) g.met.K.Eq.laws weighs c.push.result (length inside.read_log) READ_LOG_SIZE
-    (c.push.new.self ≡ inside.read_log ++ c.args.read ∷ []) c.push.ensures.variant room c.push.ensures.ok in
-    rw (← c.self.view_is) (logs_read (keys g) g.met.K.Eq.laws weighs c.args.now old c.args.read c.push.new.self none rests log)
+    let log : c.push_logged.new.self ≡ inside.read_log ++ c.args.logged.read ∷ [] =
+    where_room (keys g) g.met.K.Eq.laws weighs c.push_logged.result (length inside.read_log) READ_LOG_SIZE
+    (c.push_logged.new.self ≡ inside.read_log ++ c.args.logged.read ∷ []) c.push_logged.ensures.variant room c.push_logged.ensures.ok in
+    rw (← c.self.view_is) (logs_read (keys g) g.met.K.Eq.laws weighs c.args.now old c.args.logged.read c.push_logged.new.self none rests log)

@@ -1,12 +1,22 @@
-use Rattle.std.proofs.Common.{inl}
-use Rattle.moka_locks.proofs.TurnLemmas.{alone}
+use Rattle.moka_locks.specs.MaintenanceTurn.{OneTurn}
+use Rattle.moka_locks.proofs.TurnLemmas.{alone, with_reads, with_writes}
 use Rattle.moka_locks.proofs.inner.Inner.turn.Goals as goal
 
 pub returns-in-Nothing : goal.returns-in-Nothing
 returns-in-Nothing g c =
     let turn = c.turn_alone.ensures in
     rw (← c.self.view_is)
-    (inl (alone g.row.K.Denot g.row.V.Denot c.self.inside.settings _ turn.0 c.args.maintenance.now c.turn_alone.new.self turn.1))
+    (OneTurn _ _ (alone g.row.K.Denot g.row.V.Denot c.self.inside.settings _ turn.0 c.args.maintenance.now c.turn_alone.new.self turn.1))
 
 pub returns-in-Entry : goal.returns-in-Entry
-returns-in-Entry g c = rw (← c.self.view_is) (inl c.turn.ensures)
+returns-in-Entry g c = rw (← c.self.view_is) (OneTurn _ _ c.turn.ensures)
+
+pub returns-in-Reads : goal.returns-in-Reads
+returns-in-Reads g c =
+    let turn = c.turn_with_reads.ensures in
+    rw (← c.self.view_is) (OneTurn _ _ (with_reads c.self.inside.settings _ turn.0 c.args.maintenance.now c.turn_with_reads.new.self _ _ turn.1))
+
+pub returns-in-Writes : goal.returns-in-Writes
+returns-in-Writes g c =
+    let turn = c.turn_with_writes.ensures in
+    rw (← c.self.view_is) (OneTurn _ _ (with_writes c.self.inside.settings _ turn.0 c.args.maintenance.now c.turn_with_writes.new.self _ _ turn.1))

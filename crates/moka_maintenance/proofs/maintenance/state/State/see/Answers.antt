@@ -1,12 +1,11 @@
 use Rattle.std.proofs.Common.{◌≡◌, ◌∙◌, ◌++◌, ◌∷◌, [], ap, is_some, subst, sym}
-use Rattle.std.specs.Option.{option_copied}
 use Rattle.moka_engine.specs.Place as place
 use Rattle.moka_engine.specs.Turn.Plan.{Stays}
 use Rattle.moka_engine.specs.Turn.Admission.{after_finding, is_decided}
 use Rattle.moka_orders.specs.declared.orders.Node.{Node}
 use Rattle.moka_deque.proofs.IdLemmas.{some_parts}
 use Rattle.moka_maintenance.specs.Held.{Held, IsScanning, candidate_of, first_seen, tally_of, work_of}
-use Rattle.moka_maintenance.proofs.ScanLemmas.{next_parts, scanned_node, scanning_on, seen_more, is_some_copied}
+use Rattle.moka_maintenance.proofs.ScanLemmas.{next_parts, scanned_node, scanning_on, seen_more, is_some_weighed}
 use Rattle.moka_maintenance.proofs.maintenance.state.State.see.Goals as goal
 
 pub get-requires : goal.get-requires
@@ -32,17 +31,17 @@ returns-clause-step g c =
     let s = subst (λ (v : Held). IsScanning v.orders c.args.scan) (sym c.self.view_is) c.requires.scanning in
     let at = next_parts (is_decided (candidate_of c.args.scan.candidate) (tally_of c.args.scan.tally)) c.args.scan.next c.args.id c.requires.next in
     rw (← c.self.view_is)
-    (λ n found.
+    (λ entry weighs n found.
     let same : c.get.result.now ≡ n = some_parts c.get.result.now n (sym c.get.ensures.value ∙ found) in
     let tally =
-    c.with_found-tally.ensures
+    c.with_found-tally.ensures entry weighs
     ∙ ap (λ (v : Held).
-    after_finding v.sketch c.get.result.now.ticket (tally_of c.args.scan.tally) (option_copied c.args.found)) (sym c.self.view_is)
-    ∙ ap (λ (m : Node). after_finding c.self.inside.sketch m.ticket (tally_of c.args.scan.tally) (option_copied c.args.found)) same in
+    after_finding v.sketch c.get.result.now.ticket (tally_of c.args.scan.tally) entry) (sym c.self.view_is)
+    ∙ ap (λ (m : Node). after_finding c.self.inside.sketch m.ticket (tally_of c.args.scan.tally) entry) same in
     let seen =
     seen_more c.self.inside.orders c.args.scan c.len.ensures.distinct s c.args.id at.1 c.mark.new.self c.is_some.result c.mark.ensures.step n found
     ∙ ap (λ b. first_seen c.args.scan.seen c.self.inside.orders.nodes ++ record { ticket = n.ticket; is_present = b } ∷ [])
-    (c.is_some.ensures ∙ sym (is_some_copied c.args.found)) in
+    (c.is_some.ensures ∙ ap is_some (sym weighs) ∙ is_some_weighed entry) in
     λ i. record {
       change = Stays;
       maintenance = record {
