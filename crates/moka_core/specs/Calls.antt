@@ -35,9 +35,9 @@ pub record AppliesTogether {K V S : Type 0} (reads : List Read) (old new : CoreS
   pub applies : AppliesReads reads old.maintenance maintenance
   pub is : new ≡ record old { entries = fold touched_by old.entries reads; read_log = rest; maintenance = maintenance }
 
--- the next reads have; where no read is to be taken, or there is none, nothing is done
+-- the next reads have been; where none is to be taken, or there is none, nothing is done
 abbrev pub AppliesNextReads : {K V S : Type 0} → CoreState K V S → Bool → CoreState K V S → Type 0
-AppliesNextReads old false new = new ≡ old
+AppliesNextReads old false new = (new ≡ old) × (0 < reads_left old.maintenance.place → old.read_log ≡ [])
 AppliesNextReads old true new = (reads : List Read) × AppliesTogether reads old new
 
 -- two turns, of which the first takes a write and the other applies it, for which memory may refuse a node
@@ -45,9 +45,9 @@ abbrev pub AppliesNextWrite : {K V S : Type 0} → CoreState K V S → Bool → 
 AppliesNextWrite old false new = (new ≡ old) × (TakesWrite old.maintenance → old.write_log ≡ [])
 AppliesNextWrite old true new = TakesWrite old.maintenance × (refused : Bool) × (new ≡ after_turn refused (after_turn false old))
 
--- the same of the one or the other
+-- the turns of the next reads, or else those of the next write
 abbrev pub AppliesNext : {K V S : Type 0} → CoreState K V S → Bool → CoreState K V S → Type 0
-AppliesNext old false new = new ≡ old
+AppliesNext old false new = AppliesNextReads old false new × AppliesNextWrite old false new
 AppliesNext old true new = AppliesNextReads old true new ⊎ AppliesNextWrite old true new
 
 -- the core, with this operation of the caller of whole calls pending

@@ -263,13 +263,12 @@ impl<
         ensures turns { AppliesNextReads self.old.state result self.new.state }
         ensures kept { KeepsRoom self.old self.new }
     {
-        if !self.maintenance.takes_read() {
+        let left = self.maintenance.reads_left();
+        if left == 0 {
             return false;
         }
         let mut copy = [NO_READ; READS_AT_ONCE];
-        let count = self
-            .read_log
-            .take_first(self.maintenance.reads_left(), &mut copy);
+        let count = self.read_log.take_first(left, &mut copy);
         if count == 0 {
             return false;
         }

@@ -36,7 +36,7 @@ returns-in-Idle-clause-turns g c =
     let weighs = g.W.WeighShared.weighs c.args.self.now.weigher in
     let turn = c.take_turn.ensures.turn in
     let new = c.take_turn.new.self.state in
-    let same : c.apply_next.new.self.state ≡ c.loop-self.self.state = c.if-apply_next.ensures.turns in
+    let same : c.apply_next.new.self.state ≡ c.loop-self.self.state = c.if-apply_next.ensures.turns.0.0 in
     c.loop-self.invariant.took new
     (subst (λ s. CoreTurns (keys g) weighs s new) same
     (last_turn (keys g) g.met.K.Eq.laws weighs turn.0 c.apply_next.new.self.state new
@@ -48,7 +48,7 @@ loop-self-smaller g c =
     let weighs = g.W.WeighShared.weighs c.args.self.now.weigher in
     let turn = c.take_turn.ensures.turn in
     let new = c.take_turn.new.self.state in
-    let same : c.apply_next.new.self.state ≡ c.loop-self.self.state = c.if-apply_next.ensures.turns in
+    let same : c.apply_next.new.self.state ≡ c.loop-self.self.state = c.if-apply_next.ensures.turns.0.0 in
     subst (λ s. turns_left new < turns_left s) same
     (turn_leaves (keys g) g.met.K.Eq.laws weighs turn.0 c.apply_next.new.self.state new
     (λ idle. c.loop-self.invariant.busy (sym (ap (λ s. s.maintenance.place) same) ∙ idle)) turn.1
@@ -59,7 +59,7 @@ loop-self-preserved g c =
     let weighs = g.W.WeighShared.weighs c.args.self.now.weigher in
     let turn = c.take_turn.ensures.turn in
     let new = c.take_turn.new.self.state in
-    let same : c.apply_next.new.self.state ≡ c.loop-self.self.state = c.if-apply_next.ensures.turns in
+    let same : c.apply_next.new.self.state ≡ c.loop-self.self.state = c.if-apply_next.ensures.turns.0.0 in
     let busy : c.apply_next.new.self.state.maintenance.place ≡ Idle → ⊥ =
     λ idle. c.loop-self.invariant.busy (sym (ap (λ s. s.maintenance.place) same) ∙ idle) in
     let more : name_of new.maintenance.place ≡ name.Idle → ⊥ =
