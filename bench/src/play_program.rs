@@ -15,6 +15,34 @@ pub enum Kind {
     Unsync,
 }
 
+/// The requests that say what each new cache is from here on.
+pub fn write_filling(requests: &mut impl Write, capacity: u64, filling: &[Call]) -> io::Result<()> {
+    writeln!(requests, "capacity {capacity}")?;
+    write_calls(requests, filling)
+}
+
+/// The requests that say what the threads do from here on.
+pub fn write_lists(requests: &mut impl Write, lists: &[Vec<Call>]) -> io::Result<()> {
+    writeln!(requests, "clear")?;
+    for list in lists {
+        writeln!(requests, "thread")?;
+        write_calls(requests, list)?;
+    }
+    Ok(())
+}
+
+fn write_calls(requests: &mut impl Write, calls: &[Call]) -> io::Result<()> {
+    for call in calls {
+        match call {
+            Call::Get(key) => writeln!(requests, "get {key}")?,
+            Call::Insert(key) => writeln!(requests, "insert {key}")?,
+            Call::Count => writeln!(requests, "count")?,
+            Call::Sync => writeln!(requests, "sync")?,
+        }
+    }
+    Ok(())
+}
+
 /// The running program.
 pub struct PlayProgram {
     child: Child,
@@ -47,30 +75,13 @@ impl PlayProgram {
 
     /// What each new cache is from here on, before any thread is there.
     pub fn send_filling(&mut self, capacity: u64, filling: &[Call]) -> io::Result<()> {
-        writeln!(self.requests, "capacity {capacity}")?;
-        self.send_calls(filling)
+        write_filling(&mut self.requests, capacity, filling)
     }
 
     /// What the threads do from here on.
     pub fn send_lists(&mut self, lists: &[Vec<Call>]) -> io::Result<()> {
-        writeln!(self.requests, "clear")?;
-        for list in lists {
-            writeln!(self.requests, "thread")?;
-            self.send_calls(list)?;
-        }
+        write_lists(&mut self.requests, lists)?;
         self.requests.flush()
-    }
-
-    fn send_calls(&mut self, calls: &[Call]) -> io::Result<()> {
-        for call in calls {
-            match call {
-                Call::Get(key) => writeln!(self.requests, "get {key}")?,
-                Call::Insert(key) => writeln!(self.requests, "insert {key}")?,
-                Call::Count => writeln!(self.requests, "count")?,
-                Call::Sync => writeln!(self.requests, "sync")?,
-            }
-        }
-        Ok(())
     }
 
     /// Plays the lists on a new cache.
