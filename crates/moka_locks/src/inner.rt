@@ -1,5 +1,5 @@
 // What all clones of a cache share: its shards, its logs and its maintenance, each behind a lock, and some words.
-ghost use Rattle.std.specs.Prelude.{◌≡◌, ◌<◌, ◌+◌, ◌++◌, [], ◌∷◌, List, Some, length, map, IfOk, IfSome, OnOk};
+ghost use Rattle.std.specs.Prelude.{◌≡◌, ◌<◌, ◌≤◌, ◌+◌, ◌++◌, [], ◌∷◌, List, Some, length, map, IfOk, IfSome, OnOk};
 ghost use Rattle.std.specs.List.{IsDistinct};
 ghost use Rattle.std.specs.Vec.{vec_len};
 ghost use Rattle.moka_engine.specs.declared.constants.TheConstants.{SHARDS};
@@ -147,9 +147,17 @@ impl<
         &self.shards[(hash % SHARDS as u64) as usize]
     }
 
-    /// The moment from which on entries count.
+    /// The moment from which on entries count. Who tests an entry asks while the lock of its shard is held: so each invalidation of all that had ended
+    /// when the entry was written is seen with it.
     fn valid_after(&self) -> Instant {
         Instant::from_nanos(self.valid_after.load(Ordering::Acquire))
+    }
+
+    /// The same, and no earlier than when it was asked before.
+    fn valid_after_since(&self, before: Instant) -> Instant
+        ensures { before ≤ result }
+    {
+        self.valid_after().max(before)
     }
 
     /// The value at a key, shared once more, and the ticket of its entry, if that counts at a moment; and the slot in which it may be found again.
@@ -163,17 +171,15 @@ impl<
     ) -> Result<(Option<(Shared<V, A>, Ticket)>, usize), OutOfMemory>
         ensures ruled { IfOk result (λ found. IfSome found.0 (λ f. P.holds key.now f.0)) }
     {
-        let valid_after = self.valid_after();
         let shard = lock(rt, self.shard(hash));
-        shard.get(key, hash, &self.settings, valid_after, now)
+        shard.get(key, hash, &self.settings, self.valid_after(), now)
     }
 
     /// Whether a key has an entry that counts at a moment.
     pub(crate) fn contains_key<R: Wait>(&self, rt: &R, key: &K, now: Instant) -> bool {
-        let valid_after = self.valid_after();
         let hash = self.hash_of(key);
         let shard = lock(rt, self.shard(hash));
-        shard.contains_key(key, hash, &self.settings, valid_after, now)
+        shard.contains_key(key, hash, &self.settings, self.valid_after(), now)
     }
 
     /// Takes out the entry of a key. The answer is its ticket.
@@ -195,9 +201,8 @@ impl<
         ensures once { IfOk result (λ pairs. IsDistinct K.eq (map (λ p. p.0) pairs.items)) }
     {
         let alloc = self.alloc.clone()?;
-        let valid_after = self.valid_after();
         let shard = lock(rt, &self.shards[number]);
-        shard.pairs(alloc, &self.settings, valid_after, now)
+        shard.pairs(alloc, &self.settings, self.valid_after(), now)
     }
 
     /// Adds those of the pairs whose keys are of this shard.
@@ -314,15 +319,15 @@ impl<
     pub(crate) fn turn<R: Wait>(&self, rt: &R, maintenance: &mut Maintenance<A>)
         ensures { AreTurns K V self.now.settings maintenance.old maintenance.new }
     {
-        let valid_after = self.valid_after();
         if maintenance.takes_read() {
             self.apply_next_reads(rt, maintenance);
             return;
         }
         if maintenance.takes_write() {
-            self.apply_next_write(rt, maintenance, valid_after);
+            self.apply_next_write(rt, maintenance);
             return;
         }
+        let valid_after = self.valid_after();
         match maintenance.need::<K, V, S>(&self.settings, valid_after) {
             Need::Nothing => maintenance.turn_alone::<K, V, S>(&self.settings, valid_after),
             Need::Reads => {
@@ -337,6 +342,7 @@ impl<
             }
             Need::Entry(ticket) => {
                 let mut shard = lock(rt, self.shard(ticket.hash));
+                let valid_after = self.valid_after_since(valid_after);
                 shard.turn(maintenance, ticket, &self.settings, valid_after);
             }
         }
@@ -379,12 +385,7 @@ impl<
     }
 
     /// The turn that takes a write, and the one that applies it, if there is one.
-    fn apply_next_write<R: Wait>(
-        &self,
-        rt: &R,
-        maintenance: &mut Maintenance<A>,
-        valid_after: Instant,
-    )
+    fn apply_next_write<R: Wait>(&self, rt: &R, maintenance: &mut Maintenance<A>)
         requires { TakesWrite maintenance.old }
         ensures { AreTurns K V self.now.settings maintenance.old maintenance.new }
     {
@@ -394,11 +395,11 @@ impl<
         match write {
             Write::Upsert { ticket } => {
                 let mut shard = lock(rt, self.shard(ticket.hash));
-                shard.turn_with_upsert(maintenance, ticket, &self.settings, valid_after);
+                shard.turn_with_upsert(maintenance, ticket, &self.settings, self.valid_after());
             }
             Write::Remove { ticket } => maintenance.turn_with_removal::<K, V, S>(
                 &self.settings,
-                valid_after,
+                self.valid_after(),
                 ticket,
             ),
         }

@@ -15,6 +15,6 @@ returns-in-Upsert g c =
 pub returns-in-Remove : goal.returns-in-Remove
 returns-in-Remove g c =
     rw (← c.self.view_is) (
-    removed g.row.K.Denot g.row.V.Denot c.self.inside.settings c.args.maintenance.now c.requires c.args.valid_after c.in-Remove.ticket
+    removed g.row.K.Denot g.row.V.Denot c.self.inside.settings c.args.maintenance.now c.requires _ c.in-Remove.ticket
     c.turn_with_removal.new.self c.turn_with_removal.ensures
     )
