@@ -1,6 +1,7 @@
 // A hasher that tells no keys apart, and one by which a test chooses the shards of its keys.
 ghost use Rattle.moka_calls.specs.Hashers.{hasher_after};
 
+use std::cell::Cell;
 use std::hash::{BuildHasher, Hasher};
 
 /// Each key has the hash 0.
@@ -62,6 +63,23 @@ impl BuildHasher for OwnState {
     ghost build_hasher = { λ _. record { number = 0 } };
 
     fn build_hasher(&self) -> OwnHasher {
+        OwnHasher { number: 0 }
+    }
+}
+
+/// The hash state of such keys, which counts how often it was asked for a hasher.
+#[derive(Drop)]
+pub struct CountingState<'a> {
+    pub asked: &'a Cell<u64>,
+}
+
+impl BuildHasher for CountingState<'_> {
+    type Hasher = OwnHasher;
+
+    ghost build_hasher = { λ _. record { number = 0 } };
+
+    fn build_hasher(&self) -> OwnHasher {
+        self.asked.set(self.asked.get().wrapping_add(1));
         OwnHasher { number: 0 }
     }
 }

@@ -17,3 +17,18 @@ pub fn blocks_of<'a>(
     }
     Ok(taken)
 }
+
+/// Takes what is left of a heap to the last word.
+pub fn words_of<'a>(
+    alloc: Global,
+    heap: &'a LocalHeap,
+) -> Result<Vec<Box<u64, &'a LocalHeap>>, AllocError> {
+    let mut taken = Vec::new(alloc);
+    for _ in 0..10_000 {
+        match Box::new(heap, 0u64) {
+            Ok(word) => taken.push(word)?,
+            Err(_) => break,
+        }
+    }
+    Ok(taken)
+}

@@ -4,6 +4,10 @@
 #[cfg(test)]
 mod common;
 #[cfg(test)]
+mod core_hashes;
+#[cfg(test)]
+mod core_memory;
+#[cfg(test)]
 mod deque;
 #[cfg(test)]
 mod engine;
