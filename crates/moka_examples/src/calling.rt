@@ -9,9 +9,12 @@ ghost use Rattle.mini_moka.specs.Unsync.History.{IsCurrent, Transition, exchange
 ghost use Rattle.mini_moka.specs.Unsync.Lookup.{is_contained};
 ghost use Rattle.mini_moka.specs.Unsync.Runs.{request_of};
 ghost use Rattle.mini_moka.specs.Unsync.Iterate.{pairs_at};
-ghost use Rattle.mini_moka.specs.Sync.CoreCall.{IsAtRest, IsCall};
+ghost use Rattle.mini_moka.specs.Sync.Consistent.{IsTrimmed};
+ghost use Rattle.mini_moka.specs.Sync.CoreCall.{IsAtRest, IsCall, entries_evicted};
 ghost use Rattle.mini_moka.specs.Sync.LastWritten.{last_written, value_at};
+ghost use Rattle.mini_moka.specs.Sync.Quiescent.{IsQuiescent};
 ghost use Rattle.mini_moka.specs.Sync.Run.{Happening};
+ghost use Rattle.mini_moka.specs.declared.sync.engine.Call.TheVariants.{Sync};
 ghost use Rattle.mini_moka.specs.Replay.{Replays};
 ghost use Rattle.mini_moka.specs.Grammar.{IsScript};
 ghost use Rattle.mini_moka.specs.Parsed.{script_of};
@@ -22,8 +25,10 @@ use mini_moka::common::frequency_sketch::FrequencySketch;
 use mini_moka::common::time::Instant;
 use mini_moka::common::{BuildError, OutOfMemory, Policy, Shared, Weigh};
 use mini_moka::script::{End, Script, Sink, Source, Text};
-use mini_moka::sync::engine::{Core, Event, Reply, WeighShared};
-use mini_moka::sync::laws::{gets_answer_what_was_last_written, runs_are_happenings};
+use mini_moka::sync::engine::{Call, Core, Event, Reply, WeighShared};
+use mini_moka::sync::laws::{
+    gets_answer_what_was_last_written, runs_are_happenings, syncs_empty_the_logs,
+};
 use mini_moka::sync::recorded::{Answer, NotRecorded, Record, SharedCall};
 use mini_moka::unsync::Cache;
 use mini_moka::unsync::history::{hits_are_current, runs_have_a_history};
@@ -147,6 +152,28 @@ pub fn call_on<K: Eq + Hash + Drop, V: Drop, S: BuildHasher + Drop>(
         core.old.state call result core.new.state }
 {
     core.call(call)
+}
+
+/// Runs a maintenance on a core. Then both logs are empty, and the charged weight is within the limit, or as many entries were evicted as a maintenance evicts at
+/// most.
+pub fn settle<K: Eq + Hash + Drop, V: Drop, S: BuildHasher + Drop, W: WeighShared<K, V>>(
+    core: &mut Core<K, V, S, W>,
+    now: Instant,
+) -> Answer<K, V>
+    requires ready { W.ready core.old.weigher }
+    requires rest { IsAtRest core.old.state }
+    ensures empty { IsQuiescent core.new.state }
+    ensures trimmed { (sync : IsCall (keys_by K.Hash S.BuildHasher S.Hasher.Hasher) (W.weighs core.old.weigher)
+        core.old.state (Sync now) result core.new.state)
+        × IsTrimmed core.new.state.settings.policy.max_capacity core.new.state.maintenance.orders
+        (entries_evicted (keys_by K.Hash S.BuildHasher S.Hasher.Hasher) (W.weighs core.old.weigher)
+        sync.1.begun core.new.state sync.1.turns) }
+{
+    // What holds of every core.
+    let _ = core.is_at_rest();
+    let reply = core.call(Call::Sync { now });
+    syncs_empty_the_logs::<K, V, S, W>();
+    reply
 }
 
 /// Takes steps of any callers, in any order, and then looks a key up. What is found is what those steps wrote there last, or what stood there before.
