@@ -6,7 +6,7 @@ use std::process::Abort;
 use std::sync::Wait;
 use std::test::Fail;
 
-const ROWS: [Row; 7] = [
+const ROWS: [Row; 9] = [
     Row {
         name: "a rejected key is admitted once it is asked for as often as the least popular one",
         lines: "
@@ -76,6 +76,29 @@ const ROWS: [Row; 7] = [
             10 has 0 -> false
             9 invalidate 0 -> ok
             9 get 0 -> none
+        ",
+    },
+    Row {
+        name: "a call runs the maintenance that is due, by the writes in their log or by the time",
+        lines: "
+            sync -> ready
+            65 times 0 insert # v -> ok
+            0 count -> 64
+            499999999 insert 65 v -> ok
+            0 count -> 64
+            500000000 insert 66 v -> ok
+            0 count -> 66
+        ",
+    },
+    Row {
+        name: "a call runs the maintenance that is due by the reads in their log",
+        lines: "
+            sync -> ready
+            0 insert 7 v -> ok
+            64 times 0 get 7 -> some v
+            0 count -> 0
+            0 get 7 -> some v
+            0 count -> 1
         ",
     },
     Row {
