@@ -25,21 +25,33 @@ use std::time::Duration;
 /// Makes a cache that threads share, or the core of one, with what is set. Nothing is limited that isn't set.
 ///
 /// ```
-/// let core: Core<u64, String> = CacheBuilder::new(alloc, 100)
+/// let cache: Cache<u64, String> = Cache::builder(alloc)
+///     .max_capacity(100)
 ///     .time_to_live(Duration::from_secs(10))
-///     .build_core(FixedState::new())?;
+///     .build()?;
 /// ```
 ///
 /// A weigher makes the capacity a weight, as of the bytes of a text. It changes nothing, since several threads may ask it at the same time:
 ///
 /// ```
-/// let core = CacheBuilder::new(alloc, 1_000_000)
+/// let cache = Cache::builder(alloc)
+///     .max_capacity(1_000_000)
 ///     .weigher(|_key: &u64, value: &String| u32::try_from(value.len()).unwrap_or(u32::MAX))
-///     .build_core(FixedState::new())?;
+///     .build()?;
 /// ```
 ///
-/// A builder takes no memory. `build_core` refuses a duration of more than 1000 years, the time to live first, an initial capacity that passes
+/// `pair_rule` sets a rule that each pair of the cache meets (`PairRule`). `build_with_hasher` takes a hash state of the caller's; `build_counted` takes
+/// one too, and gives a pass beside the cache, by which the counts of one maintenance are loaded together (`Cache::published`); `build_core` gives the
+/// cache's core, which has no locks.
+///
+/// A builder takes no memory. Each way to build refuses a duration of more than 1000 years, the time to live first, an initial capacity that passes
 /// `usize::MAX` together with a log's room, and want of memory.
+///
+/// # What differs from mini-moka
+///
+/// `new` and `default` take the allocator, and `build` returns a `Result`: a duration that makes mini-moka panic is a named refusal. The weigher is a type
+/// parameter and not a box. It is asked while the lock of the key's shard is held, once there is room for the entry; mini-moka asks it before that lock.
+/// The default hash state has a fixed key. Pair rules, published counts and the core are not in mini-moka.
 #[derive(Drop)]
 pub struct CacheBuilder<
     K,

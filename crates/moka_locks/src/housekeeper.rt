@@ -11,6 +11,13 @@ use std::sync::atomic::{AtomicBool, AtomicU64, Ordering};
 /// Says when a maintenance is due, and lets one caller at a time run it. Its calls neither wait nor take memory.
 ///
 /// It is mini-moka's `Housekeeper`, whose `try_sync` takes a closure here. There is no due moment before the first maintenance.
+///
+/// A program may have one for a log of its own. This one is emptied where it has ten numbers, or half a second has passed since it was last emptied:
+///
+/// ```
+/// let is_due = keeper.should_apply(log.len(), 10, now);
+/// is_due && keeper.try_sync(now, || log.clear())
+/// ```
 #[derive(Drop)]
 pub struct Housekeeper {
     is_running: AtomicBool,

@@ -11,6 +11,16 @@ use std::fmt::{Debug, Formatter, Result, Write};
 use std::marker::Model;
 
 /// The pairs that a snapshot has taken and not given yet. It holds no lock. A contract sees their list.
+///
+/// ```
+/// let mut pairs = Vec::new(alloc);
+/// for entry in squares.iter(rt, now)? {
+///     pairs.push(pair_of(&entry))?;
+/// }
+/// ```
+///
+/// Here `squares` is a cache whose pair rule is that each value is its key's square, so each pair in the vector is a number and its square, and no number
+/// comes twice. The cache may be used meanwhile: what is inserted after `iter` doesn't come, and what leaves after it still does.
 #[derive(Drop)]
 pub struct Iter<K: Drop, V: Drop, A: Allocator + Drop = Global> {
     pairs: VecDeque<(Shared<K, A>, Shared<V, A>), A>,

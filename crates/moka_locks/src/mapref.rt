@@ -7,6 +7,24 @@ use std::marker::Model;
 use std::ops::Deref;
 
 /// A key and its value, shared with the cache. It is the value where a value is asked for.
+///
+/// ```
+/// /// The pair of an entry, copied.
+/// pub fn pair_of(entry: &EntryRef<u32, u64>) -> (u32, u64)
+///     ensures { result ≡ entry.now }
+/// {
+///     let (key, value) = entry.pair();
+///     (*key, *value)
+/// }
+/// ```
+///
+/// Methods of the value are called on it, as here `len` of a text:
+///
+/// ```
+/// (*entry.key(), entry.len())
+/// ```
+///
+/// It stays as it is when the key's entry is replaced or leaves: it is one more owner of key and value.
 #[derive(Drop)]
 pub struct EntryRef<K: Drop, V: Drop, A: Allocator + Drop = Global> {
     key: Shared<K, A>,

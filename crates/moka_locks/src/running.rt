@@ -64,7 +64,8 @@ impl<'a, A: Allocator + Clone + Drop> Running<'a, A> {
         &self.maintenance
     }
 
-    /// One turn, with the lock of what it needs, or two. The answer is where the maintenance is then.
+    /// One turn, with the lock of what it needs, or several, where operations leave their log and are applied at once. The answer is where the maintenance is
+    /// then.
     pub(crate) fn turn<
         R: Wait,
         K: Eq + Hash + Drop,

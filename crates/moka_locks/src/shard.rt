@@ -1,13 +1,19 @@
 // What lies behind the lock of a shard: its entries, whose pairs meet the rule.
-ghost use Rattle.std.specs.Prelude.{◌≡◌, [], false, map, IfOk, IfSome};
+ghost use Rattle.std.specs.Prelude.{◌≡◌, [], false, is_some, map, IfOk, IfSome};
 ghost use Rattle.std.specs.List.{IsDistinct};
+ghost use Rattle.moka_base.specs.Keys.{keys_by};
+ghost use Rattle.moka_engine.specs.declared.entry.EntryChange.TheVariants.{Touched};
 ghost use Rattle.moka_engine.specs.declared.operation.Write.TheVariants.{Upsert};
+ghost use Rattle.moka_engine.specs.Entry.{entry_at};
+ghost use Rattle.moka_engine.specs.EntryChange.{change_of};
 ghost use Rattle.moka_engine.specs.Parts.{NeedsShard, need_of};
+ghost use Rattle.moka_engine.specs.Turn.Plan.{after_change};
 ghost use Rattle.moka_engine.specs.Turn.Turn.{turn_at};
 ghost use Rattle.moka_locks.specs.MaintenanceTurn.{IsTurn};
 ghost use Rattle.moka_locks.specs.Rule.{PairsMeet};
 ghost use Rattle.moka_maintenance.specs.Taken.{TakesWrite, having_taken_write};
-ghost use Rattle.moka_shard.specs.Shard.{entries_in};
+ghost use Rattle.moka_shard.specs.Shard.{entries_in, state_of, unexpired};
+ghost use Rattle.moka_shard.specs.ShardStep.{IsInvalidation};
 
 use crate::rule::PairRule;
 use moka_base::error::{InsertError, OutOfMemory};
@@ -63,6 +69,7 @@ impl<
     /// The shard, which has no entries yet.
     pub(crate) fn new(shard: Shard<K, V, S, A>) -> Self
         requires { entries_in shard.slots ≡ [] }
+        ensures { result ≡ shard }
     {
         RuledShard {
             shard,
@@ -96,7 +103,10 @@ impl<
         settings: &Settings<S, A>,
         valid_after: Instant,
         now: Instant,
-    ) -> bool {
+    ) -> bool
+        ensures { hash ≡ (keys_by K.Hash S.BuildHasher S.Hasher.Hasher).hash_of self.now.hash_state key.now
+            → result ≡ is_some (unexpired settings.now valid_after now (entry_at K.eq key.now (entries_in self.now.slots))) }
+    {
         let slot = self.shard.find(key, hash);
         self.shard.counts(slot, settings, valid_after, now)
     }
@@ -126,7 +136,10 @@ impl<
     }
 
     /// Takes out the entry of a key, found by its hash. The answer is its ticket.
-    pub(crate) fn invalidate(&mut self, key: &K, hash: u64) -> Option<Ticket> {
+    pub(crate) fn invalidate(&mut self, key: &K, hash: u64) -> Option<Ticket>
+        ensures { hash ≡ (keys_by K.Hash S.BuildHasher S.Hasher.Hasher).hash_of self.old.hash_state key.now
+            → IsInvalidation (state_of self.old) (entry_at K.eq key.now (entries_in self.old.slots)) result (state_of self.new) }
+    {
         let slot = self.shard.find(key, hash)?;
         Some(self.shard.remove(slot))
     }
@@ -166,7 +179,11 @@ impl<
 
     /// The entry of a ticket, if it stands, was used at a moment. It is looked for in a slot first. The answer is where what is charged for it may be
     /// found.
-    pub(crate) fn touch(&mut self, ticket: Ticket, slot: usize, moment: Instant) -> usize {
+    pub(crate) fn touch(&mut self, ticket: Ticket, slot: usize, moment: Instant) -> usize
+        ensures { state_of self.new ≡ record (state_of self.old) {
+          entries = after_change ticket (change_of (Touched moment)) (entries_in self.old.slots);
+        } }
+    {
         self.shard.touch(ticket, slot, moment)
     }
 
