@@ -12,11 +12,12 @@ use std::sync::atomic::{AtomicBool, AtomicU64, Ordering};
 ///
 /// It is mini-moka's `Housekeeper`, whose `try_sync` takes a closure here. There is no due moment before the first maintenance.
 ///
-/// A program may have one for a log of its own. This one is emptied where it has ten numbers, or half a second has passed since it was last emptied:
+/// A program may have one for a log of its own, with a closure that empties it. That is called where the log has ten operations, or half a second has passed
+/// since it was called last:
 ///
 /// ```
-/// let is_due = keeper.should_apply(log.len(), 10, now);
-/// is_due && keeper.try_sync(now, || log.clear())
+/// let is_due = keeper.should_apply(len, 10, now);
+/// is_due && keeper.try_sync(now, empty)
 /// ```
 #[derive(Drop)]
 pub struct Housekeeper {
