@@ -26,6 +26,7 @@ use mini_moka::common::time::Instant;
 use mini_moka::common::{BuildError, OutOfMemory, Policy, Shared, Weigh};
 use mini_moka::script::{End, Script, Sink, Source, Text};
 use mini_moka::sync::engine::{Call, Core, Event, Reply, WeighShared};
+use mini_moka::sync::housekeeper::Housekeeper;
 use mini_moka::sync::laws::{
     gets_answer_what_was_last_written, runs_are_happenings, syncs_empty_the_logs,
 };
@@ -202,6 +203,16 @@ pub fn found_between<K: Eq + Hash + Drop, V: Drop, S: BuildHasher + Drop, W: Wei
         Some(Reply::Found(found)) => Ok(found),
         _ => Ok(None),
     }
+}
+
+/// Runs what empties a log of this length, where it has ten operations or half a second has passed since that was last done, unless another caller's is
+/// running. The answer is whether it was run.
+pub fn empty_if_due<F: FnOnce()>(keeper: &Housekeeper, len: usize, now: Instant, empty: F) -> bool
+    requires { F.pre empty }
+    ensures { IsTrue result → F.post empty tt }
+{
+    let is_due = keeper.should_apply(len, 10, now);
+    is_due && keeper.try_sync(now, empty)
 }
 
 /// Makes one call on a recorded core, whose record still replays if it did.

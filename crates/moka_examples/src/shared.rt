@@ -1,15 +1,18 @@
 //! The examples of the cache that threads share.
-ghost use Rattle.std.specs.Prelude.{◌≡◌, ◌*◌, IfOk};
+ghost use Rattle.std.specs.Prelude.{◌≡◌, ◌*◌, All, IfOk, IfSome, map, nat_eq};
 ghost use Rattle.std.proofs.Common.{subst};
 ghost use Rattle.std.proofs.lemmas.Bool.{eqb-true};
+ghost use Rattle.std.specs.List.{IsDistinct};
+ghost use Rattle.std.specs.String.{string_len};
 
 use mini_moka::Error;
 use mini_moka::common::FixedState;
 use mini_moka::common::time::Instant;
-use mini_moka::sync::{Cache, ConcurrentCacheExt, PairRule};
+use mini_moka::sync::{Cache, ConcurrentCacheExt, EntryRef, PairRule};
 use std::alloc::Global;
 use std::sync::Wait;
 use std::thread::{Builder, Threads};
+use std::time::Duration;
 
 /// Inserts the square of a key, and reads it back.
 fn squared<R: Wait>(rt: &R, cache: &Cache<u64, u64>, key: u64) -> Result<Option<u64>, Error> {
@@ -49,6 +52,31 @@ pub fn counted_twice<R: Wait>(rt: &R, alloc: Global) -> Result<(u64, u64), Error
     Ok((cache.entry_count(), again.entry_count()))
 }
 
+/// Whether a text is there five seconds after it was inserted, and ten.
+pub fn there_within_ten_seconds<R: Wait>(rt: &R, alloc: Global) -> Result<(bool, bool), Error> {
+    let cache: Cache<u64, String> = Cache::builder(alloc)
+        .max_capacity(100)
+        .time_to_live(Duration::from_secs(10))
+        .build()?;
+    let text = String::from_str(alloc, "alice")?;
+    cache.insert(rt, 7, text, Instant::from_secs(0))?;
+    let early = cache.contains_key(rt, &7, Instant::from_secs(5));
+    let late = cache.contains_key(rt, &7, Instant::from_secs(10));
+    Ok((early, late))
+}
+
+/// What the text weighs in a cache that counts the bytes of its texts, once a maintenance has charged it.
+pub fn charged_in_bytes<R: Wait>(rt: &R, alloc: Global, text: String) -> Result<u64, Error> {
+    let now = Instant::from_secs(0);
+    let cache = Cache::builder(alloc)
+        .max_capacity(1_000_000)
+        .weigher(|_key: &u64, value: &String| u32::try_from(value.len()).unwrap_or(u32::MAX))
+        .build()?;
+    cache.insert(rt, 7, text, now)?;
+    cache.sync(rt, now);
+    Ok(cache.weighted_size())
+}
+
 /// The rule of a cache of squares.
 #[derive(Drop)]
 pub struct IsSquare;
@@ -74,4 +102,64 @@ pub fn square<R: Wait>(
     let square = u64::from(number) * u64::from(number);
     squares.insert(rt, number, square, now)?;
     Ok(square)
+}
+
+/// A pair of a cache of squares, if it has one.
+pub fn some_square<R: Wait>(
+    rt: &R,
+    squares: &Cache<u32, u64, FixedState, IsSquare>,
+    now: Instant,
+) -> Result<Option<(u32, u64)>, Error>
+    ensures { IfOk result (λ found. IfSome found (λ pair. pair.1 ≡ pair.0 * pair.0)) }
+{
+    let mut pairs = squares.iter(rt, now)?;
+    let Some(entry) = pairs.next() else {
+        return Ok(None);
+    };
+    Ok(Some(pair_of(&entry)))
+}
+
+/// The pair of an entry, copied.
+pub fn pair_of(entry: &EntryRef<u32, u64>) -> (u32, u64)
+    ensures { result ≡ entry.now }
+{
+    let (key, value) = entry.pair();
+    (*key, *value)
+}
+
+/// The key of an entry, and how many bytes its text has, as which it reads.
+pub fn key_and_length(entry: &EntryRef<u64, String>) -> (u64, usize)
+    ensures key { result.0 ≡ entry.now.0 }
+    ensures length { result.1 ≡ string_len entry.now.1 }
+{
+    (*entry.key(), entry.len())
+}
+
+/// The pairs of a cache of squares, copied: each number comes once, with its square.
+pub fn pairs_in<R: Wait>(
+    rt: &R,
+    alloc: Global,
+    squares: &Cache<u32, u64, FixedState, IsSquare>,
+    now: Instant,
+) -> Result<Vec<(u32, u64)>, Error>
+    ensures ruled { IfOk result (λ pairs. All (λ pair. pair.1 ≡ pair.0 * pair.0) pairs.items) }
+    ensures once { IfOk result (λ pairs. IsDistinct nat_eq (map (λ pair. pair.0) pairs.items)) }
+{
+    let mut pairs = Vec::new(alloc);
+    for entry in squares.iter(rt, now)? {
+        pairs.push(pair_of(&entry))?;
+    }
+    Ok(pairs)
+}
+
+/// The pairs of a cache of squares that is asked for the numbers below this one.
+pub fn squares_below<R: Wait>(rt: &R, alloc: Global, end: u32) -> Result<Vec<(u32, u64)>, Error>
+    ensures { IfOk result (λ pairs. All (λ pair. pair.1 ≡ pair.0 * pair.0) pairs.items) }
+{
+    let now = Instant::from_secs(0);
+    let squares = Cache::builder(alloc).pair_rule::<IsSquare>().build()?;
+    for number in 0..end {
+        square(rt, &squares, number, now)?;
+    }
+    pairs_in(rt, alloc, &squares, now)
 }

@@ -1,9 +1,14 @@
 // The examples of the cache that threads share.
 use mini_moka::common::time::Instant;
 use mini_moka::sync::Cache;
+use mini_moka::sync::housekeeper::Housekeeper;
 use moka_examples::audit::{is_replayed, new_core, record_of_threads};
+use moka_examples::calling::empty_if_due;
 use moka_examples::metrics::watched_while_filled;
-use moka_examples::shared::{IsSquare, counted_twice, square, square_by_threads};
+use moka_examples::shared::{
+    IsSquare, charged_in_bytes, counted_twice, key_and_length, some_square, square,
+    square_by_threads, squares_below, there_within_ten_seconds,
+};
 use std::test::Fail;
 
 #[test]
@@ -19,12 +24,73 @@ fn a_clone_is_the_same_cache(rt: HostRuntime) -> Result<(), Fail> {
 }
 
 #[test]
+fn a_shared_text_is_there_until_its_time_is_over(rt: HostRuntime) -> Result<(), Fail> {
+    assert_eq!(rt; there_within_ten_seconds(&rt, rt.alloc())?, (true, false));
+    Ok(())
+}
+
+#[test]
+fn a_shared_text_weighs_its_bytes(rt: HostRuntime) -> Result<(), Fail> {
+    let text = String::from_str(rt.alloc(), "alice")?;
+    assert_eq!(rt; charged_in_bytes(&rt, rt.alloc(), text)?, 5);
+    Ok(())
+}
+
+#[test]
 fn a_square_is_found_again(rt: HostRuntime) -> Result<(), Fail> {
     let squares = Cache::builder(rt.alloc()).pair_rule::<IsSquare>().build()?;
     let now = Instant::from_secs(0);
     assert_eq!(rt; square(&rt, &squares, 7, now)?, 49);
     assert_eq!(rt; square(&rt, &squares, 7, now)?, 49);
     assert!(rt; squares.contains_key(&rt, &7, now));
+    Ok(())
+}
+
+#[test]
+fn a_snapshot_gives_a_square_of_the_cache(rt: HostRuntime) -> Result<(), Fail> {
+    let squares = Cache::builder(rt.alloc()).pair_rule::<IsSquare>().build()?;
+    let now = Instant::from_secs(0);
+    assert_eq!(rt; some_square(&rt, &squares, now)?, None);
+    assert_eq!(rt; square(&rt, &squares, 7, now)?, 49);
+    assert_eq!(rt; some_square(&rt, &squares, now)?, Some((7, 49)));
+    Ok(())
+}
+
+#[test]
+fn a_snapshot_gives_all_squares_of_the_cache(rt: HostRuntime) -> Result<(), Fail> {
+    let mut pairs = squares_below(&rt, rt.alloc(), 4)?;
+    pairs.sort_unstable_by_key(|pair| pair.0);
+    assert!(rt; pairs.as_slice() == [(0, 0), (1, 1), (2, 4), (3, 9)].as_slice());
+    Ok(())
+}
+
+#[test]
+fn an_entry_reads_as_its_text(rt: HostRuntime) -> Result<(), Fail> {
+    let cache: Cache<u64, String> = Cache::new(rt.alloc(), 10)?;
+    let now = Instant::from_secs(0);
+    cache.insert(&rt, 7, String::from_str(rt.alloc(), "alice")?, now)?;
+    let Some(entry) = cache.iter(&rt, now)?.next() else {
+        return Err("an entry".into());
+    };
+    assert_eq!(rt; key_and_length(&entry), (7, 5));
+    Ok(())
+}
+
+#[test]
+fn a_log_is_emptied_at_its_length_or_after_half_a_second(rt: HostRuntime) -> Result<(), Fail> {
+    let keeper = Housekeeper::default();
+    let at_nine = Instant::from_secs(9);
+    let mut log = vec![in rt.alloc(); 7; 9]?;
+    assert!(rt; !empty_if_due(&keeper, log.len(), at_nine, || log.clear()));
+    assert_eq!(rt; log.len(), 9);
+    log.push(7)?;
+    assert!(rt; empty_if_due(&keeper, log.len(), at_nine, || log.clear()));
+    assert!(rt; log.is_empty());
+    log.push(8)?;
+    assert!(rt; !empty_if_due(&keeper, log.len(), at_nine, || log.clear()));
+    assert_eq!(rt; log.len(), 1);
+    assert!(rt; empty_if_due(&keeper, log.len(), Instant::from_secs(10), || log.clear()));
+    assert!(rt; log.is_empty());
     Ok(())
 }
 
