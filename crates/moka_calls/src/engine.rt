@@ -4,8 +4,10 @@ use moka_common::shared::Shared;
 use moka_common::time::Instant;
 use moka_core::pending::{Operation, PendingOperations};
 use moka_engine::call::Call;
-use moka_engine::operation::Read;
+use moka_engine::operation::{Read, Write};
+use moka_engine::ticket::Ticket;
 use moka_maintenance::logs::{LoggedRead, NO_READ, ReadLog, WriteLog};
+use moka_maintenance::taken::TakenWrites;
 use std::alloc::Global;
 use std::test::Fail;
 
@@ -71,6 +73,43 @@ fn reads_are_taken_with_their_hints(rt: HostRuntime) -> Result<(), Fail> {
     assert_eq!(rt; reads.take_first(5, &mut rest), 5);
     assert_eq!(rt; (rest[2].hint, rest[3].hint, rest[4].hint), (0, 1, 2));
     assert_eq!(rt; (rest[5].hint, reads.len()), (0, 1));
+    Ok(())
+}
+
+/// A log of so many writes, by the numbers of their tickets.
+fn numbered_writes(alloc: Global, count: u64) -> Result<WriteLog, Fail> {
+    let mut writes = WriteLog::new(alloc)?;
+    for number in 0..count {
+        let ticket = Ticket { hash: 7, number };
+        if writes.push(Write::Remove { ticket }).is_err() {
+            return Err("room".into());
+        }
+    }
+    Ok(writes)
+}
+
+/// The number of a write's ticket.
+fn number_of(write: Write) -> u64 {
+    match write {
+        Write::Upsert { ticket } | Write::Remove { ticket } => ticket.number,
+    }
+}
+
+/// Writes leave their log sixteen at a time, and are handed out in the order of their log.
+#[test]
+fn writes_are_taken_sixteen_at_a_time(rt: HostRuntime) -> Result<(), Fail> {
+    let mut log = numbered_writes(rt.alloc(), 20)?;
+    let mut taken = TakenWrites::new();
+    taken.refill(&mut log, 384);
+    assert_eq!(rt; log.len(), 4);
+    for number in 0..16u64 {
+        assert_eq!(rt; taken.pop().map(number_of), Some(number));
+    }
+    assert!(rt; taken.is_empty());
+    if taken.is_empty() {
+        taken.refill(&mut log, 3);
+    }
+    assert_eq!(rt; (log.len(), taken.pop().map(number_of)), (1, Some(16)));
     Ok(())
 }
 

@@ -1,3 +1,4 @@
 pub mod RuleLemmas
 pub mod TurnLemmas
 pub mod SnapshotLemmas
+pub mod WritesLeftLemmas

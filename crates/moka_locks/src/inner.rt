@@ -1,5 +1,5 @@
 // What all clones of a cache share: its shards, its logs and its maintenance, each behind a lock, and some words.
-ghost use Rattle.std.specs.Prelude.{◌≡◌, ◌<◌, ◌≤◌, ◌+◌, ◌++◌, [], ◌∷◌, List, Some, length, map, IfOk, IfSome, OnOk};
+ghost use Rattle.std.specs.Prelude.{◌≡◌, ◌<◌, ◌≤◌, ◌+◌, ◌++◌, [], ◌∷◌, List, Some, length, map, IfOk, IfSome, IsNone, OnOk};
 ghost use Rattle.std.specs.List.{IsDistinct};
 ghost use Rattle.std.specs.Vec.{vec_len};
 ghost use Rattle.moka_engine.specs.declared.constants.TheConstants.{SHARDS};
@@ -12,7 +12,7 @@ ghost use Rattle.moka_locks.specs.Snapshot.{IsSnapshot, own_pairs};
 ghost use Rattle.moka_engine.specs.CoreState.{Maintenance as MaintenanceState};
 ghost use Rattle.moka_engine.specs.Place.{Idle, ReadCount};
 ghost use Rattle.moka_locks.specs.MaintenanceTurn.{AreTurns};
-ghost use Rattle.moka_maintenance.specs.Taken.{TakesRead, TakesWrite};
+ghost use Rattle.moka_maintenance.specs.Taken.{TakesRead, TakesWrite, writes_left};
 
 use crate::housekeeper::Housekeeper;
 use crate::logs::Logs;
@@ -21,6 +21,7 @@ use crate::rule::PairRule;
 use crate::running::Running;
 use crate::shard::RuledShard;
 use crate::waiting::lock;
+use crate::working::Working;
 use crossbeam_utils::CachePadded;
 use moka_base::error::{InsertError, OutOfMemory};
 use moka_base::policy::Policy;
@@ -34,6 +35,7 @@ use moka_engine::ticket::Ticket;
 use moka_engine::weigh::WeighShared;
 use moka_maintenance::logs::{LoggedRead, NO_READ, READS_AT_ONCE};
 use moka_maintenance::maintenance::{Maintenance, Need};
+use moka_maintenance::taken::TakenWrites;
 use moka_published::counts::{CountPass, Counts, Publisher};
 use moka_published::rule::Published;
 use moka_shard::shard::Shard;
@@ -315,16 +317,24 @@ impl<
         Running::begin(rt, &self.maintenance, now)
     }
 
-    /// One turn of the maintenance, with the lock of what it needs; or several, where operations leave their log and are applied at once.
-    pub(crate) fn turn<R: Wait>(&self, rt: &R, maintenance: &mut Maintenance<A>)
-        ensures { AreTurns K V self.now.settings maintenance.old maintenance.new }
+    /// One turn of the maintenance, with the lock of what it needs; or several, where operations leave their log and are applied at once. Of the writes
+    /// that have left their log no more are to be applied than the round will.
+    pub(crate) fn turn<R: Wait>(
+        &self,
+        rt: &R,
+        maintenance: &mut Maintenance<A>,
+        taken: &mut TakenWrites,
+    )
+        requires { length taken.old ≤ writes_left maintenance.old.place }
+        ensures turns { AreTurns K V self.now.settings maintenance.old maintenance.new }
+        ensures left { length taken.new ≤ writes_left maintenance.new.place }
     {
         if maintenance.takes_read() {
             self.apply_next_reads(rt, maintenance);
             return;
         }
         if maintenance.takes_write() {
-            self.apply_next_write(rt, maintenance);
+            self.apply_next_write(rt, maintenance, taken);
             return;
         }
         let valid_after = self.valid_after();
@@ -385,11 +395,18 @@ impl<
     }
 
     /// The turn that takes a write, and the one that applies it, if there is one.
-    fn apply_next_write<R: Wait>(&self, rt: &R, maintenance: &mut Maintenance<A>)
-        requires { TakesWrite maintenance.old }
-        ensures { AreTurns K V self.now.settings maintenance.old maintenance.new }
+    fn apply_next_write<R: Wait>(
+        &self,
+        rt: &R,
+        maintenance: &mut Maintenance<A>,
+        taken: &mut TakenWrites,
+    )
+        requires takes { TakesWrite maintenance.old }
+        requires left { length taken.old ≤ writes_left maintenance.old.place }
+        ensures turns { AreTurns K V self.now.settings maintenance.old maintenance.new }
+        ensures left { length taken.new ≤ writes_left maintenance.new.place }
     {
-        let Some(write) = self.next_write(rt, maintenance) else {
+        let Some(write) = self.next_write(rt, maintenance, taken) else {
             return;
         };
         match write {
@@ -405,12 +422,22 @@ impl<
         }
     }
 
-    /// The write that the maintenance is to take next leaves its log.
-    fn next_write<R: Wait>(&self, rt: &R, maintenance: &Maintenance<A>) -> Option<Write> {
-        let mut log = self.logs.lock_writes(rt);
-        let write = maintenance.take_write(&mut log);
-        self.logs.tell_writes(log.len());
-        write
+    /// The write that the maintenance is to take next. It has left its log before, or leaves it now with those behind it.
+    fn next_write<R: Wait>(
+        &self,
+        rt: &R,
+        maintenance: &Maintenance<A>,
+        taken: &mut TakenWrites,
+    ) -> Option<Write>
+        requires takes { TakesWrite maintenance.now }
+        requires left { length taken.old ≤ writes_left maintenance.now.place }
+        ensures some { IfSome result (λ write. length taken.new < writes_left maintenance.now.place) }
+        ensures none { IsNone result → taken.new ≡ [] }
+    {
+        if taken.is_empty() {
+            self.logs.take_writes(rt, maintenance.writes_left(), taken);
+        }
+        taken.pop()
     }
 
     /// Publishes what a maintenance that has ended has left.
@@ -466,8 +493,9 @@ fn logs_and_maintenance<A: Allocator + Clone + Drop>(
     requires { IfSome publisher (λ p. p.published ≡ opening ∷ []) }
 {
     let logs = Logs::new(alloc)?;
-    let maintenance = Box::new(alloc.clone()?, Maintenance::new(alloc.clone()?)?)?;
-    Ok((logs, Resting::new(maintenance, publisher)))
+    let maintenance = Maintenance::new(alloc.clone()?)?;
+    let working = Box::new(alloc.clone()?, Working::new(maintenance))?;
+    Ok((logs, Resting::new(working, publisher)))
 }
 
 /// The settings of a new cache, and its shards, with room for `capacity` entries in each.

@@ -14,3 +14,4 @@ pub mod rule;
 mod running;
 mod shard;
 mod waiting;
+mod working;

@@ -1,12 +1,13 @@
 // The two logs of a cache, each behind a lock of its own, with a word beside it that tells what callers ask before they take the lock.
-ghost use Rattle.std.specs.Prelude.{◌≡◌, ◌≤◌, length};
+ghost use Rattle.std.specs.Prelude.{◌≡◌, ◌≤◌, [], length};
 
-use crate::waiting::{ROOM_AWAITED, has_room, lock};
+use crate::waiting::{ROOM_AWAITED, has_room, lock, lock_giving_way};
 use crossbeam_utils::CachePadded;
 use moka_base::error::OutOfMemory;
 use moka_engine::constants::{FLUSH_POINT, READ_LOG_SIZE, WRITE_LOG_SIZE};
 use moka_engine::operation::Write;
 use moka_maintenance::logs::{LoggedRead, ReadLog, WriteLog};
+use moka_maintenance::taken::TakenWrites;
 use std::alloc::{Allocator, Global};
 use std::sync::atomic::{AtomicUsize, Ordering};
 use std::sync::{Mutex, MutexGuard, Wait};
@@ -93,7 +94,8 @@ impl<A: Allocator + Clone + Drop> Logs<A> {
         is_pushed
     }
 
-    /// Takes the first reads, and puts them to the front of a slice: as many as there are, as it holds, and as are wanted. Answers how many.
+    /// Takes the first reads, and puts them to the front of a slice: as many as there are, as it holds, and as are wanted. Answers how many. Whoever puts
+    /// reads into the log goes first.
     pub(crate) fn take_reads<R: Wait>(
         &self,
         rt: &R,
@@ -104,7 +106,7 @@ impl<A: Allocator + Clone + Drop> Logs<A> {
         ensures held { result ≤ length reads.old }
         ensures same { length reads.new ≡ length reads.old }
     {
-        let mut log = self.lock_reads(rt);
+        let mut log = lock_giving_way(rt, &self.read_log);
         let count = log.take_first(wanted, reads);
         self.tell_reads(log.len());
         count
@@ -119,6 +121,16 @@ impl<A: Allocator + Clone + Drop> Logs<A> {
         let is_pushed = log.push(write).is_ok();
         self.tell_writes(log.len());
         is_pushed
+    }
+
+    /// Takes the first writes, once those are applied that were taken before: as many as there are, as can be taken at once, and as are wanted.
+    pub(crate) fn take_writes<R: Wait>(&self, rt: &R, wanted: usize, taken: &mut TakenWrites)
+        requires { taken.old ≡ [] }
+        ensures { length taken.new ≤ wanted }
+    {
+        let mut log = self.lock_writes(rt);
+        taken.refill(&mut log, wanted);
+        self.tell_writes(log.len());
     }
 }
 

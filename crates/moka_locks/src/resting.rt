@@ -4,7 +4,7 @@ ghost use Rattle.moka_engine.specs.CoreState.{new_maintenance};
 ghost use Rattle.moka_engine.specs.Place.{Idle};
 ghost use Rattle.moka_locks.specs.Charged.{IsCharged};
 
-use moka_maintenance::maintenance::Maintenance;
+use crate::working::Working;
 use moka_published::counts::Publisher;
 use std::alloc::{Allocator, Global};
 use std::marker::Model;
@@ -14,7 +14,7 @@ use std::sync::Wait;
 /// that it is short to hand on.
 #[derive(Drop)]
 pub(crate) struct Resting<A: Allocator + Clone + Drop = Global> {
-    maintenance: Box<Maintenance<A>, A>,
+    working: Box<Working<A>, A>,
     publisher: Option<Publisher>,
 }
 
@@ -26,46 +26,44 @@ impl<A: Allocator + Clone + Drop> Model for Resting<A> {
 
     ghost Value = { MaintenanceState };
 
-    ghost view = { λ r. r.maintenance.value };
+    ghost view = { λ r. r.working.value };
 
-    ghost invariant = { λ r. (r.maintenance.value.place ≡ Idle) × IfSome r.publisher (λ p. IsCharged r.maintenance.value p.published) };
+    ghost invariant = { λ r. (r.working.value.place ≡ Idle) × IfSome r.publisher (λ p. IsCharged r.working.value p.published) };
 }
 
 impl<A: Allocator + Clone + Drop> Resting<A> {
     /// This maintenance, with which nothing has been done.
-    pub(crate) fn new(maintenance: Box<Maintenance<A>, A>, publisher: Option<Publisher>) -> Self
-        requires idle { maintenance.value.place ≡ Idle }
-        requires charged { IfSome publisher (λ p. IsCharged maintenance.value p.published) }
-        ensures { result ≡ maintenance.value }
+    pub(crate) fn new(working: Box<Working<A>, A>, publisher: Option<Publisher>) -> Self
+        requires idle { working.value.place ≡ Idle }
+        requires charged { IfSome publisher (λ p. IsCharged working.value p.published) }
+        ensures { result ≡ working.value }
     {
-        Resting {
-            maintenance,
-            publisher,
-        }
+        Resting { working, publisher }
     }
 
     /// This maintenance, which has ended, with its counts published.
     pub(crate) fn ended<R: Wait>(
         rt: &R,
-        maintenance: Box<Maintenance<A>, A>,
+        working: Box<Working<A>, A>,
         publisher: Option<Publisher>,
     ) -> Self
-        requires { maintenance.value.place ≡ Idle }
-        ensures { result ≡ maintenance.value }
+        requires { working.value.place ≡ Idle }
+        ensures { result ≡ working.value }
     {
         let Some(mut publisher) = publisher else {
-            return Resting::new(maintenance, None);
+            return Resting::new(working, None);
         };
+        let maintenance = working.maintenance();
         let weight = u64::try_from(maintenance.charged_weight()).unwrap_or(u64::MAX);
         publisher.publish(rt, maintenance.count() as u64, weight);
-        Resting::new(maintenance, Some(publisher))
+        Resting::new(working, Some(publisher))
     }
 
     /// The maintenance, for the one who has the lock to begin it.
-    pub(crate) fn wake(self) -> (Box<Maintenance<A>, A>, Option<Publisher>)
+    pub(crate) fn wake(self) -> (Box<Working<A>, A>, Option<Publisher>)
         ensures value { result.0.value ≡ self }
         ensures idle { result.0.value.place ≡ Idle }
     {
-        (self.maintenance, self.publisher)
+        (self.working, self.publisher)
     }
 }

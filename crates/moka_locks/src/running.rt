@@ -8,6 +8,7 @@ use crate::inner::Inner;
 use crate::resting::Resting;
 use crate::rule::PairRule;
 use crate::waiting::lock;
+use crate::working::Working;
 use moka_base::time::Instant;
 use moka_engine::place::Place;
 use moka_maintenance::maintenance::Maintenance;
@@ -21,7 +22,7 @@ use std::sync::{Mutex, MutexGuard, Wait};
 #[derive(Drop)]
 pub(crate) struct Running<'a, A: Allocator + Clone + Drop> {
     guard: MutexGuard<'a, Option<Resting<A>>>,
-    maintenance: Box<Maintenance<A>, A>,
+    working: Box<Working<A>, A>,
     publisher: Option<Publisher>,
 }
 
@@ -30,7 +31,7 @@ impl<'a, A: Allocator + Clone + Drop> Model for Running<'a, A> {
 
     ghost Value = { MaintenanceState };
 
-    ghost view = { λ r. r.maintenance.value };
+    ghost view = { λ r. r.working.value };
 }
 
 impl<'a, A: Allocator + Clone + Drop> Running<'a, A> {
@@ -45,11 +46,11 @@ impl<'a, A: Allocator + Clone + Drop> Running<'a, A> {
         for _ in rt.forever() {
             let mut guard = lock(rt, maintenance);
             if let Some(resting) = guard.take() {
-                let (mut maintenance, publisher) = resting.wake();
-                maintenance.begin(now);
+                let (mut working, publisher) = resting.wake();
+                working.begin(now);
                 return Running {
                     guard,
-                    maintenance,
+                    working,
                     publisher,
                 };
             }
@@ -61,7 +62,7 @@ impl<'a, A: Allocator + Clone + Drop> Running<'a, A> {
     pub(crate) fn maintenance(&self) -> &Maintenance<A>
         ensures { result.now ≡ self.now }
     {
-        &self.maintenance
+        self.working.maintenance()
     }
 
     /// One turn, with the lock of what it needs, or several, where operations leave their log and are applied at once. The answer is where the maintenance is
@@ -77,8 +78,7 @@ impl<'a, A: Allocator + Clone + Drop> Running<'a, A> {
         ensures turns { AreTurns K V inner.now.settings self.old self.new }
         ensures place { result ≡ name_of self.new.place }
     {
-        inner.turn(rt, &mut self.maintenance);
-        self.maintenance.place()
+        self.working.turn(rt, inner)
     }
 
     /// Publishes the counts of the maintenance, which has ended, gives it back, and frees its lock.
@@ -87,9 +87,9 @@ impl<'a, A: Allocator + Clone + Drop> Running<'a, A> {
     {
         let Running {
             mut guard,
-            maintenance,
+            working,
             publisher,
         } = self;
-        *guard = Some(Resting::ended(rt, maintenance, publisher));
+        *guard = Some(Resting::ended(rt, working, publisher));
     }
 }

@@ -1,5 +1,6 @@
 // How a thread waits for what another thread is about to give back.
 use crossbeam_utils::Backoff;
+use std::hint;
 use std::sync::atomic::{AtomicUsize, Ordering};
 use std::sync::{Mutex, MutexGuard, Wait};
 
@@ -9,6 +10,12 @@ const FIRST_PAUSES: usize = 4;
 
 /// How often a thread looks at a lock then, each time after a longer pause, before it sleeps in wait for it.
 const LOCK_LOOKS: usize = 64;
+
+/// How many hints to the processor a thread makes that gives way to others, before it looks at a lock again: about 30 microseconds.
+const GIVING_WAY: usize = 600;
+
+/// How often it does so. Then it waits as others do, and so lets a thread run that has the lock and no processor.
+const TIMES_GIVING_WAY: usize = 8;
 
 /// How often a writer looks whether a full log has got room, before it asks again whether a maintenance is due.
 const ROOM_LOOKS: usize = 16;
@@ -40,6 +47,25 @@ fn wait_for<'a, T, R: Wait>(rt: &R, part: &'a Mutex<T>) -> MutexGuard<'a, T> {
         backoff.snooze();
     }
     part.lock(rt)
+}
+
+/// Takes a lock that others are to have first: where it is found held, a thread waits longer before it looks again than they do. Who takes reads out of
+/// their log does so: each look takes the line of the lock from those who put them in, and a read that finds the log full costs nobody anything more.
+pub(crate) fn lock_giving_way<'a, T, R: Wait>(rt: &R, part: &'a Mutex<T>) -> MutexGuard<'a, T> {
+    for _ in 0..TIMES_GIVING_WAY {
+        if let Some(guard) = part.try_lock() {
+            return guard;
+        }
+        make_hints(GIVING_WAY);
+    }
+    lock(rt, part)
+}
+
+/// So many hints to the processor that this thread waits for another.
+fn make_hints(count: usize) {
+    for _ in 0..count {
+        hint::spin_loop();
+    }
 }
 
 /// Whether a log has room, or gets it while one waits, by the word that tells its length.

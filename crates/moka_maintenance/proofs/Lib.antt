@@ -1,3 +1,4 @@
+pub mod LogLemmas
 pub mod AbsentLemmas
 pub mod SendLemmas
 pub mod NextLemmas

@@ -51,6 +51,15 @@ abbrev pub reads_left : Place → ℕ
 reads_left (place.Reads work) = work.left
 reads_left other = 0
 
+-- how many writes its round is still to take, whatever it is at with the one that it took last
+abbrev pub writes_left : Place → ℕ
+writes_left (place.Writes work) = work.left
+writes_left (place.Apply work write) = work.left
+writes_left (place.Scan work c tally seen) = work.left
+writes_left (place.Removing work c tally skipped seen) = work.left
+writes_left (place.Enter work c skipped) = work.left
+writes_left other = 0
+
 -- the reads among what is logged of them
 abbrev pub reads_of : List LoggedRead → List Read
 reads_of logged = map (λ l. l.read) logged

@@ -151,6 +151,17 @@ impl<A: Allocator + Drop> WriteLog<A> {
         self.writes.try_push_back(write)
     }
 
+    /// Takes the first writes, and puts them to the front of a slice: as many as there are, as it holds, and as are wanted. Answers how many.
+    pub fn take_first(&mut self, wanted: usize, writes: &mut [Write]) -> usize
+        ensures count { result ≡ min (min wanted (length writes.old)) (length self.old) }
+        ensures writes { take result writes.new ≡ take result self.old }
+        ensures same { length writes.new ≡ length writes.old }
+        ensures rest { self.new ≡ drop result self.old }
+    {
+        let wanted = wanted.min(writes.len());
+        self.writes.read_into(&mut writes[..wanted])
+    }
+
     /// Takes the first write.
     pub fn pop(&mut self) -> Option<Write>
         ensures value { result ≡ slice_get self.old 0 }

@@ -10,7 +10,7 @@ ghost use Rattle.moka_engine.specs.Entry.{Entry as EntryState};
 ghost use Rattle.moka_engine.specs.declared.operation.Write.TheVariants.{Remove, Upsert};
 ghost use Rattle.moka_maintenance.specs.Need.{need_at_front, need_named, need_to_read, need_to_write};
 ghost use Rattle.moka_maintenance.specs.Published.{published_of};
-ghost use Rattle.moka_maintenance.specs.Taken.{AppliesReads, IsScan, IsTaken, TakesRead, TakesWrite, having_taken_write, reads_left, reads_of};
+ghost use Rattle.moka_maintenance.specs.Taken.{AppliesReads, IsScan, IsTaken, TakesRead, TakesWrite, having_taken_write, reads_left, reads_of, writes_left};
 
 mod admission;
 mod eviction;
@@ -212,6 +212,17 @@ impl<A: Allocator + Clone + Drop> Maintenance<A> {
         ensures { IsTrue result ↔ TakesWrite self.now }
     {
         matches!(self.state.stage, Stage::Writes { .. })
+    }
+
+    /// How many writes its round is still to take, where the next turn is to take one.
+    pub fn writes_left(&self) -> usize
+        requires { TakesWrite self.now }
+        ensures { result ≡ writes_left self.now.place }
+    {
+        match self.state.stage {
+            Stage::Writes { work } => work.left,
+            _ => 0,
+        }
     }
 
     /// The first write of the log, where the next turn is to take one. The turn after that is to follow at once: `turn_with_upsert`, or

@@ -1,20 +1,42 @@
-use Rattle.moka_engine.specs.declared.operation.Write.TheVariants.{Upsert}
-use Rattle.moka_locks.proofs.TurnLemmas.{removed, takes_no_write, written}
+use Rattle.std.proofs.Common.{◌≤◌, ◌+◌, false, arith}
+use Rattle.moka_engine.specs.declared.operation.Write.TheVariants.{Remove, Upsert}
+use Rattle.moka_maintenance.specs.Taken.{having_taken_write, writes_left}
+use Rattle.moka_locks.proofs.TurnLemmas.{alone, removed, takes_no_write, written}
+use Rattle.moka_locks.proofs.WritesLeftLemmas.{takes_one}
 use Rattle.moka_locks.proofs.inner.Inner.apply_next_write.Goals as goal
 
-pub returns-in_default : goal.returns-in_default
-returns-in_default g c = takes_no_write g.row.K.Denot g.row.V.Denot c.args.self.now.settings c.args.maintenance.now c.requires
+pub returns-in_default-clause-turns : goal.returns-in_default-clause-turns
+returns-in_default-clause-turns g c =
+    takes_no_write g.row.K.Denot g.row.V.Denot c.args.self.now.settings c.args.maintenance.now c.requires.takes
 
-pub returns-in-Upsert : goal.returns-in-Upsert
-returns-in-Upsert g c =
+pub returns-in-Upsert-clause-turns : goal.returns-in-Upsert-clause-turns
+returns-in-Upsert-clause-turns g c =
     rw (← c.self.view_is) (
-    written g.row.K.Denot g.row.V.Denot c.self.inside.settings c.args.maintenance.now c.requires (Upsert c.in-Upsert.ticket)
+    written g.row.K.Denot g.row.V.Denot c.self.inside.settings c.args.maintenance.now c.requires.takes (Upsert c.in-Upsert.ticket)
     c.turn_with_upsert.new.maintenance c.turn_with_upsert.ensures
     )
 
-pub returns-in-Remove : goal.returns-in-Remove
-returns-in-Remove g c =
+pub returns-in-Upsert-clause-left : goal.returns-in-Upsert-clause-left
+returns-in-Upsert-clause-left g c =
+    let new = c.turn_with_upsert.new.maintenance in
+    let kept : writes_left c.args.maintenance.now.place ≤ writes_left new.place + 1 =
+    takes_one g.row.K.Denot g.row.V.Denot c.self.inside.settings (Upsert c.in-Upsert.ticket) c.args.maintenance.now new c.requires.takes
+    c.turn_with_upsert.ensures in
+    omega (arith, c.in-Some.ensures.some, kept)
+
+pub returns-in-Remove-clause-turns : goal.returns-in-Remove-clause-turns
+returns-in-Remove-clause-turns g c =
     rw (← c.self.view_is) (
-    removed g.row.K.Denot g.row.V.Denot c.self.inside.settings c.args.maintenance.now c.requires _ c.in-Remove.ticket
+    removed g.row.K.Denot g.row.V.Denot c.self.inside.settings c.args.maintenance.now c.requires.takes _ c.in-Remove.ticket
     c.turn_with_removal.new.self c.turn_with_removal.ensures
     )
+
+pub returns-in-Remove-clause-left : goal.returns-in-Remove-clause-left
+returns-in-Remove-clause-left g c =
+    let old = c.args.maintenance.now in
+    let new = c.turn_with_removal.new.self in
+    let turn = alone g.row.K.Denot g.row.V.Denot c.self.inside.settings _ false (having_taken_write (Remove c.in-Remove.ticket) old) new
+    c.turn_with_removal.ensures in
+    let kept : writes_left old.place ≤ writes_left new.place + 1 =
+    takes_one g.row.K.Denot g.row.V.Denot c.self.inside.settings (Remove c.in-Remove.ticket) old new c.requires.takes turn in
+    omega (arith, c.in-Some.ensures.some, kept)

@@ -1,22 +1,34 @@
+use Rattle.std.proofs.Common.{◌≤◌, arith}
+use Rattle.moka_maintenance.specs.Taken.{writes_left}
 use Rattle.moka_locks.specs.MaintenanceTurn.{OneTurn}
 use Rattle.moka_locks.proofs.TurnLemmas.{alone, with_reads, with_writes}
+use Rattle.moka_locks.proofs.WritesLeftLemmas.{keeps_left}
 use Rattle.moka_locks.proofs.inner.Inner.turn.Goals as goal
 
-pub returns-in-Nothing : goal.returns-in-Nothing
-returns-in-Nothing g c =
+pub returns-in-Nothing-clause-turns : goal.returns-in-Nothing-clause-turns
+returns-in-Nothing-clause-turns g c =
     let turn = c.turn_alone.ensures in
     rw (← c.self.view_is)
     (OneTurn _ _ (alone g.row.K.Denot g.row.V.Denot c.self.inside.settings _ turn.0 c.args.maintenance.now c.turn_alone.new.self turn.1))
 
-pub returns-in-Entry : goal.returns-in-Entry
-returns-in-Entry g c = rw (← c.self.view_is) (OneTurn _ _ c.turn.ensures)
+pub returns-in-Entry-clause-turns : goal.returns-in-Entry-clause-turns
+returns-in-Entry-clause-turns g c = rw (← c.self.view_is) (OneTurn _ _ c.turn.ensures)
 
-pub returns-in-Reads : goal.returns-in-Reads
-returns-in-Reads g c =
+pub returns-in-Entry-clause-left : goal.returns-in-Entry-clause-left
+returns-in-Entry-clause-left g c =
+    let old = c.args.maintenance.now in
+    let new = c.turn.new.maintenance in
+    let kept : writes_left old.place ≤ writes_left new.place =
+    keeps_left g.row.K.Denot g.row.V.Denot c.self.inside.settings old new
+    (λ takes. let is = c.takes_write.ensures.1 takes in let not = c.if-takes_write.false in absurd (cc)) c.turn.ensures in
+    omega (arith, c.requires, kept)
+
+pub returns-in-Reads-clause-turns : goal.returns-in-Reads-clause-turns
+returns-in-Reads-clause-turns g c =
     let turn = c.turn_with_reads.ensures in
     rw (← c.self.view_is) (OneTurn _ _ (with_reads c.self.inside.settings _ turn.0 c.args.maintenance.now c.turn_with_reads.new.self _ _ turn.1))
 
-pub returns-in-Writes : goal.returns-in-Writes
-returns-in-Writes g c =
+pub returns-in-Writes-clause-turns : goal.returns-in-Writes-clause-turns
+returns-in-Writes-clause-turns g c =
     let turn = c.turn_with_writes.ensures in
     rw (← c.self.view_is) (OneTurn _ _ (with_writes c.self.inside.settings _ turn.0 c.args.maintenance.now c.turn_with_writes.new.self _ _ turn.1))
