@@ -16,6 +16,17 @@ pub const CAPACITY: u64 = 100_000;
 pub const CALLS: usize = 500_000;
 const KEYS: u64 = 1_000_000;
 
+impl Call {
+    /// The same of a key that no list has.
+    fn of_another_key(self) -> Call {
+        match self {
+            Call::Get(key) => Call::Get(!key),
+            Call::Insert(key) => Call::Insert(!key),
+            other => other,
+        }
+    }
+}
+
 /// A hundred calls have so many gets.
 pub struct Mix {
     pub gets: u64,
@@ -52,6 +63,15 @@ impl Mix {
             gets,
             lists: (0..threads).map(list).collect(),
         }
+    }
+
+    /// The same, but that from halfway on all keys are others, which the cache has to learn.
+    pub fn turning(gets: u64, threads: usize) -> Mix {
+        let mut mix = Mix::new(gets, threads);
+        for call in mix.lists.iter_mut().flat_map(|list| &mut list[CALLS / 2..]) {
+            *call = call.of_another_key();
+        }
+        mix
     }
 
     /// How many gets so many threads make together.

@@ -165,6 +165,24 @@ impl Bench {
         Ok(())
     }
 
+    /// Prints what so many threads find of keys that change.
+    fn print_turning_row(&mut self, mix: &Mix, threads: usize) -> io::Result<()> {
+        let watch = Watch::start(&[process::id(), self.program.process()]);
+        let sides = [Side::Port, Side::Original];
+        let [port, original] = self.measure(sides, &mix.lists[..threads], self.repeats)?;
+        let gets = mix.gets_of(threads);
+        table::print_row(&[
+            mix.gets.to_string(),
+            threads.to_string(),
+            port.text(),
+            original.text(),
+            port.hit_ratio(gets),
+            original.hit_ratio(gets),
+            table::number(watch.free()),
+        ]);
+        Ok(())
+    }
+
     /// Prints what a maintenance takes that finds nothing to do, so that what it does is to publish.
     fn print_maintenance_row(&mut self) -> io::Result<()> {
         let watch = Watch::start(&[process::id(), self.program.process()]);
@@ -204,6 +222,29 @@ impl Bench {
         ]);
         Ok(())
     }
+}
+
+/// Prints the third table: what is found where the keys that are asked for change.
+fn print_turning_table(bench: &mut Bench) -> io::Result<()> {
+    println!();
+    println!("Hits where halfway through each list all keys are others.");
+    println!();
+    table::print_head(&[
+        "gets of 100",
+        "threads",
+        "port, sync",
+        "mini-moka, sync",
+        "hits, port, sync",
+        "hits, mini-moka, sync",
+        "processors free",
+    ]);
+    for gets in GETS {
+        let mix = Mix::turning(gets, THREADS[THREADS.len() - 1]);
+        for threads in THREADS {
+            bench.print_turning_row(&mix, threads)?;
+        }
+    }
+    Ok(())
 }
 
 /// Whether no side has more entries than its capacity; and where one thread plays alone, so that nothing hangs on the order of calls, whether both caches for
@@ -284,6 +325,7 @@ fn print_tables(program: &str, repeats: usize) -> io::Result<bool> {
         }
     }
     print_counted_table(&mut bench)?;
+    print_turning_table(&mut bench)?;
     Ok(all_right)
 }
 
