@@ -21,7 +21,7 @@ use Rattle.moka_deque.proofs.DequeLemmas.{lookup-same, differs, remove-same, rem
 use Rattle.moka_deque.proofs.DequeLemmas.{AreApart-push, lookup-remove_other, lookup-remove_same, absent-remove, AreApart-remove}
 use Rattle.moka_deque.proofs.DequeLemmas.{length-remove, set-same, set-other, AreApart-set, absent-set, lookup-set}
 
-in_slots : {X : Type 0} (slots : List (Option X)) (id : ℕ) → is_some (slice_index_or slots id None) ≡ true → id < length slots
+pub in_slots : {X : Type 0} (slots : List (Option X)) (id : ℕ) → is_some (slice_index_or slots id None) ≡ true → id < length slots
 in_slots [] id h = absurd (false≢true h)
 in_slots (s ∷ slots) zero h = omega arith
 in_slots (s ∷ slots) (suc id) h = let later = in_slots slots id h in omega arith
@@ -121,7 +121,7 @@ module _ {T : Type 0} (none : ℕ) where
       cond-true (nat_eq a a) e.0 (follower none e.0 es a) (nat_eq-same a)
       ∙ sym (cond-true (nat_eq b b) e.0 (follower none e.0 es b) (nat_eq-same b))
 
-  follower_behind : (p : ℕ) (e : ℕ × T) (es : List (ℕ × T)) (q : ℕ) → nat_eq p q ≡ false
+  pub follower_behind : (p : ℕ) (e : ℕ × T) (es : List (ℕ × T)) (q : ℕ) → nat_eq p q ≡ false
       → follower none p (e ∷ es) q ≡ follower none e.0 es q
   follower_behind p e es q h = cond-false (nat_eq p q) e.0 (follower none e.0 es q) h
 

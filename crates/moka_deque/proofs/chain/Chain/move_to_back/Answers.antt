@@ -1,0 +1,17 @@
+use Rattle.std.proofs.Common.{◌∙◌}
+use Rattle.moka_deque.specs.Deque.{moved_to_back}
+use Rattle.moka_deque.proofs.ChainLemmas.{shows-moved}
+use Rattle.moka_deque.proofs.chain.Chain.move_to_back.Goals as goal
+
+pub invariant_of-self : goal.invariant_of-self
+invariant_of-self g c =
+    let found = rw (← c.self.view_is, ← c.number-number.ensures) at c.requires in
+    (shows-moved c.number-number.result c.self.invariant found c.unlink.ensures.step c.unlink.ensures.len c.link_back.ensures.step
+    c.link_back.ensures.len).0
+
+pub returns-clause-items : goal.returns-clause-items
+returns-clause-items g c =
+    let found = rw (← c.self.view_is, ← c.number-number.ensures) at c.requires in
+    (shows-moved c.number-number.result c.self.invariant found c.unlink.ensures.step c.unlink.ensures.len c.link_back.ensures.step
+    c.link_back.ensures.len).1
+    ∙ (λ i. moved_to_back (c.number-number.ensures i) (c.self.view_is i).items)

@@ -1,0 +1,145 @@
+// The links of a chain's nodes, eight bytes a node, in a table of their own.
+//
+// `NONE` stands for the place before the first node and behind the last, so that the ends need no cases: its next node is the first, and its previous
+// one the last. A node that is not in the chain has no neighbours.
+ghost use Rattle.std.specs.Prelude.{◌≡◌, ℕ, ◌<◌, ◌≤◌, nat_eq, if◌then◌else◌, length, OnOk, OnErr};
+ghost use Rattle.std.specs.Vec.{vec_capacity};
+ghost use Rattle.moka_deque.specs.Links.{IsNumbered, IsPlace, Lengthened, LinkedBack, RelinksAt, Unlinked, next_at, prev_at};
+
+use std::alloc::{AllocError, Allocator, Global};
+
+/// No node.
+pub(crate) const NONE: u32 = u32::MAX;
+
+/// The neighbours of a node.
+#[derive(Clone, Copy, Drop)]
+pub(crate) struct Links {
+    pub(crate) next: u32,
+    pub(crate) prev: u32,
+}
+
+/// Those of a node that is not in the chain.
+const APART: Links = Links {
+    next: NONE,
+    prev: NONE,
+};
+
+/// The links of all nodes, by their ids.
+#[derive(Drop)]
+pub(crate) struct LinkTable<A: Allocator = Global> {
+    pub(crate) links: Vec<Links, A>,
+    pub(crate) first: u32,
+    pub(crate) last: u32,
+}
+
+impl<A: Allocator> LinkTable<A> {
+    /// A table for no node.
+    pub(crate) fn new(alloc: A) -> Self
+        ensures next { (id : ℕ) → next_at result id ≡ NONE }
+        ensures prev { (id : ℕ) → prev_at result id ≡ NONE }
+        ensures len { length result.links.items ≡ 0 }
+        ensures first { result.first ≡ NONE }
+    {
+        LinkTable {
+            links: Vec::new(alloc),
+            first: NONE,
+            last: NONE,
+        }
+    }
+
+    /// For how many nodes there are links.
+    pub(crate) fn len(&self) -> usize
+        ensures { result ≡ length self.now.links.items }
+    {
+        self.links.len()
+    }
+
+    /// The node behind this one.
+    pub(crate) fn next(&self, id: usize) -> u32
+        requires numbered { IsNumbered self.now }
+        requires here { id < length self.now.links.items }
+        ensures { result ≡ next_at self.now id }
+    {
+        self.links[id].next
+    }
+
+    /// Makes room for the links of so many nodes in all. Those that are new have no neighbours.
+    pub(crate) fn grow(&mut self, len: usize) -> Result<(), AllocError>
+        requires { IsNumbered self.old }
+        ensures ok { OnOk result (len ≤ length self.new.links.items) }
+        ensures step { Lengthened self.old self.new }
+    {
+        if len <= self.links.len() {
+            return Ok(());
+        }
+        if len > NONE as usize {
+            return Err(AllocError);
+        }
+        self.links
+            .reserve_exact(len.saturating_sub(self.links.len()))?;
+        while self.links.len() < len {
+            self.links.push_reserved(APART);
+        }
+        Ok(())
+    }
+
+    /// Takes a node out: its neighbours are linked to one another.
+    pub(crate) fn unlink(&mut self, id: usize)
+        requires numbered { IsNumbered self.old }
+        requires here { id < length self.old.links.items }
+        ensures step { IsPlace self.old (prev_at self.old id) → IsPlace self.old (next_at self.old id) → Unlinked self.old self.new id }
+        ensures len { length self.new.links.items ≡ length self.old.links.items }
+    {
+        let Links { next, prev } = self.links[id];
+        self.set_next(prev, next);
+        self.set_prev(next, prev);
+        self.links[id] = APART;
+    }
+
+    /// Puts a node, which has no neighbours, behind the last.
+    pub(crate) fn link_back(&mut self, id: usize)
+        requires numbered { IsNumbered self.old }
+        requires here { id < length self.old.links.items }
+        ensures step { IsPlace self.old self.old.last → LinkedBack self.old self.new id }
+        ensures len { length self.new.links.items ≡ length self.old.links.items }
+    {
+        let last = self.last;
+        self.links[id] = Links {
+            next: NONE,
+            prev: last,
+        };
+        self.set_next(last, id as u32);
+        self.last = id as u32;
+    }
+
+    /// Writes which node is behind this one.
+    fn set_next(&mut self, id: u32, next: u32)
+        requires { IsNumbered self.old }
+        ensures next { IsPlace self.old id → RelinksAt (next_at self.old) (next_at self.new) id next }
+        ensures prev { (q : ℕ) → prev_at self.new q ≡ prev_at self.old q }
+        ensures last { self.new.last ≡ self.old.last }
+        ensures len { length self.new.links.items ≡ length self.old.links.items }
+    {
+        let at = id as usize;
+        if at < self.links.len() {
+            self.links[at].next = next;
+        } else {
+            self.first = next;
+        }
+    }
+
+    /// Writes which node is before this one.
+    fn set_prev(&mut self, id: u32, prev: u32)
+        requires { IsNumbered self.old }
+        ensures prev { IsPlace self.old id → RelinksAt (prev_at self.old) (prev_at self.new) id prev }
+        ensures next { (q : ℕ) → next_at self.new q ≡ next_at self.old q }
+        ensures len { length self.new.links.items ≡ length self.old.links.items }
+    {
+        let at = id as usize;
+        if at < self.links.len() {
+            self.links[at].prev = prev;
+        } else {
+            self.last = prev;
+        }
+    }
+}
