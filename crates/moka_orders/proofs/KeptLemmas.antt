@@ -1,4 +1,4 @@
--- Lemmas on the two deques of the orders: what each change leaves of what holds of them, and what it is by tickets.
+-- Lemmas on the chain and the deque of the orders: what each change leaves of what holds of them, and what it is by tickets.
 use Rattle.std.proofs.Common.{◌≡◌, ◌⊎◌, ◌<◌, ◌≤◌, ◌^◌, ◌+◌, ◌-◌, ◌*◌, ℕ, suc, Bool, true, false, cond, nat_eq, eq-eqb, List, [], ◌∷◌}
 use Rattle.std.proofs.Common.{◌++◌, length, Option, Some, None, is_some, IsSome, option_map, unwrap_or, refl, sym, ap, ◌∙◌, inl}
 use Rattle.std.proofs.Common.{inr, arith, subst, slice_get, filter, not}
@@ -541,7 +541,7 @@ module _ {items : List (ℕ × Node)} {writes : List (ℕ × Ticket)} {total : �
           subst (λ t. IsSome (charge_of t (record { access = access_of items; write = write }))) node.3
           (ap is_some (charge_found s node.0 node.1 node.2 write))
 
-  -- at the back, it leaves what holds of the deques
+  -- at the back, it leaves what holds of the lists
   pub IsKept-oldest : IsKept items
       (Rattle.std.specs.Option.option_map_or (λ w. moved_to_back w writes) (Rattle.moka_deque.specs.Deque.first_id writes) writes) total
   IsKept-oldest = by writes refl
@@ -573,7 +573,7 @@ distinct_none : IsDistinct nat_eq []
 unfolding IsDistinct
 distinct_none = tt
 
--- what holds of two deques holds of empty ones
+-- what holds of the lists holds of empty ones
 pub IsKept-new : IsKept [] [] 0
 IsKept-new =
     record {

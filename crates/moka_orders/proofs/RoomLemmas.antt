@@ -1,5 +1,5 @@
 -- Lemmas on the room of the orders.
-use Rattle.std.proofs.Common.{◌≡◌, ◌<◌, ◌≤◌, ◌+◌, ℕ, suc, Bool, true, false, cond, min, nat_le, List, length, Option, Some, None, sym, ap}
+use Rattle.std.proofs.Common.{◌≡◌, ◌<◌, ◌≤◌, ◌+◌, ℕ, suc, Bool, true, false, cond, min, nat_le, List, length, Option, Some, None, refl, sym}
 use Rattle.std.proofs.Common.{arith, inl, inr, subst}
 use Rattle.std.proofs.lemmas.Bool.{cases_Bool, cond-true, cond-false, false≢true, leb-true, le-leb}
 use Rattle.moka_orders.specs.declared.orders.Node.{Node}
@@ -25,23 +25,22 @@ room_from items access writes ids some written fits =
     subst (λ n. 0 < n) (sym (cond-true (nat_le (length items + access) ids) (min access writes) 0 (le-leb (length items + access) ids fits)))
     (grind (arith, some, written))
 
--- a node that leaves gives its room back
+-- a node that leaves takes no room along, and gives back at most its own
 pub room_removed : (items left : List (ℕ × Node)) (access more writes ids same : ℕ) (o : Option ℕ) → suc (length left) ≡ length items
-    → more ≡ access + 1 → same ≡ ids → room_of items access writes ids ≤ room_of left more (room_after o writes) same
-room_removed items left access more writes ids same o fewer more_is same_is =
-    let test : nat_le (length left + more) same ≡ nat_le (length items + access) ids =
-    ap (λ (p : ℕ × ℕ). nat_le p.0 p.1) (λ i. (sum i, same_is i)) in
-    by (nat_le (length left + more) same) (nat_le (length items + access) ids) test
+    → access ≤ more → more ≤ access + 1 → same ≡ ids → room_of items access writes ids ≤ room_of left more (room_after o writes) same
+room_removed items left access more writes ids same o fewer stays most same_is =
+    by (nat_le (length left + more) same) (nat_le (length items + access) ids)
+    (λ fits. le-leb (length left + more) same (sum (leb-true (length items + access) ids fits)))
   where
-    sum : length left + more ≡ length items + access
-    sum = omega (arith, fewer, more_is)
+    sum : length items + access ≤ ids → length left + more ≤ same
+    sum fits = omega (arith, fewer, most, same_is, fits)
 
     larger : (o : Option ℕ) → min access writes ≤ min more (room_after o writes)
-    larger None = grind (arith, more_is)
-    larger (Some w) = grind (arith, more_is)
+    larger None = grind (arith, stays)
+    larger (Some w) = grind (arith, stays)
 
-    by : (p q : Bool) → p ≡ q → cond q (min access writes) 0 ≤ cond p (min more (room_after o writes)) 0
+    by : (p q : Bool) → (q ≡ true → p ≡ true) → cond q (min access writes) 0 ≤ cond p (min more (room_after o writes)) 0
     by true true e = larger o
     by false false e = omega arith
     by true false e = omega arith
-    by false true e = absurd (false≢true e)
+    by false true e = absurd (false≢true (e refl))

@@ -1,9 +1,10 @@
--- How the orders lie in two deques. No public clause cites this module.
+-- How the orders lie in a chain and a deque. No public clause cites this module.
 use Rattle.std.specs.Prelude.{◌≡◌, ◌<◌, ℕ, ◌+◌, ◌^◌, min, nat_eq, nat_le, List, [], ◌∷◌, ◌++◌, length, Option, Some, None}
 use Rattle.std.specs.Prelude.{if◌then◌else◌, sum_by}
 use Rattle.std.specs.List.{IsDistinct}
 use Rattle.std.specs.Map.{lookup, keys_of, remove_entry, values_of}
-use Rattle.moka_deque.specs.Deque.{Deque, moved_to_back}
+use Rattle.moka_deque.specs.Chain.{Chain}
+use Rattle.moka_deque.specs.Deque.{moved_to_back}
 use Rattle.moka_engine.specs.declared.ticket.Ticket.{Ticket}
 use Rattle.moka_orders.specs.declared.orders.Node.{Node}
 
@@ -48,7 +49,7 @@ pub record IsKept (items : List (ℕ × Node)) (writes : List (ℕ × Ticket)) (
   pub sum : total ≡ total_charge items
 
 -- the node stands at the back under a new id
-pub record PushesNode (old new : Deque Node) (node : Node) : Type 0 where
+pub record PushesNode (old new : Chain Node) (node : Node) : Type 0 where
   pub id : ℕ
   pub items : new.items ≡ old.items ++ (id, node) ∷ []
   pub new_id : lookup (nat_eq id) old.items ≡ None

@@ -13,6 +13,7 @@ ghost use Rattle.moka_orders.specs.OrdersState.{AddsNode, AtNode, IsNodeOf, orde
 use crate::high_water::HighWater;
 use moka_base::error::OutOfMemory;
 use moka_base::limits::Limits;
+use moka_deque::chain::Chain;
 use moka_deque::deque::{CacheRegion, Deque, NodeId};
 use moka_deque::link::Link;
 use moka_engine::ticket::Ticket;
@@ -31,10 +32,10 @@ pub struct Node {
 }
 
 /// The nodes of the entries that are charged, least recently used first, and with a time to live their tickets in order of writing. A node is
-/// found by its ticket in constant time in the mean.
+/// found by its ticket in constant time in the mean. The nodes lie in a chain, where a use moves a node by links alone.
 #[derive(Drop)]
 pub struct Orders<A: Allocator + Clone + Drop = Global> {
-    access: Deque<Node, A>,
+    access: Chain<Node, A>,
     writes: Deque<Ticket, A>,
     index: HashIndex<A>,
     total: u128,
@@ -65,7 +66,7 @@ impl<A: Allocator + Clone + Drop> Orders<A> {
         ensures { IfOk result (λ orders. orders ≡ record { nodes = []; written = []; room = 0 }) }
     {
         Ok(Orders {
-            access: Deque::new(alloc.clone()?, CacheRegion::MainProbation),
+            access: Chain::new(alloc.clone()?, alloc.clone()?),
             writes: Deque::new(alloc.clone()?, CacheRegion::Other),
             index: HashIndex::new(alloc),
             total: 0,
@@ -274,7 +275,7 @@ impl<A: Allocator + Clone + Drop> Orders<A> {
 }
 
 /// A sum with one more charge. Fewer than 2^64 charges, of 32 bits each, come to less than 2^96.
-fn with_charge<A: Allocator>(access: &Deque<Node, A>, total: u128, charge: u32) -> u128
+fn with_charge<A: Allocator>(access: &Chain<Node, A>, total: u128, charge: u32) -> u128
     requires { total ≤ length access.now.items * (2 ^ 32 - 1) }
     ensures value { result ≡ total + charge }
     ensures small { charge < 2 ^ 32 }
@@ -285,7 +286,7 @@ fn with_charge<A: Allocator>(access: &Deque<Node, A>, total: u128, charge: u32) 
 
 /// A node at the back, in room that was made. The answer is the number of its id.
 fn push_node<A: Allocator>(
-    access: &mut Deque<Node, A>,
+    access: &mut Chain<Node, A>,
     index: &mut HashIndex<A>,
     node: Node,
 ) -> usize
@@ -316,7 +317,7 @@ fn unlink_write<A: Allocator>(writes: &mut Deque<Ticket, A>, write: Option<NodeI
 /// refused. For how many more nodes the queues are to make room then.
 fn index_more<A: Allocator>(
     index: &mut HashIndex<A>,
-    access: &Deque<Node, A>,
+    access: &Chain<Node, A>,
     limits: &Limits,
 ) -> Result<usize, OutOfMemory>
     requires indexed { IsIndexed access.now.items index.old }
@@ -346,10 +347,10 @@ fn next_capacity(ids: usize, limits: &Limits) -> usize
 /// Makes room in the index for all ids below this number.
 fn index_all<A: Allocator>(
     index: &mut HashIndex<A>,
-    access: &Deque<Node, A>,
+    access: &Chain<Node, A>,
     ids: usize,
 ) -> Result<(), OutOfMemory>
-    requires bound { length access.now.items + access.now.room ≤ ids }
+    requires bound { (id : ℕ) → IsIn access.now.items id → id < ids }
     requires indexed { IsIndexed access.now.items index.old }
     ensures indexed { IsIndexed access.now.items index.new }
     ensures room { OnOk result (ids ≤ index.new.ids) }
@@ -364,14 +365,14 @@ fn index_all<A: Allocator>(
 }
 
 /// Adds the ids of all nodes to an index that has none.
-fn add_all<A: Allocator>(index: &mut HashIndex<A>, access: &Deque<Node, A>)
-    requires bound { length access.now.items + access.now.room ≤ index.old.ids }
+fn add_all<A: Allocator>(index: &mut HashIndex<A>, access: &Chain<Node, A>)
+    requires bound { (id : ℕ) → IsIn access.now.items id → id < index.old.ids }
     requires empty { (hash : ℕ) → candidates index.old hash ≡ [] }
     ensures indexed { IsIndexed access.now.items index.new }
     ensures ids { index.new.ids ≡ index.old.ids }
 {
-    // All ids are below this number, and none stands twice.
-    let _ = (access.capacity(), access.len());
+    // None stands twice.
+    let _ = access.len();
     let mut here = access.front();
     while let Some(id) = here {
         index.add(id.number(), access.get(id).ticket.hash);

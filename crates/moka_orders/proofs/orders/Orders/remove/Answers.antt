@@ -1,4 +1,4 @@
-use Rattle.std.proofs.Common.{◌∙◌, ◌+◌, ap, is_some, nat_eq, refl, subst, sym}
+use Rattle.std.proofs.Common.{◌∙◌, ap, is_some, nat_eq, subst, sym}
 use Rattle.std.specs.Map.{remove_entry}
 use Rattle.moka_deque.proofs.DequeLemmas.{length-remove}
 use Rattle.moka_index.specs.HashIndex.{Removes}
@@ -18,7 +18,7 @@ overflow_sub-self g c = rw c.from.ensures (charge_in_total c.self.invariant.0 c.
 pub invariant_of-self : goal.invariant_of-self
 invariant_of-self g c =
     let n = c.unlink-node.result in
-    rw (c.unlink-node.ensures.step, c.unlink_write.ensures.items, c.from.ensures, c.id.ensures) (
+    rw (c.unlink-node.ensures.items, c.unlink_write.ensures.items, c.from.ensures, c.id.ensures) (
       IsKept-remove c.self.invariant.0 c.args.id n c.unlink-node.ensures.value,
       IsIndexed-remove c.self.invariant.1 c.args.id c.self.invariant.0.once c.remove.new.self
           (subst (λ i. Removes c.self.inside.index i c.remove.new.self) c.number.ensures c.remove.ensures.step),
@@ -29,16 +29,16 @@ pub returns-clause-room : goal.returns-clause-room
 returns-clause-room g c =
     let old = c.self.inside in
     let n = c.unlink-node.result in
-    rw (← c.self.view_is, c.unlink-node.ensures.step, c.unlink_write.ensures.room, c.id.ensures)
-    (room_removed old.access.items (remove_entry (nat_eq c.args.id) old.access.items) old.access.room (old.access.room + 1)
+    rw (← c.self.view_is, c.unlink-node.ensures.items, c.unlink_write.ensures.room, c.id.ensures)
+    (room_removed old.access.items (remove_entry (nat_eq c.args.id) old.access.items) old.access.room c.unlink-node.new.self.room
     old.writes.room old.index.ids c.remove.new.self.ids n.write
-    (length-remove c.args.id old.access.items (ap is_some c.unlink-node.ensures.value)) refl c.remove.ensures.step.ids)
+    (length-remove c.args.id old.access.items (ap is_some c.unlink-node.ensures.value)) c.unlink-node.ensures.room c.unlink-node.ensures.room_after c.remove.ensures.step.ids)
 
 pub returns-clause-orders : goal.returns-clause-orders
 returns-clause-orders g c =
     let old = c.self.inside in
     let first = c.unlink-node.result in
-    rw (← c.self.view_is, c.unlink-node.ensures.step, c.unlink_write.ensures.items, c.id.ensures)
+    rw (← c.self.view_is, c.unlink-node.ensures.items, c.unlink_write.ensures.items, c.id.ensures)
     (λ n stood.
     removed_orders c.self.invariant.0 c.args.id first c.unlink-node.ensures.value old.access.room old.writes.room old.index.ids 0 0 0
     ∙ ap (λ m.

@@ -9,7 +9,7 @@ pub invariant_of-self : goal.invariant_of-self
 invariant_of-self g c =
     let old = c.self.inside in
     let here = node_in old.access.items c.args.id (subst (λ v. Rattle.moka_deque.specs.Deque.IsIn v.nodes c.args.id) (sym c.self.view_is) c.requires) in
-    rw c.move_to_back.ensures (
+    rw c.move_to_back.ensures.items (
       IsKept-moved c.self.invariant.0 c.args.id here.0 here.1,
       moved_indexed c.self.invariant.0 c.args.id here.0 here.1 old.index c.self.invariant.1,
       AreCovered-moved old.access.items old.high_water c.self.invariant.2 c.args.id here.0 here.1 c.self.invariant.0.once,
@@ -19,11 +19,11 @@ pub returns-clause-step : goal.returns-clause-step
 returns-clause-step g c =
     let old = c.self.inside in
     let here = node_in old.access.items c.args.id (subst (λ v. Rattle.moka_deque.specs.Deque.IsIn v.nodes c.args.id) (sym c.self.view_is) c.requires) in
-    rw (← c.self.view_is, c.move_to_back.ensures)
+    rw (← c.self.view_is, c.move_to_back.ensures.items, c.move_to_back.ensures.room)
     (moved_is c.self.invariant.0 c.args.id here.0 here.1 old.access.room old.writes.room old.index.ids)
 
 pub returns-clause-orders : goal.returns-clause-orders
 returns-clause-orders g c =
     let old = c.self.inside in
-    rw (← c.self.view_is, c.move_to_back.ensures)
+    rw (← c.self.view_is, c.move_to_back.ensures.items)
     (λ n stood. moved_orders c.self.invariant.0 c.args.id n stood old.access.room old.writes.room old.index.ids)
