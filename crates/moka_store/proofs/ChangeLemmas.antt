@@ -1,4 +1,4 @@
--- What each change of the store's two deques is to a contract.
+-- What each change of the store's chain and deque is to a contract.
 use Rattle.std.proofs.Common.{◌≡◌, ◌<◌, ◌≤◌, ◌^◌, ◌+◌, ◌-◌, ◌*◌, ℕ, Bool, true, false, nat_eq, List, [], ◌∷◌, ◌++◌, length, Option, Some}
 use Rattle.std.proofs.Common.{None, is_some, option_map, unwrap_or, refl, sym, ap, ◌∙◌, inl, inr, arith, subst}
 use Rattle.std.proofs.lemmas.Bool.{cases_Bool, cond-true, cond-false, eqb-true, false≢true}
@@ -6,12 +6,13 @@ use Rattle.std.proofs.lemmas.List.Elements.{recursion_from_All}
 use Rattle.std.specs.Cmp.{IsEquivalence}
 use Rattle.std.specs.List.{IsDistinct, AllByRecursion}
 use Rattle.std.specs.Map.{lookup, remove_entry, set_value, keys_of, values_of}
+use Rattle.moka_deque.specs.Chain.{Chain}
 use Rattle.moka_machine.specs.declared.entry.Entry.{Entry}
 use Rattle.moka_store.specs.declared.deques.Node.{Node}
 use Rattle.moka_machine.specs.Contents.{entry_at, writes_without}
 use Rattle.moka_machine.specs.Insert.{with_write}
 use Rattle.moka_store.specs.Store.{Store, Enters, Removes, Touches, Updates}
-use Rattle.moka_store.specs.Nodes.{capacity_of, entries_under, written_under, IsTied, IsStored, ids_of, room_after, room_for, with_write_last, without_write}
+use Rattle.moka_store.specs.Nodes.{capacity_of, entries_under, written_under, IsTied, IsStored, room_after, with_write_last, without_write}
 use Rattle.std.proofs.lemmas.Map.{length-set_value}
 use Rattle.std.proofs.lemmas.List.{length_push}
 use Rattle.moka_deque.proofs.DequeLemmas.{length-remove, lookup-push, nat_eq-same}
@@ -22,7 +23,7 @@ use Rattle.moka_store.proofs.StoreLemmas.{set-pushed, IsStored-remove, IsStored-
 use Rattle.moka_deque.proofs.IdLemmas.{moved-found}
 
 module _ {K V : Type 0} where
-  -- what a contract sees of the two deques
+  -- what a contract sees of the lists
   abbrev pub seen : List (ℕ × Node K V) → List (ℕ × ℕ) → Bool → ℕ → ℕ → Store K V
   seen items writes keeps capacity ids =
       record { nodes = entries_under items; written = written_under items writes; keeps_writes = keeps; capacity = capacity; ids = ids }
@@ -56,48 +57,48 @@ module _ {K V : Type 0} where
         | inr other ↦ small_at id n items a.1 (sym (cond-false (nat_eq id p.0) (Some p.1) (lookup (nat_eq id) items) other) ∙ h)
       ]
 
--- ---- below which number the ids are
+-- ---- how many entries fit
+
+-- a chain with other elements and other room has the same capacity, and the same number is above its ids
+pub same_bounds : {T : Type 0} (old new : Chain T) (items : List (ℕ × T)) (room : ℕ) → new ≡ record old { items = items; room = room }
+    → (new.capacity ≡ old.capacity) × (new.ids ≡ old.ids)
+same_bounds old new items room is = (ap (λ c. c.capacity) is, ap (λ c. c.ids) is)
 
 module _ {X : Type 0} where
-  -- a node that leaves gives its room back
-  pub ids_removed : (items left : List (ℕ × X)) (room more id : ℕ) (x : X) → lookup (nat_eq id) items ≡ Some x
-      → left ≡ remove_entry (nat_eq id) items → more ≡ room + 1 → ids_of left more ≡ ids_of items room
-  ids_removed items left room more id x stood left_is more_is =
-      omega (arith, ap length left_is, length-remove id items (ap is_some stood), more_is)
+  -- as many as before once a node has left, where its write gave its room back
+  pub capacity_removed : (keeps : Bool) (items left : List (ℕ × X)) (old new wroom wmore id : ℕ) (x : X) → lookup (nat_eq id) items ≡ Some x
+      → left ≡ remove_entry (nat_eq id) items → new ≡ old → (keeps ≡ true → wmore ≡ wroom + 1)
+      → capacity_of keeps left new wmore ≡ capacity_of keeps items old wroom
+  capacity_removed true items left old new wroom wmore id x stood left_is same wmore_is =
+      grind (arith, ap length left_is, length-remove id items (ap is_some stood), same, wmore_is refl)
+  capacity_removed false items left old new wroom wmore id x stood left_is same wmore_is = same
 
-  -- and a new one takes it
-  pub ids_pushed : (items pushed : List (ℕ × X)) (room less : ℕ) (p : ℕ × X) → pushed ≡ items ++ p ∷ [] → room ≡ less + 1
-      → ids_of pushed less ≡ ids_of items room
-  ids_pushed items pushed room less p pushed_is room_is = omega (arith, ap length pushed_is, length_push items p, room_is)
+  -- and once a new one has come, whose write took room
+  pub capacity_pushed : (keeps : Bool) (items pushed : List (ℕ × X)) (old new wroom wless : ℕ) (p : ℕ × X) → pushed ≡ items ++ p ∷ []
+      → new ≡ old → (keeps ≡ true → wroom ≡ wless + 1) → capacity_of keeps pushed new wless ≡ capacity_of keeps items old wroom
+  capacity_pushed true items pushed old new wroom wless p pushed_is same wroom_is =
+      grind (arith, ap length pushed_is, length_push items p, same, wroom_is refl)
+  capacity_pushed false items pushed old new wroom wless p pushed_is same wroom_is = same
 
-  -- a node that is rewritten stays
-  pub ids_set : (pushed : List (ℕ × X)) (less id : ℕ) (x : X) → ids_of (set_value (nat_eq id) pushed x) less ≡ ids_of pushed less
-  ids_set pushed less id x = ap (λ n. n + less) (length-set_value (nat_eq id) pushed x)
+  -- and once one is written over where it stands
+  pub capacity_set : (keeps : Bool) (items : List (ℕ × X)) (capacity wroom id : ℕ) (x : X)
+      → capacity_of keeps (set_value (nat_eq id) items x) capacity wroom ≡ capacity_of keeps items capacity wroom
+  capacity_set true items capacity wroom id x = grind (arith, length-set_value (nat_eq id) items x)
+  capacity_set false items capacity wroom id x = refl
 
-  -- a node that leaves gives its room back in both lists
-  pub capacity_removed : (keeps : Bool) (items left : List (ℕ × X)) (room more wroom wmore id : ℕ) (x : X) → lookup (nat_eq id) items ≡ Some x
-      → left ≡ remove_entry (nat_eq id) items → more ≡ room + 1 → (keeps ≡ true → wmore ≡ wroom + 1)
-      → capacity_of keeps left more wmore ≡ capacity_of keeps items room wroom
-  capacity_removed true items left room more wroom wmore id x stood left_is more_is wmore_is =
-      grind (arith, ap length left_is, length-remove id items (ap is_some stood), more_is, wmore_is refl)
-  capacity_removed false items left room more wroom wmore id x stood left_is more_is wmore_is =
-      omega (arith, ap length left_is, length-remove id items (ap is_some stood), more_is)
+  -- and once one is rewritten and at the back
+  pub capacity_rewritten : (keeps : Bool) (items moved : List (ℕ × X)) (old new wroom wsame id : ℕ) (x y : X) → lookup (nat_eq id) items ≡ Some x
+      → moved ≡ remove_entry (nat_eq id) items ++ (id, y) ∷ [] → new ≡ old → wsame ≡ wroom
+      → capacity_of keeps moved new wsame ≡ capacity_of keeps items old wroom
+  capacity_rewritten true items moved old new wroom wsame id x y stood moved_is same writes_same =
+      grind (arith, ap length moved_is, length_push (remove_entry (nat_eq id) items) (id, y), length-remove id items (ap is_some stood), same, writes_same)
+  capacity_rewritten false items moved old new wroom wsame id x y stood moved_is same writes_same = same
 
-  -- and a new one takes it
-  pub capacity_pushed : (keeps : Bool) (items pushed : List (ℕ × X)) (room less wroom wless : ℕ) (p : ℕ × X) → pushed ≡ items ++ p ∷ []
-      → room ≡ less + 1 → (keeps ≡ true → wroom ≡ wless + 1) → capacity_of keeps pushed less wless ≡ capacity_of keeps items room wroom
-  capacity_pushed true items pushed room less wroom wless p pushed_is room_is wroom_is =
-      grind (arith, ap length pushed_is, length_push items p, room_is, wroom_is refl)
-  capacity_pushed false items pushed room less wroom wless p pushed_is room_is wroom_is =
-      omega (arith, ap length pushed_is, length_push items p, room_is)
-
-  -- a node that is rewritten takes none
-  pub capacity_rewritten : (keeps : Bool) (items moved : List (ℕ × X)) (room wroom id : ℕ) (x y : X) → lookup (nat_eq id) items ≡ Some x
-      → moved ≡ remove_entry (nat_eq id) items ++ (id, y) ∷ [] → capacity_of keeps moved room wroom ≡ capacity_of keeps items room wroom
-  capacity_rewritten keeps items moved room wroom id x y stood moved_is =
-      let same : length moved ≡ length items =
-      omega (arith, ap length moved_is, length_push (remove_entry (nat_eq id) items) (id, y), length-remove id items (ap is_some stood)) in
-      ap (λ n. n + room_for keeps room wroom) same
+  -- the id of a new node is below the number that all ids are below
+  pub id_below : (items pushed : List (ℕ × X)) (room less id bound old new : ℕ) (p : ℕ × X) → pushed ≡ items ++ p ∷ [] → room ≡ less + 1
+      → id < length pushed + less → length items + room ≤ bound → bound ≡ old → new ≡ old → id < new
+  id_below items pushed room less id bound old new p pushed_is room_is below holds bound_is same =
+      omega (arith, ap length pushed_is, length_push items p, room_is, below, holds, bound_is, same)
 
 -- a write that stood gives its room back
 pub room_tied : (keeps : Bool) (writes : List (ℕ × ℕ)) (id room : ℕ) (o : Option ℕ) → IsTied keeps writes id o → keeps ≡ true

@@ -10,7 +10,7 @@ use Rattle.moka_machine.specs.declared.entry.Entry.{Entry}
 use Rattle.moka_store.specs.declared.deques.Node.{Node}
 use Rattle.moka_machine.specs.Contents.{entry_at, no_contents, write_of}
 use Rattle.moka_store.specs.Store.{IsFront, IsOldest}
-use Rattle.moka_store.specs.Nodes.{entries_under, written_under, IsStored, room_for}
+use Rattle.moka_store.specs.Nodes.{entries_under, written_under, IsStored, capacity_of}
 use Rattle.moka_deque.proofs.DequeLemmas.{lookup-set, nat_eq-same}
 use Rattle.moka_deque.proofs.IdLemmas.{some_parts}
 use Rattle.moka_store.proofs.NodeLemmas.{remove-set}
@@ -116,9 +116,9 @@ alone_is {K = K} {V = V} {eq = eq} laws {items = items} s id e key stands equal 
         ]
 
 -- an empty store has no room
-pub room_for-none : (keeps : Bool) → room_for keeps 0 0 ≡ 0
-room_for-none true = refl
-room_for-none false = refl
+pub capacity_of-none : (X : Type 0) (keeps : Bool) → capacity_of {X = X} keeps [] 0 0 ≡ 0
+capacity_of-none X true = refl
+capacity_of-none X false = refl
 
 module _ {K V : Type 0} {eq : K → K → Bool} (laws : IsEquivalence eq) {keeps : Bool} where
   -- the node that is first in the order of writing, if there is one, is the oldest

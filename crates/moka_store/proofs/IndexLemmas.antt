@@ -250,7 +250,7 @@ module _ {K V : Type 0} (nodes : List (ℕ × Entry K V)) where
 -- ---- what a contract sees
 
 module _ {K V : Type 0} where
-  -- capacity that is there is that of the deques, and the index has room for all ids
+  -- capacity that is there is that of the lists, and the index has room for all ids
   pub capacity_is_indexed : (deques : Store K V) (index : HashIndex) (len : ℕ) → len < indexed_capacity deques index
       → (len < deques.capacity) × (deques.ids ≤ index.ids)
   capacity_is_indexed deques index len h =
@@ -262,12 +262,12 @@ module _ {K V : Type 0} where
             absurd (omega (arith, none))
       ]
 
-  -- where the index has room for all ids, the capacity is that of the deques
+  -- where the index has room for all ids, the capacity is that of the lists
   pub indexed_capacity-all : (deques : Store K V) (index : HashIndex) → deques.ids ≤ index.ids
       → indexed_capacity deques index ≡ deques.capacity
   indexed_capacity-all deques index fits = cond-true (nat_le deques.ids index.ids) _ _ (le-leb deques.ids index.ids fits)
 
-  -- the same capacity of the deques is the same capacity
+  -- the same capacity of the lists is the same capacity
   pub indexed_capacity-same : (a b : Store K V) (i j : HashIndex) → b.ids ≡ a.ids → j.ids ≡ i.ids → b.capacity ≡ a.capacity
       → indexed_capacity b j ≡ indexed_capacity a i
   indexed_capacity-same a b i j ids index capacity k = cond (nat_le (ids k) (index k)) (capacity k) 0

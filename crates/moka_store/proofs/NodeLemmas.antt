@@ -1,4 +1,4 @@
--- Lemmas on deques of nodes: what is left of the elements under ids, and what of them is seen by keys.
+-- Lemmas on lists of nodes: what is left of the elements under ids, and what of them is seen by keys.
 use Rattle.std.proofs.Common.{◌≡◌, ℕ, Bool, true, false, cond, nat_eq, not, List, [], ◌∷◌, map, filter, Option, Some, None}
 use Rattle.std.proofs.Common.{refl, sym, ap, ◌∙◌, inl, inr, subst}
 use Rattle.std.proofs.lemmas.Bool.{cases_Bool, cond-true, cond-false, eqb-true}

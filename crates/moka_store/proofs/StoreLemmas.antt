@@ -1,4 +1,4 @@
--- Lemmas on a store's two deques: what each change leaves of what holds of them, and what it is by keys.
+-- Lemmas on a store's chain and deque: what each change leaves of what holds of them, and what it is by keys.
 use Rattle.std.proofs.Common.{◌≡◌, ◌⊎◌, ◌<◌, ◌≤◌, ◌^◌, ◌+◌, ◌-◌, ◌*◌, ℕ, suc, Bool, true, false, cond, not, nat_eq, eq-eqb, List, [], ◌∷◌}
 use Rattle.std.proofs.Common.{◌++◌, All, map, length, Option, Some, None, is_some, IsSome, option_map, unwrap_or, refl, sym, ap, ◌∙◌, inl}
 use Rattle.std.proofs.Common.{inr, arith, subst}
@@ -258,7 +258,7 @@ module _ {K V : Type 0} {eq : K → K → Bool} (laws : IsEquivalence eq) {keeps
       (λ w e. rw e (lookup-removed w v writes s.written_once))
       (λ e. rw e refl)
 
-  -- what holds of the deques holds without a node
+  -- what holds of the lists holds without a node
   pub IsStored-remove : IsStored eq keeps (remove_entry (nat_eq id) items) (without_write n.write writes) (total - n.entry.weight)
   IsStored-remove =
       record {
@@ -371,7 +371,7 @@ module _ {K V : Type 0} {eq : K → K → Bool} (laws : IsEquivalence eq) {keeps
         )
         cases (inr other) = (o, lookup-rewritten id i m items s.once ∙ (cond-false (nat_eq id i) _ _ other ∙ h), refl)
 
-    -- what holds of the deques holds with the node rewritten
+    -- what holds of the lists holds with the node rewritten
     pub IsStored-rewrite : (news : List (ℕ × ℕ)) (changed : ℕ) → ((v : ℕ) → lookup (nat_eq v) news ≡ lookup (nat_eq v) writes)
         → IsDistinct nat_eq (keys_of news) → changed ≡ total - n.entry.weight + m.entry.weight
         → IsStored eq keeps (remove_entry (nat_eq id) items ++ (id, m) ∷ []) news changed
@@ -590,7 +590,7 @@ module _ {K V : Type 0} {eq : K → K → Bool} (laws : IsEquivalence eq) {keeps
     stays_small : All (λ p. p.1.entry.weight < 2 ^ 32) (items ++ (id, m) ∷ [])
     stays_small = All-push (λ p. p.1.entry.weight < 2 ^ 32) items (id, m) s.small fits
 
-    -- what holds of the deques holds with a new node that names its write
+    -- what holds of the lists holds with a new node that names its write
     pub IsStored-enter : keeps ≡ true → (w : ℕ) → m.write ≡ Some w → lookup (nat_eq w) writes ≡ None
         → IsStored eq keeps (items ++ (id, m) ∷ []) (writes ++ (w, id) ∷ []) (total + m.entry.weight)
     IsStored-enter kept w named unused =
@@ -678,7 +678,7 @@ distinct_none : IsDistinct nat_eq []
 unfolding IsDistinct
 distinct_none = tt
 
--- what holds of two deques holds of empty ones
+-- what holds of the lists holds of empty ones
 pub IsStored-new : {K V : Type 0} {eq : K → K → Bool} {keeps : Bool} → IsStored {K = K} {V = V} eq keeps [] [] 0
 IsStored-new =
     record {

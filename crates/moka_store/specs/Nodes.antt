@@ -1,4 +1,4 @@
--- How the store lays its entries out in two deques. No public clause cites this module.
+-- How the store lays its entries out in a chain and a deque. No public clause cites this module.
 use Rattle.std.specs.Prelude.{◌≡◌, ◌<◌, ℕ, ◌+◌, ◌^◌, Bool, true, false, min, nat_eq, List, All, map, length, Option, Some, None, option_map}
 use Rattle.std.specs.List.{IsDistinct, filter_map}
 use Rattle.std.specs.Map.{lookup, keys_of, remove_entry, values_of}
@@ -7,23 +7,15 @@ use Rattle.moka_machine.specs.declared.entry.Entry.{Entry}
 use Rattle.moka_store.specs.declared.deques.Node.{Node}
 use Rattle.moka_machine.specs.Contents.{total_weight, Write, write_of}
 
--- for how many entries there is room, in one list or in both
-abbrev pub room_for : Bool → ℕ → ℕ → ℕ
-room_for true entries writes = min entries writes
-room_for false entries writes = entries
-
--- how many entries fit, with those that are there
+-- how many entries fit, with those that are there: as many as in the chain, and where writes are kept, only as many more as there is room for writes
 abbrev pub capacity_of : {X : Type 0} → Bool → List (ℕ × X) → ℕ → ℕ → ℕ
-capacity_of keeps items entries writes = length items + room_for keeps entries writes
+capacity_of true items capacity writes = min capacity (length items + writes)
+capacity_of false items capacity writes = capacity
 
 -- the room that is left once a write is taken out, if there is one
 abbrev pub room_after : Option ℕ → ℕ → ℕ
 room_after None room = room
 room_after (Some write) room = room + 1
-
--- the ids of nodes are below this number: as many as are there and as there is room for
-abbrev pub ids_of : {X : Type 0} → List (ℕ × X) → ℕ → ℕ
-ids_of items room = length items + room
 
 -- the node names its place in the order of writing, if that is kept
 abbrev pub IsTied : Bool → List (ℕ × ℕ) → ℕ → Option ℕ → Type 0
@@ -53,7 +45,7 @@ module _ {K V : Type 0} where
   abbrev pub written_under : List (ℕ × Node K V) → List (ℕ × ℕ) → List (Write K)
   written_under items writes = filter_map (write_under items) writes
 
-  -- the two deques name each other, no key stands twice, and the total is of all weights
+  -- the chain and the deque name each other, no key stands twice, and the total is of all weights
   pub record IsStored (eq : K → K → Bool) (keeps : Bool) (items : List (ℕ × Node K V)) (writes : List (ℕ × ℕ)) (total : ℕ) : Type 0 where
     pub apart : (i j : ℕ) (m n : Node K V) → lookup (nat_eq i) items ≡ Some m → lookup (nat_eq j) items ≡ Some n → eq m.entry.key n.entry.key ≡ true → i ≡ j
     pub tied : (i : ℕ) (n : Node K V) → lookup (nat_eq i) items ≡ Some n → IsTied keeps writes i n.write

@@ -15,6 +15,7 @@ pub use entries::Entries;
 use moka_base::error::OutOfMemory;
 use moka_base::policy::Policy;
 use moka_base::time::Instant;
+use moka_deque::chain::Chain;
 use moka_deque::deque::{CacheRegion, Deque, NodeId};
 use moka_deque::link::Link;
 use moka_machine::entry::Entry;
@@ -28,10 +29,10 @@ pub(crate) struct Node<K: Drop, V: Drop> {
     write: Link,
 }
 
-/// The entries of a cache in their orders. An entry is found by the id of its node.
+/// The entries of a cache in their orders. An entry is found by the id of its node. The nodes lie in a chain, where a use moves a node by links alone.
 #[derive(Drop)]
 pub(crate) struct Deques<K: Eq + Drop, V: Drop, A: Allocator + Clone + Drop = Global> {
-    order: Deque<Node<K, V>, A>,
+    order: Chain<Node<K, V>, A>,
     writes: Deque<NodeId, A>,
     keeps_writes: bool,
     total: u128,
@@ -39,7 +40,7 @@ pub(crate) struct Deques<K: Eq + Drop, V: Drop, A: Allocator + Clone + Drop = Gl
 
 impl<K: Eq + Drop, V: Drop, A: Allocator + Clone + Drop> Model for Deques<K, V, A> {
     ghost use Rattle.moka_store.specs.Store.{Store as StoreState};
-    ghost use Rattle.moka_store.specs.Nodes.{IsStored, capacity_of, entries_under, ids_of, written_under};
+    ghost use Rattle.moka_store.specs.Nodes.{IsStored, capacity_of, entries_under, written_under};
 
     ghost Value = { StoreState K V };
 
@@ -47,8 +48,8 @@ impl<K: Eq + Drop, V: Drop, A: Allocator + Clone + Drop> Model for Deques<K, V, 
       nodes = entries_under s.order.items;
       written = written_under s.order.items s.writes.items;
       keeps_writes = s.keeps_writes;
-      capacity = capacity_of s.keeps_writes s.order.items s.order.room s.writes.room;
-      ids = ids_of s.order.items s.order.room;
+      capacity = capacity_of s.keeps_writes s.order.items s.order.capacity s.writes.room;
+      ids = s.order.ids;
     } };
 
     ghost invariant = { λ s. IsStored K.eq s.keeps_writes s.order.items s.writes.items s.total };
@@ -61,7 +62,7 @@ impl<K: Eq + Drop, V: Drop, A: Allocator + Clone + Drop> Deques<K, V, A> {
             ≡ record { nodes = []; written = []; keeps_writes = keeps_writes policy; capacity = 0; ids = 0 }) }
     {
         Ok(Deques {
-            order: Deque::new(alloc.clone()?, CacheRegion::MainProbation),
+            order: Chain::new(alloc.clone()?, alloc.clone()?),
             writes: Deque::new(alloc, CacheRegion::Other),
             keeps_writes: policy.time_to_live().is_some(),
             total: 0,
@@ -185,13 +186,15 @@ impl<K: Eq + Drop, V: Drop, A: Allocator + Clone + Drop> Deques<K, V, A> {
         ensures { Enters K.eq self.old entry result self.new }
     {
         self.total = with_weight(&self.order, self.total, entry.weight);
+        // What is left of the capacity is room, and the new id is below the number that all ids are below.
+        let _ = (self.order.len(), self.order.capacity());
         let id = self.order.push_reserved(Node {
             entry,
             write: Link::none(),
         });
         if self.keeps_writes {
             let write = self.writes.push_reserved(id);
-            // All ids are below the capacity, which is a number.
+            // The ids of writes are below their capacity, which is a number.
             let _ = self.writes.capacity();
             self.order.get_mut(id).write = Link::to(write);
         }
@@ -211,7 +214,7 @@ impl<K: Eq + Drop, V: Drop, A: Allocator + Clone + Drop> Deques<K, V, A> {
 
 /// A total with one more weight. Fewer than 2^64 weights, of 32 bits each, come to less than 2^96.
 fn with_weight<K: Drop, V: Drop, A: Allocator>(
-    order: &Deque<Node<K, V>, A>,
+    order: &Chain<Node<K, V>, A>,
     total: u128,
     weight: u32,
 ) -> u128

@@ -65,7 +65,7 @@ impl<K: Eq + Drop, V: Drop, A: Allocator + Clone + Drop> Store<K, V, A> {
         let needed = len.saturating_add(additional);
         let mut more = additional;
         if needed > ids {
-            // The index grows first, so that the deques are as they were where memory for it is refused.
+            // The index grows first, so that the lists are as they were where memory for it is refused.
             let target = needed.max(most.min(ids.saturating_mul(2)).min(MOST_IDS));
             index_all(&mut self.index, &self.deques, target)?;
             more = additional.max(target - len);

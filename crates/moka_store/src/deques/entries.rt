@@ -4,7 +4,7 @@ ghost use Rattle.std.specs.Iterator.{at_most};
 ghost use Rattle.std.specs.Map.Iter.{TakesFirst, deref};
 
 use crate::deques::Node;
-use moka_deque::deque::Iter;
+use moka_deque::chain::Iter;
 use moka_machine::entry::Entry;
 use std::alloc::{Allocator, Global};
 use std::marker::Model;

@@ -1,5 +1,5 @@
 use Rattle.std.proofs.Common.{refl}
-use Rattle.moka_store.proofs.FindLemmas.{room_for-none}
+use Rattle.moka_store.proofs.FindLemmas.{capacity_of-none}
 use Rattle.moka_store.proofs.StoreLemmas.{IsStored-new}
 use Rattle.moka_store.proofs.deques.Deques.new.Goals as goal
 
@@ -11,9 +11,10 @@ returns g c =
     rw (
       c.new.ensures.items,
       c.new-2.ensures.items,
-      c.new.ensures.room,
+      c.new.ensures.capacity,
+      c.new.ensures.ids,
       c.new-2.ensures.room,
-      room_for-none c.is_some.result,
+      capacity_of-none _ c.is_some.result,
       c.is_some.ensures,
       c.time_to_live.ensures,
     ) refl

@@ -1,6 +1,6 @@
 use Rattle.std.proofs.Common.{◌-◌, ◌∙◌, ap, is_some, IsSome, nat_eq, subst, sym}
 use Rattle.std.specs.Map.{lookup}
-use Rattle.moka_store.proofs.ChangeLemmas.{capacity_removed, ids_removed, remove_is, room_tied, remove_keeps, weight_in_total}
+use Rattle.moka_store.proofs.ChangeLemmas.{capacity_removed, remove_is, room_tied, remove_keeps, same_bounds, weight_in_total}
 use Rattle.moka_store.proofs.StoreLemmas.{is_node}
 use Rattle.moka_store.proofs.deques.Deques.remove.Goals as goal
 
@@ -16,19 +16,20 @@ overflow_sub-self g c =
 pub invariant_of-self : goal.invariant_of-self
 invariant_of-self g c =
     remove_keeps g.met.K.Eq.laws c.self.invariant c.args.id c.unlink-node.result c.unlink-node.ensures.value
-    c.unlink-node.new.self.items (ap (λ d. d.items) c.unlink-node.ensures.step) c.unlink_write.new.writes.items c.unlink_write.ensures.items
+    c.unlink-node.new.self.items c.unlink-node.ensures.items c.unlink_write.new.writes.items c.unlink_write.ensures.items
     (c.self.inside.total - c.from.result) (ap (λ w. c.self.inside.total - w) c.from.ensures)
 
 pub returns : goal.returns
 returns g c =
+    let bounds = same_bounds c.self.inside.order c.unlink-node.new.self c.unlink-node.new.self.items c.unlink-node.new.self.room
+    c.unlink-node.ensures.unchanged in
     rw (← c.self.view_is)
     (remove_is g.met.K.Eq.laws c.self.invariant c.args.id c.unlink-node.result c.unlink-node.ensures.value
-    c.unlink-node.new.self.items (ap (λ d. d.items) c.unlink-node.ensures.step) c.unlink_write.new.writes.items c.unlink_write.ensures.items
+    c.unlink-node.new.self.items c.unlink-node.ensures.items c.unlink_write.new.writes.items c.unlink_write.ensures.items
     _ _ _ _
     (capacity_removed c.self.inside.keeps_writes c.self.inside.order.items _ _ _ _ _ c.args.id c.unlink-node.result c.unlink-node.ensures.value
-    (ap (λ d. d.items) c.unlink-node.ensures.step) (ap (λ d. d.room) c.unlink-node.ensures.step)
+    c.unlink-node.ensures.items bounds.0
     (λ kept. c.unlink_write.ensures.room
     ∙ room_tied c.self.inside.keeps_writes c.self.inside.writes.items c.args.id _ c.unlink-node.result.write
     (c.self.invariant.tied c.args.id c.unlink-node.result c.unlink-node.ensures.value) kept))
-    (ids_removed c.self.inside.order.items _ _ _ c.args.id c.unlink-node.result c.unlink-node.ensures.value (ap (λ d. d.items) c.unlink-node.ensures.step)
-    (ap (λ d. d.room) c.unlink-node.ensures.step)))
+    bounds.1)

@@ -1,8 +1,8 @@
-use Rattle.std.proofs.Common.{◌≡◌, ◌∙◌, ◌-◌, ◌+◌, ◌++◌, ◌∷◌, [], ap, false, is_some, IsSome, nat_eq, subst, sym, unwrap_or}
+use Rattle.std.proofs.Common.{◌≡◌, ◌∙◌, ◌-◌, ◌+◌, ◌++◌, ◌∷◌, [], ap, is_some, IsSome, nat_eq, subst, sym, unwrap_or}
 use Rattle.std.specs.Map.{lookup, remove_entry}
-use Rattle.moka_store.proofs.ChangeLemmas.{capacity_rewritten, rest_bound, update_is, update_keeps, updated, weight_in_total}
+use Rattle.moka_store.proofs.ChangeLemmas.{capacity_rewritten, rest_bound, same_bounds, update_is, update_keeps, updated, weight_in_total}
 use Rattle.moka_store.proofs.FindLemmas.{lookup-set_same, moved-set}
-use Rattle.moka_store.specs.Nodes.{capacity_of, ids_of, with_write_last}
+use Rattle.moka_store.specs.Nodes.{with_write_last}
 use Rattle.moka_store.proofs.StoreLemmas.{is_node}
 use Rattle.moka_store.proofs.deques.Deques.update.Given.{Over}
 use Rattle.moka_store.proofs.deques.Deques.update.Goals.{After-move_write_to_back}
@@ -33,7 +33,7 @@ moved g c =
     let node = c.get-node.result.now in
     let same : c.get_mut.result.now ≡ node = ap (λ o. unwrap_or o node) (sym c.get_mut.ensures.value ∙ c.get-node.ensures) in
     let rewritten = c.rewrite.ensures ∙ ap (λ n. updated n c.args.update) same in
-    ap (λ d. d.items) c.move_to_back.ensures
+    c.move_to_back.ensures.items
     ∙ (moved-set c.args.id c.rewrite.new.node items (ap is_some c.get-node.ensures)
     ∙ ap (λ n. remove_entry (nat_eq c.args.id) items ++ (c.args.id, n) ∷ []) rewritten)
 
@@ -50,14 +50,14 @@ pub returns : goal.returns
 returns g c =
     let moved_write = subst (λ w. c.move_write_to_back.new.writes.items ≡ with_write_last w c.self.inside.writes.items) c.id-write.ensures
     c.move_write_to_back.ensures.items in
-    let items = c.self.inside.order.items in let keeps = c.self.inside.keeps_writes in
+    let items = c.self.inside.order.items in
+    let bounds = same_bounds c.self.inside.order c.move_to_back.new.self c.move_to_back.new.self.items c.self.inside.order.room
+    c.move_to_back.ensures.unchanged in
     let moved_is = moved g (goal.at.returns g c).After-move_write_to_back in
     rw (← c.self.view_is)
     (update_is g.met.K.Eq.laws c.self.invariant c.args.id c.get-node.result.now c.get-node.ensures c.args.update
     c.with_weight-self-inside.ensures.small _ (moved g (goal.at.returns g c).After-move_write_to_back) _
     moved_write _ _ _ _
-    (ap (λ r. capacity_of keeps c.move_to_back.new.self.items c.move_to_back.new.self.room r) c.move_write_to_back.ensures.room
-    ∙ (ap (λ r. capacity_of keeps c.move_to_back.new.self.items r c.self.inside.writes.room) (ap (λ d. d.room) c.move_to_back.ensures)
-    ∙ capacity_rewritten keeps items _ _ _ c.args.id c.get-node.result.now _ c.get-node.ensures moved_is))
-    (ap (λ r. ids_of c.move_to_back.new.self.items r) (ap (λ d. d.room) c.move_to_back.ensures)
-    ∙ capacity_rewritten false items _ _ 0 c.args.id c.get-node.result.now _ c.get-node.ensures moved_is))
+    (capacity_rewritten c.self.inside.keeps_writes items _ _ _ _ _ c.args.id c.get-node.result.now _ c.get-node.ensures moved_is
+    bounds.0 c.move_write_to_back.ensures.room)
+    bounds.1)
