@@ -1,5 +1,5 @@
 // What all clones of a cache share: its shards, its logs and its maintenance, each behind a lock, and some words.
-ghost use Rattle.std.specs.Prelude.{◌≡◌, ◌<◌, ◌≤◌, ◌+◌, ◌++◌, [], ◌∷◌, List, Some, length, map, IfOk, IfSome, IsNone, OnOk};
+ghost use Rattle.std.specs.Prelude.{◌≡◌, ◌<◌, ◌≤◌, ◌+◌, ◌++◌, [], ◌∷◌, List, Some, drop, length, map, slice_get, IfOk, IfSome, IsNone, OnOk};
 ghost use Rattle.std.specs.List.{IsDistinct};
 ghost use Rattle.std.specs.Vec.{vec_len};
 ghost use Rattle.moka_engine.specs.declared.constants.TheConstants.{SHARDS};
@@ -11,7 +11,7 @@ ghost use Rattle.moka_locks.specs.Rule.{PairsMeet};
 ghost use Rattle.moka_locks.specs.Snapshot.{IsSnapshot, own_pairs};
 ghost use Rattle.moka_engine.specs.CoreState.{Maintenance as MaintenanceState};
 ghost use Rattle.moka_engine.specs.Place.{Idle, ReadCount};
-ghost use Rattle.moka_locks.specs.MaintenanceTurn.{AreTurns};
+ghost use Rattle.moka_locks.specs.MaintenanceTurn.{AppliesFirst, AreTurns};
 ghost use Rattle.moka_maintenance.specs.Taken.{TakesRead, TakesWrite, writes_left};
 
 use crate::housekeeper::Housekeeper;
@@ -328,6 +328,8 @@ impl<
         requires { length taken.old ≤ writes_left maintenance.old.place }
         ensures turns { AreTurns K V self.now.settings maintenance.old maintenance.new }
         ensures left { length taken.new ≤ writes_left maintenance.new.place }
+        ensures at_hand { TakesWrite maintenance.old → AppliesFirst K V self.now.settings taken.old taken.new maintenance.old maintenance.new }
+        ensures unchanged { (TakesWrite maintenance.old → ⊥) → taken.new ≡ taken.old }
     {
         if maintenance.takes_read() {
             self.apply_next_reads(rt, maintenance);
@@ -405,6 +407,7 @@ impl<
         requires left { length taken.old ≤ writes_left maintenance.old.place }
         ensures turns { AreTurns K V self.now.settings maintenance.old maintenance.new }
         ensures left { length taken.new ≤ writes_left maintenance.new.place }
+        ensures at_hand { AppliesFirst K V self.now.settings taken.old taken.new maintenance.old maintenance.new }
     {
         let Some(write) = self.next_write(rt, maintenance, taken) else {
             return;
@@ -433,6 +436,7 @@ impl<
         requires left { length taken.old ≤ writes_left maintenance.now.place }
         ensures some { IfSome result (λ write. length taken.new < writes_left maintenance.now.place) }
         ensures none { IsNone result → taken.new ≡ [] }
+        ensures first { 0 < length taken.old → (result ≡ slice_get taken.old 0) × (taken.new ≡ drop 1 taken.old) }
     {
         if taken.is_empty() {
             self.logs.take_writes(rt, maintenance.writes_left(), taken);
