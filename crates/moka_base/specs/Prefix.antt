@@ -5,4 +5,5 @@ use Rattle.std.specs.Prelude.{ℕ, zero, suc, ◌-◌, List, [], ◌∷◌, Opti
 abbrev pub shortest_prefix : {X : Type 0} → (X → ℕ) → ℕ → List X → Option (List X)
 shortest_prefix weight zero items = Some []
 shortest_prefix weight (suc enough) [] = None
-shortest_prefix weight (suc enough) (item ∷ items) = option_map (λ prefix. item ∷ prefix) (shortest_prefix weight (suc enough - weight item) items)
+shortest_prefix weight (suc enough) (item ∷ items) =
+    option_map (λ prefix. item ∷ prefix) (shortest_prefix weight (suc enough - weight item) items)

@@ -1,5 +1,5 @@
 //! The limits of a cache as its calls use them.
-ghost use Rattle.std.specs.Prelude.{◌≡◌, ◌+◌, ◌≤◌, ◌^◌, is_some, nat_le};
+ghost use Rattle.std.specs.Prelude.{◌≡◌, ◌+◌, is_some, nat_le};
 ghost use Rattle.moka_base.specs.Moment.{idle_expired, live_expired};
 ghost use Rattle.moka_base.specs.Settings.{idle_nanos, live_nanos};
 

@@ -1,5 +1,6 @@
 -- The steps of a whole call, one after another.
-use Rattle.std.proofs.Common.{◌≡◌, ◌⊎◌, ◌<◌, ◌||◌, ℕ, arith, nat_le, nat_lt, Bool, true, false, List, [], ◌∷◌, ◌++◌, length, Option, Some, None, refl, sym, ◌∙◌, ap, subst}
+use Rattle.std.proofs.Common.{◌≡◌, ◌⊎◌, ◌<◌, ◌||◌, ℕ, arith, nat_le, nat_lt, Bool, true, false, List}
+use Rattle.std.proofs.Common.{[], ◌∷◌, ◌++◌, length, Option, Some, None, refl, sym, ◌∙◌, ap, subst}
 use Rattle.std.proofs.Common.{inl, inr, nat_eq, Result, Ok, Err, IsOk, IfOk, OnOk, OnErr, ◌↔◌}
 use Rattle.std.specs.Bool.{MatchBool}
 use Rattle.std.specs.Cmp.{IsEquivalence}
@@ -49,14 +50,16 @@ module _ {K V S : Type 0} (keys : Keys K S) (laws : IsEquivalence keys.eq) (weig
       turns_keep_good next new (law.consistent_step keys laws weighs old next Turn (At place) good step) turns
 
   -- so does a maintenance that comes to its end, or that isn't there
-  pub end_keeps_good : (old : Core) (was : Bool) (new : Core) → IsConsistent keys old → Finishes keys weighs old was new → IsConsistent keys new
+  pub end_keeps_good : (old : Core) (was : Bool) (new : Core) → IsConsistent keys old → Finishes keys weighs old was new
+      → IsConsistent keys new
   end_keeps_good old true new good turns = turns_keep_good old new good turns
   end_keeps_good old false new good (idle, same) = subst (IsConsistent keys) (sym same) good
 
   -- ---- whether a maintenance is due
 
   -- it is, and was run
-  pub maintains_as_due : (now len : ℕ) (old next new : Core) → is_due len FLUSH_POINT old.sync_after now ≡ true → next ≡ scheduled true now old
+  pub maintains_as_due : (now len : ℕ) (old next new : Core) → is_due len FLUSH_POINT old.sync_after now ≡ true
+      → next ≡ scheduled true now old
       → CoreMaintains keys weighs now next new → MaintainsAsDue keys weighs now old new len
   maintains_as_due now len old next new due is maintains log found = record {
     runs = true;
@@ -66,7 +69,8 @@ module _ {K V S : Type 0} (keys : Keys K S) (laws : IsEquivalence keys.eq) (weig
   }
 
   -- it isn't
-  pub rests_as_due : (now len : ℕ) (old : Core) → is_due len FLUSH_POINT old.sync_after now ≡ false → MaintainsAsDue keys weighs now old old len
+  pub rests_as_due : (now len : ℕ) (old : Core) → is_due len FLUSH_POINT old.sync_after now ≡ false
+      → MaintainsAsDue keys weighs now old old len
   rests_as_due now len old due log found = record {
     runs = false;
     decided = old;
@@ -84,7 +88,8 @@ module _ {K V S : Type 0} (keys : Keys K S) (laws : IsEquivalence keys.eq) (weig
   scheduled_is_good now core good = law.good_scheduled keys laws weighs true now core good
 
   -- a pending read is pushed
-  pub pushes_read : (now len : ℕ) (old next new : Core) (reply : Reply K V) → PendsRead keys old → MaintainsAsDue keys weighs now old next len
+  pub pushes_read : (now len : ℕ) (old next new : Core) (reply : Reply K V) → PendsRead keys old
+      → MaintainsAsDue keys weighs now old next len
       → len ≡ length old.read_log → Step next (Push CALLER) reply new → CorePushesRead keys weighs now old new
   pushes_read now len old next new reply (read, h) as_due found step =
       record { next = next; maintains = due; pushes = by (subst (λ o. IsPush keys next CALLER o reply new) is_pending step.step) }
@@ -100,7 +105,8 @@ module _ {K V S : Type 0} (keys : Keys K S) (laws : IsEquivalence keys.eq) (weig
       replied : (word : Reply K V) → reply ≡ word → Step next (Push CALLER) word new
       replied word is = subst (λ r. Step next (Push CALLER) r new) is step
 
-      by : IsPush keys next CALLER (Some (Reading read)) reply new → Step next (Push CALLER) Done new ⊎ Step next (Push CALLER) Discarded new
+      by : IsPush keys next CALLER (Some (Reading read)) reply new → Step next (Push CALLER) Done new
+          ⊎ Step next (Push CALLER) Discarded new
       by p =
           elim (cases_Bool (nat_lt (length next.read_log) READ_LOG_SIZE)) [
             | inl room ↦ inl (replied Done (rw room at p).0)
@@ -108,7 +114,8 @@ module _ {K V S : Type 0} (keys : Keys K S) (laws : IsEquivalence keys.eq) (weig
           ]
 
   -- a pending write is pushed
-  pub pushes_write : (now len : ℕ) (old next new : Core) (reply : Reply K V) → PendsWrite keys old → MaintainsAsDue keys weighs now old next len
+  pub pushes_write : (now len : ℕ) (old next new : Core) (reply : Reply K V) → PendsWrite keys old
+      → MaintainsAsDue keys weighs now old next len
       → len ≡ length old.write_log → Step next (Push CALLER) reply new → CorePushesWrite keys weighs now old new
   pushes_write now len old next new reply (write, h) as_due found step =
       Pushed old next new due
@@ -234,7 +241,8 @@ module _ {K V S : Type 0} (keys : Keys K S) (laws : IsEquivalence keys.eq) (weig
         Got : Type 0
         Got = ((found : Option V) × (reply ≡ Found found) × PendsRead keys next) ⊎ ((reply ≡ OutOfMemory) × (next ≡ old))
 
-        left : (read : Read) (found : Option V) → (reply ≡ Found found) × (next ≡ record old { pending = with_pending CALLER (Reading read) old })
+        left : (read : Read) (found : Option V) → (reply ≡ Found found)
+            × (next ≡ record old { pending = with_pending CALLER (Reading read) old })
             → Got
         left read found (word, is) =
             inl (
@@ -277,7 +285,8 @@ module _ {K V S : Type 0} (keys : Keys K S) (laws : IsEquivalence keys.eq) (weig
         added_or_full e true h = inr (inr h.0, h.1)
         added_or_full e false h = left (Upsert e.ticket) h.2 (ap (λ c. c.pending) h.3) (ap (λ c. c.maintenance.place) h.3)
 
-        by : (refused : Bool) (present : Option (Entry K V)) → IsInsert keys old CALLER key value now step.weight refused present reply next → Put
+        by : (refused : Bool) (present : Option (Entry K V)) → IsInsert keys old CALLER key value now step.weight refused present
+            reply next → Put
         by true present h = inr (inl h.0, h.1)
         by false (Some e) h = updated_or_full e _ h
         by false None h = added_or_full (fresh_entry keys old key value step.weight now) _ h
@@ -287,7 +296,8 @@ module _ {K V S : Type 0} (keys : Keys K S) (laws : IsEquivalence keys.eq) (weig
         → (reply ≡ Done) × (PendsWrite keys next ⊎ (next ≡ old))
     taken key now reply step = by (entry_at keys.eq key old.entries) (free reply _ step.step)
       where
-        by : (present : Option (Entry K V)) → IsInvalidation keys old CALLER present reply next → (reply ≡ Done) × (PendsWrite keys next ⊎ (next ≡ old))
+        by : (present : Option (Entry K V)) → IsInvalidation keys old CALLER present reply next → (reply ≡ Done)
+            × (PendsWrite keys next ⊎ (next ≡ old))
         by None h = (h.0, inr h.1)
         by (Some e) h = (
           h.0,
@@ -299,7 +309,8 @@ module _ {K V S : Type 0} (keys : Keys K S) (laws : IsEquivalence keys.eq) (weig
         )
 
     -- what has found out has left a read
-    pub found_pends : (key : K) (now : ℕ) (reply : Reply K V) (found : Option V) → reply ≡ Found found → Step old (Get CALLER key now) reply next
+    pub found_pends : (key : K) (now : ℕ) (reply : Reply K V) (found : Option V) → reply ≡ Found found
+        → Step old (Get CALLER key now) reply next
         → PendsRead keys next
     found_pends key now reply found word step =
         elim (got key now reply step) [
@@ -308,7 +319,8 @@ module _ {K V S : Type 0} (keys : Keys K S) (laws : IsEquivalence keys.eq) (weig
         ]
 
     -- what was accepted has left a write
-    pub accepted_pends : (key : K) (value : V) (now : ℕ) (reply : Reply K V) → reply ≡ Done → Step old (Insert CALLER key value now) reply next
+    pub accepted_pends : (key : K) (value : V) (now : ℕ) (reply : Reply K V) → reply ≡ Done
+        → Step old (Insert CALLER key value now) reply next
         → PendsWrite keys next
     accepted_pends key value now reply word step =
         elim (put key value now reply step) [
@@ -331,9 +343,15 @@ module _ {K V S : Type 0} (keys : Keys K S) (laws : IsEquivalence keys.eq) (weig
 
     -- a get that has found out, and pushed what it left
     pub called_get : (key : K) (now : ℕ) (new : Core) (found : Option V) (reply : Reply K V) → reply ≡ Found found
-        → Step old (Get CALLER key now) reply next → CorePushesRead keys weighs now next new → IsCall keys weighs old (call.Get key now) reply new
+        → Step old (Get CALLER key now) reply next → CorePushesRead keys weighs now next new
+        → IsCall keys weighs old (call.Get key now) reply new
     called_get key now new found reply word step push =
-        record { next = next; first = step; follows = subst (λ r. AfterGet Step Decides has_pending CALLER now r true next new) (sym word) (by found) }
+        record {
+          next = next;
+          first = step;
+          follows = subst (λ r. AfterGet Step Decides has_pending CALLER now r true next new) (sym word)
+              (by found);
+        }
       where
         by : (found : Option V) → AfterGet Step Decides has_pending CALLER now (Found found) true next new
         by None = push
@@ -376,7 +394,8 @@ module _ {K V S : Type 0} (keys : Keys K S) (laws : IsEquivalence keys.eq) (weig
         by (inr word) = subst (λ r. AfterInsert Step Decides has_pending CALLER now r next next) (sym word) refl
 
     -- an invalidation that has left a removal, and pushed it
-    pub called_invalidate : (key : K) (now : ℕ) (new : Core) (reply : Reply K V) (operation : Operation) → pending_of CALLER next ≡ Some operation
+    pub called_invalidate : (key : K) (now : ℕ) (new : Core) (reply : Reply K V) (operation : Operation)
+        → pending_of CALLER next ≡ Some operation
         → Step old (Invalidate CALLER key now) reply next → CorePushesWrite keys weighs now next new
         → IsCall keys weighs old (call.Invalidate key now) reply new
     called_invalidate key now new reply operation some step push =
@@ -414,7 +433,8 @@ module _ {K V S : Type 0} (keys : Keys K S) (laws : IsEquivalence keys.eq) (weig
   run_keeps old new (event ∷ events) [] good none = absurd none
 
   -- a list of steps, or that it was refused
-  pub run_or_refusal_keeps : {R E : Type 0} (items : R → List (Reply K V)) (old new : Core) (events : List (Event K V)) (result : Result R E)
+  pub run_or_refusal_keeps : {R E : Type 0} (items : R → List (Reply K V)) (old new : Core) (events : List (Event K V))
+      (result : Result R E)
       → IsConsistent keys old → IfOk result (λ replies. RunsTo keys weighs old events (items replies) new) → OnErr result (new ≡ old)
       → IsConsistent keys new
   run_or_refusal_keeps items old new events (Ok replies) good runs refused = run_keeps old new events (items replies) good runs

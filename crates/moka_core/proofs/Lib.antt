@@ -1,11 +1,4 @@
-pub mod ShardsLemmas
-pub mod MapLemmas
-pub mod MapTurnLemmas
-pub mod FindLemmas
-pub mod PendingLemmas
-pub mod RoomLemmas
 pub mod FreshLemmas
-pub mod CopyLemmas
 pub mod StepLemmas
 pub mod TurnLemmas
 pub mod PlaceLemmas

@@ -1,5 +1,6 @@
 -- A maintenance of a core, turn by turn.
-use Rattle.std.proofs.Common.{◌≡◌, ℕ, ◌<◌, ◌≤◌, ◌-◌, ◌==◌, Bool, true, false, if◌then◌else◌, List, [], ◌∷◌, ◌++◌, length, inl, inr, refl, sym, ◌∙◌, ap, subst, arith}
+use Rattle.std.proofs.Common.{◌≡◌, ℕ, ◌<◌, ◌≤◌, ◌-◌, ◌==◌, Bool, true, false, if◌then◌else◌, List}
+use Rattle.std.proofs.Common.{[], ◌∷◌, ◌++◌, length, inl, inr, refl, sym, ◌∙◌, ap, subst, arith}
 use Rattle.std.specs.List.{fold}
 use Rattle.std.specs.Cmp.{IsEquivalence}
 use Rattle.std.proofs.lemmas.Bool.{eqb-true, false≢true}
@@ -28,7 +29,8 @@ use Rattle.moka_engine.specs.WholeCall.{LastTurn, NextTurn}
 use Rattle.moka_engine_laws.proofs.CallLemmas.{consistent_step}
 use Rattle.moka_engine_laws.proofs.EndLemmas.{turn_falls}
 use Rattle.moka_engine_laws.proofs.EventLemmas.{idle_is}
-use Rattle.moka_core.specs.Calls.{AppliesNext, AppliesNextWrite, touched_by}
+use Rattle.moka_map.specs.MapTurn.{touched_by}
+use Rattle.moka_core.specs.Calls.{AppliesNext, AppliesNextWrite}
 use Rattle.moka_maintenance.proofs.TakenLemmas.{upsert_busy, writes_on_busy}
 use Rattle.moka_maintenance.specs.Taken.{TakesRead, TakesWrite, counted, having_applied, reads_left, used_by}
 
@@ -292,7 +294,8 @@ module _ {K V S : Type 0} (keys : Keys K S) (laws : IsEquivalence keys.eq) (weig
       let at = applies.applies.1 in
       let left : length reads ≤ work.left = subst (λ p. length reads ≤ reads_left p) at applies.left in
       subst (Advances old)
-      (ap (λ m. record old { entries = fold touched_by old.entries reads; read_log = applies.rest; maintenance = m }) (sym applies.applies.2)
+      (ap (λ m. record old { entries = fold touched_by old.entries reads; read_log = applies.rest; maintenance = m })
+      (sym applies.applies.2)
       ∙ sym applies.is)
       (reads_advance reads work applies.rest old at applies.log applies.some left)
 

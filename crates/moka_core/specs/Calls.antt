@@ -6,24 +6,17 @@ use Rattle.moka_engine.specs.declared.constants.TheConstants.{CALLER}
 use Rattle.moka_engine.specs.declared.operation.Operation.{Operation}
 use Rattle.moka_engine.specs.declared.operation.Operation.TheVariants.{Reading, Writing}
 use Rattle.moka_engine.specs.declared.operation.Read.{Read}
-use Rattle.moka_engine.specs.declared.operation.Read.TheVariants.{Hit, Miss}
 use Rattle.moka_engine.specs.declared.operation.Write.{Write}
 use Rattle.moka_engine.specs.Place.{Idle}
 use Rattle.moka_engine.specs.CoreState.{CoreState, Maintenance}
-use Rattle.moka_engine.specs.Entry.{Entry, touched}
-use Rattle.moka_engine.specs.Turn.Plan.{Becomes, after_change}
 use Rattle.moka_engine.specs.Consistent.{IsConsistent}
 use Rattle.moka_engine.specs.Run.{Happens}
 use Rattle.moka_engine.specs.Turn.Turn.{after_turn}
 use Rattle.moka_engine.specs.CoreCall.{Decides, has_pending, log_length}
+use Rattle.moka_map.specs.MapTurn.{touched_by}
 use Rattle.moka_core.specs.Machine.{left_pending}
 use Rattle.moka_maintenance.specs.Taken.{AppliesReads, TakesWrite, reads_left}
 use Rattle.moka_engine.specs.WholeCall.{Log, Maintains, MaintainsIfDue, PushesRead, PushesWrite}
-
--- the entries once that of a hit was used
-abbrev pub touched_by : {K V : Type 0} → List (Entry K V) → Read → List (Entry K V)
-touched_by entries (Hit t moment) = after_change t (Becomes (touched moment)) entries
-touched_by entries (Miss hash) = entries
 
 -- these reads have been taken from the front of their log and applied together, no more than are left of the round; no memory is asked for
 pub record AppliesTogether {K V S : Type 0} (reads : List Read) (old new : CoreState K V S) : Type 0 where

@@ -1,9 +1,5 @@
+pub use Rattle.moka_map.specs.Pending
 pub mod Core
-pub mod Pending
 -- inside
 pub mod Machine
 pub mod Calls
-pub mod MapState
-pub mod Shards
-pub mod PendingPlace
-pub mod MapTurn

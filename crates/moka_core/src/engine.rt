@@ -11,7 +11,6 @@ ghost use Rattle.moka_engine.specs.Run.{RunsTo};
 mod steps;
 
 use crate::machine::Machine;
-use crate::rows::Rows;
 use moka_base::error::{BuildError, OutOfMemory};
 use moka_base::hash::FixedState;
 use moka_base::policy::Policy;
@@ -21,6 +20,7 @@ use moka_base::weigh::UnitWeight;
 use moka_engine::call::Call;
 use moka_engine::event::{Event, Reply};
 use moka_engine::weigh::WeighShared;
+use moka_map::rows::Rows;
 use std::alloc::{Allocator, Global};
 use std::hash::{BuildHasher, Hash};
 use std::marker::Model;

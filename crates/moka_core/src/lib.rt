@@ -4,6 +4,5 @@
 pub mod engine;
 pub mod housekeeper;
 mod machine;
-mod map;
-pub mod pending;
-pub mod rows;
+
+pub use moka_map::{pending, rows};

@@ -2,7 +2,7 @@
 ghost use Rattle.std.specs.Prelude.{◌≡◌, ◌<◌, ◌↔◌, Bool, [], replicate, IsTrue, slice_index, IfErr, IfOk, OnErr};
 ghost use Rattle.moka_base.specs.Keys.{keys_by};
 ghost use Rattle.moka_core.specs.Machine.{FindsFor, InsertsFor, IsUntouched, KeepsAllButMap, KeepsRoom, RefusesFor, RefusesInsertFor, TakesFor, refusal_reply};
-ghost use Rattle.moka_core.specs.Pending.{HasRoomFor};
+ghost use Rattle.moka_map.specs.Pending.{HasRoomFor};
 ghost use Rattle.moka_engine.specs.CoreCall.{IsAtRest};
 ghost use Rattle.moka_engine.specs.CoreState.{IsNew, new_core, new_maintenance};
 ghost use Rattle.moka_engine.specs.Run.{Happens, RunsTo};
@@ -12,9 +12,6 @@ mod calls;
 mod steps;
 
 use crate::engine::CoreParts;
-use crate::map::Map;
-use crate::pending::PendingOperations;
-use crate::rows::Rows;
 use moka_base::error::{BuildError, InsertError, OutOfMemory};
 use moka_base::hash::FixedState;
 use moka_base::policy::Policy;
@@ -29,6 +26,9 @@ use moka_engine::settings::Settings;
 use moka_engine::weigh::WeighShared;
 use moka_maintenance::logs::{LoggedRead, ReadLog, WriteLog};
 use moka_maintenance::maintenance::{Maintenance, Need};
+use moka_map::map::Map;
+use moka_map::pending::PendingOperations;
+use moka_map::rows::Rows;
 use std::alloc::{Allocator, Global};
 use std::hash::{BuildHasher, Hash};
 use std::marker::Model;

@@ -13,11 +13,14 @@ use Rattle.moka_deque.specs.Chained.{IsChained, IsThreaded, before_rest, capacit
 use Rattle.moka_deque.specs.Deque.{moved_to_back}
 use Rattle.moka_deque.specs.Links.{IsPlace, Lengthened, LinkedBack, Unlinked, links_at, next_at, prev_at}
 use Rattle.moka_deque.specs.Nodes.{AreApart, follower, preceder}
-use Rattle.moka_deque.proofs.DequeLemmas.{AreApart-push, AreApart-remove, AreApart-set, absent-remove, absent-set, absent_head, absent_tail, differs}
-use Rattle.moka_deque.proofs.DequeLemmas.{found_cons, found_same, length-remove, lookup-other, lookup-push, lookup-remove_other, lookup-remove_same}
+use Rattle.moka_deque.proofs.DequeLemmas.{AreApart-push, AreApart-remove, AreApart-set, absent-remove}
+use Rattle.moka_deque.proofs.DequeLemmas.{absent-set, absent_head, absent_tail, differs}
+use Rattle.moka_deque.proofs.DequeLemmas.{found_cons, found_same, length-remove, lookup-other}
+use Rattle.moka_deque.proofs.DequeLemmas.{lookup-push, lookup-remove_other, lookup-remove_same}
 use Rattle.moka_deque.proofs.DequeLemmas.{lookup-same, lookup-set, nat_eq-same, ne_comm}
 use Rattle.moka_deque.proofs.IdLemmas.{moved-found}
-use Rattle.moka_deque.proofs.NodesLemmas.{follower-push, follower-remove, follower-set, follower_absent, follower_behind, follower_place, last_place}
+use Rattle.moka_deque.proofs.NodesLemmas.{follower-push, follower-remove, follower-set, follower_absent}
+use Rattle.moka_deque.proofs.NodesLemmas.{follower_behind, follower_place, last_place}
 use Rattle.moka_deque.proofs.NodesLemmas.{preceder-push, preceder-remove, preceder-set, preceder_absent, preceder_place}
 
 module _ {T : Type 0} (element : ℕ → Option T) (following preceding : ℕ → ℕ) (es : List (ℕ × T))
@@ -276,7 +279,8 @@ chained-moved slots links mid links_new es id x h at out mid_len back new_len =
 
 -- the same by what each of the two changes asks for
 pub chained-found : {T A : Type 0} (slots : Slab T) (links mid links_new : LinkTable A) (es : List (ℕ × T)) (id : ℕ)
-    → IsChained slots links es → IsSome (lookup (nat_eq id) es) → (IsPlace links (prev_at links id) → IsPlace links (next_at links id) → Unlinked links mid id)
+    → IsChained slots links es → IsSome (lookup (nat_eq id) es)
+    → (IsPlace links (prev_at links id) → IsPlace links (next_at links id) → Unlinked links mid id)
     → length mid.links.items ≡ length links.links.items → (IsPlace mid mid.last → LinkedBack mid links_new id)
     → length links_new.links.items ≡ length mid.links.items → IsChained slots links_new (moved_to_back id es)
 chained-found slots links mid links_new es id h found out mid_len back new_len = by (lookup (nat_eq id) es) refl found
@@ -386,7 +390,8 @@ module _ {T A : Type 0} {slots slots_new : Slab T} {links links_new : LinkTable 
   pub shows-grown : slots_new ≡ record slots { capacity = slots_new.capacity } → slots.capacity ≤ slots_new.capacity
       → Lengthened links links_new → Shows slots_new links_new (items_of slots links)
   shows-grown kept wider step =
-      shows slots_new links_new (items_of slots links) (chained-grown slots slots_new links links_new (items_of slots links) h kept wider step)
+      shows slots_new links_new (items_of slots links) (chained-grown slots slots_new links links_new
+      (items_of slots links) h kept wider step)
 
   -- a node was taken out
   pub shows-unlinked : (id : ℕ) (x : T) → get slots id ≡ Some x → Updates slots slots_new id None → slab_len slots_new + 1 ≡ slab_len slots
@@ -402,7 +407,8 @@ module _ {T A : Type 0} {slots slots_new : Slab T} {links links_new : LinkTable 
       (chained-unlinked slots slots_new links links_new items id x h at u len capacity step links_len)
 
   -- a node was put at the back, in room that was there
-  pub shows-pushed : (id : ℕ) (x : T) → 0 < capacity_of slots links - slab_len slots → get slots id ≡ None → Updates slots slots_new id (Some x)
+  pub shows-pushed : (id : ℕ) (x : T) → 0 < capacity_of slots links - slab_len slots → get slots id ≡ None
+      → Updates slots slots_new id (Some x)
       → slab_len slots_new ≡ slab_len slots + 1 → id < slots_new.capacity → slots_new.capacity ≡ slots.capacity
       → (IsPlace links links.last → LinkedBack links links_new id) → length links_new.links.items ≡ length links.links.items
       → Shows slots_new links_new (items_of slots links ++ (id, x) ∷ [])

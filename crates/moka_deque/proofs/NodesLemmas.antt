@@ -1,6 +1,8 @@
 -- Lemmas on how a list is laid out.
-use Rattle.std.proofs.Common.{◌≡◌, ◌⊎◌, ℕ, zero, suc, ◌+◌, ◌-◌, ◌<◌, ◌≤◌, Bool, true, false, cond, nat_eq, eq-eqb, List, [], ◌∷◌, ◌++◌, length, Option}
-use Rattle.std.proofs.Common.{Some, None, is_some, IsSome, slice_get, slice_index_or, refl, sym, ap, subst, ◌∙◌, inl, inr, arith, length-append}
+use Rattle.std.proofs.Common.{◌≡◌, ◌⊎◌, ℕ, zero, suc, ◌+◌, ◌-◌, ◌<◌, ◌≤◌, Bool, true, false}
+use Rattle.std.proofs.Common.{cond, nat_eq, eq-eqb, List, [], ◌∷◌, ◌++◌, length, Option}
+use Rattle.std.proofs.Common.{Some, None, is_some, IsSome, slice_get, slice_index_or}
+use Rattle.std.proofs.Common.{refl, sym, ap, subst, ◌∙◌, inl, inr, arith, length-append}
 use Rattle.std.proofs.lemmas.Bool.{cases_Bool, cond_both, cond-true, cond-false, eqb-true, false≢true}
 use Rattle.std.specs.Option.{option_map}
 use Rattle.std.specs.Map.{lookup, remove_entry, set_value, values_of}
@@ -12,7 +14,8 @@ use Rattle.moka_deque.specs.declared.deque.nodes.TheConstants.{NONE}
 use Rattle.moka_deque.specs.declared.deque.nodes.Node.{Node}
 use Rattle.moka_deque.specs.declared.deque.nodes.Nodes.{Nodes}
 use Rattle.moka_deque.specs.Deque.{first_id, next_id}
-use Rattle.moka_deque.specs.Nodes.{AreApart, follower, preceder, link_of, next_at, prev_at, element_at, IsPlace, IsListed, StandsApart, FacesEnd}
+use Rattle.moka_deque.specs.Nodes.{AreApart, follower, preceder, link_of, next_at, prev_at}
+use Rattle.moka_deque.specs.Nodes.{element_at, IsPlace, IsListed, StandsApart, FacesEnd}
 use Rattle.moka_deque.specs.NodesChanges.{KeepsElements, RelinksNext, RelinksPrev, Joins, Pushes, Unlinks}
 use Rattle.moka_deque.specs.Linked.{with_node, with_element, walk, before_rest, items_of, EndsWith}
 use Rattle.moka_deque.specs.Linked.{Linked, Pushes as ListPushes, Unlinks as ListUnlinks}
@@ -726,7 +729,12 @@ module _ {T A : Type 0} where
     items = items_of-listed new _ (push.listed (items_of old) was);
     new_id = sym (was.elements id) ∙ push.new_id;
     room = omega (arith, push.len, push.capacity, (push.listed (items_of old) was).fits);
-    below = omega (arith, push.below, (IsListed-items_of new _ (push.listed (items_of old) was)).len, (push.listed (items_of old) was).fits);
+    below = omega (
+      arith,
+      push.below,
+      (IsListed-items_of new _ (push.listed (items_of old) was)).len,
+      (push.listed (items_of old) was).fits,
+    );
   }
 
   -- and has lost one, once they have

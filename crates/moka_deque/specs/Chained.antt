@@ -23,7 +23,7 @@ module _ {T A : Type 0} (slots : Slab T) (links : LinkTable A) where
   abbrev pub items_of : List (ℕ × T)
   items_of = walk (slab_len slots) links.first
 
-  -- how many fit: none more, unless there are links for all that there is room for
+  -- how many fit: as many as the slab holds, where all of these have links, and else none
   abbrev pub capacity_of : ℕ
   capacity_of = if nat_le slots.capacity (length links.links.items) then slots.capacity else 0
 

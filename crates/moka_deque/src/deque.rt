@@ -1,9 +1,11 @@
 //! Lists whose nodes are named by small ids, with a cursor that steps through them. They stand on a slab.
-ghost use Rattle.std.specs.Prelude.{◌≡◌, ℕ, ◌+◌, ◌-◌, ◌<◌, ◌≤◌, ◌==◌, [], ◌∷◌, ◌++◌, ◌↔◌, nat_eq, length, slice_get, IsTrue, IsOk, IfOk, OnOk, IfErr, OnErr, IfSome, OnSome, IsNone, None, Some, option_copied};
+ghost use Rattle.std.specs.Prelude.{◌≡◌, ℕ, ◌+◌, ◌-◌, ◌<◌, ◌≤◌, ◌==◌, [], ◌∷◌, ◌++◌, ◌↔◌, nat_eq, length, slice_get, IsTrue};
+ghost use Rattle.std.specs.Prelude.{IsOk, IfOk, OnOk, IfErr, OnErr, IfSome, IsNone, None, Some, option_copied};
 ghost use Rattle.std.specs.Borrow.{sem};
 ghost use Rattle.std.specs.List.{IsDistinct};
 ghost use Rattle.std.specs.Map.{lookup, keys_of, values_of};
-ghost use Rattle.moka_deque.specs.Deque.{number_of, IsIn, CursorIsIn, first_id, next_id, lent_by_step, stepped, after_unlink, after_pop_front, after_move_to_back, after_move_front_to_back};
+ghost use Rattle.moka_deque.specs.Deque.{number_of, IsIn, CursorIsIn, first_id, next_id, lent_by_step, stepped};
+ghost use Rattle.moka_deque.specs.Deque.{after_unlink, after_pop_front, after_move_to_back, after_move_front_to_back};
 
 mod cursor;
 mod iter;

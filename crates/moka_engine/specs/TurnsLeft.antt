@@ -2,7 +2,7 @@
 use Rattle.std.specs.Prelude.{ℕ, ◌+◌, ◌-◌, ◌*◌, length}
 use Rattle.moka_engine.specs.declared.constants.TheConstants.{MAX_ROUNDS, SYNC_BATCH_SIZE}
 use Rattle.moka_engine.specs.Place as place
-use Rattle.moka_engine.specs.Place.{Place, Work, held}
+use Rattle.moka_engine.specs.Place.{Place, held}
 use Rattle.moka_engine.specs.CoreState.{CoreState}
 
 -- the turns of the passes, by how many are used

@@ -14,7 +14,8 @@ use Rattle.moka_engine.specs.Run.{Happens}
 use Rattle.moka_engine.specs.WholeCall.{CallsIter, with_pairs}
 use Rattle.moka_engine.specs.declared.call.Call.{Call}
 use Rattle.moka_engine.specs.CoreCall.{numbers_from, Decides, has_pending, IsCall, Replays}
-use Rattle.moka_engine_laws.specs.CallLaws.{CallsRest, IterationsCopy, CallsReturn, SyncsEmpty, ListsRest, ReplaysOneMore, ReplaysRest, RunsAreHappenings}
+use Rattle.moka_engine_laws.specs.CallLaws.{CallsRest, IterationsCopy, CallsReturn, SyncsEmpty}
+use Rattle.moka_engine_laws.specs.CallLaws.{ListsRest, ReplaysOneMore, ReplaysRest, RunsAreHappenings}
 use Rattle.moka_engine_laws.proofs.ConsistentLemmas.{stays_consistent}
 use Rattle.moka_engine_laws.proofs.StepForms.{by_Bool}
 use Rattle.moka_engine_laws.proofs.CallLemmas.{Rests, call_rests, maintained, maintained_evicts}

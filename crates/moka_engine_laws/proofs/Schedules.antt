@@ -9,7 +9,8 @@ use lib.Count.{count_leading_zeros}
 use Rattle.moka_base.specs.Keys.{Keys}
 use Rattle.moka_engine.specs.declared.call.Call.{Call}
 use Rattle.moka_engine.specs.declared.call.Call.TheVariants as call
-use Rattle.moka_engine.specs.declared.constants.TheConstants.{CALLER, FLUSH_POINT, MAX_OUTSTANDING, NO_TICKET, READ_LOG_SIZE, WRITE_LOG_SIZE}
+use Rattle.moka_engine.specs.declared.constants.TheConstants.{CALLER, FLUSH_POINT, MAX_OUTSTANDING}
+use Rattle.moka_engine.specs.declared.constants.TheConstants.{NO_TICKET, READ_LOG_SIZE, WRITE_LOG_SIZE}
 use Rattle.moka_engine.specs.declared.constants.TheConstants.{SHARDS}
 use Rattle.moka_engine.specs.declared.event.Event.{Event}
 use Rattle.moka_engine.specs.declared.event.Event.TheVariants.{Insert, Get, Contains, Invalidate, InvalidateAll, Push, Forget, Copy}
@@ -484,7 +485,11 @@ greatest_moment = refl
 -- a maintenance where one is due
 abbrev maintained : ℕ → ℕ → Core → Core
 maintained len now core =
-    elim (is_due len FLUSH_POINT core.sync_after now) [ true ↦ until_idle MANY (step (scheduled true now core) (Begin now) 0).1 | false ↦ core ]
+    elim (is_due len FLUSH_POINT core.sync_after now) [
+      | true ↦ until_idle MANY
+          (step (scheduled true now core) (Begin now) 0).1
+      | false ↦ core
+    ]
 
 abbrev called : Call ℕ ℕ → Core → End
 called (call.Insert key value now) core =

@@ -1,12 +1,15 @@
 //! The laws of the cache that threads share, one a function. A law is its function's clause: there is no code to call.
 ghost use Rattle.moka_base.specs.Keys.{keys_by};
 ghost use Rattle.std.specs.Prelude.{◌≡◌};
-ghost use Rattle.moka_engine.specs.declared.constants.TheConstants.{FLUSH_POINT, MAX_ABSENT, MAX_OUTSTANDING, MAX_ROUNDS, NO_TICKET, READ_LOG_SIZE, SHARDS, SYNC_BATCH_SIZE, SYNC_INTERVAL, WRITE_LOG_SIZE};
+ghost use Rattle.moka_engine.specs.declared.constants.TheConstants.{FLUSH_POINT, MAX_ABSENT, MAX_OUTSTANDING, MAX_ROUNDS, NO_TICKET};
+ghost use Rattle.moka_engine.specs.declared.constants.TheConstants.{READ_LOG_SIZE, SHARDS, SYNC_BATCH_SIZE, SYNC_INTERVAL, WRITE_LOG_SIZE};
 ghost use Rattle.moka_engine_laws.specs.MaintenanceLaws.{AdmitsUndisturbed, ComesToRest, DropsCandidates, DropsUpserts, PublishesTrimmed};
-ghost use Rattle.moka_engine_laws.specs.Laws.{GetsLastWritten, GetsLiveValue, IsPairedAtRest, KeepsConsistent, KeepsLastWritten, LeavesForCause, StandsOnceInserted, StandsUntilCause, StaysConsistent, StaysCounted};
+ghost use Rattle.moka_engine_laws.specs.Laws.{GetsLastWritten, GetsLiveValue, IsPairedAtRest, KeepsConsistent, KeepsLastWritten};
+ghost use Rattle.moka_engine_laws.specs.Laws.{LeavesForCause, StandsOnceInserted, StandsUntilCause, StaysConsistent, StaysCounted};
 ghost use Rattle.moka_engine_laws.specs.PlainMap.{IsPlainMap};
 ghost use Rattle.moka_engine_laws.specs.Weights.{AcceptsWeighed, KeepsWeighed, RunsKeepWeighed};
-ghost use Rattle.moka_engine_laws.specs.CallLaws.{CallsGetLive, CallsKeepLastWritten, CallsRest, CallsReturn, IterationsCopy, ListsRest, ReplaysOneMore, ReplaysRest, RunsAreHappenings, SyncsEmpty};
+ghost use Rattle.moka_engine_laws.specs.CallLaws.{CallsGetLive, CallsKeepLastWritten, CallsRest, CallsReturn, IterationsCopy};
+ghost use Rattle.moka_engine_laws.specs.CallLaws.{ListsRest, ReplaysOneMore, ReplaysRest, RunsAreHappenings, SyncsEmpty};
 
 use moka_engine::weigh::WeighShared;
 use std::hash::{BuildHasher, Hash};

@@ -155,8 +155,8 @@ pub fn call_on<K: Eq + Hash + Drop, V: Drop, S: BuildHasher + Drop>(
     core.call(call)
 }
 
-/// Runs a maintenance on a core. Then both logs are empty, and the charged weight is within the limit, or as many entries were evicted as a maintenance evicts at
-/// most.
+/// Runs a maintenance on a core. Then both logs are empty, and the charged weight is within the limit, or as many entries were evicted
+/// as a maintenance evicts at most.
 pub fn settle<K: Eq + Hash + Drop, V: Drop, S: BuildHasher + Drop, W: WeighShared<K, V>>(
     core: &mut Core<K, V, S, W>,
     now: Instant,

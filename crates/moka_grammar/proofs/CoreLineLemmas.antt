@@ -17,7 +17,8 @@ use Rattle.moka_grammar.specs.ReadingCoreLines.{caller_and_key_of, insert_of, ba
 use Rattle.moka_grammar.proofs.CutLemmas.{bind_some}
 use Rattle.moka_grammar.proofs.LineLemmas.{IsReading}
 use Rattle.moka_grammar.proofs.NumberLemmas.{number_of-decimal, number_of-found}
-use Rattle.moka_grammar.proofs.ArgumentLemmas.{chosen, number_below-found, number_below-decimal, text_of-found, text_of-text, u64_of-found, u32_of-found}
+use Rattle.moka_grammar.proofs.ArgumentLemmas.{chosen, number_below-found, number_below-decimal}
+use Rattle.moka_grammar.proofs.ArgumentLemmas.{text_of-found, text_of-text, u64_of-found, u32_of-found}
 use Rattle.moka_grammar.proofs.CallLemmas.{IsSpelled, named, given, alone}
 use Rattle.moka_grammar.proofs.WeightLemmas.{weight_of-found, weight_of-again, weight_words_are}
 use Rattle.moka_grammar.proofs.WordLemmas.{IsWord, IsWord-decimal, IsWord-text, IsWord-name}

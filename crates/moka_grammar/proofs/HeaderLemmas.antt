@@ -88,7 +88,8 @@ header_from_words-found (name ∷ arguments) header e =
             (core-found arguments header core.1)
         | inr other ↦
             let (mode, mode_is, rest) = bind_some (mode_of name) (λ mode. cache_header_of mode arguments) header other.1 in
-            named name (mode_word mode) arguments header (mode_of-found name mode mode_is) (cache_header_of-found mode arguments header rest)
+            named name (mode_word mode) arguments header (mode_of-found name mode mode_is)
+            (cache_header_of-found mode arguments header rest)
       ]
     ]
 

@@ -9,7 +9,8 @@ use Rattle.moka_grammar.specs.declared.line.CacheHeader.{CacheHeader}
 use Rattle.moka_grammar.specs.declared.line.CacheOptions.{CacheOptions}
 use Rattle.moka_grammar.specs.declared.line.Line.{Line}
 use Rattle.moka_grammar.specs.declared.line.Request.{Request}
-use Rattle.moka_grammar.specs.declared.line.Request.TheVariants.{Insert, Get, ContainsKey, Invalidate, InvalidateAll, InvalidateIf, Sync, Iter, EntryCount, WeightedSize, Policy}
+use Rattle.moka_grammar.specs.declared.line.Request.TheVariants.{Insert, Get, ContainsKey, Invalidate, InvalidateAll}
+use Rattle.moka_grammar.specs.declared.line.Request.TheVariants.{InvalidateIf, Sync, Iter, EntryCount, WeightedSize, Policy}
 use Rattle.moka_grammar.specs.Lines.{allows, request_words, line_words, RequestFits, LineFits}
 use Rattle.moka_grammar.specs.Reading.{◌>>=◌, number_of, text_of, no_argument, u64_of}
 use Rattle.moka_grammar.specs.ReadingLines.{weight_of, insert_of, invalidate_if_of, bare_of, request_of, line_from_words}
@@ -81,7 +82,8 @@ module _ (options : CacheOptions) where
             | inr not_iter ↦ elim (chosen (bytes_eq call (codes "count")) _ _ _ not_iter.1) [
               | inl count ↦ alone request_words (RequestFits options.weighed) call (codes "count") EntryCount r refl tt count.0 count.1
               | inr not_count ↦ elim (chosen (bytes_eq call (codes "weight")) _ _ _ not_count.1) [
-                | inl weight ↦ alone request_words (RequestFits options.weighed) call (codes "weight") WeightedSize r refl tt weight.0 weight.1
+                | inl weight ↦ alone request_words (RequestFits options.weighed) call (codes "weight") WeightedSize r refl tt
+                    weight.0 weight.1
                 | inr not_weight ↦ elim (chosen (bytes_eq call (codes "policy")) _ _ _ not_weight.1) [
                   | inl policy ↦ alone request_words (RequestFits options.weighed) call (codes "policy") Policy r refl tt policy.0 policy.1
                   | inr not_policy ↦ absurd (let none = not_policy.1 in cc)
@@ -98,7 +100,8 @@ module _ (options : CacheOptions) where
   unfolding request_of
   request_of-found call arguments r e =
       elim (chosen (bytes_eq call (codes "insert")) _ _ _ e) [
-        | inl insert ↦ named request_words (RequestFits options.weighed) call (codes "insert") arguments r insert.0 (insert_of-found arguments r insert.1)
+        | inl insert ↦ named request_words (RequestFits options.weighed) call (codes "insert") arguments r insert.0
+            (insert_of-found arguments r insert.1)
         | inr not_insert ↦ elim (chosen (bytes_eq call (codes "get")) _ _ _ not_insert.1) [
           | inl get ↦ keyed call (codes "get") arguments (λ k. Get k) r (λ k. refl) (λ k h. h) get.0 get.1
           | inr not_get ↦ elim (chosen (bytes_eq call (codes "has")) _ _ _ not_get.1) [
@@ -107,7 +110,8 @@ module _ (options : CacheOptions) where
               | inl invalidate ↦ keyed call (codes "invalidate") arguments (λ k. Invalidate k) r (λ k. refl)
                   (λ k h. h) invalidate.0 invalidate.1
               | inr not_invalidate ↦ elim (chosen (bytes_eq call (codes "drop-if")) _ _ _ not_invalidate.1) [
-                | inl drop_if ↦ named request_words (RequestFits options.weighed) call (codes "drop-if") arguments r drop_if.0 (invalidate_if_of-found arguments r drop_if.1)
+                | inl drop_if ↦ named request_words (RequestFits options.weighed) call (codes "drop-if") arguments r drop_if.0
+                    (invalidate_if_of-found arguments r drop_if.1)
                 | inr not_drop_if ↦ bare_of-found call arguments r not_drop_if.1
               ]
             ]

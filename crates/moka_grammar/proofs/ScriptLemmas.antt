@@ -6,7 +6,8 @@ use Rattle.moka_grammar.specs.Spelling.{line_of}
 use Rattle.moka_grammar.specs.Lines.{line_words, LineFits}
 use Rattle.moka_grammar.specs.CoreLines.{core_words, CoreFits}
 use Rattle.moka_grammar.specs.SketchLines.{sketch_words, SketchFits}
-use Rattle.moka_grammar.specs.Grammar.{header_words, HeaderFits, AreLines, Script, CacheScript, CoreScript, SketchScript, header_of, IsBody, IsScript, IsBadBehind, IsBadAt}
+use Rattle.moka_grammar.specs.Grammar.{header_words, HeaderFits, AreLines, Script, CacheScript, CoreScript}
+use Rattle.moka_grammar.specs.Grammar.{SketchScript, header_of, IsBody, IsScript, IsBadBehind, IsBadAt}
 use Rattle.moka_grammar.specs.Reading.{line_at}
 use Rattle.moka_grammar.specs.ReadingLines.{header_from_words, line_from_words, sketch_from_words}
 use Rattle.moka_grammar.specs.ReadingCoreLines.{core_from_words}
@@ -50,7 +51,8 @@ script_not_bad bytes script number is (inr line) =
 -- behind a header one line is the first bad one
 one_behind : (header : Header) (body : List ℕ) (m n : ℕ) → IsBadBehind header body m → IsBadBehind header body n → m ≡ n
 one_behind (Cache header) body m n a b = same_count line_words (LineFits header) (line_from_words header) (reads_line header) body m n a b
-one_behind (Core options) body m n a b = same_count core_words (CoreFits options) (core_from_words options) (reads_core options) body m n a b
+one_behind (Core options) body m n a b =
+    same_count core_words (CoreFits options) (core_from_words options) (reads_core options) body m n a b
 one_behind (Sketch cap) body m n a b = same_count sketch_words SketchFits sketch_from_words reads_sketch body m n a b
 
 -- one line is the first bad one

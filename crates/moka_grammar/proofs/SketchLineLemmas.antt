@@ -14,7 +14,8 @@ use Rattle.moka_grammar.specs.ReadingLines.{inc_of, index_at_of, sketch_from_wor
 use Rattle.moka_grammar.proofs.CutLemmas.{bind_some}
 use Rattle.moka_grammar.proofs.LineLemmas.{IsReading}
 use Rattle.moka_grammar.proofs.NumberLemmas.{number_of-decimal, number_of-found}
-use Rattle.moka_grammar.proofs.ArgumentLemmas.{chosen, number_below-found, number_below-decimal, no_argument-found, u64_of-found, u32_of-found}
+use Rattle.moka_grammar.proofs.ArgumentLemmas.{chosen, number_below-found, number_below-decimal}
+use Rattle.moka_grammar.proofs.ArgumentLemmas.{no_argument-found, u64_of-found, u32_of-found}
 use Rattle.moka_grammar.proofs.WordLemmas.{IsWord, IsWord-decimal, IsWord-name}
 
 -- the words are those of the line, which fits

@@ -7,7 +7,8 @@ use Rattle.moka_grammar.specs.declared.line.Mode.{Mode}
 use Rattle.moka_grammar.specs.declared.line.Mode.TheVariants as mode
 use Rattle.moka_grammar.specs.declared.line.Line.{Line}
 use Rattle.moka_grammar.specs.declared.line.Request.{Request}
-use Rattle.moka_grammar.specs.declared.line.Request.TheVariants.{Insert, Get, ContainsKey, Invalidate, InvalidateAll, InvalidateIf, Sync, Iter, EntryCount, WeightedSize, Policy}
+use Rattle.moka_grammar.specs.declared.line.Request.TheVariants.{Insert, Get, ContainsKey, Invalidate, InvalidateAll}
+use Rattle.moka_grammar.specs.declared.line.Request.TheVariants.{InvalidateIf, Sync, Iter, EntryCount, WeightedSize, Policy}
 
 -- the word of a weight, where there is one
 abbrev pub weight_words : Option ℕ → List (List ℕ)

@@ -1,5 +1,5 @@
 //! From bytes to a script, or to the number of its first bad line.
-ghost use Rattle.std.specs.Prelude.{◌≡◌, ◌+◌, ◌==◌, ℕ, [], map, option_map, position, IfOk};
+ghost use Rattle.std.specs.Prelude.{◌≡◌, ◌+◌, ◌==◌, ℕ, [], option_map, position, IfOk};
 ghost use Rattle.moka_grammar.specs.Spelling.{line_feed};
 ghost use Rattle.moka_grammar.specs.Grammar.{IsScript, IsBadAt};
 ghost use Rattle.moka_grammar.specs.Parsed.{script_of};

@@ -1,5 +1,7 @@
 -- Lemmas on why an entry leaves with a call.
-use Rattle.std.proofs.Common.{◌≡◌, ◌⊎◌, ◌<◌, ◌≤◌, ◌+◌, ◌-◌, ◌||◌, ℕ, zero, suc, Bool, true, false, cond, not, List, [], ◌∷◌, ◌++◌, map, sum_by, take, take_while, nat_le, nat_lt, Option, Some, None, option_map, refl, sym, ap, ◌∙◌, subst, inl, inr, arith}
+use Rattle.std.proofs.Common.{◌≡◌, ◌⊎◌, ◌<◌, ◌≤◌, ◌+◌, ◌-◌, ◌||◌, ℕ, zero, suc, Bool}
+use Rattle.std.proofs.Common.{true, false, cond, not, List, [], ◌∷◌, ◌++◌, map, sum_by}
+use Rattle.std.proofs.Common.{take, take_while, nat_le, nat_lt, Option, Some, None, option_map, refl, sym, ap, ◌∙◌, subst, inl, inr, arith}
 use Rattle.std.proofs.lemmas.Bool.{cases_Bool, cases_lt, cond-true, cond-false, false≢true, leb-false, ltb-true, or_left, or_right}
 use Rattle.std.proofs.lemmas.List.Sums.{sum_by-cons, take_while-cons}
 use Rattle.std.proofs.Math.Seq.{take-nil}
@@ -21,7 +23,8 @@ use Rattle.moka_machine.specs.Lookup.{after_use, after_look, unexpired_at}
 use Rattle.moka_machine.specs.Upkeep.{is_expired}
 use Rattle.moka_machine.specs.Insert.{after_put, after_verdict, new_entry, victims_of}
 use Rattle.moka_machine.specs.Invalidate.{chosen}
-use Rattle.moka_machine.specs.Step.{Answer, IsStep, Request, Get, ContainsKey, Insert, Invalidate, InvalidateAll, InvalidateEntriesIf, Iterate, EntryCount, WeightedSize}
+use Rattle.moka_machine.specs.Step.{Answer, IsStep, Request, Get, ContainsKey, Insert, Invalidate}
+use Rattle.moka_machine.specs.Step.{InvalidateAll, InvalidateEntriesIf, Iterate, EntryCount, WeightedSize}
 use Rattle.moka_history.specs.Removal.{RemovalCause, Invalidated, Expired, AboveLimit, GaveWay, entries_from, upkeep_moment}
 use Rattle.moka_history.proofs.HistoryLemmas.{any-key, entry_at-leaving, one_of, something}
 use Rattle.moka_machine.proofs.ContentsLemmas.{found_key}
@@ -320,7 +323,8 @@ module _ {K V S : Type 0} (keys : Keys K S) (laws : IsEquivalence keys.eq) (key 
       laws.symm other key ∙ (laws.congr key e.key other (found_key keys.eq key e entries found) ∙ laws.symm e.key other)
 
   -- a use lets it stand
-  pub use-stands : {P : Type 0} (now : ℕ) (o : Option (Entry K V)) (contents : Contents K V) → entry_at keys.eq key contents.entries ≡ Some e
+  pub use-stands : {P : Type 0} (now : ℕ) (o : Option (Entry K V)) (contents : Contents K V)
+      → entry_at keys.eq key contents.entries ≡ Some e
       → entry_at keys.eq key (after_use keys.eq now o contents).entries ≡ None → P
   use-stands now None contents stands none = something none stands
   use-stands now (Some used) contents stands none =
@@ -408,7 +412,8 @@ module _ {K V S W : Type 0} (keys : Keys K S) (laws : IsEquivalence keys.eq) (ke
     step-cause old new (Insert other value now) answer (inl (done, inserted)) tied found none =
         let kept = (after_look keys old now).contents in
         upkept old new (Insert other value now) now refl tied found
-        (λ stands. put-cause old new (record old { weigher = inserted.weigher; capacity = inserted.capacity; contents = kept }) other value now
+        (λ stands. put-cause old new (record old { weigher = inserted.weigher; capacity = inserted.capacity; contents = kept })
+        other value now
         (entry_at keys.eq other kept.entries)
         (new_entry keys old.settings.hash_state other value inserted.weight now) inserted.refused inserted.step refl refl
         (total-upkeep keys.eq old.settings.policy now old.contents) refl refl stands none)

@@ -13,7 +13,8 @@ use Rattle.moka_history.proofs.HistoryLemmas.{one_of, something}
 module _ {K S : Type 0} (keys : Keys K S) (laws : IsEquivalence keys.eq) (V : Type 0) where
   -- the last write is that of an insert just made
   known-inserted : (past : List (Exchange K V)) (key : K) (value : V) (written : ℕ) (write : LastWrite V)
-      → last_write keys key (inserted key value written ∷ past) ≡ Some write → record { value = value; written = written; used = written } ≡ write
+      → last_write keys key (inserted key value written ∷ past) ≡ Some write
+      → record { value = value; written = written; used = written } ≡ write
   known-inserted past key value written write known =
       let new : LastWrite V = record { value = value; written = written; used = written } in
       one_of (cond-true (keys.eq key key) (Some new) (last_write keys key past) (laws.refl key)) known

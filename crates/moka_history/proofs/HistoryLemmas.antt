@@ -1,5 +1,6 @@
 -- Lemmas on what the calls of a cache tell of its entries.
-use Rattle.std.proofs.Common.{◌≡◌, ◌⊎◌, ◌-◌, ℕ, Bool, true, false, cond, not, ◌||◌, List, [], ◌∷◌, ◌++◌, filter, is_some, map, reverse, take, take_while, Option, Some, None, option_map, unwrap_or, refl, sym, ap, ◌∙◌, subst, inl, inr}
+use Rattle.std.proofs.Common.{◌≡◌, ◌⊎◌, ◌-◌, ℕ, Bool, true, false, cond, not, ◌||◌, List, [], ◌∷◌, ◌++◌, filter, is_some, map, reverse}
+use Rattle.std.proofs.Common.{take, take_while, Option, Some, None, option_map, unwrap_or, refl, sym, ap, ◌∙◌, subst, inl, inr}
 use Rattle.std.proofs.lemmas.Bool.{cases_Bool, cond-true, cond-false, false≢true}
 use Rattle.std.proofs.lemmas.List.{map-append, reverse-append}
 use Rattle.std.proofs.lemmas.List.Elements.{All-cons, All-from_recursion}
@@ -19,13 +20,17 @@ use Rattle.moka_machine.specs.Upkeep.{is_expired, unexpired}
 use Rattle.moka_machine.specs.Insert.{after_put, after_verdict, new_entry, victims_of}
 use Rattle.moka_machine.specs.Invalidate.{chosen}
 use Rattle.moka_machine.specs.Iterate.{unexpired_pairs}
-use Rattle.moka_machine.specs.Step.{Answer, IsStep, Request, Get, ContainsKey, Insert, Invalidate, InvalidateAll, InvalidateEntriesIf, Iterate, EntryCount, WeightedSize, Done, Found, Pairs, Truth}
-use Rattle.moka_history.specs.History.{ContainsAsGet, Exchange, Transition, chosen_keys, exchanges, HitsAreCurrent, IsCurrent, IsLastInsert, LastWrite, LastWritesAreInserts, Leads, PairsAreCurrent, RunsHaveAHistory, is_invalidated, is_over, is_written, known_after, last_write, used_at}
+use Rattle.moka_machine.specs.Step.{Answer, IsStep, Request, Get, ContainsKey, Insert, Invalidate, InvalidateAll}
+use Rattle.moka_machine.specs.Step.{InvalidateEntriesIf, Iterate, EntryCount, WeightedSize, Done, Found, Pairs, Truth}
+use Rattle.moka_history.specs.History.{ContainsAsGet, Exchange, Transition, chosen_keys, exchanges, HitsAreCurrent, IsCurrent}
+use Rattle.moka_history.specs.History.{IsLastInsert, LastWrite, LastWritesAreInserts, Leads, PairsAreCurrent, RunsHaveAHistory}
+use Rattle.moka_history.specs.History.{is_invalidated, is_over, is_written, known_after, last_write, used_at}
 use Rattle.moka_history.specs.Removal.{last_write_of}
 use Rattle.moka_machine.proofs.ContentsLemmas.{found_key}
 use Rattle.moka_laws.proofs.KeyLemmas.{entry_at-gone, StandOnce, none_stand, once-step}
 use Rattle.moka_laws.proofs.LimitLemmas.{found_there}
-use Rattle.moka_laws.proofs.MapLemmas.{entry_at-equal, entry_at-other, entry_at-push, entry_at-put, gone_either, settings-step, told_by_value}
+use Rattle.moka_laws.proofs.MapLemmas.{entry_at-equal, entry_at-other, entry_at-push}
+use Rattle.moka_laws.proofs.MapLemmas.{entry_at-put, gone_either, settings-step, told_by_value}
 
 -- a key among those of entries is that of one of them
 pub any-key : {K V : Type 0} (test : K → Bool) (entries : List (Entry K V))
@@ -240,7 +245,8 @@ module _ {K V S W : Type 0} (keys : Keys K S) (laws : IsEquivalence keys.eq) whe
         let kept = (after_look keys old now).contents in
         ap (λ a. known_after keys (Insert other value now) a (chosen_keys (Insert other value now) old.contents.entries) key
         (known key)) done
-        ∙ told-put known (record old { weigher = inserted.weigher; capacity = inserted.capacity; contents = kept }) (entry_at keys.eq other kept.entries)
+        ∙ told-put known (record old { weigher = inserted.weigher; capacity = inserted.capacity; contents = kept })
+        (entry_at keys.eq other kept.entries)
         (new_entry keys old.settings.hash_state other value inserted.weight now) inserted.refused
         (told-upkeep known old now told) refl key e
         (sym (ap (λ c. entry_at keys.eq key c.contents.entries) inserted.step) ∙ h)
@@ -307,14 +313,16 @@ module _ {K V S W : Type 0} (keys : Keys K S) (laws : IsEquivalence keys.eq) whe
           told-upkeep (λ key. last_write keys key (exchanges past)) cache now (told-run settings weigher capacity past cache leads) key used
               (there used refl),
           one_of refl is,
-          subst (λ s. is_over s.policy now (last_write_of used) ≡ false) (settings-run settings weigher capacity past cache leads) (fresh used refl),
+          subst (λ s. is_over s.policy now (last_write_of used) ≡ false) (settings-run settings weigher capacity past cache leads)
+              (fresh used refl),
         )
 
     -- from a new cache no key has two entries
     once-run : (settings : Settings S) (weigher : W) (capacity : ℕ) (past : List (Transition K V S W)) (cache : CacheState K V S W)
         → Leads keys weighs (new_cache settings weigher capacity) past cache
         → StandOnce keys.eq cache.contents.entries
-    once-run settings weigher capacity [] cache leads = subst (λ c. StandOnce keys.eq c.contents.entries) (sym leads) (none_stand keys laws weighs)
+    once-run settings weigher capacity [] cache leads =
+        subst (λ c. StandOnce keys.eq c.contents.entries) (sym leads) (none_stand keys laws weighs)
     once-run settings weigher capacity (call ∷ earlier) cache (is, step, leads) =
         subst (λ c. StandOnce keys.eq c.contents.entries) is
         (once-step keys laws weighs call.before call.after call.request call.answer step
@@ -345,7 +353,8 @@ module _ {K V S W : Type 0} (keys : Keys K S) (laws : IsEquivalence keys.eq) whe
                       last_write_of e,
                       told-run settings weigher capacity past cache leads e.key e own.0,
                       refl,
-                      subst (λ s. is_over s.policy now (last_write_of e) ≡ false) (settings-run settings weigher capacity past cache leads) lives,
+                      subst (λ s. is_over s.policy now (last_write_of e) ≡ false)
+                          (settings-run settings weigher capacity past cache leads) lives,
                     ),
                     by es own.1,
                   )

@@ -1,5 +1,6 @@
 -- Lemmas on why a key is missing.
-use Rattle.std.proofs.Common.{◌≡◌, ◌⊎◌, ◌<◌, ◌+◌, ℕ, Bool, true, false, List, [], ◌∷◌, Option, Some, None, option_map, refl, sym, ap, ◌∙◌, subst, inl, inr, arith}
+use Rattle.std.proofs.Common.{◌≡◌, ◌⊎◌, ◌<◌, ◌+◌, ℕ, Bool, true, false, List, [], ◌∷◌, Option}
+use Rattle.std.proofs.Common.{Some, None, option_map, refl, sym, ap, ◌∙◌, subst, inl, inr, arith}
 use Rattle.std.proofs.lemmas.Bool.{cases_Bool, cond-true, cond-false, false≢true}
 use Rattle.std.specs.Cmp.{IsEquivalence}
 use Rattle.moka_base.specs.Keys.{Keys}
@@ -11,9 +12,11 @@ use Rattle.moka_machine.specs.Lookup.{after_use, after_look, unexpired_at}
 use Rattle.moka_machine.specs.Upkeep.{is_expired, unexpired}
 use Rattle.moka_machine.specs.Insert.{after_put, after_verdict, new_entry, victims_of}
 use Rattle.moka_machine.specs.Invalidate.{chosen}
-use Rattle.moka_machine.specs.Step.{Answer, IsStep, Request, Get, ContainsKey, Insert, Invalidate, InvalidateAll, InvalidateEntriesIf, Iterate, EntryCount, WeightedSize, Found}
+use Rattle.moka_machine.specs.Step.{Answer, IsStep, Request, Get, ContainsKey, Insert, Invalidate, InvalidateAll}
+use Rattle.moka_machine.specs.Step.{InvalidateEntriesIf, Iterate, EntryCount, WeightedSize, Found}
 use Rattle.moka_history.specs.History.{LastWrite, Leads, Transition, chosen_keys, exchanges, is_over, is_written, known_after, last_write}
-use Rattle.moka_history.specs.Removal.{EntriesLeaveForACause, InsertsEnterOrAreRejected, IsMissing, IsRejected, Leaves, MissesHaveAReason, RemovalCause, last_write_of}
+use Rattle.moka_history.specs.Removal.{EntriesLeaveForACause, InsertsEnterOrAreRejected, IsMissing}
+use Rattle.moka_history.specs.Removal.{IsRejected, Leaves, MissesHaveAReason, RemovalCause, last_write_of}
 use Rattle.moka_machine.proofs.ContentsLemmas.{absent-leaving}
 use Rattle.moka_history.proofs.HistoryLemmas.{found-upkeep, found_fresh, one_of, same_found, settings-run, something, told-run, told-upkeep}
 use Rattle.moka_machine.proofs.ContentsLemmas.{found_key}
@@ -93,7 +96,8 @@ module _ {K V S W : Type 0} (keys : Keys K S) (laws : IsEquivalence keys.eq) (we
       (ap (λ c. entry_at keys.eq key c.contents.entries) is ∙ none))
 
   -- a key without an entry is missing for a reason
-  missing-run : (settings : Settings S) (weigher : W) (capacity : ℕ) (past : List (Transition K V S W)) (cache : CacheState K V S W) (key : K)
+  missing-run : (settings : Settings S) (weigher : W) (capacity : ℕ) (past : List (Transition K V S W))
+      (cache : CacheState K V S W) (key : K)
       → Leads keys weighs (new_cache settings weigher capacity) past cache
       → entry_at keys.eq key cache.contents.entries ≡ None → IsMissing keys weighs past key
   missing-run settings weigher capacity [] cache key leads none = tt
@@ -244,7 +248,8 @@ module _ {K V S W : Type 0} (keys : Keys K S) (laws : IsEquivalence keys.eq) (we
   absent-step key old new EntryCount answer step written none = ap (λ c. entry_at keys.eq key c.contents.entries) step.1 ∙ none
   absent-step key old new WeightedSize answer step written none = ap (λ c. entry_at keys.eq key c.contents.entries) step.1 ∙ none
 
-  missing-absent : (settings : Settings S) (weigher : W) (capacity : ℕ) (past : List (Transition K V S W)) (cache : CacheState K V S W) (key : K)
+  missing-absent : (settings : Settings S) (weigher : W) (capacity : ℕ) (past : List (Transition K V S W))
+      (cache : CacheState K V S W) (key : K)
       → Leads keys weighs (new_cache settings weigher capacity) past cache
       → IsMissing keys weighs past key → entry_at keys.eq key cache.contents.entries ≡ None
   missing-absent settings weigher capacity [] cache key leads missing = ap (λ c. entry_at keys.eq key c.contents.entries) leads
@@ -300,8 +305,10 @@ module _ {K V S W : Type 0} (keys : Keys K S) (laws : IsEquivalence keys.eq) (we
           ]
 
   pub misses : MissesHaveAReason keys weighs
-  misses settings weigher capacity past call cache key now leads asked =
-      (missed settings weigher capacity past call cache key now leads asked, nothing_found settings weigher capacity past call cache key now leads asked)
+  misses settings weigher capacity past call cache key now leads asked = (
+    missed settings weigher capacity past call cache key now leads asked,
+    nothing_found settings weigher capacity past call cache key now leads asked,
+  )
 
   -- an accepted insert has its entry then, or was rejected
   pub inserts : InsertsEnterOrAreRejected keys weighs

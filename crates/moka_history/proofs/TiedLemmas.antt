@@ -1,5 +1,6 @@
 -- Lemmas on the order of writing: each write is that of the entry at its key.
-use Rattle.std.proofs.Common.{◌≡◌, ◌-◌, ◌||◌, ℕ, zero, suc, Bool, true, false, cond, not, List, [], ◌∷◌, ◌++◌, filter, map, take, take_while, Option, Some, None, option_map, unwrap_or, refl, sym, ap, ◌∙◌, subst, inl, inr}
+use Rattle.std.proofs.Common.{◌≡◌, ◌-◌, ◌||◌, ℕ, zero, suc, Bool, true, false, cond, not, List, [], ◌∷◌, ◌++◌, filter, map, take}
+use Rattle.std.proofs.Common.{take_while, Option, Some, None, option_map, unwrap_or, refl, sym, ap, ◌∙◌, subst, inl, inr}
 use Rattle.std.proofs.lemmas.Bool.{cases_Bool, cond-true, cond-false, false≢true, not-true}
 use Rattle.std.proofs.lemmas.List.Sums.{take_while-cons}
 use Rattle.std.specs.Cmp.{IsEquivalence}
@@ -8,14 +9,16 @@ use Rattle.moka_base.specs.Keys.{Keys}
 use Rattle.moka_base.specs.Policy.{Policy}
 use Rattle.moka_machine.specs.declared.entry.Entry.{Entry}
 use Rattle.moka_machine.specs.declared.constants.TheConstants.{EVICTION_BATCH_SIZE}
-use Rattle.moka_machine.specs.Contents.{Contents, Write, after_leaving, entry_at, entries_without, entry_keys, total_weight, without, writes_without}
+use Rattle.moka_machine.specs.Contents.{Contents, Write, after_leaving, entry_at, entries_without}
+use Rattle.moka_machine.specs.Contents.{entry_keys, total_weight, without, writes_without}
 use Rattle.moka_machine.specs.CacheState.{CacheState, new_cache}
 use Rattle.moka_base.specs.Settings.{Settings, keeps_writes}
 use Rattle.moka_machine.specs.Upkeep.{after_expiry, after_live_expiry, after_trim, after_upkeep, has_lived, is_idle, least_recent}
 use Rattle.moka_machine.specs.Lookup.{after_use, after_look, unexpired_at}
 use Rattle.moka_machine.specs.Insert.{after_put, after_verdict, new_entry, victims_of, with_write}
 use Rattle.moka_machine.specs.Invalidate.{chosen}
-use Rattle.moka_machine.specs.Step.{Answer, IsStep, Request, Get, ContainsKey, Insert, Invalidate, InvalidateAll, InvalidateEntriesIf, Iterate, EntryCount, WeightedSize}
+use Rattle.moka_machine.specs.Step.{Answer, IsStep, Request, Get, ContainsKey, Insert, Invalidate}
+use Rattle.moka_machine.specs.Step.{InvalidateAll, InvalidateEntriesIf, Iterate, EntryCount, WeightedSize}
 use Rattle.moka_history.specs.History.{Leads, Transition}
 use Rattle.moka_machine.proofs.ContentsLemmas.{absent-leaving}
 use Rattle.moka_history.proofs.HistoryLemmas.{something}
@@ -79,7 +82,8 @@ module _ {X : Type 0} where
   all-push P (y ∷ xs) x all last = (all.0, all-push P xs x all.1 last)
 
 -- a prefix of one more, or all
-pub prefix-cons : {X : Type 0} (x : X) (xs : List X) (o : Option (List X)) → unwrap_or (option_map (λ p. x ∷ p) o) (x ∷ xs) ≡ x ∷ unwrap_or o xs
+pub prefix-cons : {X : Type 0} (x : X) (xs : List X) (o : Option (List X))
+    → unwrap_or (option_map (λ p. x ∷ p) o) (x ∷ xs) ≡ x ∷ unwrap_or o xs
 prefix-cons x xs None = refl
 prefix-cons x xs (Some p) = refl
 
@@ -212,7 +216,8 @@ module _ {K V S W : Type 0} (keys : Keys K S) (laws : IsEquivalence keys.eq) (we
   tied-step old new (Insert key value now) answer (inl (done, inserted)) tied =
       let kept = (after_look keys old now).contents in
       subst Tied (sym inserted.step)
-      (tied-insert keys.eq laws (record old { weigher = inserted.weigher; capacity = inserted.capacity; contents = kept }) (entry_at keys.eq key kept.entries)
+      (tied-insert keys.eq laws (record old { weigher = inserted.weigher; capacity = inserted.capacity; contents = kept })
+      (entry_at keys.eq key kept.entries)
       (new_entry keys old.settings.hash_state key value inserted.weight now) inserted.refused refl
       (tied-upkeep keys.eq laws old.settings.policy now old.contents tied))
   tied-step old new (Insert key value now) answer (inr (refused, same)) tied = subst Tied (sym same.same) tied
@@ -231,4 +236,5 @@ module _ {K V S W : Type 0} (keys : Keys K S) (laws : IsEquivalence keys.eq) (we
       → Leads keys weighs (new_cache settings weigher capacity) past cache → Tied cache
   tied-run settings weigher capacity [] cache leads = subst Tied (sym leads) tt
   tied-run settings weigher capacity (call ∷ earlier) cache (is, step, leads) =
-      subst Tied is (tied-step call.before call.after call.request call.answer step (tied-run settings weigher capacity earlier call.before leads))
+      subst Tied is (tied-step call.before call.after call.request call.answer step
+      (tied-run settings weigher capacity earlier call.before leads))

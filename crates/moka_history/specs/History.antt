@@ -1,5 +1,6 @@
 -- What a contract sees of the calls that were made of a cache, and what they tell of a key. `src/history.rt` promises the laws.
-use Rattle.std.specs.Prelude.{◌≡◌, ℕ, Bool, true, false, ◌||◌, All, List, [], ◌∷◌, ◌++◌, map, reverse, is_some, Option, Some, None, option_map, if◌then◌else◌}
+use Rattle.std.specs.Prelude.{◌≡◌, ℕ, Bool, true, false, ◌||◌, All, List, [], ◌∷◌, ◌++◌, map}
+use Rattle.std.specs.Prelude.{reverse, is_some, Option, Some, None, option_map, if◌then◌else◌}
 use Rattle.std.specs.List.{list_any}
 use Rattle.moka_base.specs.Keys.{Keys}
 use Rattle.moka_base.specs.Moment.{idle_expired, live_expired}
@@ -9,7 +10,8 @@ use Rattle.moka_machine.specs.declared.entry.Entry.{Entry}
 use Rattle.moka_machine.specs.Contents.{entry_keys}
 use Rattle.moka_machine.specs.CacheState.{CacheState, new_cache}
 use Rattle.moka_machine.specs.Invalidate.{chosen}
-use Rattle.moka_machine.specs.Step.{Answer, IsStep, Request, Runs, Get, Insert, Invalidate, InvalidateAll, InvalidateEntriesIf, Iterate, ContainsKey, Done, Found, Pairs, Truth}
+use Rattle.moka_machine.specs.Step.{Answer, IsStep, Request, Runs, Get, Insert, Invalidate, InvalidateAll}
+use Rattle.moka_machine.specs.Step.{InvalidateEntriesIf, Iterate, ContainsKey, Done, Found, Pairs, Truth}
 
 -- ---- what the calls tell
 
@@ -123,7 +125,8 @@ module _ {K V S W : Type 0} (keys : Keys K S) (weighs : W → K → V → ℕ �
   -- from a new cache, a value that a get finds is the last one written at the key, and is current
   abbrev pub HitsAreCurrent : Type 0
   HitsAreCurrent =
-      (settings : Settings S) (weigher : W) (capacity : ℕ) (past : List (Transition K V S W)) (cache next : CacheState K V S W) (key : K) (now : ℕ)
+      (settings : Settings S) (weigher : W) (capacity : ℕ) (past : List (Transition K V S W)) (cache next : CacheState K V S W)
+      (key : K) (now : ℕ)
       (value : V) →
       Leads (new_cache settings weigher capacity) past cache → IsStep keys weighs cache (Get key now) (Found (Some value)) next →
       IsCurrent keys settings.policy now (exchanges past) key value

@@ -8,7 +8,8 @@ use Rattle.moka_machine.specs.Contents.{entry_at, total_weight}
 use Rattle.moka_machine.specs.CacheState.{CacheState, new_cache}
 use Rattle.moka_machine.specs.Upkeep.{is_expired}
 use Rattle.moka_machine.specs.Step.{Request, Get, ContainsKey, Insert, Invalidate, Done, Found}
-use Rattle.moka_history.specs.History.{LastWrite, Leads, Transition, chosen_keys, exchanges, is_invalidated, is_over, is_written, last_write}
+use Rattle.moka_history.specs.History.{LastWrite, Leads, Transition, chosen_keys, exchanges}
+use Rattle.moka_history.specs.History.{is_invalidated, is_over, is_written, last_write}
 
 -- the moment of a call that first removes what is expired or above the limit
 abbrev pub upkeep_moment : {K V : Type 0} → Request K V → Option ℕ
@@ -77,7 +78,8 @@ module _ {K V S W : Type 0} (keys : Keys K S) (weighs : W → K → V → ℕ �
   -- from a new cache, an entry that stands before a call and not after it leaves for a cause
   abbrev pub EntriesLeaveForACause : Type 0
   EntriesLeaveForACause =
-      (settings : Settings S) (weigher : W) (capacity : ℕ) (past : List (Transition K V S W)) (call : Transition K V S W) (cache : CacheState K V S W)
+      (settings : Settings S) (weigher : W) (capacity : ℕ) (past : List (Transition K V S W)) (call : Transition K V S W)
+      (cache : CacheState K V S W)
       (key : K) (e : Entry K V) →
       Leads keys weighs (new_cache settings weigher capacity) (call ∷ past) cache →
       entry_at keys.eq key call.before.contents.entries ≡ Some e → entry_at keys.eq key cache.contents.entries ≡ None →
@@ -86,9 +88,11 @@ module _ {K V S W : Type 0} (keys : Keys K S) (weighs : W → K → V → ℕ �
   -- from a new cache, after an accepted insert its value stands at the key, written then, or it was rejected
   abbrev pub InsertsEnterOrAreRejected : Type 0
   InsertsEnterOrAreRejected =
-      (settings : Settings S) (weigher : W) (capacity : ℕ) (past : List (Transition K V S W)) (call : Transition K V S W) (cache : CacheState K V S W)
+      (settings : Settings S) (weigher : W) (capacity : ℕ) (past : List (Transition K V S W)) (call : Transition K V S W)
+      (cache : CacheState K V S W)
       (key : K) (value : V) (now : ℕ) →
-      Leads keys weighs (new_cache settings weigher capacity) (call ∷ past) cache → call.request ≡ Insert key value now → call.answer ≡ Done →
+      Leads keys weighs (new_cache settings weigher capacity) (call ∷ past) cache → call.request ≡ Insert key value now →
+      call.answer ≡ Done →
       ((e : Entry K V) × (entry_at keys.eq key cache.contents.entries ≡ Some e)
       × (last_write_of e ≡ record { value = value; written = now; used = now }))
       ⊎ IsRejected call key
@@ -96,7 +100,8 @@ module _ {K V S W : Type 0} (keys : Keys K S) (weighs : W → K → V → ℕ �
   -- from a new cache, a get finds nothing exactly where the key is missing after it for a reason, or its last write is over
   abbrev pub MissesHaveAReason : Type 0
   MissesHaveAReason =
-      (settings : Settings S) (weigher : W) (capacity : ℕ) (past : List (Transition K V S W)) (call : Transition K V S W) (cache : CacheState K V S W)
+      (settings : Settings S) (weigher : W) (capacity : ℕ) (past : List (Transition K V S W)) (call : Transition K V S W)
+      (cache : CacheState K V S W)
       (key : K) (now : ℕ) →
       Leads keys weighs (new_cache settings weigher capacity) (call ∷ past) cache → call.request ≡ Get key now →
       (call.answer ≡ Found None)

@@ -3,7 +3,8 @@ use Rattle.std.proofs.Common.{◌≡◌, ℕ, zero, suc, ◌+◌, ◌-◌, ◌*�
 use Rattle.std.proofs.Common.{refl, sym, ap, subst, ◌∙◌, inl, inr, arith, get_or-drop, replicate}
 use Rattle.std.specs.Prelude.{if◌then◌else◌, slice_set}
 use Rattle.std.specs.List.{list_any}
-use Rattle.std.proofs.lemmas.Bool.{cases_Bool, cases_lt, cond-false, cond-true, eq-eqb, eqb-true, false≢true, false_from_ne_true, ne_eqb, or_cases, or_left, or_right}
+use Rattle.std.proofs.lemmas.Bool.{cases_Bool, cases_lt, cond-false, cond-true, eq-eqb, eqb-true}
+use Rattle.std.proofs.lemmas.Bool.{false≢true, false_from_ne_true, ne_eqb, or_cases, or_left, or_right}
 use Rattle.std.proofs.lemmas.List.{get_or-replicate, get_or_past, length-replicate}
 use Rattle.std.proofs.lemmas.Nat.{div_below}
 use Rattle.std.proofs.Math.Nat.{div-mul-le_self, mul_comm, mul-lt-mul_of_pos_right}
@@ -59,7 +60,8 @@ module _ (tag : ℕ) where
   -- one that stands with the tag, and no free slot before it, is among them
   tagged_stands : (id place : ℕ) (slots : List Slot) → id_at slots place ≡ id → tag_at slots place ≡ tag
       → ((q : ℕ) → q ≤ place → is_free slots q ≡ false) → list_any (nat_eq id) (tagged tag slots) ≡ true
-  tagged_stands id place [] is_id is_tag taken = absurd (false≢true (sym (taken 0 (omega arith)) ∙ ap (λ s. nat_eq s.id NONE) (get_or_past [] 0 FREE (omega arith))))
+  tagged_stands id place [] is_id is_tag taken =
+      absurd (false≢true (sym (taken 0 (omega arith)) ∙ ap (λ s. nat_eq s.id NONE) (get_or_past [] 0 FREE (omega arith))))
   tagged_stands id zero (slot ∷ slots) is_id is_tag taken =
       ap (list_any (nat_eq id)) (tagged_same slot slots (taken 0 (omega arith)) (eq-eqb slot.tag tag is_tag))
       ∙ or_left (nat_eq id slot.id) (list_any (nat_eq id) (tagged tag slots)) (eq-eqb id slot.id (sym is_id))
@@ -122,7 +124,8 @@ module _ (slots : List Slot) (ids : ℕ) (probed : IsProbed slots ids) where
       → id ≡ id_at slots q → ⊥
   stands_nowhere id absent q taken same =
       let hashed = probed.listed.hashed q taken in
-      false≢true (sym (absent hashed.0) ∙ stands_candidate hashed.0 id (record { at = q; is_id = sym same; is_tag = hashed.1; taken = taken }))
+      false≢true (sym (absent hashed.0) ∙ stands_candidate hashed.0 id
+      (record { at = q; is_id = sym same; is_tag = hashed.1; taken = taken }))
 
 same_truth : (a b : Bool) → (a ≡ true → b ≡ true) → (b ≡ true → a ≡ true) → a ≡ b
 same_truth true b there back = sym (there refl)
@@ -229,13 +232,15 @@ tagged_none : (tag : ℕ) (slots : List Slot) → ((at : ℕ) → is_free slots 
 tagged_none tag [] free = refl
 tagged_none tag (slot ∷ slots) free = tagged_free tag slot slots (free 0)
 
-pub cleared : (slots : List Slot) (len ids : ℕ) → slots ≡ replicate len FREE → len ≡ places_of ids + ids → ids ≤ MOST_IDS → IsCleared slots ids
+pub cleared : (slots : List Slot) (len ids : ℕ) → slots ≡ replicate len FREE → len ≡ places_of ids + ids → ids ≤ MOST_IDS
+    → IsCleared slots ids
 cleared slots len ids is fits most =
     record {
       lies = probed_none slots ids (ap length is ∙ length-replicate len FREE ∙ fits) most free;
       empty = λ hash.
           tagged_none (tag_of hash) (drop (home_of ids (tag_of hash)) slots)
-          (λ at. ap (λ s. nat_eq s.id NONE) (get_or-drop (home_of ids (tag_of hash)) slots at FREE) ∙ free (home_of ids (tag_of hash) + at));
+          (λ at. ap (λ s. nat_eq s.id NONE) (get_or-drop (home_of ids (tag_of hash)) slots at FREE)
+          ∙ free (home_of ids (tag_of hash) + at));
     }
   where
     all_free : (at : ℕ) → slot_at (replicate len FREE) at ≡ FREE

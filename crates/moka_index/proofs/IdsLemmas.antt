@@ -67,7 +67,8 @@ module _ (slots : List Slot) where
             (there.0, omega arith, omega arith, there.3)
       ]
 
-  module _ (once : (at other : ℕ) → is_free slots at ≡ false → is_free slots other ≡ false → id_at slots at ≡ id_at slots other → at ≡ other) where
+  module _ (once : (at other : ℕ) → is_free slots at ≡ false → is_free slots other ≡ false → id_at slots at ≡ id_at slots other
+      → at ≡ other) where
     distinct-ids_from : (at n : ℕ) → ((place : ℕ) → at ≤ place → place < at + n → is_free slots place ≡ false)
         → IsDistinct nat_eq (ids_from at n)
     distinct-ids_from at zero taken = distinct_none

@@ -52,7 +52,8 @@ module _ (slots : List Slot) (p : ℕ) (s : Slot) (within : p < length slots) wh
   listed_put ids listed below hashed homed absent =
       record {
         once = each_set
-            (λ at x. (other : ℕ) → IsTaken x → is_free (slice_set slots p s) other ≡ false → x.id ≡ id_at (slice_set slots p s) other → at ≡ other)
+            (λ at x. (other : ℕ) → IsTaken x → is_free (slice_set slots p s) other ≡ false → x.id ≡ id_at (slice_set slots p s) other
+            → at ≡ other)
             (each_set (λ other y. IsTaken s → IsTaken y → s.id ≡ y.id → p ≡ other) (λ _ _ _. refl)
             (λ q other _ taken same. absurd (absent q taken same)))
             (λ at other.
@@ -84,7 +85,8 @@ module _ (slots : List Slot) (p : ℕ) (s : Slot) (within : p < length slots) wh
   put_were tag id has =
       each_set (λ at x. x.id ≡ id → x.tag ≡ tag → IsTaken x → ((tag ≡ s.tag) × (id ≡ s.id)) ⊎ Has slots tag id)
       (λ is_id is_tag _. inl (sym is_tag, sym is_id))
-      (λ q _ is_id is_tag taken. inr (record { at = q; is_id = is_id; is_tag = is_tag; taken = taken })) has.at has.is_id has.is_tag has.taken
+      (λ q _ is_id is_tag taken. inr (record { at = q; is_id = is_id; is_tag = is_tag; taken = taken })) has.at has.is_id
+      has.is_tag has.taken
 
 -- the slot is freed
 module _ (slots : List Slot) (p : ℕ) (within : p < length slots) where
@@ -214,7 +216,8 @@ module _ (slots : List Slot) (ids hole at : ℕ) (closing : IsClosing slots ids 
   behind = closing.behind
 
   outer : hole < length (slice_set slots at FREE)
-  outer = let len : length (slice_set slots at FREE) ≡ length slots = length-set slots at FREE in let inside : hole < length slots = closing.inside in omega arith
+  outer = let len : length (slice_set slots at FREE) ≡ length slots = length-set slots at FREE in let inside : hole < length slots =
+      closing.inside in omega arith
 
   not_hole : at ≢ hole
   not_hole same = let b : hole < at = behind in absurd (omega arith)
@@ -255,7 +258,8 @@ module _ (slots : List Slot) (ids hole at : ℕ) (closing : IsClosing slots ids 
             (closing.listed.below at taken) (closing.listed.hashed at taken) low
             (each_set slots at FREE inner (λ q x. IsTaken x → id_at slots at ≡ x.id → ⊥) (λ is_taken _. false≢true (sym is_taken))
             (λ q other is_taken same. other (closing.listed.once at q taken is_taken same)));
-        hole_free = ap (λ x. nat_eq x.id NONE) (there (slice_set slots at FREE) hole (slot_at slots at) outer at not_at ∙ here slots at FREE inner);
+        hole_free =
+            ap (λ x. nat_eq x.id NONE) (there (slice_set slots at FREE) hole (slot_at slots at) outer at not_at ∙ here slots at FREE inner);
         behind = omega arith;
         inside = omega arith;
         reached = each_set (slice_set slots at FREE) hole (slot_at slots at) outer
@@ -309,7 +313,8 @@ closing_last slots ids hole at closing free =
               let not_at : at ≢ from = apart slots at from free taken in
               elim (cases_lt from at) [
                 | inl before ↦
-                    let home : hole < home_of ids (tag_at slots from) = closing.settled from (omega arith) before taken in absurd (omega arith)
+                    let home : hole < home_of ids (tag_at slots from) =
+                    closing.settled from (omega arith) before taken in absurd (omega arith)
                 | inr past ↦
                     let at_taken : is_free slots at ≡ false =
                     closing.reached from at taken (omega (arith, behind)) past (λ is. let b : hole < at = behind in absurd (omega arith)) in

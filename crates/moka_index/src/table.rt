@@ -2,7 +2,7 @@
 ghost use Rattle.std.specs.Prelude.{◌≡◌, ◌<◌, ◌≤◌, ◌+◌, ℕ, false, length, replicate, true};
 ghost use Rattle.std.specs.Vec.{vec_capacity};
 ghost use Rattle.moka_index.specs.HashIndex.{home_of};
-ghost use Rattle.moka_index.specs.Probed.{FREE, Has, IsClosing, IsProbed, Leaves, id_at, is_free, tag_at};
+ghost use Rattle.moka_index.specs.Probed.{FREE, Has, IsClosing, IsProbed, Leaves, id_at, is_free};
 ghost use Rattle.moka_index.specs.declared.slot.Slot.{Slot};
 
 use crate::constants::NONE;

@@ -1,5 +1,6 @@
 -- Lemmas on keys that stand once.
-use Rattle.std.proofs.Common.{◌≡◌, ◌||◌, ℕ, Bool, true, false, not, List, [], ◌∷◌, ◌++◌, filter, is_some, Option, Some, None, refl, sym, ap, ◌∙◌, inl, inr, subst}
+use Rattle.std.proofs.Common.{◌≡◌, ◌||◌, ℕ, Bool, true, false, not, List, [], ◌∷◌, ◌++◌, filter}
+use Rattle.std.proofs.Common.{is_some, Option, Some, None, refl, sym, ap, ◌∙◌, inl, inr, subst}
 use Rattle.std.proofs.lemmas.Bool.{cases_Bool, cond-true, cond-false, false≢true}
 use Rattle.std.proofs.lemmas.Map.Keys.{IsDistinct-push}
 use Rattle.std.proofs.lemmas.Map.Made.{IsDistinct-keys_filter}
@@ -14,7 +15,8 @@ use Rattle.moka_machine.specs.Insert.{after_put, after_verdict, new_entry, victi
 use Rattle.moka_laws.specs.Laws.{KeysStandOnce, Remains}
 use Rattle.moka_machine.specs.Lookup.{after_look, after_use, unexpired_at}
 use Rattle.moka_machine.specs.Iterate.{pairs_of}
-use Rattle.moka_machine.specs.Step.{Answer, IsStep, Request, Runs, Get, ContainsKey, Insert, Invalidate, InvalidateAll, InvalidateEntriesIf, Iterate, EntryCount, WeightedSize}
+use Rattle.moka_machine.specs.Step.{Answer, IsStep, Request, Runs, Get, ContainsKey, Insert, Invalidate}
+use Rattle.moka_machine.specs.Step.{InvalidateAll, InvalidateEntriesIf, Iterate, EntryCount, WeightedSize}
 use Rattle.moka_machine.proofs.ContentsLemmas.{absent-leaving}
 use Rattle.moka_laws.proofs.RemainLemmas.{invalidations, looks, remains-leaving, remains-upkeep}
 
@@ -172,4 +174,5 @@ module _ {K V S W : Type 0} (keys : Keys K S) (laws : IsEquivalence keys.eq) (we
 
   -- and a new cache has none
   pub keys_stand_once : KeysStandOnce keys weighs
-  keys_stand_once settings weigher capacity requests answers cache run = once-runs (new_cache settings weigher capacity) cache requests answers run none_stand
+  keys_stand_once settings weigher capacity requests answers cache run =
+      once-runs (new_cache settings weigher capacity) cache requests answers run none_stand

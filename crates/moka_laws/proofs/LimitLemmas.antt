@@ -1,5 +1,7 @@
 -- Lemmas on how much the contents weigh after a call.
-use Rattle.std.proofs.Common.{◌≡◌, ◌⊎◌, ◌≤◌, ◌+◌, ◌-◌, ℕ, zero, suc, Bool, true, false, cond, not, ◌&&◌, List, [], ◌∷◌, ◌++◌, All, filter, length, map, sum_by, take, take_while, nat_le, nat_lt, is_some, Option, Some, None, option_map, unwrap_or, refl, sym, ap, ◌∙◌, inl, inr, arith, subst}
+use Rattle.std.proofs.Common.{◌≡◌, ◌⊎◌, ◌≤◌, ◌+◌, ◌-◌, ℕ, zero, suc, Bool, true, false, cond, not, ◌&&◌, List, [], ◌∷◌}
+use Rattle.std.proofs.Common.{◌++◌, All, filter, length, map, sum_by, take, take_while, nat_le, nat_lt, is_some, Option}
+use Rattle.std.proofs.Common.{Some, None, option_map, unwrap_or, refl, sym, ap, ◌∙◌, inl, inr, arith, subst}
 use Rattle.std.proofs.lemmas.Bool.{cases_Bool, cond-true, cond-false, false≢true, leb-true}
 use Rattle.std.proofs.lemmas.List.Elements.{All-filter, All-from_recursion, All-head, All-push, All-tail, recursion_from_All}
 use Rattle.std.proofs.lemmas.List.Sums.{sum_by-append, sum_by-cons, sum_by_push}
@@ -15,12 +17,14 @@ use Rattle.moka_machine.specs.declared.constants.TheConstants.{EVICTION_BATCH_SI
 use Rattle.moka_machine.specs.Contents.{Contents, after_leaving, entry_at, entries_without, entry_keys, total_weight, without}
 use Rattle.moka_machine.specs.CacheState.{CacheState, new_cache}
 use Rattle.moka_base.specs.Settings.{keeps_writes}
-use Rattle.moka_machine.specs.Upkeep.{after_expiry, after_live_expiry, after_trim, after_upkeep, has_lived, is_idle, least_recent, is_expired, unexpired}
+use Rattle.moka_machine.specs.Upkeep.{after_expiry, after_live_expiry, after_trim, after_upkeep}
+use Rattle.moka_machine.specs.Upkeep.{has_lived, is_idle, least_recent, is_expired, unexpired}
 use Rattle.moka_machine.specs.Insert.{IsInserted, after_admission, after_put, after_verdict, new_entry, victims_of}
 use Rattle.moka_machine.specs.Invalidate.{chosen}
 use Rattle.moka_laws.specs.Laws.{IsUpdate, OnlyUpdatesOutgrowLimit, StaysWithinLimit}
 use Rattle.moka_machine.specs.Lookup.{after_search, after_use, unexpired_at}
-use Rattle.moka_machine.specs.Step.{Answer, IsStep, Request, Runs, Get, ContainsKey, Insert, Invalidate, InvalidateAll, InvalidateEntriesIf, Iterate, EntryCount, WeightedSize}
+use Rattle.moka_machine.specs.Step.{Answer, IsStep, Request, Runs, Get, ContainsKey, Insert, Invalidate}
+use Rattle.moka_machine.specs.Step.{InvalidateAll, InvalidateEntriesIf, Iterate, EntryCount, WeightedSize}
 use Rattle.moka_machine.proofs.ContentsLemmas.{All-leaving, All-upkeep}
 use Rattle.moka_laws.proofs.RemainLemmas.{filter-all, filter-both}
 
@@ -164,7 +168,8 @@ prefix_parts {X = X} weight (suc n) (x ∷ xs) prefix h =
 
 module _ {K V : Type 0} where
   -- what is found is there
-  pub found_there : (policy : Policy) (now : ℕ) (o : Option (Entry K V)) (used : Entry K V) → unexpired policy now o ≡ Some used → o ≡ Some used
+  pub found_there : (policy : Policy) (now : ℕ) (o : Option (Entry K V)) (used : Entry K V) → unexpired policy now o ≡ Some used
+      → o ≡ Some used
   found_there policy now None used h = absurd (false≢true (ap is_some h))
   found_there policy now (Some e) used h =
       elim (cases_Bool (is_expired policy now e)) [

@@ -1,5 +1,6 @@
 -- Lemmas on a cache without limits, which does what a plain map does.
-use Rattle.std.proofs.Common.{◌≡◌, ◌≢◌, ◌||◌, ℕ, Bool, true, false, cond, not, List, [], ◌∷◌, ◌++◌, filter, find, is_some, map, take, take_while, Option, Some, None, option_map, refl, sym, ap, ◌∙◌, subst, inl, inr}
+use Rattle.std.proofs.Common.{◌≡◌, ◌≢◌, ◌||◌, ℕ, Bool, true, false, cond, not, List, [], ◌∷◌, ◌++◌, filter, find, is_some}
+use Rattle.std.proofs.Common.{map, take, take_while, Option, Some, None, option_map, refl, sym, ap, ◌∙◌, subst, inl, inr}
 use Rattle.std.proofs.lemmas.Bool.{cases_Bool, cond-true, cond-false}
 use Rattle.std.proofs.lemmas.List.{length-map}
 use Rattle.std.proofs.lemmas.List.Folds.{find-append}
@@ -22,7 +23,8 @@ use Rattle.moka_machine.specs.Lookup.{after_look, after_search, after_use, unexp
 use Rattle.moka_machine.specs.Insert.{after_put, after_verdict, new_entry, victims_of}
 use Rattle.moka_machine.specs.Invalidate.{chosen}
 use Rattle.moka_machine.specs.Iterate.{unexpired_pairs, pairs_of}
-use Rattle.moka_machine.specs.Step.{Answer, IsStep, Request, Get, ContainsKey, Insert, Invalidate, InvalidateAll, InvalidateEntriesIf, Iterate, EntryCount, WeightedSize, Found, Truth, OutOfMemory, Pairs, Number}
+use Rattle.moka_machine.specs.Step.{Answer, IsStep, Request, Get, ContainsKey, Insert, Invalidate, InvalidateAll, InvalidateEntriesIf}
+use Rattle.moka_machine.specs.Step.{Iterate, EntryCount, WeightedSize, Found, Truth, OutOfMemory, Pairs, Number}
 use Rattle.moka_laws.specs.PlainMap.{IsMapAnswer, IsUnbounded, RunsAsMap, StepsAsMap, value_after, value_at}
 use Rattle.moka_machine.proofs.ContentsLemmas.{found_key}
 use Rattle.moka_laws.proofs.KeyLemmas.{entry_at-gone, keys-pairs, once-step}
@@ -268,7 +270,8 @@ module _ {K V S W : Type 0} (keys : Keys K S) where
 
 module _ {K V S W : Type 0} (keys : Keys K S) (weighs : W → K → V → ℕ → W → Type 0) where
   -- each call leaves the settings
-  pub settings-step : (old new : CacheState K V S W) (request : Request K V) (answer : Answer K V) → IsStep keys weighs old request answer new
+  pub settings-step : (old new : CacheState K V S W) (request : Request K V) (answer : Answer K V)
+      → IsStep keys weighs old request answer new
       → new.settings ≡ old.settings
   settings-step old new (Get other now) answer step = ap (λ c. c.settings) step.1
   settings-step old new (ContainsKey other now) answer step = ap (λ c. c.settings) step.1
@@ -276,7 +279,8 @@ module _ {K V S W : Type 0} (keys : Keys K S) (weighs : W → K → V → ℕ �
       let kept = (after_look keys old now).contents in
       let entry = new_entry keys old.settings.hash_state other value inserted.weight now in
       ap (λ c. c.settings) inserted.step
-      ∙ settings-put keys.eq (record old { weigher = inserted.weigher; capacity = inserted.capacity; contents = kept }) (entry_at keys.eq other kept.entries) entry
+      ∙ settings-put keys.eq (record old { weigher = inserted.weigher; capacity = inserted.capacity; contents = kept })
+      (entry_at keys.eq other kept.entries) entry
       inserted.refused
   settings-step old new (Insert other value now) answer (inr (refused, same)) = ap (λ c. c.settings) same.same
   settings-step old new (Invalidate other now) answer step = ap (λ c. c.settings) step.1

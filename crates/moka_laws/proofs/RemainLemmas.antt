@@ -1,5 +1,6 @@
 -- Lemmas on what remains of the contents, as it was.
-use Rattle.std.proofs.Common.{◌≡◌, ◌-◌, ℕ, Bool, true, false, cond, not, ◌&&◌, List, [], ◌∷◌, filter, map, take, take_while, Option, Some, None, refl, sym, ap, ◌∙◌, inl, inr, subst}
+use Rattle.std.proofs.Common.{◌≡◌, ◌-◌, ℕ, Bool, true, false, cond, not, ◌&&◌, List, [], ◌∷◌, filter, map}
+use Rattle.std.proofs.Common.{take, take_while, Option, Some, None, refl, sym, ap, ◌∙◌, inl, inr, subst}
 use Rattle.std.proofs.lemmas.Bool.{cases_Bool, cond-true, cond-false}
 use Rattle.moka_base.specs.Keys.{Keys}
 use Rattle.moka_base.specs.Policy.{Policy}
@@ -9,7 +10,8 @@ use Rattle.moka_machine.specs.CacheState.{CacheState}
 use Rattle.moka_machine.specs.Upkeep.{after_expiry, after_live_expiry, after_trim, after_upkeep, has_lived, is_idle, least_recent}
 use Rattle.moka_machine.specs.Invalidate.{chosen}
 use Rattle.moka_laws.specs.Laws.{InvalidationsKeepCounts, LooksChangeNothing, Remains}
-use Rattle.moka_machine.specs.Step.{Get, ContainsKey, Insert, Invalidate, InvalidateAll, InvalidateEntriesIf, Iterate, EntryCount, WeightedSize}
+use Rattle.moka_machine.specs.Step.{Get, ContainsKey, Insert, Invalidate, InvalidateAll}
+use Rattle.moka_machine.specs.Step.{InvalidateEntriesIf, Iterate, EntryCount, WeightedSize}
 
 module _ {X : Type 0} where
   -- one test after another

@@ -1,5 +1,6 @@
 -- That a cache with room above its limit refuses nothing.
-use Rattle.std.proofs.Common.{◌≡◌, ◌≢◌, ◌∙◌, ◌<◌, ◌≤◌, ℕ, Bool, List, [], ◌∷◌, length, Option, Some, None, inl, inr, refl, sym, ap, subst, arith}
+use Rattle.std.proofs.Common.{◌≡◌, ◌≢◌, ◌∙◌, ◌<◌, ◌≤◌, ℕ, Bool, List, [], ◌∷◌, length}
+use Rattle.std.proofs.Common.{Option, Some, None, inl, inr, refl, sym, ap, subst, arith}
 use Rattle.std.specs.Cmp.{IsEquivalence}
 use Rattle.std.specs.List.{AllByRecursion}
 use Rattle.std.proofs.lemmas.List.Elements.{All-from_recursion, recursion_from_All}
@@ -45,7 +46,8 @@ module _ {K V S W : Type 0} (keys : Keys K S) (weighs : W → K → V → ℕ �
       let kept = (after_look keys old now).contents in
       let entry = new_entry keys old.settings.hash_state key value done.weight now in
       served old new _ answer Done (λ e. (cc)) step.0 done.step
-      (capacity-put keys.eq (record old { weigher = done.weigher; capacity = done.capacity; contents = kept }) (entry_at keys.eq key kept.entries)
+      (capacity-put keys.eq (record old { weigher = done.weigher; capacity = done.capacity; contents = kept })
+      (entry_at keys.eq key kept.entries)
       entry done.refused ∙ done.kept room)
   served_step old new (Insert key value now) answer room (inr step) =
       let full : old.capacity ≤ length old.contents.entries = step.1.full in absurd (omega arith)
@@ -64,7 +66,8 @@ module _ {K V S W : Type 0} (keys : Keys K S) (weighs : W → K → V → ℕ �
         subst (λ n. n ≤ limit)
         (total-ones cache.contents.entries (recursion_from_All (λ e. e.weight ≡ 1) cache.contents.entries within.ones)) within.fits
 
-    served_run : (old new : CacheState K V S W) (requests : List (Request K V)) (answers : List (Answer K V)) → IsWithin keys laws weighs each limit old
+    served_run : (old new : CacheState K V S W) (requests : List (Request K V)) (answers : List (Answer K V))
+        → IsWithin keys laws weighs each limit old
         → limit < old.capacity → Runs keys weighs old requests answers new
         → AllByRecursion (λ answer. answer ≢ OutOfMemory) answers × (new.capacity ≡ old.capacity)
     served_run old new [] answers within room run =

@@ -6,7 +6,8 @@ use Rattle.moka_machine.specs.Contents.{Contents, entry_at, entry_keys, total_we
 use Rattle.moka_machine.specs.CacheState.{CacheState, new_cache}
 use Rattle.moka_base.specs.Settings.{Settings, keeps_writes}
 use Rattle.moka_machine.specs.Lookup.{after_look}
-use Rattle.moka_machine.specs.Step.{Answer, IsStep, OutOfMemory, Request, Runs, Get, ContainsKey, Insert, Invalidate, InvalidateAll, InvalidateEntriesIf, Iterate, EntryCount, WeightedSize}
+use Rattle.moka_machine.specs.Step.{Answer, IsStep, OutOfMemory, Request, Runs, Get, ContainsKey, Insert, Invalidate}
+use Rattle.moka_machine.specs.Step.{InvalidateAll, InvalidateEntriesIf, Iterate, EntryCount, WeightedSize}
 
 -- ---- limits and keys
 
@@ -15,7 +16,8 @@ module _ {K V S W : Type 0} (keys : Keys K S) (weighs : W → K → V → ℕ �
   abbrev pub StaysWithinLimit : Type 0
   StaysWithinLimit =
       ((old new : W) (key : K) (value : V) (weight : ℕ) → weighs old key value weight new → weight ≡ 1) →
-      (settings : Settings S) (weigher : W) (capacity limit : ℕ) (requests : List (Request K V)) (answers : List (Answer K V)) (cache : CacheState K V S W) →
+      (settings : Settings S) (weigher : W) (capacity limit : ℕ) (requests : List (Request K V)) (answers : List (Answer K V))
+      (cache : CacheState K V S W) →
       settings.policy.max_capacity ≡ Some limit → Runs keys weighs (new_cache settings weigher capacity) requests answers cache →
       length cache.contents.entries ≤ limit
 
@@ -23,8 +25,10 @@ module _ {K V S W : Type 0} (keys : Keys K S) (weighs : W → K → V → ℕ �
   abbrev pub NeverRefuses : Type 0
   NeverRefuses =
       ((old new : W) (key : K) (value : V) (weight : ℕ) → weighs old key value weight new → weight ≡ 1) →
-      (settings : Settings S) (weigher : W) (capacity limit : ℕ) (requests : List (Request K V)) (answers : List (Answer K V)) (cache : CacheState K V S W) →
-      settings.policy.max_capacity ≡ Some limit → limit < capacity → Runs keys weighs (new_cache settings weigher capacity) requests answers cache →
+      (settings : Settings S) (weigher : W) (capacity limit : ℕ) (requests : List (Request K V)) (answers : List (Answer K V))
+      (cache : CacheState K V S W) →
+      settings.policy.max_capacity ≡ Some limit → limit < capacity →
+      Runs keys weighs (new_cache settings weigher capacity) requests answers cache →
       AllByRecursion (λ answer. answer ≢ OutOfMemory) answers × (cache.capacity ≡ capacity)
 
   -- the call is an insert at a key that is there when it acts
@@ -38,12 +42,14 @@ module _ {K V S W : Type 0} (keys : Keys K S) (weighs : W → K → V → ℕ �
   OnlyUpdatesOutgrowLimit =
       (old new : CacheState K V S W) (request : Request K V) (answer : Answer K V) (limit : ℕ) →
       old.settings.policy.max_capacity ≡ Some limit → IsStep keys weighs old request answer new →
-      total_weight old.contents.entries < total_weight new.contents.entries → limit < total_weight new.contents.entries → IsUpdate old request
+      total_weight old.contents.entries < total_weight new.contents.entries → limit < total_weight new.contents.entries
+      → IsUpdate old request
 
   -- from a new cache no calls lead to a key with two entries
   abbrev pub KeysStandOnce : Type 0
   KeysStandOnce =
-      (settings : Settings S) (weigher : W) (capacity : ℕ) (requests : List (Request K V)) (answers : List (Answer K V)) (cache : CacheState K V S W) →
+      (settings : Settings S) (weigher : W) (capacity : ℕ) (requests : List (Request K V)) (answers : List (Answer K V))
+      (cache : CacheState K V S W) →
       Runs keys weighs (new_cache settings weigher capacity) requests answers cache → IsDistinct keys.eq (entry_keys cache.contents.entries)
 
 -- ---- entries and their writes
@@ -59,14 +65,16 @@ module _ {K V S W : Type 0} (keys : Keys K S) (weighs : W → K → V → ℕ �
   -- from a new cache all calls leave the entries' writes: with a time to live each entry's key and moment, and else none
   abbrev pub WritesFollowEntries : Type 0
   WritesFollowEntries =
-      (settings : Settings S) (weigher : W) (capacity : ℕ) (requests : List (Request K V)) (answers : List (Answer K V)) (cache : CacheState K V S W) →
+      (settings : Settings S) (weigher : W) (capacity : ℕ) (requests : List (Request K V)) (answers : List (Answer K V))
+      (cache : CacheState K V S W) →
       Runs keys weighs (new_cache settings weigher capacity) requests answers cache →
       AreWritesOf keys.eq (keeps_writes cache.settings.policy) cache.contents
 
   -- from a new cache each entry has its key's hash, and a weight of 32 bits
   abbrev pub EntriesAreOwn : Type 0
   EntriesAreOwn =
-      (settings : Settings S) (weigher : W) (capacity : ℕ) (requests : List (Request K V)) (answers : List (Answer K V)) (cache : CacheState K V S W) →
+      (settings : Settings S) (weigher : W) (capacity : ℕ) (requests : List (Request K V)) (answers : List (Answer K V))
+      (cache : CacheState K V S W) →
       Runs keys weighs (new_cache settings weigher capacity) requests answers cache →
       All (λ e. (e.hash ≡ keys.hash_of cache.settings.hash_state e.key) × (e.weight < 2 ^ 32)) cache.contents.entries
 
@@ -107,11 +115,13 @@ module _ {K V S W : Type 0} (keys : Keys K S) (weighs : W → K → V → ℕ �
   -- a look counts nothing, and what remains of it is as it was
   abbrev pub LooksChangeNothing : Type 0
   LooksChangeNothing =
-      (old new : CacheState K V S W) (request : Request K V) (answer : Answer K V) → IsLook request → IsStep keys weighs old request answer new →
+      (old new : CacheState K V S W) (request : Request K V) (answer : Answer K V) → IsLook request →
+      IsStep keys weighs old request answer new →
       (new.sketch ≡ old.sketch) × Remains old.contents new.contents
 
   -- an invalidation keeps what was counted, and what remains of it is as it was
   abbrev pub InvalidationsKeepCounts : Type 0
   InvalidationsKeepCounts =
-      (old new : CacheState K V S W) (request : Request K V) (answer : Answer K V) → IsInvalidation request → IsStep keys weighs old request answer new →
+      (old new : CacheState K V S W) (request : Request K V) (answer : Answer K V) → IsInvalidation request →
+      IsStep keys weighs old request answer new →
       (new.sketch ≡ old.sketch) × Remains old.contents new.contents

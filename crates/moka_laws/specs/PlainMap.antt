@@ -7,7 +7,8 @@ use Rattle.moka_base.specs.Policy.{Policy}
 use Rattle.moka_machine.specs.CacheState.{CacheState}
 use Rattle.moka_machine.specs.Invalidate.{chosen}
 use Rattle.moka_machine.specs.Iterate.{pairs_of}
-use Rattle.moka_machine.specs.Step.{Answer, IsStep, Request, Runs, Get, ContainsKey, Insert, Invalidate, InvalidateAll, InvalidateEntriesIf, Iterate, EntryCount, WeightedSize, Found, Truth, Done, OutOfMemory, Pairs, Number}
+use Rattle.moka_machine.specs.Step.{Answer, IsStep, Request, Runs, Get, ContainsKey, Insert, Invalidate, InvalidateAll, InvalidateEntriesIf}
+use Rattle.moka_machine.specs.Step.{Iterate, EntryCount, WeightedSize, Found, Truth, Done, OutOfMemory, Pairs, Number}
 
 -- there is no limit and no duration
 abbrev pub IsUnbounded : Policy → Type 0

@@ -2,7 +2,8 @@
 ghost use Rattle.moka_base.specs.Keys.{keys_by};
 ghost use Rattle.std.specs.Prelude.{◌≡◌};
 ghost use Rattle.moka_machine.specs.declared.constants.TheConstants.{EVICTION_BATCH_SIZE};
-ghost use Rattle.moka_laws.specs.Laws.{EntriesAreOwn, InvalidationsKeepCounts, KeysStandOnce, LooksChangeNothing, NeverRefuses, OnlyUpdatesOutgrowLimit, StaysWithinLimit, WritesFollowEntries};
+ghost use Rattle.moka_laws.specs.Laws.{EntriesAreOwn, InvalidationsKeepCounts, KeysStandOnce, LooksChangeNothing};
+ghost use Rattle.moka_laws.specs.Laws.{NeverRefuses, OnlyUpdatesOutgrowLimit, StaysWithinLimit, WritesFollowEntries};
 ghost use Rattle.moka_laws.specs.PlainMap.{RunsAsMap, StepsAsMap};
 
 use moka_base::weigh::Weigh;

@@ -1,5 +1,6 @@
 -- A rule of all pairs is kept by the steps on a shard.
-use Rattle.std.proofs.Common.{◌≡◌, ◌≤◌, ◌==◌, ℕ, Bool, true, false, not, cond, List, [], ◌∷◌, ◌++◌, map, filter, Option, Some, None, refl, sym, ◌∙◌, ap, subst, arith}
+use Rattle.std.proofs.Common.{◌≡◌, ◌≤◌, ◌==◌, ℕ, Bool, true, false, not, cond, List, [], ◌∷◌, ◌++◌}
+use Rattle.std.proofs.Common.{map, filter, Option, Some, None, refl, sym, ◌∙◌, ap, subst, arith}
 use Rattle.std.proofs.Common.{All, inl, inr, Result, Ok, Err, IfOk, IfSome}
 use Rattle.std.specs.Option.{option_map}
 use Rattle.std.specs.Cmp.{IsEquivalence}
@@ -143,7 +144,8 @@ module _ {K V : Type 0} where
     after_change_meet t name.Leaves es meet = All-filter (λ e. not (is_of t e)) Meets es meet
 
     -- so does an invalidation
-    pub invalidation_meet : {S : Type 0} (old : ShardState K V S) (found : Option (Entry K V)) (answer : Option Ticket) (new : ShardState K V S)
+    pub invalidation_meet : {S : Type 0} (old : ShardState K V S) (found : Option (Entry K V)) (answer : Option Ticket)
+        (new : ShardState K V S)
         → IsInvalidation old found answer new → AllMeet holds old.entries → AllMeet holds new.entries
     invalidation_meet old None answer new (is, same) meet = rw same meet
     invalidation_meet old (Some e) answer new (is, same) meet = rw same (All-filter (λ x. not (is_of e.ticket x)) Meets old.entries meet)
@@ -224,7 +226,8 @@ module _ {K V : Type 0} where
 
   -- the pairs that count come once by their keys
   pub pairs_once : {S : Type 0} (eq : K → K → Bool) (settings : Settings S) (valid_after now : ℕ) (shard : ShardState K V S)
-      → IsDistinct eq (map (λ e. e.key) shard.entries) → IsDistinct eq (map {A = K × V} (λ p. p.0) (pairs_at settings valid_after now shard))
+      → IsDistinct eq (map (λ e. e.key) shard.entries) → IsDistinct eq
+      (map {A = K × V} (λ p. p.0) (pairs_at settings valid_after now shard))
   unfolding IsDistinct
   pairs_once eq settings valid_after now shard once = kept shard.entries once
     where

@@ -1,5 +1,6 @@
 -- A turn behind the lock of the maintenance.
-use Rattle.std.proofs.Common.{◌≡◌, ◌∙◌, ◌<◌, ◌≤◌, ◌-◌, ℕ, Bool, true, false, List, [], ◌∷◌, length, Option, Some, None, if◌then◌else◌, ap, refl, sym, subst, arith}
+use Rattle.std.proofs.Common.{◌≡◌, ◌∙◌, ◌<◌, ◌≤◌, ◌-◌, ℕ, Bool, true, false, List, [], ◌∷◌, length}
+use Rattle.std.proofs.Common.{Option, Some, None, drop, slice_get, if◌then◌else◌, ap, refl, sym, subst, arith}
 use Rattle.moka_base.specs.Settings.{Settings}
 use Rattle.moka_engine.specs.declared.entry.EntryChange.{EntryChange}
 use Rattle.moka_engine.specs.declared.operation.Read.{Read}
@@ -17,11 +18,14 @@ use Rattle.moka_engine.specs.Place.{Place, Idle, Work, is_idle, name_of}
 use Rattle.moka_engine.specs.Turn.Plan.{AtReads, AtWrites, gone_to}
 use Rattle.moka_engine.specs.Turn.Turn.{after_read_taken, after_write_taken, turn_at}
 use Rattle.moka_core.proofs.MaintenanceLemmas.{applied_later, not_named_idle, reads_on}
-use Rattle.moka_maintenance.specs.Taken.{TakesRead, TakesWrite, having_applied, having_taken, having_taken_write, place_with, place_with_write}
+use Rattle.moka_maintenance.specs.Taken.{TakesRead, TakesWrite, having_applied, having_taken}
+use Rattle.moka_maintenance.specs.Taken.{having_taken_write, place_with, place_with_write, writes_left}
 use Rattle.moka_steps.specs.Steps.{TakesTurns}
 use Rattle.moka_steps.specs.Steps as steps
 use Rattle.moka_locks.specs.Locked.{Locked, kept_running, locked_allows, running}
-use Rattle.moka_locks.specs.MaintenanceTurn.{AreTurns, IsPlanned, IsTurn, MoreTurns, OneTurn}
+use Rattle.moka_locks.specs.MaintenanceTurn.{AreTurns, IsPlanned, IsTurn, IsWorkingTurn, MoreTurns}
+use Rattle.moka_locks.specs.MaintenanceTurn.{OneTurn, TakesFirst, Working, empty_handed}
+use Rattle.moka_locks.proofs.WritesLeftLemmas.{keeps_left}
 
 -- one that looks at an entry
 pub at_entry : {K V S : Type 0} (settings : Settings S) (valid_after : ℕ) (refused : Bool) (old new : Maintenance)
@@ -36,21 +40,31 @@ pub alone : (K V : Type 0) {S : Type 0} (settings : Settings S) (valid_after : �
 alone K V settings valid_after refused old new turn = (valid_after, refused, subst (λ plan. IsPlanned plan new) (sym turn) refl)
 
 -- one that looks at the read log
-pub with_reads : {K V S : Type 0} (settings : Settings S) (valid_after : ℕ) (refused : Bool) (old new : Maintenance) (old_log new_log : List Read)
+pub with_reads : {K V S : Type 0} (settings : Settings S) (valid_after : ℕ) (refused : Bool) (old new : Maintenance)
+    (old_log new_log : List Read)
     → TurnsWithReads K V settings valid_after refused old new old_log new_log → IsTurn K V settings old new
-with_reads settings valid_after refused old new old_log new_log turn =
-    (valid_after, refused, subst (λ plan. IsPlanned plan new) (sym turn.is) (old_log, ap (λ (end : Maintenance × List Read). end.0) turn.ends))
+with_reads settings valid_after refused old new old_log new_log turn = (
+  valid_after,
+  refused,
+  subst (λ plan. IsPlanned plan new) (sym turn.is)
+      (old_log, ap (λ (end : Maintenance × List Read). end.0) turn.ends),
+)
 
 -- one that looks at the write log
 pub with_writes : {K V S : Type 0} (settings : Settings S) (valid_after : ℕ) (refused : Bool) (old new : Maintenance)
     (old_log new_log : List Write) → TurnsWithWrites K V settings valid_after refused old new old_log new_log → IsTurn K V settings old new
-with_writes settings valid_after refused old new old_log new_log turn =
-    (valid_after, refused, subst (λ plan. IsPlanned plan new) (sym turn.is) (old_log, ap (λ (end : Maintenance × List Write). end.0) turn.ends))
+with_writes settings valid_after refused old new old_log new_log turn = (
+  valid_after,
+  refused,
+  subst (λ plan. IsPlanned plan new) (sym turn.is)
+      (old_log, ap (λ (end : Maintenance × List Write). end.0) turn.ends),
+)
 
 -- a maintenance that isn't idle is kept
-pub kept_elsewhere : (m : Maintenance) (place : PlaceName) → place ≡ name_of m.place → (place ≡ name.Idle → ⊥) → kept_running m ≡ Some m
-kept_elsewhere m place is elsewhere =
-    ap (λ b. if b then None else Some m) (busy m.place (λ idle. elsewhere (is ∙ idle)))
+pub kept_elsewhere : (w : Working) (place : PlaceName) → place ≡ name_of w.maintenance.place → (place ≡ name.Idle → ⊥)
+    → kept_running w ≡ Some w
+kept_elsewhere w place is elsewhere =
+    ap (λ b. if b then None else Some w) (busy w.maintenance.place (λ idle. elsewhere (is ∙ idle)))
   where
     busy : (p : Place) → (name_of p ≡ name.Idle → ⊥) → is_idle p ≡ false
     busy Idle other = absurd (other refl)
@@ -61,48 +75,113 @@ names_idle name.Idle = true
 names_idle other = false
 
 -- one that is idle is given back
-pub given_back : (m : Maintenance) (place : PlaceName) → place ≡ name_of m.place → place ≡ name.Idle → kept_running m ≡ None
-given_back m place is idle = ap (λ b. if b then None else Some m) (same m.place ∙ ap names_idle (sym is ∙ idle))
+pub given_back : (w : Working) (place : PlaceName) → place ≡ name_of w.maintenance.place → place ≡ name.Idle → kept_running w ≡ None
+given_back w place is idle =
+    ap (λ b. if b then None else Some w) (same w.maintenance.place ∙ ap names_idle (sym is ∙ idle))
   where
     same : (p : Place) → is_idle p ≡ names_idle (name_of p)
     same Idle = refl
     same p = refl
 
+-- ---- turns with writes at hand
+
+-- a maintenance with these
+abbrev pub holding : List Write → Maintenance → Working
+holding at_hand m = record { maintenance = m; at_hand = at_hand }
+
+module _ (K V : Type 0) {S : Type 0} (settings : Settings S) where
+  -- a turn that takes no write leaves them
+  pub keeping : (at_hand : List Write) (old new : Maintenance) → (TakesWrite old → ⊥) → length at_hand ≤ writes_left old.place
+      → IsTurn K V settings old new → IsWorkingTurn K V settings (holding at_hand old) (holding at_hand new)
+  keeping at_hand old new other left turn = record {
+    turn = turn;
+    takes = λ takes. absurd (other takes);
+    keeps = λ _. refl;
+    within = omega (arith, left, keeps_left K V settings old new other turn);
+  }
+
+  -- it may be all
+  pub keeping_all : (at_hand : List Write) (old new : Maintenance) → (TakesWrite old → ⊥) → length at_hand ≤ writes_left old.place
+      → IsTurn K V settings old new → AreTurns K V settings (holding at_hand old) (holding at_hand new)
+  keeping_all at_hand old new other left turn =
+      OneTurn (holding at_hand old) (holding at_hand new) (keeping at_hand old new other left turn)
+
+-- this was found first of those at hand, if there are any, and these are left of them
+abbrev pub IsFirst : List Write → List Write → Option Write → Type 0
+IsFirst at_hand left found = 0 < length at_hand → (found ≡ slice_get at_hand 0) × (left ≡ drop 1 at_hand)
+
+-- a write that is first at hand is the one that is taken
+pub takes_first : (at_hand left : List Write) (found : Option Write) (write : Write) (old : Maintenance)
+    → IsFirst at_hand left found → found ≡ Some write → TakesFirst at_hand old (holding left (having_taken_write write old))
+takes_first [] left found write old first is = tt
+takes_first (next ∷ others) left found write old first is =
+    let (there, rest) = first (omega arith) in
+    let same : write ≡ next = cc in
+    (ap (λ w. having_taken_write w old) same, rest)
+
+-- where none is taken, none was at hand
+pub none_first : (at_hand left : List Write) (found : Option Write) → IsFirst at_hand left found → found ≡ None → at_hand ≡ []
+none_first [] left found first is = refl
+none_first (next ∷ others) left found first is =
+    let (there, rest) = first (omega arith) in
+    absurd (cc)
+
 -- ---- reads that are taken and applied
 
 module _ (K V : Type 0) {S : Type 0} (settings : Settings S) where
-  taken_turn : (work : Work) (read : Read) (m : Maintenance) → m.place ≡ place.Reads work → IsTurn K V settings m (having_taken read m)
+  -- while reads are taken no write is at hand
+  abbrev Turns : Maintenance → Maintenance → Type 0
+  Turns old new = AreTurns K V settings (empty_handed old) (empty_handed new)
+
+  abbrev Turn : Maintenance → Maintenance → Type 0
+  Turn old new = IsWorkingTurn K V settings (empty_handed old) (empty_handed new)
+
+  not_write : (work : Work) (m : Maintenance) → m.place ≡ place.Reads work → TakesWrite m → ⊥
+  not_write work m at (other, is) = absurd (cc)
+
+  not_write_then : (work : Work) (read : Read) (m : Maintenance) → m.place ≡ place.Reads work → TakesWrite (having_taken read m) → ⊥
+  not_write_then work read m at (other, is) =
+      let taken : place.ReadApply (record work { left = work.left - 1 }) read ≡ place.Writes other =
+      sym (ap (place_with read) at) ∙ is in
+      absurd (cc)
+
+  taken_turn : (work : Work) (read : Read) (m : Maintenance) → m.place ≡ place.Reads work → Turn m (having_taken read m)
   taken_turn work read m at =
       let plan : turn_at {K = K} {V = V} settings 0 false m.place m ≡ AtReads (after_read_taken work m) =
       ap (λ p. turn_at settings 0 false p m) at in
       let is : having_taken read m ≡ (after_read_taken work m (read ∷ [])).0 = ap (λ p. gone_to (place_with read p) m) at in
+      keeping K V settings [] m (having_taken read m) (not_write work m at) (omega arith)
       (0, false, subst (λ plan. IsPlanned plan (having_taken read m)) (sym plan) (read ∷ [], is))
 
   taken_busy : (work : Work) (read : Read) (m : Maintenance) → m.place ≡ place.Reads work → is_idle (having_taken read m).place ≡ false
   taken_busy work read m at = ap (λ p. is_idle (place_with read p)) at
 
   applied_turn : (work : Work) (read : Read) (m : Maintenance) → m.place ≡ place.Reads work
-      → IsTurn K V settings (having_taken read m) (having_applied work (read ∷ []) m)
-  applied_turn work read m at = subst (λ p. IsTurn K V settings (gone_to (place_with read p) m) (having_applied work (read ∷ []) m)) (sym at) (by read)
+      → Turn (having_taken read m) (having_applied work (read ∷ []) m)
+  applied_turn work read m at =
+      keeping K V settings [] (having_taken read m) (having_applied work (read ∷ []) m) (not_write_then work read m at) (omega arith)
+      (subst (λ p. IsTurn K V settings (gone_to (place_with read p) m) (having_applied work (read ∷ []) m)) (sym at) (by read))
     where
       by : (read : Read) → IsTurn K V settings (gone_to (place_with read (place.Reads work)) m) (having_applied work (read ∷ []) m)
       by (Hit t moment) = (0, false, (None, refl))
       by (Miss hash) = (0, false, refl)
 
   -- where there is none, nothing changes
-  pub takes_nothing : (m : Maintenance) → TakesRead m → AreTurns K V settings m m
+  pub takes_nothing : (m : Maintenance) → TakesRead m → Turns m m
   takes_nothing m (work, at) =
       let plan : turn_at {K = K} {V = V} settings 0 false m.place m ≡ AtReads (after_read_taken work m) =
       ap (λ p. turn_at settings 0 false p m) at in
-      OneTurn m m (0, false, subst (λ plan. IsPlanned plan m) (sym plan) ([], refl))
+      keeping_all K V settings [] m m (not_write work m at) (omega arith)
+      (0, false, subst (λ plan. IsPlanned plan m) (sym plan) ([], refl))
 
   -- others take two turns each
   pub reads_turn : (reads : List Read) (work : Work) (m : Maintenance) → m.place ≡ place.Reads work → 0 < length reads
-      → length reads ≤ work.left → AreTurns K V settings m (having_applied work reads m)
+      → length reads ≤ work.left → Turns m (having_applied work reads m)
   reads_turn [] work m at some left = absurd (omega (arith, some))
   reads_turn (read ∷ []) work m at some left =
-      MoreTurns m (having_taken read m) (having_applied work (read ∷ []) m) (taken_busy work read m at) (taken_turn work read m at)
-      (OneTurn (having_taken read m) (having_applied work (read ∷ []) m) (applied_turn work read m at))
+      MoreTurns (empty_handed m) (empty_handed (having_taken read m)) (empty_handed (having_applied work (read ∷ []) m))
+      (taken_busy work read m at) (taken_turn work read m at)
+      (OneTurn (empty_handed (having_taken read m)) (empty_handed (having_applied work (read ∷ []) m)) (applied_turn work read m at))
   reads_turn (read ∷ (next ∷ reads)) work m at some left =
       let less : Work = record work { left = work.left - 1 } in
       let mid = having_applied work (read ∷ []) m in
@@ -110,9 +189,10 @@ module _ (K V : Type 0) {S : Type 0} (settings : Settings S) where
       let on : mid.place ≡ place.Reads less = reads_on less (omega (arith, left)) in
       let same : having_applied less (next ∷ reads) mid ≡ end =
       applied_later work read (next ∷ reads) m (omega (arith, left)) in
-      MoreTurns m (having_taken read m) end (taken_busy work read m at) (taken_turn work read m at)
-      (MoreTurns (having_taken read m) mid end (ap is_idle on) (applied_turn work read m at)
-      (subst (AreTurns K V settings mid) same (reads_turn (next ∷ reads) less mid on (omega arith) (omega (arith, left)))))
+      MoreTurns (empty_handed m) (empty_handed (having_taken read m)) (empty_handed end) (taken_busy work read m at)
+      (taken_turn work read m at)
+      (MoreTurns (empty_handed (having_taken read m)) (empty_handed mid) (empty_handed end) (ap is_idle on)
+      (applied_turn work read m at) (subst (Turns mid) same (reads_turn (next ∷ reads) less mid on (omega arith) (omega (arith, left)))))
 
 -- ---- a write that is
 
@@ -123,41 +203,64 @@ module _ (K V : Type 0) {S : Type 0} (settings : Settings S) (m : Maintenance) (
       ap (λ p. turn_at settings 0 false p m) takes.1 in
       (0, false, subst (λ plan. IsPlanned plan (after_write_taken takes.0 m log).0) (sym is) (log, refl))
 
-  -- where the log is empty, nothing changes
-  pub takes_no_write : AreTurns K V settings m m
-  takes_no_write = OneTurn m m (with_write_log [])
+  -- where none is at hand and the log is empty, nothing changes
+  pub takes_no_write : AreTurns K V settings (empty_handed m) (empty_handed m)
+  takes_no_write =
+      OneTurn (empty_handed m) (empty_handed m)
+      (record { turn = with_write_log []; takes = λ _. tt; keeps = λ other. absurd (other takes); within = omega arith })
 
-  -- two turns
-  pub written : (write : Write) (new : Maintenance) → IsTurn K V settings (having_taken_write write m) new → AreTurns K V settings m new
-  written write new applied =
+  applies_write : (write : Write) → TakesWrite (having_taken_write write m) → ⊥
+  applies_write write (other, is) =
+      let taken : place.Apply (record takes.0 { left = takes.0.left - 1 }) write ≡ place.Writes other =
+      sym (ap (place_with_write write) takes.1) ∙ is in
+      absurd (cc)
+
+  -- two turns, of which the first takes the first of those at hand
+  pub written : (at_hand left : List Write) (found : Option Write) (write : Write) (new : Maintenance) → IsFirst at_hand left found
+      → found ≡ Some write → length left < writes_left m.place → IsTurn K V settings (having_taken_write write m) new
+      → AreTurns K V settings (holding at_hand m) (holding left new)
+  written at_hand left found write new first taken less applied =
       let is : gone_to (place_with_write write m.place) m ≡ (after_write_taken takes.0 m (write ∷ [])).0 =
       ap (λ p. gone_to (place_with_write write p) m) takes.1 in
-      MoreTurns m (having_taken_write write m) new (ap (λ p. is_idle (place_with_write write p)) takes.1)
-      (subst (IsTurn K V settings m) (sym is) (with_write_log (write ∷ []))) (OneTurn (having_taken_write write m) new applied)
+      MoreTurns (holding at_hand m) (holding left (having_taken_write write m)) (holding left new)
+      (ap (λ p. is_idle (place_with_write write p)) takes.1)
+      (record {
+        turn = subst (IsTurn K V settings m) (sym is) (with_write_log (write ∷ []));
+        takes = λ _. takes_first at_hand left found write m first taken;
+        keeps = λ other. absurd (other takes);
+        within = within;
+      })
+      (keeping_all K V settings left (having_taken_write write m) new (applies_write write) within applied)
+    where
+      within : length left ≤ writes_left (having_taken_write write m).place
+      within = omega (arith, less, ap writes_left takes.1, ap (λ p. writes_left (place_with_write write p)) takes.1)
 
   -- of which the second applies a removal
-  pub removed : (valid_after : ℕ) (t : Ticket) (new : Maintenance)
-      → TurnsAlone K V settings valid_after false (having_taken_write (Remove t) m) new → AreTurns K V settings m new
-  removed valid_after t new turn =
-      written (Remove t) new (alone K V settings valid_after false (having_taken_write (Remove t) m) new turn)
+  pub removed : (at_hand left : List Write) (found : Option Write) (valid_after : ℕ) (t : Ticket) (new : Maintenance)
+      → IsFirst at_hand left found → found ≡ Some (Remove t) → length left < writes_left m.place
+      → TurnsAlone K V settings valid_after false (having_taken_write (Remove t) m) new
+      → AreTurns K V settings (holding at_hand m) (holding left new)
+  removed at_hand left found valid_after t new first taken less turn =
+      written at_hand left found (Remove t) new first taken less
+      (alone K V settings valid_after false (having_taken_write (Remove t) m) new turn)
 
 -- ---- turns of a locked cache
 
 module _ {K V S W : Type 0} (holds : K → V → Type 0) where
-  allowed : (settings : Settings S) (m next : Maintenance) → AreTurns K V settings m next → (old : Locked S W)
-      → old.cache.settings ≡ settings → old.maintenance ≡ Some m → (place : PlaceName) → place ≡ name_of next.place → (new : Locked S W)
-      → new ≡ running (kept_running next) old → TakesTurns (locked_allows holds) place old new
-  allowed settings m next (OneTurn _ _ turn) old same had place at new is =
-      steps.OneTurn place old new (m, next, had, subst (λ s. IsTurn K V s m next) (sym same) turn, at, is)
-  allowed settings m next (MoreTurns _ mid _ more first others) old same had place at new is =
+  allowed : (settings : Settings S) (w next : Working) → AreTurns K V settings w next → (old : Locked S W)
+      → old.cache.settings ≡ settings → old.working ≡ Some w → (place : PlaceName) → place ≡ name_of next.maintenance.place
+      → (new : Locked S W) → new ≡ running (kept_running next) old → TakesTurns (locked_allows holds) place old new
+  allowed settings w next (OneTurn _ _ turn) old same had place at new is =
+      steps.OneTurn place old new (w, next, had, subst (λ s. IsWorkingTurn K V s w next) (sym same) turn, at, is)
+  allowed settings w next (MoreTurns _ mid _ more first others) old same had place at new is =
       let kept : running (Some mid) old ≡ running (kept_running mid) old =
       sym (ap (λ b. running (if b then None else Some mid) old) more) in
-      steps.MoreTurns place (name_of mid.place) old (running (Some mid) old) new (not_named_idle mid.place more)
-      (m, mid, had, subst (λ s. IsTurn K V s m mid) (sym same) first, refl, kept)
+      steps.MoreTurns place (name_of mid.maintenance.place) old (running (Some mid) old) new (not_named_idle mid.maintenance.place more)
+      (w, mid, had, subst (λ s. IsWorkingTurn K V s w mid) (sym same) first, refl, kept)
       (allowed settings mid next others (running (Some mid) old) same refl place at new is)
 
   -- what the maintenance does is allowed
-  pub turns_allowed : (old : Locked S W) (m next : Maintenance) → old.maintenance ≡ Some m → (place : PlaceName) → place ≡ name_of next.place
-      → (new : Locked S W) → new ≡ running (kept_running next) old → AreTurns K V old.cache.settings m next
-      → TakesTurns (locked_allows holds) place old new
-  turns_allowed old m next had place at new is turns = allowed old.cache.settings m next turns old refl had place at new is
+  pub turns_allowed : (old : Locked S W) (w next : Working) → old.working ≡ Some w → (place : PlaceName)
+      → place ≡ name_of next.maintenance.place → (new : Locked S W) → new ≡ running (kept_running next) old
+      → AreTurns K V old.cache.settings w next → TakesTurns (locked_allows holds) place old new
+  turns_allowed old w next had place at new is turns = allowed old.cache.settings w next turns old refl had place at new is

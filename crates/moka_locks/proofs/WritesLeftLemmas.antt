@@ -31,7 +31,8 @@ module _ (work : Work) where
       cond_both (eqb work.left 0) (place.Sketch work.round) (place.Writes work) Leaves (λ none. omega (arith, eqb-true work.left 0 none))
       (λ some. omega arith)
 
-  left_removing : (c : Candidate) (tally : Tally) (skipped : List Ticket) (left : List Seen) → Leaves (removing_or_enter work c tally skipped left)
+  left_removing : (c : Candidate) (tally : Tally) (skipped : List Ticket) (left : List Seen)
+      → Leaves (removing_or_enter work c tally skipped left)
   left_removing c tally skipped [] = omega arith
   left_removing c tally skipped (s ∷ left) = omega arith
 
@@ -96,7 +97,8 @@ module _ (K V : Type 0) {S : Type 0} (settings : Settings S) where
       → IsPlanned (turn_at {K = K} {V = V} settings valid_after refused p m) new → writes_left p ≤ writes_left new.place
   kept_at valid_after refused (place.Writes work) m new other turn = absurd (other work refl)
   kept_at valid_after refused (place.Apply work (Upsert t)) m new other turn =
-      planned work K V (turn_at settings valid_after refused (place.Apply work (Upsert t)) m) new (left_upsert work K V settings refused t m) turn
+      planned work K V (turn_at settings valid_after refused (place.Apply work (Upsert t)) m) new
+      (left_upsert work K V settings refused t m) turn
   kept_at valid_after refused (place.Apply work (Remove t)) m new other turn =
       planned work K V (turn_at settings valid_after refused (place.Apply work (Remove t)) m) new (left_on work) turn
   kept_at valid_after refused (place.Scan work c tally seen) m new other turn =
@@ -106,7 +108,8 @@ module _ (K V : Type 0) {S : Type 0} (settings : Settings S) where
       planned work K V (turn_at settings valid_after refused (place.Removing work c tally skipped left) m) new
       (left_victims work K V c tally skipped m left) turn
   kept_at valid_after refused (place.Enter work c skipped) m new other turn =
-      planned work K V (turn_at settings valid_after refused (place.Enter work c skipped) m) new (left_entering work K V settings c skipped m) turn
+      planned work K V (turn_at settings valid_after refused (place.Enter work c skipped) m) new
+      (left_entering work K V settings c skipped m) turn
   kept_at valid_after refused p m new other turn = omega arith
 
   -- a turn that takes no write
@@ -117,7 +120,8 @@ module _ (K V : Type 0) {S : Type 0} (settings : Settings S) where
   pub takes_one : (write : Write) (m new : Maintenance) → TakesWrite m → IsTurn K V settings (having_taken_write write m) new
       → writes_left m.place ≤ writes_left new.place + 1
   takes_one write m new (work, at) turn =
-      let taken : (having_taken_write write m).place ≡ place.Apply (record work { left = work.left - 1 }) write = ap (place_with_write write) at in
+      let taken : (having_taken_write write m).place ≡ place.Apply (record work { left = work.left - 1 }) write =
+      ap (place_with_write write) at in
       let kept : writes_left (having_taken_write write m).place ≤ writes_left new.place =
       keeps_left (having_taken_write write m) new (λ takes. not_taking (sym taken ∙ takes.1)) turn in
       omega (arith, ap writes_left at, ap writes_left taken, kept)

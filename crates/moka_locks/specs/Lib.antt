@@ -1,4 +1,3 @@
-pub mod Builder
 pub mod Rule
 pub mod Cache
 pub mod Locked

@@ -2,7 +2,8 @@
 use Rattle.std.specs.Prelude.{◌≡◌, ◌⊎◌, ℕ, Bool, Option, None, Some, is_some, if◌then◌else◌}
 use Rattle.moka_engine.specs.declared.event.Event.{Event}
 use Rattle.moka_engine.specs.declared.event.Event.TheVariants.{Insert, Get, Contains, Invalidate, InvalidateAll, Push, Forget, Begin, Turn}
-use Rattle.moka_engine.specs.declared.event.Reply.TheVariants.{Done, Found, Bool as Truth, Discarded, At, NotPossible, OutOfMemory, TicketsUsedUp}
+use Rattle.moka_engine.specs.declared.event.Reply.TheVariants.{Done, Found, Bool as Truth, Discarded, At}
+use Rattle.moka_engine.specs.declared.event.Reply.TheVariants.{NotPossible, OutOfMemory, TicketsUsedUp}
 use Rattle.moka_engine.specs.declared.operation.Operation.{Operation}
 use Rattle.moka_engine.specs.declared.operation.Operation.TheVariants.{Reading, Writing}
 use Rattle.moka_engine.specs.declared.operation.Read.{Read}
@@ -19,7 +20,7 @@ use Rattle.moka_steps.specs.Steps.{Caller}
 use Rattle.moka_locks.specs.declared.locked.Pending.{Pending}
 use Rattle.moka_locks.specs.declared.locked.Pending.TheVariants as pending
 use Rattle.moka_locks.specs.Cache.{Cache}
-use Rattle.moka_locks.specs.MaintenanceTurn.{IsTurn}
+use Rattle.moka_locks.specs.MaintenanceTurn.{IsWorkingTurn, Working, empty_handed}
 
 -- the operation that is pending
 abbrev pub operation_of : Pending → Option Operation
@@ -27,40 +28,40 @@ operation_of pending.Nothing = None
 operation_of (pending.Read logged) = Some (Reading logged.read)
 operation_of (pending.Write write) = Some (Writing write)
 
--- the cache, the operation that the caller has not pushed yet, and the maintenance that it runs
+-- the cache, the operation that the caller has not pushed yet, and the maintenance that it runs, with the writes at hand
 pub record Locked (S W : Type 0) : Type 0 where
   pub cache : Cache S W
   pub pending : Option Operation
-  pub maintenance : Option Maintenance
+  pub working : Option Working
 
 module _ {S W : Type 0} where
   -- what the caller has under way
   abbrev pub locked_caller : Locked S W → Caller
-  locked_caller locked = record { pending = kind_of locked.pending; is_maintaining = is_some locked.maintenance }
+  locked_caller locked = record { pending = kind_of locked.pending; is_maintaining = is_some locked.working }
 
   -- it has nothing under way
   abbrev pub resting_at : Cache S W → Locked S W
-  resting_at cache = record { cache = cache; pending = None; maintenance = None }
+  resting_at cache = record { cache = cache; pending = None; working = None }
 
   -- it has left this
   abbrev pub leaving : Option Operation → Locked S W → Locked S W
   leaving operation locked = record locked { pending = operation }
 
   -- it runs this maintenance
-  abbrev pub running : Option Maintenance → Locked S W → Locked S W
-  running maintenance locked = record locked { maintenance = maintenance }
+  abbrev pub running : Option Working → Locked S W → Locked S W
+  running working locked = record locked { working = working }
 
 -- a look at a log and at the time may decide anything, and changes nothing that the caller has under way
 abbrev pub locked_decides : {S W : Type 0} → Locked S W → Log → ℕ → Bool → Locked S W → Type 0
 locked_decides old log now runs new = new ≡ old
 
 -- a maintenance that has ended is given back
-abbrev pub kept_running : Maintenance → Option Maintenance
-kept_running m = if is_idle m.place then None else Some m
+abbrev pub kept_running : Working → Option Working
+kept_running w = if is_idle w.maintenance.place then None else Some w
 
 module _ {K V S W : Type 0} (holds : K → V → Type 0) where
-  -- what a step may reply and leave, whatever other callers do meanwhile: what the caller has under way is exact, each value found meets the
-  -- pair rule, and the maintenance takes the turns of the definitions
+  -- what a step may reply and leave, whatever other callers do meanwhile: what the caller has under way is exact,
+  -- each value found meets the pair rule, and the maintenance takes the turns of the definitions
   abbrev pub locked_allows : Locked S W → Event K V → Reply K V → Locked S W → Type 0
   locked_allows old (Insert caller key value now) Done new = (t : Ticket) × (new ≡ leaving (Some (Writing (Upsert t))) old)
   locked_allows old (Insert caller key value now) OutOfMemory new = new ≡ old
@@ -78,8 +79,8 @@ module _ {K V S W : Type 0} (holds : K → V → Type 0) where
   locked_allows old (Push caller) NotPossible new = ((write : Write) × (old.pending ≡ Some (Writing write))) × (new ≡ old)
   locked_allows old (Forget caller) Done new = new ≡ leaving None old
   locked_allows old (Begin now) Done new =
-      (m : Maintenance) × (m.place ≡ Idle) × (new ≡ running (Some (record m { place = ReadCount 1; moment = now })) old)
+      (m : Maintenance) × (m.place ≡ Idle) × (new ≡ running (Some (empty_handed (record m { place = ReadCount 1; moment = now }))) old)
   locked_allows old Turn (At place) new =
-      (m : Maintenance) × (next : Maintenance) × (old.maintenance ≡ Some m) × IsTurn K V old.cache.settings m next
-      × (place ≡ name_of next.place) × (new ≡ running (kept_running next) old)
+      (w : Working) × (next : Working) × (old.working ≡ Some w) × IsWorkingTurn K V old.cache.settings w next
+      × (place ≡ name_of next.maintenance.place) × (new ≡ running (kept_running next) old)
   locked_allows old event reply new = ⊥

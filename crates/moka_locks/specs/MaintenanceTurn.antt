@@ -1,5 +1,5 @@
 -- What a turn of the maintenance does behind its lock, whatever it finds behind another.
-use Rattle.std.specs.Prelude.{◌≡◌, ℕ, Bool, false, List, [], ◌∷◌, Option}
+use Rattle.std.specs.Prelude.{◌≡◌, ◌≤◌, ℕ, Bool, false, List, [], ◌∷◌, length, Option}
 use Rattle.moka_base.specs.Settings.{Settings}
 use Rattle.moka_engine.specs.declared.operation.Read.{Read}
 use Rattle.moka_engine.specs.declared.operation.Write.{Write}
@@ -8,7 +8,7 @@ use Rattle.moka_engine.specs.Entry.{Entry}
 use Rattle.moka_engine.specs.Place.{is_idle}
 use Rattle.moka_engine.specs.Turn.Plan.{Plan, Alone, AtReads, AtWrites, AtEntry}
 use Rattle.moka_engine.specs.Turn.Turn.{turn_at}
-use Rattle.moka_maintenance.specs.Taken.{TakesWrite, having_taken_write}
+use Rattle.moka_maintenance.specs.Taken.{TakesWrite, having_taken_write, writes_left}
 
 -- the maintenance is what a plan makes of it, with some log, or some entry or none, where the plan looks at one
 abbrev pub IsPlanned : {K V : Type 0} → Plan K V → Maintenance → Type 0
@@ -22,17 +22,30 @@ abbrev pub IsTurn : (K V : Type 0) → {S : Type 0} → Settings S → Maintenan
 IsTurn K V settings old new =
     (valid_after : ℕ) × (refused : Bool) × IsPlanned (turn_at {K = K} {V = V} settings valid_after refused old.place old) new
 
--- one turn, or several, of which only the last may end the maintenance
-pub data AreTurns (K V : Type 0) {S : Type 0} (settings : Settings S) : Maintenance → Maintenance → Type 0 where
-  OneTurn : (old new : Maintenance) → IsTurn K V settings old new → AreTurns K V settings old new
-  MoreTurns : (old between new : Maintenance) → is_idle between.place ≡ false → IsTurn K V settings old between
+-- a maintenance, and the writes that have left their log and are not taken yet, the next one first
+pub record Working : Type 0 where
+  pub maintenance : Maintenance
+  pub at_hand : List Write
+
+-- none is at hand
+abbrev pub empty_handed : Maintenance → Working
+empty_handed m = record { maintenance = m; at_hand = [] }
+
+-- a turn that takes a write takes the first of those at hand, and leaves the others there; where there is none, some may leave their log
+abbrev pub TakesFirst : List Write → Maintenance → Working → Type 0
+TakesFirst [] old new = Unit {0}
+TakesFirst (write ∷ others) old new = (new.maintenance ≡ having_taken_write write old) × (new.at_hand ≡ others)
+
+-- one turn with the writes at hand, of which any but one that takes a write leaves all. There are never more of them than its round is
+-- still to take, so none where it ends
+pub record IsWorkingTurn (K V : Type 0) {S : Type 0} (settings : Settings S) (old new : Working) : Type 0 where
+  pub turn : IsTurn K V settings old.maintenance new.maintenance
+  pub takes : TakesWrite old.maintenance → TakesFirst old.at_hand old.maintenance new
+  pub keeps : (TakesWrite old.maintenance → ⊥) → new.at_hand ≡ old.at_hand
+  pub within : length new.at_hand ≤ writes_left new.maintenance.place
+
+-- one such turn, or several, of which only the last may end the maintenance
+pub data AreTurns (K V : Type 0) {S : Type 0} (settings : Settings S) : Working → Working → Type 0 where
+  OneTurn : (old new : Working) → IsWorkingTurn K V settings old new → AreTurns K V settings old new
+  MoreTurns : (old between new : Working) → is_idle between.maintenance.place ≡ false → IsWorkingTurn K V settings old between
       → AreTurns K V settings between new → AreTurns K V settings old new
-
--- two turns, of which the first takes this write and the second applies it
-abbrev pub AppliesWrite : (K V : Type 0) → {S : Type 0} → Settings S → Write → Maintenance → Maintenance → Type 0
-AppliesWrite K V settings write old new = TakesWrite old × IsTurn K V settings (having_taken_write write old) new
-
--- of the writes at hand, which have left their log, two such turns take and apply the first, if there is one, and the others stay at hand
-abbrev pub AppliesFirst : (K V : Type 0) → {S : Type 0} → Settings S → List Write → List Write → Maintenance → Maintenance → Type 0
-AppliesFirst K V settings [] left old new = Unit {0}
-AppliesFirst K V settings (write ∷ others) left old new = AppliesWrite K V settings write old new × (left ≡ others)

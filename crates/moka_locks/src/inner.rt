@@ -1,4 +1,4 @@
-// What all clones of a cache share: its shards, its logs and its maintenance, each behind a lock, and some words.
+//! What all clones of a cache share: its shards, its logs and its maintenance, each behind a lock, and some words.
 ghost use Rattle.std.specs.Prelude.{◌≡◌, ◌<◌, ◌≤◌, ◌+◌, ◌++◌, [], ◌∷◌, List, Some, drop, length, map, slice_get, IfOk, IfSome, IsNone, OnOk};
 ghost use Rattle.std.specs.List.{IsDistinct};
 ghost use Rattle.std.specs.Vec.{vec_len};
@@ -11,7 +11,7 @@ ghost use Rattle.moka_locks.specs.Rule.{PairsMeet};
 ghost use Rattle.moka_locks.specs.Snapshot.{IsSnapshot, own_pairs};
 ghost use Rattle.moka_engine.specs.CoreState.{Maintenance as MaintenanceState};
 ghost use Rattle.moka_engine.specs.Place.{Idle, ReadCount};
-ghost use Rattle.moka_locks.specs.MaintenanceTurn.{AppliesFirst, AreTurns};
+ghost use Rattle.moka_locks.specs.MaintenanceTurn.{AreTurns, empty_handed};
 ghost use Rattle.moka_maintenance.specs.Taken.{TakesRead, TakesWrite, writes_left};
 
 use crate::housekeeper::Housekeeper;
@@ -50,7 +50,7 @@ type LockedShards<K, V, S, P, A> = Vec<CachePadded<Mutex<RuledShard<K, V, S, P, 
 
 /// The locks of a cache, and what lies beside them. What threads write to lies on lines of its own.
 #[derive(Drop)]
-pub(crate) struct Inner<
+pub struct Inner<
     K: Eq + Hash + Drop,
     V: Drop,
     S: BuildHasher + Drop,
@@ -58,9 +58,9 @@ pub(crate) struct Inner<
     W: Drop,
     A: Allocator + Clone + Drop,
 > {
-    pub(crate) settings: Settings<S, A>,
-    pub(crate) weigher: W,
-    pub(crate) alloc: A,
+    settings: Settings<S, A>,
+    weigher: W,
+    alloc: A,
     shards: LockedShards<K, V, S, P, A>,
     logs: Logs<A>,
     /// Nothing while a maintenance is under way: then whoever runs it has the lock.
@@ -104,7 +104,7 @@ impl<
     A: Allocator + Clone + Drop,
 > Inner<K, V, S, P, W, A> {
     /// A cache of these parts, with nothing done to it, and its publisher, if there is one.
-    pub(crate) fn new(
+    pub fn new(
         alloc: A,
         parts: CoreParts<S, W>,
         publisher: Option<Publisher>,
@@ -135,6 +135,18 @@ impl<
             counts,
             alloc,
         })
+    }
+
+    /// What it was built with.
+    pub fn settings(&self) -> &Settings<S, A>
+        ensures { result.now ≡ self.now.settings }
+    {
+        &self.settings
+    }
+
+    /// Where it takes its memory from.
+    pub fn alloc(&self) -> &A {
+        &self.alloc
     }
 
     /// The hash of a key.
@@ -226,7 +238,7 @@ impl<
     }
 
     /// Adds the pairs of a shard that count at a moment, shared once more, to those of the shards before it.
-    pub(crate) fn copy<R: Wait>(
+    pub fn copy<R: Wait>(
         &self,
         rt: &R,
         number: usize,
@@ -249,17 +261,17 @@ impl<
     }
 
     /// How many entries were charged when a maintenance last ended.
-    pub(crate) fn entry_count(&self) -> u64 {
+    pub fn entry_count(&self) -> u64 {
         self.entry_count.load(Ordering::Acquire)
     }
 
     /// What they weighed together, at most `u64::MAX`.
-    pub(crate) fn weighted_size(&self) -> u64 {
+    pub fn weighted_size(&self) -> u64 {
         self.weighted_size.load(Ordering::Acquire)
     }
 
     /// The counts that were published last, which the pass has seen then.
-    pub(crate) fn published<R: Wait>(&self, rt: &R, pass: &mut CountPass) -> Published
+    pub fn published<R: Wait>(&self, rt: &R, pass: &mut CountPass) -> Published
         requires { self.now.counted ≡ Some pass.old.counts }
         ensures counts { pass.new.counts ≡ pass.old.counts }
         ensures newest { (older : List _) × (pass.new.seen ≡ result ∷ older) }
@@ -272,7 +284,7 @@ impl<
     }
 
     /// One more pass, which has seen what this one has.
-    pub(crate) fn split(&self, pass: &mut CountPass) -> CountPass
+    pub fn split(&self, pass: &mut CountPass) -> CountPass
         requires { self.now.counted ≡ Some pass.old.counts }
         ensures { (pass.new ≡ pass.old) × (result ≡ pass.old) }
     {
@@ -312,7 +324,7 @@ impl<
 
     /// Begins a maintenance, once nobody else runs one.
     pub(crate) fn begin<R: Wait>(&self, rt: &R, now: Instant) -> Running<'_, A>
-        ensures { (m : MaintenanceState) × (m.place ≡ Idle) × (result ≡ record m { place = ReadCount 1; moment = now }) }
+        ensures { (m : MaintenanceState) × (m.place ≡ Idle) × (result ≡ empty_handed (record m { place = ReadCount 1; moment = now })) }
     {
         Running::begin(rt, &self.maintenance, now)
     }
@@ -326,10 +338,9 @@ impl<
         taken: &mut TakenWrites,
     )
         requires { length taken.old ≤ writes_left maintenance.old.place }
-        ensures turns { AreTurns K V self.now.settings maintenance.old maintenance.new }
+        ensures turns { AreTurns K V self.now.settings (record { maintenance = maintenance.old; at_hand = taken.old })
+            (record { maintenance = maintenance.new; at_hand = taken.new }) }
         ensures left { length taken.new ≤ writes_left maintenance.new.place }
-        ensures at_hand { TakesWrite maintenance.old → AppliesFirst K V self.now.settings taken.old taken.new maintenance.old maintenance.new }
-        ensures unchanged { (TakesWrite maintenance.old → ⊥) → taken.new ≡ taken.old }
     {
         if maintenance.takes_read() {
             self.apply_next_reads(rt, maintenance);
@@ -364,7 +375,7 @@ impl<
     /// memory of their own.
     fn apply_next_reads<R: Wait>(&self, rt: &R, maintenance: &mut Maintenance<A>)
         requires { TakesRead maintenance.old }
-        ensures { AreTurns K V self.now.settings maintenance.old maintenance.new }
+        ensures { AreTurns K V self.now.settings (empty_handed maintenance.old) (empty_handed maintenance.new) }
     {
         let mut copy = [NO_READ; READS_AT_ONCE];
         let count = self
@@ -405,9 +416,9 @@ impl<
     )
         requires takes { TakesWrite maintenance.old }
         requires left { length taken.old ≤ writes_left maintenance.old.place }
-        ensures turns { AreTurns K V self.now.settings maintenance.old maintenance.new }
+        ensures turns { AreTurns K V self.now.settings (record { maintenance = maintenance.old; at_hand = taken.old })
+            (record { maintenance = maintenance.new; at_hand = taken.new }) }
         ensures left { length taken.new ≤ writes_left maintenance.new.place }
-        ensures at_hand { AppliesFirst K V self.now.settings taken.old taken.new maintenance.old maintenance.new }
     {
         let Some(write) = self.next_write(rt, maintenance, taken) else {
             return;

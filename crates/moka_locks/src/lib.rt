@@ -1,14 +1,10 @@
-//! The cache that threads share: a lock for each shard, for each log and for the maintenance, and the steps of its callers by them.
+//! The locks of a cache that threads share: for each shard, for each log and for the maintenance, and the steps of one caller by them.
 #![tactic(auto)]
 
-pub mod builder;
-pub mod cache;
 pub mod housekeeper;
-mod inner;
-pub mod iter;
-mod locked;
+pub mod inner;
+pub mod locked;
 mod logs;
-pub mod mapref;
 mod resting;
 pub mod rule;
 mod running;

@@ -1,4 +1,4 @@
-// The steps of one caller on a cache behind locks.
+//! The steps of one caller on a cache behind locks.
 ghost use Rattle.std.specs.Prelude.{◌≡◌, None, IfSome};
 ghost use Rattle.moka_engine.specs.Place.{Idle};
 ghost use Rattle.moka_locks.specs.Locked.{resting_at, running};
@@ -29,7 +29,7 @@ enum Pending {
 
 /// A cache as one caller has it for the time of a call.
 #[derive(Drop)]
-pub(crate) struct Locked<
+pub struct Locked<
     'a,
     K: Eq + Hash + Drop,
     V: Drop,
@@ -59,7 +59,7 @@ impl<
 
     ghost Value = { LockedValue S W };
 
-    ghost view = { λ l. record { cache = l.inner.now; pending = operation_of l.pending; maintenance = l.running } };
+    ghost view = { λ l. record { cache = l.inner.now; pending = operation_of l.pending; working = l.running } };
 }
 
 impl<
@@ -72,7 +72,7 @@ impl<
     A: Allocator + Clone + Drop,
 > Locked<'a, K, V, S, P, W, A> {
     /// The cache, with nothing under way.
-    pub(crate) fn new(inner: &'a Inner<K, V, S, P, W, A>) -> Self
+    pub fn new(inner: &'a Inner<K, V, S, P, W, A>) -> Self
         ensures { result ≡ resting_at inner.now }
     {
         Locked {
@@ -85,7 +85,7 @@ impl<
 
     /// Gives back the maintenance, which has ended, and publishes what it has left.
     fn end<R: Wait>(&mut self, rt: &R)
-        requires { IfSome self.old.maintenance (λ m. m.place ≡ Idle) }
+        requires { IfSome self.old.working (λ w. w.maintenance.place ≡ Idle) }
         ensures { self.new ≡ running None self.old }
     {
         let Some(running) = self.running.take() else {

@@ -1,6 +1,5 @@
 // What lies behind the lock of the maintenance whenever that is free: a maintenance at rest, and who publishes its counts.
 ghost use Rattle.std.specs.Prelude.{◌≡◌, None, IfSome};
-ghost use Rattle.moka_engine.specs.CoreState.{new_maintenance};
 ghost use Rattle.moka_engine.specs.Place.{Idle};
 ghost use Rattle.moka_locks.specs.Charged.{IsCharged};
 
@@ -26,17 +25,18 @@ impl<A: Allocator + Clone + Drop> Model for Resting<A> {
 
     ghost Value = { MaintenanceState };
 
-    ghost view = { λ r. r.working.value };
+    ghost view = { λ r. r.working.value.maintenance };
 
-    ghost invariant = { λ r. (r.working.value.place ≡ Idle) × IfSome r.publisher (λ p. IsCharged r.working.value p.published) };
+    ghost invariant = { λ r. (r.working.value.maintenance.place ≡ Idle)
+        × IfSome r.publisher (λ p. IsCharged r.working.value.maintenance p.published) };
 }
 
 impl<A: Allocator + Clone + Drop> Resting<A> {
     /// This maintenance, with which nothing has been done.
     pub(crate) fn new(working: Box<Working<A>, A>, publisher: Option<Publisher>) -> Self
-        requires idle { working.value.place ≡ Idle }
-        requires charged { IfSome publisher (λ p. IsCharged working.value p.published) }
-        ensures { result ≡ working.value }
+        requires idle { working.value.maintenance.place ≡ Idle }
+        requires charged { IfSome publisher (λ p. IsCharged working.value.maintenance p.published) }
+        ensures { result ≡ working.value.maintenance }
     {
         Resting { working, publisher }
     }
@@ -47,8 +47,8 @@ impl<A: Allocator + Clone + Drop> Resting<A> {
         working: Box<Working<A>, A>,
         publisher: Option<Publisher>,
     ) -> Self
-        requires { working.value.place ≡ Idle }
-        ensures { result ≡ working.value }
+        requires { working.value.maintenance.place ≡ Idle }
+        ensures { result ≡ working.value.maintenance }
     {
         let Some(mut publisher) = publisher else {
             return Resting::new(working, None);
@@ -61,8 +61,8 @@ impl<A: Allocator + Clone + Drop> Resting<A> {
 
     /// The maintenance, for the one who has the lock to begin it.
     pub(crate) fn wake(self) -> (Box<Working<A>, A>, Option<Publisher>)
-        ensures value { result.0.value ≡ self }
-        ensures idle { result.0.value.place ≡ Idle }
+        ensures value { result.0.value.maintenance ≡ self }
+        ensures idle { result.0.value.maintenance.place ≡ Idle }
     {
         (self.working, self.publisher)
     }

@@ -2,7 +2,7 @@
 ghost use Rattle.std.specs.Prelude.{◌≡◌};
 ghost use Rattle.moka_engine.specs.CoreState.{Maintenance as MaintenanceState};
 ghost use Rattle.moka_engine.specs.Place.{Idle, ReadCount, name_of};
-ghost use Rattle.moka_locks.specs.MaintenanceTurn.{AreTurns};
+ghost use Rattle.moka_locks.specs.MaintenanceTurn.{AreTurns, empty_handed};
 
 use crate::inner::Inner;
 use crate::resting::Resting;
@@ -27,9 +27,9 @@ pub(crate) struct Running<'a, A: Allocator + Clone + Drop> {
 }
 
 impl<'a, A: Allocator + Clone + Drop> Model for Running<'a, A> {
-    ghost use Rattle.moka_engine.specs.CoreState.{Maintenance as MaintenanceState};
+    ghost use Rattle.moka_locks.specs.MaintenanceTurn.{Working as WorkingState};
 
-    ghost Value = { MaintenanceState };
+    ghost Value = { WorkingState };
 
     ghost view = { λ r. r.working.value };
 }
@@ -41,7 +41,7 @@ impl<'a, A: Allocator + Clone + Drop> Running<'a, A> {
         maintenance: &'a Mutex<Option<Resting<A>>>,
         now: Instant,
     ) -> Running<'a, A>
-        ensures { (m : MaintenanceState) × (m.place ≡ Idle) × (result ≡ record m { place = ReadCount 1; moment = now }) }
+        ensures { (m : MaintenanceState) × (m.place ≡ Idle) × (result ≡ empty_handed (record m { place = ReadCount 1; moment = now })) }
     {
         for _ in rt.forever() {
             let mut guard = lock(rt, maintenance);
@@ -60,7 +60,7 @@ impl<'a, A: Allocator + Clone + Drop> Running<'a, A> {
 
     /// The maintenance.
     pub(crate) fn maintenance(&self) -> &Maintenance<A>
-        ensures { result.now ≡ self.now }
+        ensures { result.now ≡ self.now.maintenance }
     {
         self.working.maintenance()
     }
@@ -76,14 +76,14 @@ impl<'a, A: Allocator + Clone + Drop> Running<'a, A> {
         W: Drop,
     >(&mut self, rt: &R, inner: &Inner<K, V, S, P, W, A>) -> Place
         ensures turns { AreTurns K V inner.now.settings self.old self.new }
-        ensures place { result ≡ name_of self.new.place }
+        ensures place { result ≡ name_of self.new.maintenance.place }
     {
         self.working.turn(rt, inner)
     }
 
     /// Publishes the counts of the maintenance, which has ended, gives it back, and frees its lock.
     pub(crate) fn end<R: Wait>(self, rt: &R)
-        requires { self.place ≡ Idle }
+        requires { self.maintenance.place ≡ Idle }
     {
         let Running {
             mut guard,

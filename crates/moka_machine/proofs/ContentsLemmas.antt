@@ -1,5 +1,6 @@
 -- Lemmas on what stays of the contents once entries have left.
-use Rattle.std.proofs.Common.{◌≡◌, ◌-◌, ℕ, Bool, true, false, cond, not, List, [], ◌∷◌, All, map, take, take_while, is_some, Option, Some, None, unwrap_or, refl, sym, ap, ◌∙◌, subst, inl, inr}
+use Rattle.std.proofs.Common.{◌≡◌, ◌-◌, ℕ, Bool, true, false, cond, not, List, [], ◌∷◌, All, map, take, take_while}
+use Rattle.std.proofs.Common.{is_some, Option, Some, None, unwrap_or, refl, sym, ap, ◌∙◌, subst, inl, inr}
 use Rattle.std.proofs.lemmas.Bool.{cases_Bool, cond-true, cond-false, false≢true}
 use Rattle.std.proofs.lemmas.List.Elements.{All-filter}
 use Rattle.moka_base.specs.Policy.{Policy}

@@ -89,7 +89,8 @@ module _ {K V S W : Type 0} where
 
 module _ {K V S W : Type 0} (keys : Keys K S) where
   -- there was room or it was made, the weigher was asked once, and the entry is put with its answer, whether or not memory refuses a table
-  pub record IsInserted (weighs : W → K → V → ℕ → W → Type 0) (old : CacheState K V S W) (key : K) (value : V) (now : ℕ) (new : CacheState K V S W) : Type 0 where
+  pub record IsInserted (weighs : W → K → V → ℕ → W → Type 0) (old : CacheState K V S W) (key : K) (value : V) (now : ℕ)
+      (new : CacheState K V S W) : Type 0 where
     pub weight : ℕ
     pub weigher : W
     pub refused : Bool
@@ -98,4 +99,5 @@ module _ {K V S W : Type 0} (keys : Keys K S) where
     pub kept : length old.contents.entries < old.capacity → capacity ≡ old.capacity
     pub weighed : weighs old.weigher key value weight weigher
     pub small : weight < 2 ^ 32
-    pub step : new ≡ after_insert keys.eq (record old { weigher = weigher; capacity = capacity }) (new_entry keys old.settings.hash_state key value weight now) now refused
+    pub step : new ≡ after_insert keys.eq (record old { weigher = weigher; capacity = capacity })
+        (new_entry keys old.settings.hash_state key value weight now) now refused

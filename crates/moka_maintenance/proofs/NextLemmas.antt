@@ -50,7 +50,8 @@ module _ {X : Type 0} where
         below = omega arith;
       }
 
-  next_behind : (e : ℕ × X) (es : List (ℕ × X)) (n id : ℕ) → IsDistinct nat_eq (keys_of (e ∷ es)) → IsNext es n id → IsNext (e ∷ es) (suc n) id
+  next_behind : (e : ℕ × X) (es : List (ℕ × X)) (n id : ℕ) → IsDistinct nat_eq (keys_of (e ∷ es)) → IsNext es n id
+      → IsNext (e ∷ es) (suc n) id
   next_behind e es n id once s =
       let other : nat_eq id e.0 ≡ false = other_id id e.0 s.x es (IsDistinct-head nat_eq e.0 (keys_of es) once) s.found in
       record {
@@ -65,7 +66,8 @@ module _ {X : Type 0} where
         below = omega (arith, s.below);
       }
 
-  pub next_of : (nodes : List (ℕ × X)) (n id : ℕ) → IsDistinct nat_eq (keys_of nodes) → first_id (drop n nodes) ≡ Some id → IsNext nodes n id
+  pub next_of : (nodes : List (ℕ × X)) (n id : ℕ) → IsDistinct nat_eq (keys_of nodes) → first_id (drop n nodes) ≡ Some id
+      → IsNext nodes n id
   next_of [] n id once first = absurd (none_behind X n id first)
   next_of (e ∷ es) Prim.Native.Nat.zero id once first =
       subst (IsNext (e ∷ es) 0) (ap (λ o. unwrap_or o id) first) (next_first e es)

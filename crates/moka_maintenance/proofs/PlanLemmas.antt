@@ -11,13 +11,15 @@ use Rattle.moka_engine.specs.CoreState.{Maintenance}
 use Rattle.moka_engine.specs.declared.ticket.Ticket.{Ticket}
 use Rattle.moka_engine.specs.Parts.{NeedsNothing, NeedsShard, need_of}
 use Rattle.moka_engine.specs.Turn.Plan.{Alone, AtEntry, gone_to}
-use Rattle.moka_engine.specs.Turn.Admission.{after_rejection, after_removing, after_scan, after_seeing, after_verdict, after_victim, is_admitted, is_decided, next_if, next_seen, removing_or_enter}
+use Rattle.moka_engine.specs.Turn.Admission.{after_rejection, after_removing, after_scan, after_seeing, after_verdict}
+use Rattle.moka_engine.specs.Turn.Admission.{after_victim, is_admitted, is_decided, next_if, next_seen, removing_or_enter}
 use Rattle.moka_orders.specs.declared.orders.Node.{Node}
 use Rattle.moka_orders.specs.OrdersState.{OrdersState, access_of, charged, orders_of}
 use Rattle.moka_maintenance.specs.declared.maintenance.place.Work.{Work}
 use Rattle.moka_maintenance.specs.declared.maintenance.place.Scan.{Scan}
 use Rattle.moka_maintenance.specs.declared.maintenance.place.Removal.{Removal}
-use Rattle.moka_maintenance.specs.Held.{Held, IsScanning, IsRemoving, candidate_of, tally_of, work_of, first_seen, first_tickets, maintenance_of, next_id_if, removal_plan}
+use Rattle.moka_maintenance.specs.Held.{Held, IsScanning, IsRemoving, candidate_of, tally_of, work_of}
+use Rattle.moka_maintenance.specs.Held.{first_seen, first_tickets, maintenance_of, next_id_if, removal_plan}
 use Rattle.moka_maintenance.specs.Held.{place_of, scan_plan}
 use Rattle.moka_maintenance.specs.declared.maintenance.place.Stage.TheVariants as stage
 use Rattle.moka_base.specs.Settings.{Settings}
@@ -83,7 +85,8 @@ module _ (o : OrdersState) (work : Work) (r : Removal) (once : IsDistinct nat_eq
           let at = next_node o work r once s some id is in
           let same : at.x ≡ n = ap (λ p. unwrap_or p n) (sym at.found ∙ found) in
           let here : drop r.skipped o.nodes ≡ (id, n) ∷ at.rest = at.here ∙ ap (λ (m : Node). (id, m) ∷ at.rest) same in
-          ap (first_seen (suc l)) here ∙ sym (ap (λ ys. record { ticket = n.ticket; is_present = n.is_present } ∷ drop 1 (first_seen (suc l) ys)) here)
+          ap (first_seen (suc l)) here
+          ∙ sym (ap (λ ys. record { ticket = n.ticket; is_present = n.is_present } ∷ drop 1 (first_seen (suc l) ys)) here)
 
 module _ (K V : Type 0) (work : place.Work) (c : place.Candidate) (t : place.Tally) (skipped : List Ticket) (seen : List Seen) (s : Seen)
     (left : List Seen) (is : seen ≡ s ∷ left) (m : Maintenance) where
@@ -97,7 +100,8 @@ module _ (K V : Type 0) (work : place.Work) (c : place.Candidate) (t : place.Tal
 
   -- one that was absent stays
   pub removal_alone : s.is_present ≡ false
-      → after_removing {K = K} {V = V} work c t skipped seen m ≡ Alone (gone_to (removing_or_enter work c t (skipped ++ s.ticket ∷ []) left) m)
+      → after_removing {K = K} {V = V} work c t skipped seen m ≡ Alone
+      (gone_to (removing_or_enter work c t (skipped ++ s.ticket ∷ []) left) m)
   removal_alone absent =
       ap (λ l. after_removing {K = K} {V = V} work c t skipped l m) is
       ∙ ap (λ b. cond b (AtEntry s.ticket (after_victim {K = K} {V = V} work c t skipped s left m))
@@ -133,19 +137,24 @@ module _ (K V : Type 0) (work : Work) (held : Held) where
     pub scan_goes_on : IsDistinct nat_eq (keys_of held.orders.nodes) → (id : ℕ) → next_id_if decided scan.next ≡ Some id → (n : Node)
         → lookup (nat_eq id) held.orders.nodes ≡ Some n
         → scan_plan {K = K} {V = V} work scan held
-        ≡ AtEntry n.ticket (after_seeing (work_of work) (candidate_of scan.candidate) (tally_of scan.tally) seen_so_far n.ticket (maintenance_of held))
+        ≡ AtEntry n.ticket (after_seeing (work_of work) (candidate_of scan.candidate) (tally_of scan.tally) seen_so_far n.ticket
+        (maintenance_of held))
     scan_goes_on once id is n found =
-        ap (λ o. after_scan {K = K} {V = V} (work_of work) (candidate_of scan.candidate) (tally_of scan.tally) seen_so_far o (maintenance_of held))
+        ap (λ o. after_scan {K = K} {V = V} (work_of work) (candidate_of scan.candidate) (tally_of scan.tally) seen_so_far o
+        (maintenance_of held))
         (scan_next held.orders scan s once id is n found)
 
     -- one that has ended, with its verdict
-    pub scan_verdict : next_id_if decided scan.next ≡ None → (b : Bool) → is_admitted (candidate_of scan.candidate) (tally_of scan.tally) ≡ b
+    pub scan_verdict : next_id_if decided scan.next ≡ None → (b : Bool)
+        → is_admitted (candidate_of scan.candidate) (tally_of scan.tally) ≡ b
         → scan_plan {K = K} {V = V} work scan held
         ≡ after_verdict (work_of work) (candidate_of scan.candidate) (tally_of scan.tally) seen_so_far b (maintenance_of held)
     scan_verdict is b verdict =
-        ap (λ o. after_scan {K = K} {V = V} (work_of work) (candidate_of scan.candidate) (tally_of scan.tally) seen_so_far o (maintenance_of held))
+        ap (λ o. after_scan {K = K} {V = V} (work_of work) (candidate_of scan.candidate) (tally_of scan.tally) seen_so_far o
+        (maintenance_of held))
         (scan_ended held.orders scan s is)
-        ∙ ap (λ v. after_verdict {K = K} {V = V} (work_of work) (candidate_of scan.candidate) (tally_of scan.tally) seen_so_far v (maintenance_of held))
+        ∙ ap (λ v. after_verdict {K = K} {V = V} (work_of work) (candidate_of scan.candidate) (tally_of scan.tally) seen_so_far v
+        (maintenance_of held))
         verdict
 
     -- one that has ended, and needs an entry, rejects the candidate
@@ -176,14 +185,16 @@ module _ (K V : Type 0) (work : Work) (held : Held) where
 
       pub removal_present : n.is_present ≡ true
           → removal_plan {K = K} {V = V} work r held
-          ≡ AtEntry n.ticket (after_victim (work_of work) (candidate_of r.candidate) (tally_of r.tally) skipped_first this_node left_behind (maintenance_of held))
+          ≡ AtEntry n.ticket (after_victim (work_of work) (candidate_of r.candidate) (tally_of r.tally) skipped_first this_node left_behind
+          (maintenance_of held))
       removal_present present =
           removal_at K V (work_of work) (candidate_of r.candidate) (tally_of r.tally) skipped_first _ this_node left_behind first_is
           (maintenance_of held) present
 
       pub removal_absent : n.is_present ≡ false
           → removal_plan {K = K} {V = V} work r held
-          ≡ Alone (gone_to (removing_or_enter (work_of work) (candidate_of r.candidate) (tally_of r.tally) (skipped_first ++ n.ticket ∷ []) left_behind)
+          ≡ Alone (gone_to (removing_or_enter (work_of work) (candidate_of r.candidate) (tally_of r.tally) (skipped_first ++ n.ticket ∷ [])
+          left_behind)
           (maintenance_of held))
       removal_absent absent =
           removal_alone K V (work_of work) (candidate_of r.candidate) (tally_of r.tally) skipped_first _ this_node left_behind first_is

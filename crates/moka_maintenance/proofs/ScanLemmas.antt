@@ -1,5 +1,6 @@
 -- What a scan and the removals make of their place.
-use Rattle.std.proofs.Common.{◌≡◌, ◌<◌, ◌≤◌, ◌+◌, ◌-◌, ◌==◌, ℕ, suc, Bool, true, false, cond, nat_eq, List, [], ◌∷◌, ◌++◌, map, take, drop, length, Option}
+use Rattle.std.proofs.Common.{◌≡◌, ◌<◌, ◌≤◌, ◌+◌, ◌-◌, ◌==◌, ℕ, suc, Bool, true, false, cond}
+use Rattle.std.proofs.Common.{nat_eq, List, [], ◌∷◌, ◌++◌, map, take, drop, length, Option}
 use Rattle.std.proofs.Common.{Some, None, is_some, option_map, unwrap_or, refl, sym, ap, ◌∙◌, subst, arith, inl, inr}
 use Rattle.std.proofs.lemmas.Bool.{eqb-true, false_from_ne_true, false≢true}
 use Rattle.std.proofs.lemmas.Map.{length-set_value}
@@ -87,8 +88,10 @@ removal_place work c t k (suc l) next nodes within = by (drop k nodes) refl
     by (x ∷ xs) is =
         ap (λ b. place_of nodes (cond b (stage.Enter work c k)
         (stage.Removing work (record { candidate = c; tally = t; skipped = k; left = suc l; next = next })))) (unzero l)
-        ∙ (ap (λ seen. place.Removing (work_of work) (candidate_of c) (tally_of t) (first_tickets k nodes) seen) (ap (λ ys. map seen_node (take (suc l) ys)) is)
-        ∙ sym (ap (λ ys. removing_or_enter (work_of work) (candidate_of c) (tally_of t) (first_tickets k nodes) (map seen_node (take (suc l) ys))) is))
+        ∙ (ap (λ seen. place.Removing (work_of work) (candidate_of c) (tally_of t) (first_tickets k nodes) seen)
+        (ap (λ ys. map seen_node (take (suc l) ys)) is)
+        ∙ sym (ap (λ ys. removing_or_enter (work_of work) (candidate_of c) (tally_of t) (first_tickets k nodes)
+        (map seen_node (take (suc l) ys))) is))
 
 -- and what holds there
 pub removal_holds : (work : Work) (o : OrdersState) (c : Candidate) (t : Tally) (k l : ℕ) (next : Option ℕ) → work.round ≤ MAX_ROUNDS
@@ -99,7 +102,8 @@ removal_holds work o c t k Prim.Native.Nat.zero next round s =
     (round, record { awaited = s.awaited; within = omega (arith, within) })
 removal_holds work o c t k (suc l) next round s =
     subst (λ b. IsAtHand o (cond b (stage.Enter work c k)
-    (stage.Removing work (record { candidate = c; tally = t; skipped = k; left = suc l; next = next })))) (sym (unzero l)) (round, omega arith, s)
+    (stage.Removing work (record { candidate = c; tally = t; skipped = k; left = suc l; next = next })))) (sym (unzero l))
+    (round, omega arith, s)
 
 module _ (o : OrdersState) (work : Work) (r : Removal) (once : IsDistinct nat_eq (keys_of o.nodes)) (s : IsRemoving o r) (some : 0 < r.left)
     (id : ℕ) (is : r.next ≡ Some id) where

@@ -1,5 +1,6 @@
 -- An operation that leaves its log.
-use Rattle.std.proofs.Common.{◌≡◌, ◌∙◌, ◌+◌, ◌-◌, ◌==◌, ℕ, if◌then◌else◌, Bool, true, false, List, [], ◌∷◌, drop, slice_get, Option, Some, None, refl, sym, ap, subst}
+use Rattle.std.proofs.Common.{◌≡◌, ◌∙◌, ◌+◌, ◌-◌, ◌==◌, ℕ, if◌then◌else◌, Bool, true, false, List}
+use Rattle.std.proofs.Common.{[], ◌∷◌, drop, slice_get, Option, Some, None, refl, sym, ap, subst}
 use Rattle.std.proofs.lemmas.Bool.{false≢true}
 use Rattle.moka_base.specs.Admission.{is_within}
 use Rattle.moka_base.specs.Settings.{Settings}
@@ -14,7 +15,8 @@ use Rattle.moka_engine.specs.Orders.{charge_of, charged_weight}
 use Rattle.moka_engine.specs.Parts.{TurnsAlone, TurnsAtEntry}
 use Rattle.moka_engine.specs.Place as place
 use Rattle.moka_engine.specs.Place.{Place, Work, is_idle}
-use Rattle.moka_engine.specs.Turn.Apply.{after_entry, after_first_upsert, after_present_upsert, after_refusal, after_removal, after_upsert, no_tally}
+use Rattle.moka_engine.specs.Turn.Apply.{after_entry, after_first_upsert, after_present_upsert}
+use Rattle.moka_engine.specs.Turn.Apply.{after_refusal, after_removal, after_upsert, no_tally}
 use Rattle.moka_engine.specs.Turn.Plan.{Alone, Outcome, Stays, gone_to, outcome, writes_or_on}
 use Rattle.moka_engine.specs.Turn.Turn.{turn_at}
 use Rattle.moka_orders.specs.declared.orders.Node.{Node}
@@ -25,7 +27,8 @@ use Rattle.moka_maintenance.specs.Held.{place_of}
 use Rattle.moka_maintenance.specs.Taken.{IsTaken, having_taken_write, place_with_write}
 
 -- the first one is taken, if there is one
-pub taken : {X : Type 0} (Takes : Type 0) → Takes → (old new : List X) (operation : Option X) → operation ≡ slice_get old 0 → new ≡ drop 1 old
+pub taken : {X : Type 0} (Takes : Type 0) → Takes → (old new : List X) (operation : Option X) → operation ≡ slice_get old 0
+    → new ≡ drop 1 old
     → IsTaken Takes operation old new
 taken Takes takes [] new operation is rest = subst (λ o. IsTaken Takes o [] new) (sym is) (rest, λ again. refl)
 taken Takes takes (x ∷ old) new operation is rest =

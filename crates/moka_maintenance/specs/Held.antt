@@ -1,5 +1,6 @@
 -- How a maintenance keeps its place: in numbers and in the marks of the nodes. No public clause cites this module.
-use Rattle.std.specs.Prelude.{◌≡◌, ◌<◌, ◌≤◌, ◌+◌, ℕ, ◌==◌, Bool, true, false, if◌then◌else◌, List, [], Option, None, map, take, drop, length}
+use Rattle.std.specs.Prelude.{◌≡◌, ◌<◌, ◌≤◌, ◌+◌, ℕ, ◌==◌, Bool, true, false, if◌then◌else◌}
+use Rattle.std.specs.Prelude.{List, [], Option, None, map, take, drop, length}
 use Rattle.moka_deque.specs.Deque.{first_id}
 use Rattle.moka_sketch.specs.Sketch.{Table, estimate}
 use Rattle.moka_engine.specs.declared.constants.TheConstants.{MAX_ROUNDS}
@@ -162,7 +163,8 @@ module _ {K V : Type 0} where
   -- what the removals plan to do
   abbrev pub removal_plan : Work → Removal → Held → Plan K V
   removal_plan work removal held =
-      after_removing (work_of work) (candidate_of removal.candidate) (tally_of removal.tally) (first_tickets removal.skipped held.orders.nodes)
+      after_removing (work_of work) (candidate_of removal.candidate) (tally_of removal.tally)
+      (first_tickets removal.skipped held.orders.nodes)
       (first_seen removal.left (drop removal.skipped held.orders.nodes)) (maintenance_of held)
 
   -- by the plan a ticket's entry is looked at, and this is made of it

@@ -1,4 +1,5 @@
--- Operations that leave their log and are applied at once, with no stage between: a write by its two turns, and reads by the turns of all of them.
+-- Operations that leave their log and are applied at once, with no stage between: a write by its two turns,
+-- and reads by the turns of all of them.
 use Rattle.std.specs.Prelude.{◌≡◌, ◌-◌, ℕ, List, [], ◌∷◌, length, map, Option, None, Some}
 use Rattle.std.specs.List.{fold}
 use Rattle.moka_sketch.specs.Sketch.{Table, after_increment}

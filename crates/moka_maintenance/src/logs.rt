@@ -1,5 +1,5 @@
 //! The two logs, in which callers leave what the maintenance is to do. Each lies in a ring whose memory is taken once.
-ghost use Rattle.std.specs.Prelude.{◌≡◌, ◌↔◌, ◌<◌, ◌≤◌, ◌==◌, ◌++◌, [], ◌∷◌, length, map, min, take, drop, slice_get, IfOk, IfErr, OnOk, OnErr, IsOk};
+ghost use Rattle.std.specs.Prelude.{◌≡◌, ◌↔◌, ◌<◌, ◌≤◌, ◌++◌, [], ◌∷◌, length, map, min, take, drop, slice_get, IfOk, IfErr, OnOk, OnErr, IsOk};
 ghost use Rattle.moka_engine.specs.declared.constants.TheConstants.{READ_LOG_SIZE, WRITE_LOG_SIZE};
 
 use circular_buffer::HeapCircularBuffer;

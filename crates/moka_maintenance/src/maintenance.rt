@@ -3,7 +3,8 @@
 ghost use Rattle.std.specs.Prelude.{◌≡◌, ◌≤◌, ◌<◌, ◌↔◌, Bool, IfOk, IfSome, IsTrue, Option, false, length, option_copied, option_map};
 ghost use Rattle.moka_engine.specs.CoreState.{new_maintenance};
 ghost use Rattle.moka_engine.specs.Orders.{charged_weight};
-ghost use Rattle.moka_engine.specs.Parts.{NeedsNothing, NeedsReads, NeedsShard, NeedsWrites, TurnsAlone, TurnsAtEntry, TurnsWithReads, TurnsWithWrites, need_of};
+ghost use Rattle.moka_engine.specs.Parts.{NeedsNothing, NeedsReads, NeedsShard, NeedsWrites, TurnsAlone};
+ghost use Rattle.moka_engine.specs.Parts.{TurnsAtEntry, TurnsWithReads, TurnsWithWrites, need_of};
 ghost use Rattle.moka_engine.specs.Place.{Idle, ReadCount, name_of};
 ghost use Rattle.moka_engine.specs.Turn.Turn.{turn_at};
 ghost use Rattle.moka_engine.specs.Entry.{Entry as EntryState};

@@ -1,5 +1,6 @@
 -- What each change of the chain and the deque is to a contract of the orders.
-use Rattle.std.proofs.Common.{◌≡◌, ◌<◌, ◌≤◌, ◌^◌, ◌+◌, ◌-◌, ℕ, suc, Bool, true, false, nat_eq, List, [], ◌∷◌, ◌++◌, length, Option, Some, None}
+use Rattle.std.proofs.Common.{◌≡◌, ◌<◌, ◌≤◌, ◌^◌, ◌+◌, ◌-◌, ℕ, suc, Bool, true, false}
+use Rattle.std.proofs.Common.{nat_eq, List, [], ◌∷◌, ◌++◌, length, Option, Some, None}
 use Rattle.std.proofs.Common.{is_some, refl, sym, ap, ◌∙◌, arith, subst}
 use Rattle.std.proofs.lemmas.Bool.{false≢true}
 use Rattle.std.proofs.lemmas.List.{length_push}
@@ -36,7 +37,9 @@ node_in items id h = by (lookup (nat_eq id) items) refl
 -- as many nodes need as much room
 pub room-same : (a b : List (ℕ × Node)) (access written ids : ℕ) → length a ≡ length b
     → room_of a access written ids ≡ room_of b access written ids
-room-same a b access written ids same = ap (λ n. Rattle.std.proofs.Common.cond (Rattle.std.proofs.Common.nat_le (n + access) ids) (Rattle.std.specs.Prelude.min access written) 0) same
+room-same a b access written ids same =
+    ap (λ n. Rattle.std.proofs.Common.cond (Rattle.std.proofs.Common.nat_le (n + access) ids)
+    (Rattle.std.specs.Prelude.min access written) 0) same
 
 pub length-moved : (id : ℕ) (n : Node) (items : List (ℕ × Node)) → lookup (nat_eq id) items ≡ Some n
     → length (moved_to_back id items) ≡ length items
@@ -155,7 +158,8 @@ oldest_orders {items = items} d s =
     by (Rattle.std.specs.Prelude.slice_get (values_of d.items) 0) (Rattle.moka_orders.proofs.KeptLemmas.written-oldest s)
   where
     by : (o : Option Ticket) → Rattle.std.specs.Prelude.IfSome o (λ t.
-        values_of (Rattle.std.specs.Option.option_map_or (λ w. moved_to_back w d.items) (Rattle.moka_deque.specs.Deque.first_id d.items) d.items)
+        values_of (Rattle.std.specs.Option.option_map_or (λ w. moved_to_back w d.items)
+        (Rattle.moka_deque.specs.Deque.first_id d.items) d.items)
         ≡ Rattle.moka_engine.specs.Ticket.moved_to_back (λ u. u) t (values_of d.items))
         → Rattle.std.specs.Prelude.IfSome o (λ t.
         record { access = access_of items; write = values_of (after_move_front_to_back d).items }

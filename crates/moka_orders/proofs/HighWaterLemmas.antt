@@ -38,7 +38,8 @@ module _ (nodes : List (ℕ × Node)) (water : HighWater) (s : AreCovered nodes 
       (λ j. ap (lookup (nat_eq j)) (moved-found id n nodes stood) ∙ lookup-rewritten id j n nodes once)
 
   -- one that is changed in its place does
-  pub AreCovered-set : (id : ℕ) (n m : Node) → lookup (nat_eq id) nodes ≡ Some n → m.ticket ≡ n.ticket → AreCovered (set_value (nat_eq id) nodes m) water
+  pub AreCovered-set : (id : ℕ) (n m : Node) → lookup (nat_eq id) nodes ≡ Some n → m.ticket ≡ n.ticket
+      → AreCovered (set_value (nat_eq id) nodes m) water
   AreCovered-set id n m stood ticket =
       AreCovered-rewrite id n m stood ticket (set_value (nat_eq id) nodes m) (λ j. lookup-set id j m nodes (ap is_some stood))
 

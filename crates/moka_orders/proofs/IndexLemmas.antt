@@ -1,5 +1,6 @@
 -- Lemmas on the index of the orders: what each change of the nodes leaves of it, and what it finds.
-use Rattle.std.proofs.Common.{◌≡◌, ◌⊎◌, ◌∙◌, ◌++◌, ◌∷◌, ℕ, Bool, true, false, cond, nat_eq, List, [], Option, Some, None, is_some, IsSome, refl, sym}
+use Rattle.std.proofs.Common.{◌≡◌, ◌⊎◌, ◌∙◌, ◌++◌, ◌∷◌, ℕ, Bool, true, false, cond, nat_eq}
+use Rattle.std.proofs.Common.{List, [], Option, Some, None, is_some, IsSome, refl, sym}
 use Rattle.std.proofs.Common.{ap, inl, inr, subst, option_map}
 use Rattle.std.proofs.lemmas.Bool.{cases_Bool, cond_both, cond-true, cond-false, eqb-true, false≢true, or_cases, or_right}
 use Rattle.std.proofs.lemmas.Cmp.{nat_eq_equiv}
@@ -138,7 +139,8 @@ module _ (ticket : Ticket) (nodes : List (ℕ × Node)) where
   -- the first of them is a node
   pub first_stands : (id : ℕ) (ids : List ℕ) → IsAhead (id ∷ ids) → IsSome (lookup (nat_eq id) nodes)
   first_stands id ids s =
-      s.standing id (Rattle.std.proofs.lemmas.Bool.or_left (nat_eq id id) (is_among id ids) (Rattle.moka_deque.proofs.DequeLemmas.nat_eq-same id))
+      s.standing id (Rattle.std.proofs.lemmas.Bool.or_left (nat_eq id id) (is_among id ids)
+      (Rattle.moka_deque.proofs.DequeLemmas.nat_eq-same id))
 
   -- behind one of another ticket
   pub ahead_behind : (id : ℕ) (ids : List ℕ) (e : Node) → IsAhead (id ∷ ids) → lookup (nat_eq id) nodes ≡ Some e
@@ -159,7 +161,8 @@ module _ (ticket : Ticket) (nodes : List (ℕ × Node)) where
   -- where none is ahead, the ticket has no node
   pub none_ahead : IsDistinct nat_eq (keys_of nodes) → IsAhead [] → (write : List Ticket)
       → charge_of ticket (record { access = access_of nodes; write = write }) ≡ None
-  none_ahead once s write = ap (option_map (λ c. c.charge)) (seen-absent charged (λ c. same_ticket ticket c.ticket) nodes (by nodes (each_found nodes once)))
+  none_ahead once s write =
+      ap (option_map (λ c. c.charge)) (seen-absent charged (λ c. same_ticket ticket c.ticket) nodes (by nodes (each_found nodes once)))
     where
       by : (es : List (ℕ × Node)) → AllByRecursion (λ p. lookup (nat_eq p.0) nodes ≡ Some p.1) es
           → AllByRecursion (λ p. same_ticket ticket p.1.ticket ≡ false) es

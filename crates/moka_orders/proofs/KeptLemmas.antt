@@ -333,8 +333,14 @@ module _ {items : List (ℕ × Node)} {writes : List (ℕ × Ticket)} {total : �
         → (i : ℕ) × (m : Node) × (lookup (nat_eq i) (remove_entry (nat_eq id) items) ≡ Some m) × (m.ticket ≡ t) × (m.write ≡ Some v)
     left_stands v t h =
         let found = parts (own_of v n.write) t (lookup (nat_eq v) writes) (sym (left_found n.write v) ∙ h) in
-        let node = s.standing v t found.1 in
-        (node.0, node.1, lookup-removed id node.0 items s.once ∙ (cond-false (nat_eq id node.0) _ _ (other node.0 node.1 node.2 node.4 found.0) ∙ node.2), node.3, node.4)
+        let node = s.standing v t found.1 in (
+          node.0,
+          node.1,
+          lookup-removed id node.0 items s.once
+              ∙ (cond-false (nat_eq id node.0) _ _ (other node.0 node.1 node.2 node.4 found.0) ∙ node.2),
+          node.3,
+          node.4,
+        )
       where
         other : (i : ℕ) (m : Node) → lookup (nat_eq i) items ≡ Some m → m.write ≡ Some v → own_of v n.write ≡ false → nat_eq id i ≡ false
         other i m there named free =
@@ -358,12 +364,14 @@ module _ {items : List (ℕ × Node)} {writes : List (ℕ × Ticket)} {total : �
 
     -- ---- what these changes are by tickets
 
-    pub access-moved : access_of (moved_to_back id items) ≡ Rattle.moka_engine.specs.Ticket.moved_to_back (λ c. c.ticket) n.ticket (access_of items)
+    pub access-moved : access_of (moved_to_back id items) ≡ Rattle.moka_engine.specs.Ticket.moved_to_back (λ c. c.ticket) n.ticket
+        (access_of items)
     access-moved =
         ap access_of (moved-found id n items stood)
         ∙ seen-moved charged (λ c. same_ticket n.ticket c.ticket) id n items s.once agrees stood
 
-    pub access-removed : access_of (remove_entry (nat_eq id) items) ≡ Rattle.moka_engine.specs.Ticket.without (λ c. c.ticket) n.ticket (access_of items)
+    pub access-removed : access_of (remove_entry (nat_eq id) items) ≡ Rattle.moka_engine.specs.Ticket.without (λ c. c.ticket) n.ticket
+        (access_of items)
     access-removed = seen-remove charged (λ c. same_ticket n.ticket c.ticket) id n items s.once agrees
 
     pub access-set : (m : Node) (w : ℕ) → m.ticket ≡ n.ticket → m.charge ≡ w → access_of (set_value (nat_eq id) items m)
@@ -406,12 +414,14 @@ module _ {items : List (ℕ × Node)} {writes : List (ℕ × Ticket)} {total : �
       → (i : ℕ) (n : Node) → lookup (nat_eq i) items ≡ Some n → n.ticket ≡ t → ⊥
   ticket_absent t write none i n stood equal =
       let found : charge_of t (record { access = access_of items; write = write }) ≡ Some n.charge =
-      subst (λ u. charge_of u (record { access = access_of items; write = write }) ≡ Some n.charge) equal (charge_found s i n stood write) in
+      subst (λ u. charge_of u (record { access = access_of items; write = write }) ≡ Some n.charge) equal
+      (charge_found s i n stood write) in
       not_none n.charge (sym found ∙ none)
 
   module _ (id : ℕ) (m : Node) (fresh : lookup (nat_eq id) items ≡ None)
       (absent : (i : ℕ) (n : Node) → lookup (nat_eq i) items ≡ Some n → n.ticket ≡ m.ticket → ⊥) (fits : m.charge < 2 ^ 32) where
-    new_or_old : (b : Bool) (p : Node) (o : Option Node) → cond b (Some m) o ≡ Some p → ((b ≡ true) × (p ≡ m)) ⊎ ((b ≡ false) × (o ≡ Some p))
+    new_or_old : (b : Bool) (p : Node) (o : Option Node) → cond b (Some m) o ≡ Some p → ((b ≡ true) × (p ≡ m))
+        ⊎ ((b ≡ false) × (o ≡ Some p))
     new_or_old true p o h = inl (refl, some_parts p m (sym h))
     new_or_old false p o h = inr (refl, h)
 
@@ -536,7 +546,8 @@ module _ {items : List (ℕ × Node)} {writes : List (ℕ × Ticket)} {total : �
           (λ t. IsSome (charge_of t (record { access = access_of items; write = write })))
       by [] is = tt
       by (w ∷ ws) is =
-          let there : lookup (nat_eq w.0) writes ≡ Some w.1 = ap (lookup (nat_eq w.0)) (sym is) ∙ cond-true (nat_eq w.0 w.0) _ _ (nat_eq-same w.0) in
+          let there : lookup (nat_eq w.0) writes ≡ Some w.1 =
+          ap (lookup (nat_eq w.0)) (sym is) ∙ cond-true (nat_eq w.0 w.0) _ _ (nat_eq-same w.0) in
           let node = s.standing w.0 w.1 there in
           subst (λ t. IsSome (charge_of t (record { access = access_of items; write = write }))) node.3
           (ap is_some (charge_found s node.0 node.1 node.2 write))
@@ -563,9 +574,11 @@ module _ {items : List (ℕ × Node)} {writes : List (ℕ × Ticket)} {total : �
           ≡ Rattle.moka_engine.specs.Ticket.moved_to_back (λ u. u) t (values_of writes))
       by [] is = tt
       by (w ∷ ws) is =
-          let there : lookup (nat_eq w.0) writes ≡ Some w.1 = ap (lookup (nat_eq w.0)) (sym is) ∙ cond-true (nat_eq w.0 w.0) _ _ (nat_eq-same w.0) in
+          let there : lookup (nat_eq w.0) writes ≡ Some w.1 =
+          ap (lookup (nat_eq w.0)) (sym is) ∙ cond-true (nat_eq w.0 w.0) _ _ (nat_eq-same w.0) in
           let node = s.standing w.0 w.1 there in
-          subst (λ t. values_of (moved_to_back w.0 writes) ≡ Rattle.moka_engine.specs.Ticket.moved_to_back (λ u. u) t (values_of writes)) node.3
+          subst (λ t. values_of (moved_to_back w.0 writes) ≡ Rattle.moka_engine.specs.Ticket.moved_to_back (λ u. u) t
+          (values_of writes)) node.3
           (written-moved s node.0 node.1 node.2 (Some w.0) node.4)
 
 -- no ids are distinct

@@ -22,7 +22,8 @@ room_parts items access writes ids h =
 pub room_from : (items : List (ℕ × Node)) (access writes ids : ℕ) → 0 < access → 0 < writes → length items + access ≤ ids
     → 0 < room_of items access writes ids
 room_from items access writes ids some written fits =
-    subst (λ n. 0 < n) (sym (cond-true (nat_le (length items + access) ids) (min access writes) 0 (le-leb (length items + access) ids fits)))
+    subst (λ n. 0 < n)
+    (sym (cond-true (nat_le (length items + access) ids) (min access writes) 0 (le-leb (length items + access) ids fits)))
     (grind (arith, some, written))
 
 -- a node that leaves takes no room along, and gives back at most its own

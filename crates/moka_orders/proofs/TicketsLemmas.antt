@@ -45,7 +45,8 @@ module _ {X Y : Type 0} (m : X → Y) where
         → AllByRecursion (λ p. test (m p.1) ≡ false) es
     behind_fail p es d a same =
         fails es a
-        (subst (λ i. AllByRecursion (λ k. nat_eq i k ≡ false) (keys_of es)) (sym (eqb-true id p.0 same)) (IsDistinct-head nat_eq p.0 (keys_of es) d))
+        (subst (λ i. AllByRecursion (λ k. nat_eq i k ≡ false) (keys_of es)) (sym (eqb-true id p.0 same))
+        (IsDistinct-head nat_eq p.0 (keys_of es) d))
 
     module _ (x : X) where
       is_it : (p : ℕ × X) (es : List (ℕ × X)) → lookup (nat_eq id) (p ∷ es) ≡ Some x → nat_eq id p.0 ≡ true → p.1 ≡ x

@@ -1,5 +1,5 @@
 // Up to which number the tickets of each shard were charged.
-ghost use Rattle.std.specs.Prelude.{◌≡◌, IsTrue};
+ghost use Rattle.std.specs.Prelude.{IsTrue};
 ghost use Rattle.moka_engine.specs.declared.ticket.Ticket.{Ticket as TicketValue};
 ghost use Rattle.moka_orders.specs.HighWater.{IsCovered};
 

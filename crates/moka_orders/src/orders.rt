@@ -1,5 +1,6 @@
 //! What is charged for which ticket, in order of use and in order of writing. Only here is a node found, added, changed or removed.
-ghost use Rattle.std.specs.Prelude.{◌≡◌, ◌≤◌, ◌<◌, ◌+◌, ◌*◌, ◌-◌, ◌^◌, ◌++◌, ◌∷◌, ℕ, [], length, nat_eq, slice_get, IfOk, IsOk, OnErr, OnOk, IfSome, IsNone, IsSome, None, Some, false};
+ghost use Rattle.std.specs.Prelude.{◌≡◌, ◌≤◌, ◌<◌, ◌+◌, ◌*◌, ◌-◌, ◌^◌, ℕ, [], length, nat_eq, slice_get};
+ghost use Rattle.std.specs.Prelude.{IfOk, OnErr, OnOk, IfSome, IsNone, IsSome, None, Some, false};
 ghost use Rattle.std.specs.List.{IsDistinct};
 ghost use Rattle.std.specs.Map.{keys_of, lookup, remove_entry, set_value};
 ghost use Rattle.moka_base.specs.Settings.{keeps_writes};
@@ -7,7 +8,7 @@ ghost use Rattle.moka_deque.specs.Deque.{IsIn, first_id, moved_to_back, next_id}
 ghost use Rattle.moka_engine.specs.Orders.{charge_of, charged_weight, is_written, used, rewritten, renewed, recharged, with_node, without_node};
 ghost use Rattle.moka_index.specs.HashIndex.{candidates};
 ghost use Rattle.moka_orders.specs.Indexed.{IsIndexed};
-ghost use Rattle.moka_orders.specs.Kept.{PushesNode, room_after, with_write_last, without_write};
+ghost use Rattle.moka_orders.specs.Kept.{PushesNode, room_after, without_write};
 ghost use Rattle.moka_orders.specs.OrdersState.{AddsNode, AtNode, IsNodeOf, orders_of};
 
 use crate::high_water::HighWater;

@@ -1,5 +1,4 @@
 //! What the lines have asked for so far, and the plays.
-ghost use Rattle.std.specs.Prelude.{◌≤◌, length, IfOk};
 
 use crate::error::PlayError;
 use crate::request::{Call, Kind, Request};

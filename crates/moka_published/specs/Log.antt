@@ -36,4 +36,5 @@ pub record IsLog (value : Published) (views : List Known) : Type 0 where
   pub newest : log ≡ value ∷ older
   pub seen : (i : ℕ) (k : Known) → get_elem? views i ≡ some k → IsSuffix k.seen log
   pub whole : (i : ℕ) (k : Known) → get_elem? views i ≡ some k → k.publishes ≡ true → k.seen ≡ log
-  pub alone : (i j : ℕ) (k l : Known) → get_elem? views i ≡ some k → get_elem? views j ≡ some l → k.publishes ≡ true → l.publishes ≡ true → i ≡ j
+  pub alone : (i j : ℕ) (k l : Known) → get_elem? views i ≡ some k → get_elem? views j ≡ some l → k.publishes ≡ true
+      → l.publishes ≡ true → i ≡ j

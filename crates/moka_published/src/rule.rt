@@ -1,5 +1,5 @@
 //! The rule of published counts: there is one list of them, which only grows, and the cell has the newest.
-ghost use Rattle.std.specs.Prelude.{◌≡◌, true, false, [], ◌∷◌, ℕ, List};
+ghost use Rattle.std.specs.Prelude.{◌≡◌, true, false, [], ◌∷◌, List};
 ghost use Rattle.moka_published.specs.Log.{IsLog, IsSuffix, opening};
 ghost use Rattle.moka_published.specs.Log.{Known as KnownValue};
 

@@ -1,5 +1,6 @@
 -- A call that is made by a rule of weights is made by a wider one.
-use Rattle.std.proofs.Common.{◌≡◌, ◌<◌, ◌+◌, arith, slice_index, slice_set, sum_by, get_or, ℕ, Bool, true, false, List, [], ◌∷◌, ◌++◌, Some, None, Result, Ok, length, refl, sym, ap, ◌∙◌, subst, inl, inr}
+use Rattle.std.proofs.Common.{◌≡◌, ◌<◌, ◌+◌, arith, slice_index, slice_set, sum_by, get_or, ℕ, Bool, true, false, List}
+use Rattle.std.proofs.Common.{[], ◌∷◌, ◌++◌, Some, None, Result, Ok, length, refl, sym, ap, ◌∙◌, subst, inl, inr}
 use Rattle.std.proofs.lemmas.List.{length-append}
 use Rattle.std.proofs.lemmas.List.Sums.{sum_by-set}
 use Rattle.moka_base.specs.Keys.{Keys}
@@ -29,7 +30,8 @@ module _ {K V S : Type 0} (keys : Keys K S) (weighs wider : K → V → ℕ → 
   abbrev Wide : CoreState K V S → Event K V → Reply K V → CoreState K V S → Type 0
   Wide = Happens keys wider
 
-  weighed : (event : Event K V) (answer : Reply K V) (weight : ℕ) → IsWeighed weighs event answer weight → IsWeighed wider event answer weight
+  weighed : (event : Event K V) (answer : Reply K V) (weight : ℕ) → IsWeighed weighs event answer weight
+      → IsWeighed wider event answer weight
   weighed (Insert caller key value now) reply.Done weight h = wide key value weight h
   weighed (Insert caller key value now) (reply.Found found) weight h = tt
   weighed (Insert caller key value now) (reply.Bool truth) weight h = tt
@@ -59,7 +61,8 @@ module _ {K V S : Type 0} (keys : Keys K S) (weighs wider : K → V → ℕ → 
     step = h.step;
   }
 
-  turns : (old new : CoreState K V S) → whole.Turns Narrow Decides has_pending CALLER old new → whole.Turns Wide Decides has_pending CALLER old new
+  turns : (old new : CoreState K V S) → whole.Turns Narrow Decides has_pending CALLER old new
+      → whole.Turns Wide Decides has_pending CALLER old new
   turns old new (LastTurn a b h) = LastTurn a b (happens a b Turn _ h)
   turns old new (NextTurn a b c place busy h more) = NextTurn a b c place busy (happens a b Turn _ h) (turns b c more)
 
@@ -72,7 +75,8 @@ module _ {K V S : Type 0} (keys : Keys K S) (weighs wider : K → V → ℕ → 
   }
 
   maintains_if : (runs : Bool) (now : ℕ) (old new : CoreState K V S)
-      → whole.MaintainsIf Narrow Decides has_pending CALLER runs now old new → whole.MaintainsIf Wide Decides has_pending CALLER runs now old new
+      → whole.MaintainsIf Narrow Decides has_pending CALLER runs now old new
+      → whole.MaintainsIf Wide Decides has_pending CALLER runs now old new
   maintains_if true now old new h = maintains now old new h
   maintains_if false now old new h = h
 
@@ -106,7 +110,8 @@ module _ {K V S : Type 0} (keys : Keys K S) (weighs wider : K → V → ℕ → 
       WasFull a b c d (maintains_if_due whole.OfWrites now a b due) (happens b c (Push CALLER) _ full) (pushes_write now c d more)
 
   pushes_if : (pending : Bool) (now : ℕ) (old new : CoreState K V S)
-      → whole.PushesIf Narrow Decides has_pending CALLER pending now old new → whole.PushesIf Wide Decides has_pending CALLER pending now old new
+      → whole.PushesIf Narrow Decides has_pending CALLER pending now old new
+      → whole.PushesIf Wide Decides has_pending CALLER pending now old new
   pushes_if true now old new h = pushes_write now old new h
   pushes_if false now old new h = h
 
@@ -171,7 +176,8 @@ module _ {K V S : Type 0} (keys : Keys K S) (weighs wider : K → V → ℕ → 
         → Replays keys wider new × (length new.calls ≡ length old.calls + 1)
     applied memory answer replays step = by_memory memory.recording memory.answer step
       where
-        by_memory : (recording refused : Bool) → IsApplied keys weighs old made (record { recording = recording; answer = refused }) (Ok answer) new
+        by_memory : (recording refused : Bool) → IsApplied keys weighs old made (record { recording = recording; answer = refused })
+            (Ok answer) new
             → Replays keys wider new × (length new.calls ≡ length old.calls + 1)
         by_memory true refused (is, same) = absurd (cc)
         by_memory false refused (answered, makes, is) = (

@@ -93,7 +93,8 @@ pub next_copy : (before all : List (ℕ × List ℕ)) (answers : List ScriptAnsw
     → before ++ (texts_of pairs ++ flat_map pairs_in (drop (i + 1) answers)) ≡ all
 next_copy before all answers i answer pairs below there texts rest =
     let opened : drop i answers ≡ answer ∷ drop (i + 1) answers =
-    drop-cons answers i answer below ∙ ap (λ a. a ∷ drop (suc i) answers) (sym there) ∙ ap (λ n. answer ∷ drop n answers) (sym (add-one i)) in
+    drop-cons answers i answer below ∙ ap (λ a. a ∷ drop (suc i) answers) (sym there)
+    ∙ ap (λ n. answer ∷ drop n answers) (sym (add-one i)) in
     ap (λ l. before ++ (l ++ flat_map pairs_in (drop (i + 1) answers))) texts
     ∙ ap (λ l. before ++ flat_map pairs_in l) (sym opened) ∙ rest
 

@@ -1,5 +1,6 @@
 -- Replies of a script's cache come one after another, and its weighers answer what its lines say.
-use Rattle.std.proofs.Common.{◌≡◌, ℕ, Bool, false, List, [], ◌∷◌, ◌++◌, map, Option, Some, None, Result, Ok, Err, OnOk, IfOk, refl, sym, ap, ◌∙◌, subst}
+use Rattle.std.proofs.Common.{◌≡◌, ℕ, Bool, false, List, [], ◌∷◌, ◌++◌, map, Option, Some}
+use Rattle.std.proofs.Common.{None, Result, Ok, Err, OnOk, IfOk, refl, sym, ap, ◌∙◌, subst}
 use Rattle.std.specs.Prelude.{IsTrue}
 use Rattle.std.specs.Borrow.{Bor}
 use Rattle.std.specs.List.{AllByRecursion}
@@ -11,7 +12,8 @@ use Rattle.moka_grammar.specs.declared.line.CacheOptions.{CacheOptions}
 use Rattle.moka_grammar.specs.declared.line.Line.{Line}
 use Rattle.moka_grammar.specs.declared.line.Mode.{Mode}
 use Rattle.moka_grammar.specs.declared.line.Request.{Request}
-use Rattle.moka_grammar.specs.declared.line.Request.TheVariants.{Insert, Get, ContainsKey, Invalidate, InvalidateAll, InvalidateIf, Sync, Iter, EntryCount, WeightedSize, Policy}
+use Rattle.moka_grammar.specs.declared.line.Request.TheVariants.{Insert, Get, ContainsKey, Invalidate, InvalidateAll}
+use Rattle.moka_grammar.specs.declared.line.Request.TheVariants.{InvalidateIf, Sync, Iter, EntryCount, WeightedSize, Policy}
 use Rattle.moka_grammar.specs.Lines.{allows, WeightFits, RequestFits, LineFits}
 use Rattle.moka_unsync.specs.declared.entry.Entry.{Entry}
 use Rattle.moka_unsync.specs.CacheState.{new_cache}
@@ -21,7 +23,8 @@ use Rattle.moka_script.specs.Reply.{Reply, Ready, reply_line}
 use Rattle.moka_script.specs.ScriptKeys.{script_keys}
 use Rattle.moka_script.specs.ScriptWeighers.{AnswersLine, AnswersRequest, AnswersStored}
 use Rattle.moka_script.specs.Stored.{stored_text, stored_weighs}
-use Rattle.moka_script.specs.UnsyncRun.{ScriptCache, IsAnswered, AreUnsyncReplies, WeigherOf, HasLimits, AreRepliesUnder, options_fault, AreUnsyncReplyLines}
+use Rattle.moka_script.specs.UnsyncRun.{ScriptCache, IsAnswered, AreUnsyncReplies, WeigherOf, HasLimits}
+use Rattle.moka_script.specs.UnsyncRun.{AreRepliesUnder, options_fault, AreUnsyncReplyLines}
 use Rattle.moka_script.specs.declared.stored.Stored.{Stored}
 
 -- where lines fit a header each is one of its mode
@@ -153,7 +156,8 @@ module _ (options : CacheOptions) (policy : Limits) (limits : HasLimits policy o
   -- the cache is new and of these settings, where the script is weighed so
   abbrev IsFirst : (weighed : Bool) → ScriptCache (WeigherOf weighed) → Type 0
   IsFirst weighed cache = HasLimits cache.settings.policy options ×
-      (cache ≡ new_cache (record { hash_state = record {}; policy = cache.settings.policy; is_weighed = weighed }) cache.weigher cache.capacity)
+      (cache ≡ new_cache (record { hash_state = record {}; policy = cache.settings.policy; is_weighed = weighed }) cache.weigher
+      cache.capacity)
 
   -- the reply lines are those of the cache
   abbrev AreOf : {W : Type 0} → ScriptCache W → List ℕ → Type 0
@@ -170,10 +174,12 @@ module _ (options : CacheOptions) (policy : Limits) (limits : HasLimits policy o
   -- a cache that is built answers the lines
   pub built : {T E : Type 0} (text_of : T → List ℕ) (result : Result T E) (weighed : Bool) (weigher : WeigherOf weighed)
       (cache : ScriptCache (WeigherOf weighed)) → weighed ≡ options.weighed
-      → policy_fault ≡ None → cache ≡ new_cache (record { hash_state = record {}; policy = policy; is_weighed = weighed }) weigher cache.capacity
+      → policy_fault ≡ None → cache ≡ new_cache (record { hash_state = record {}; policy = policy; is_weighed = weighed }) weigher
+      cache.capacity
       → IfOk result (λ t. AreOf cache (text_of t)) → IfOk result (λ t. AreUnsyncReplyLines options lines (text_of t))
   built text_of result weighed weigher cache is fine new answers =
-      let first : IsFirst weighed (new_cache (record { hash_state = record {}; policy = policy; is_weighed = weighed }) weigher cache.capacity) =
+      let first : IsFirst weighed (new_cache (record { hash_state = record {}; policy = policy; is_weighed = weighed }) weigher
+      cache.capacity) =
       (limits, refl) in
       IfOk-map result (λ t of. under_fault None (text_of t) fine
       (first_answers weighed (text_of t) is cache (subst (IsFirst weighed) (sym new) first) of)) answers

@@ -3,7 +3,8 @@ use Rattle.std.specs.Prelude.{ℕ, List, map, option_map}
 use Rattle.std.specs.Borrow.{Bor}
 use Rattle.moka_script.specs.declared.reply.ReplyValue.{ReplyValue}
 use Rattle.moka_script.specs.declared.reply.ReplyValue.TheVariants as value
-use Rattle.moka_script.specs.Reply.{Reply, Ready, Refused, Done, Found, Truth, Number, Pairs, Limits, OutOfMemory, TicketsUsedUp, Discarded, At, NotPossible}
+use Rattle.moka_script.specs.Reply.{Reply, Ready, Refused, Done, Found, Truth, Number, Pairs, Limits}
+use Rattle.moka_script.specs.Reply.{OutOfMemory, TicketsUsedUp, Discarded, At, NotPossible}
 
 -- the pairs of keys and texts, whatever lends the texts
 abbrev pub pairs_of : List (ℕ × Bor (List ℕ)) → List (ℕ × List ℕ)

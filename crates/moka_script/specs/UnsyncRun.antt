@@ -7,7 +7,8 @@ use Rattle.moka_common.specs.declared.weigh.UnitWeight.{UnitWeight}
 use Rattle.moka_grammar.specs.declared.line.CacheOptions.{CacheOptions}
 use Rattle.moka_grammar.specs.declared.line.Line.{Line}
 use Rattle.moka_grammar.specs.declared.line.Request.{Request}
-use Rattle.moka_grammar.specs.declared.line.Request.TheVariants.{Insert, Get, ContainsKey, Invalidate, InvalidateAll, InvalidateIf, Sync, Iter, EntryCount, WeightedSize, Policy as GetPolicy}
+use Rattle.moka_grammar.specs.declared.line.Request.TheVariants.{Insert, Get, ContainsKey, Invalidate, InvalidateAll, InvalidateIf}
+use Rattle.moka_grammar.specs.declared.line.Request.TheVariants.{Sync, Iter, EntryCount, WeightedSize, Policy as GetPolicy}
 use Rattle.moka_grammar.specs.Options.{span_nanos}
 use Rattle.moka_unsync.specs.declared.entry.Entry.{Entry}
 use Rattle.moka_unsync.specs.CacheState.{CacheState, new_cache}

@@ -1,7 +1,4 @@
 //! The keys of scripts: numbers that are hashed to themselves, so that a script chooses the shard of each key.
-ghost use Rattle.std.specs.Prelude.{◌≡◌, ℕ, List};
-ghost use Rattle.std.specs.Hash.{u64 as u64_writes};
-ghost use Rattle.moka_script.specs.declared.keys.KeyHasher.{KeyHasher as KeyHasherValue};
 ghost use Rattle.moka_script.specs.ScriptKeys.{hasher_after};
 
 use std::hash::{BuildHasher, Hasher};

@@ -1,6 +1,6 @@
 //! What the cache of a script stores: texts, each with its weight.
 ghost use Rattle.std.specs.Prelude.{◌≡◌, ⊤};
-ghost use Rattle.moka_script.specs.Stored.{stored_text, stored_weighs};
+ghost use Rattle.moka_script.specs.Stored.{stored_text};
 
 use moka_common::constants::UNIT_WEIGHT;
 use moka_common::weigh::Weigh;

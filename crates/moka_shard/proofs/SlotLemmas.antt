@@ -28,7 +28,8 @@ pub some_parts : {X : Type 0} (x y : X) → Some x ≡ Some y → x ≡ y
 some_parts x y is = cc
 
 -- slots without entries have none in any place
-none_in : {K V : Type 0} (slots : List (Option (Entry K V))) → entries_in slots ≡ [] → (i : ℕ) (e : Entry K V) → entry_in slots i ≡ Some e → ⊥
+none_in : {K V : Type 0} (slots : List (Option (Entry K V))) → entries_in slots ≡ [] → (i : ℕ) (e : Entry K V)
+    → entry_in slots i ≡ Some e → ⊥
 none_in [] none i e here = cc
 none_in (None ∷ slots) none Prim.Native.Nat.zero e here = cc
 none_in (None ∷ slots) none (suc i) e here = none_in slots none i e here
@@ -138,7 +139,8 @@ module _ {K V S : Type 0} (keys : Keys K S) where
             | inl also ↦ is ∙ sym also
             | inr other ↦
                 let x_is : x ≡ e = new_is j x is a in
-                absurd (false≢true (sym (absent k y (sym (others k other) ∙ b)) ∙ ap (λ (z : Entry K V). keys.eq z.key y.key) (sym x_is) ∙ same))
+                absurd (false≢true (sym (absent k y (sym (others k other) ∙ b))
+                ∙ ap (λ (z : Entry K V). keys.eq z.key y.key) (sym x_is) ∙ same))
           ]
           | inr apart ↦ elim (cases_eq k i) [
             | inl is ↦
@@ -154,14 +156,16 @@ module _ {K V S : Type 0} (keys : Keys K S) where
             | inl also ↦ is ∙ sym also
             | inr other ↦
                 let x_is : x ≡ e = new_is j x is a in
-                let number_is : y.ticket.number ≡ next = ap (λ (t : Ticket). t.number) (sym same ∙ ap (λ (z : Entry K V). z.ticket) x_is) ∙ given in
+                let number_is : y.ticket.number ≡ next =
+                ap (λ (t : Ticket). t.number) (sym same ∙ ap (λ (z : Entry K V). z.ticket) x_is) ∙ given in
                 let below : y.ticket.number < next = (s.belong k y (sym (others k other) ∙ b)).given_out in
                 absurd (omega (arith, number_is, below))
           ]
           | inr apart ↦ elim (cases_eq k i) [
             | inl is ↦
                 let y_is : y ≡ e = new_is k y is b in
-                let number_is : x.ticket.number ≡ next = ap (λ (t : Ticket). t.number) (same ∙ ap (λ (z : Entry K V). z.ticket) y_is) ∙ given in
+                let number_is : x.ticket.number ≡ next =
+                ap (λ (t : Ticket). t.number) (same ∙ ap (λ (z : Entry K V). z.ticket) y_is) ∙ given in
                 let below : x.ticket.number < next = (s.belong j x (sym (others j apart) ∙ a)).given_out in
                 absurd (omega (arith, number_is, below))
             | inr other ↦ s.tickets_apart j k x y (sym (others j apart) ∙ a) (sym (others k other) ∙ b) same
@@ -343,8 +347,13 @@ module _ {K V S : Type 0} (keys : Keys K S) {state : S} {number next : ℕ} {slo
       let others = set_others slots i e here (Some x) in (
         AreSlots-fewer keys slots (set slots i (Some x)) (λ j y h. elim (cases_eq j i) [
           | inl is ↦
-              let y_is : x ≡ y = some_parts x y (sym there ∙ ap (entry_in (set slots i (Some x))) (sym is) ∙ h) in
-              (e, ap (entry_in slots) is ∙ here, sym key ∙ ap (λ (z : Entry K V). z.key) y_is, sym ticket ∙ ap (λ (z : Entry K V). z.ticket) y_is)
+              let y_is : x ≡ y = some_parts x y (sym there ∙ ap (entry_in (set slots i (Some x))) (sym is) ∙ h) in (
+                e,
+                ap (entry_in slots) is ∙ here,
+                sym key ∙ ap (λ (z : Entry K V). z.key) y_is,
+                sym ticket
+                    ∙ ap (λ (z : Entry K V). z.ticket) y_is,
+              )
           | inr other ↦ (y, sym (others j other) ∙ h, refl, refl)
         ]) s.0,
         IsIndexed-rewrite slots (set slots i (Some x)) index i e x s.1 here there ticket others,
@@ -379,12 +388,14 @@ module _ {K V S : Type 0} (keys : Keys K S) (shard : Shard K V S)
   -- its entry has another value
   pub update_at : (hash : ℕ) (key : K) (value : V) (weight now : ℕ) (answer : Result Ticket InsertError) (slots : List (Option (Entry K V)))
       → (e.outstanding ≢ MAX_OUTSTANDING) → answer ≡ Ok e.ticket → slots ≡ set shard.slots i (Some (updated value weight now e))
-      → IsInsert (state_of shard) hash key value weight now false (entry_in shard.slots i) answer (state_of (record shard { slots = slots }))
+      → IsInsert (state_of shard) hash key value weight now false (entry_in shard.slots i) answer
+      (state_of (record shard { slots = slots }))
   update_at hash key value weight now answer slots few own is =
       subst (λ o. IsInsert (state_of shard) hash key value weight now false o answer (state_of (record shard { slots = slots }))) (sym here)
       (rw (ne_eqb e.outstanding MAX_OUTSTANDING few) (
         own,
-        ap (λ es. record (state_of shard) { entries = es }) (ap entries_in is ∙ sym (changed-is keys s i e here (updated value weight now))),
+        ap (λ es. record (state_of shard) { entries = es }) (ap entries_in is
+            ∙ sym (changed-is keys s i e here (updated value weight now))),
       ))
 
   -- its entry has as many upserts outstanding as can be
@@ -395,7 +406,8 @@ module _ {K V S : Type 0} (keys : Keys K S) (shard : Shard K V S)
       (rw (eq-eqb e.outstanding MAX_OUTSTANDING full) (refl, refl))
 
   -- it is changed as a turn says, which names it by its ticket
-  pub change_at : (t : Ticket) (change : Change K V) (slots : List (Option (Entry K V))) → entry_in shard.slots i ≡ entry_of t (entries_in shard.slots)
+  pub change_at : (t : Ticket) (change : Change K V) (slots : List (Option (Entry K V)))
+      → entry_in shard.slots i ≡ entry_of t (entries_in shard.slots)
       → (entries_in slots ≡ after_change e.ticket change (entries_in shard.slots))
       → state_of (record shard { slots = slots }) ≡ record (state_of shard) { entries = after_change t change (entries_in shard.slots) }
   change_at t change slots found is =
@@ -428,7 +440,8 @@ module _ {K V : Type 0} where
       step.1 ∙ ap (λ u. record old { entries = after_change u Leaves old.entries }) (of_ticket-is (λ x. x.ticket) t old.entries e (sym is))
 
   -- the step of an insert that adds an entry
-  pub addition : {S : Type 0} (shard : Shard K V S) (hash : ℕ) (key : K) (value : V) (weight now : ℕ) (slots : List (Option (Entry K V))) (i : ℕ)
+  pub addition : {S : Type 0} (shard : Shard K V S) (hash : ℕ) (key : K) (value : V) (weight now : ℕ)
+      (slots : List (Option (Entry K V))) (i : ℕ)
       → (shard.next_number ≢ NO_TICKET) → entry_in shard.slots i ≡ None
       → entry_in slots i ≡ Some (fresh_entry (state_of shard) hash key value weight now)
       → ((j : ℕ) → j ≢ i → entry_in slots j ≡ entry_in shard.slots j)

@@ -85,7 +85,8 @@ module _ {X : Type 0} where
   values_apart key eq (None ∷ rest) apart =
       values_apart key eq rest (λ i j x y a b same. let is : suc i ≡ suc j = apart (suc i) (suc j) x y a b same in omega (arith, is))
   values_apart key eq (Some v ∷ rest) apart = (
-    differ rest (λ i x a. false_from_ne_true (eq (key v) (key x)) (λ same. let is : 0 ≡ suc i = apart 0 (suc i) v x refl a same in absurd (cc))),
+    differ rest (λ i x a. false_from_ne_true (eq (key v) (key x))
+        (λ same. let is : 0 ≡ suc i = apart 0 (suc i) v x refl a same in absurd (cc))),
     values_apart key eq rest (λ i j x y a b same. let is : suc i ≡ suc j = apart (suc i) (suc j) x y a b same in omega (arith, is)),
   )
     where
@@ -184,7 +185,8 @@ module _ {X : Type 0} (p : X → Bool) where
             let one : cond (p v) 1 0 ≤ 1 = rw passes (omega arith) in
             omega (arith, count-cons p v (values rest), others, one)
         | inr fails ↦
-            let more = count-once rest (λ i j x y a b s t. let is : suc i ≡ suc j = once (suc i) (suc j) x y a b s t in omega (arith, is)) in
+            let more = count-once rest (λ i j x y a b s t. let is : suc i ≡ suc j = once (suc i) (suc j) x y a b s t in omega
+            (arith, is)) in
             let no : ℕ = 0 in
             let nothing : cond (p v) 1 no ≡ no = rw fails in
             omega (arith, count-cons p v (values rest), more, nothing)

@@ -15,7 +15,8 @@ module _ {K V S : Type 0} (keys : Keys K S) where
 
   -- no two slots have one key or one ticket, and each entry belongs to the shard
   pub record AreSlots (state : S) (number next_number : ℕ) (slots : List (Option (Entry K V))) : Type 0 where
-    pub keys_apart : (i j : ℕ) (e f : Entry K V) → entry_in slots i ≡ Some e → entry_in slots j ≡ Some f → keys.eq e.key f.key ≡ true → i ≡ j
+    pub keys_apart : (i j : ℕ) (e f : Entry K V) → entry_in slots i ≡ Some e → entry_in slots j ≡ Some f
+        → keys.eq e.key f.key ≡ true → i ≡ j
     pub tickets_apart : (i j : ℕ) (e f : Entry K V) → entry_in slots i ≡ Some e → entry_in slots j ≡ Some f → e.ticket ≡ f.ticket → i ≡ j
     pub belong : (i : ℕ) (e : Entry K V) → entry_in slots i ≡ Some e → Belongs state number next_number e
 

@@ -1,5 +1,6 @@
 //! One shard of the map: the entries whose hashes belong to it, in the slots of a slab, found by the hashes of their keys.
-ghost use Rattle.std.specs.Prelude.{◌≡◌, ◌≢◌, ◌≤◌, ◌↔◌, ℕ, Bool, false, [], Some, None, IfSome, IfOk, OnOk, OnErr, IsSome, IsErr, IsTrue, IsFalse, is_some, length, option_map, option_copied};
+ghost use Rattle.std.specs.Prelude.{◌≡◌, ◌≢◌, ◌≤◌, ◌↔◌, ℕ, Bool, false, [], Some, None, IfSome, IfOk, OnOk};
+ghost use Rattle.std.specs.Prelude.{IsSome, IsErr, IsTrue, IsFalse, is_some, length, option_map, option_copied};
 ghost use Rattle.slab.specs.Slab.{HasRoomFor};
 ghost use Rattle.moka_base.specs.Keys.{keys_by};
 ghost use Rattle.moka_index.specs.HashIndex.{candidates};

@@ -2,7 +2,8 @@
 use Rattle.std.specs.Prelude.{ℕ, ◌-◌, ◌*◌, ◌^◌, min, max, nat_le, if◌then◌else◌, replicate, Option, Some, None}
 use Rattle.std.specs.Int.{leading_zeros, w32}
 use Rattle.moka_sketch.specs.Sketch.{Table}
-use Rattle.moka_sketch.specs.declared.constants.TheConstants.{COUNTERS_PER_WORD, MAX_SAMPLE_SIZE, MAX_TABLE_LEN, MIN_SKETCH_CAPACITY, SAMPLE_FACTOR}
+use Rattle.moka_sketch.specs.declared.constants.TheConstants.{COUNTERS_PER_WORD, MAX_SAMPLE_SIZE, MAX_TABLE_LEN}
+use Rattle.moka_sketch.specs.declared.constants.TheConstants.{MIN_SKETCH_CAPACITY, SAMPLE_FACTOR}
 
 -- how many places the table has, none where the sketch is off
 abbrev pub table_len : Option Table → ℕ

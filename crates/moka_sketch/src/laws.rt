@@ -1,7 +1,9 @@
 //! The laws of the crate's definitions, one a function. A law is its function's clause: there is no code to call.
 ghost use Rattle.std.specs.Prelude.{◌≡◌};
-ghost use Rattle.moka_sketch.specs.declared.constants.TheConstants.{COUNTERS_PER_WORD, COUNTER_BITS, DEPTHS, MAX_FREQUENCY, MAX_SAMPLE_SIZE, MAX_TABLE_LEN, MIN_SKETCH_CAPACITY, SAMPLE_FACTOR};
-ghost use Rattle.moka_sketch.specs.Laws.{AgingHalvesSizes, BoundsEstimates, CountingKeepsSketches, CountingKeepsTrueCounts, FindsNextPower, GrowingKeepsSketches, GrowingKeepsTrueCounts, ResiduesAreApart};
+ghost use Rattle.moka_sketch.specs.declared.constants.TheConstants.{COUNTERS_PER_WORD, COUNTER_BITS, DEPTHS, MAX_FREQUENCY};
+ghost use Rattle.moka_sketch.specs.declared.constants.TheConstants.{MAX_SAMPLE_SIZE, MAX_TABLE_LEN, MIN_SKETCH_CAPACITY, SAMPLE_FACTOR};
+ghost use Rattle.moka_sketch.specs.Laws.{AgingHalvesSizes, BoundsEstimates, CountingKeepsSketches, CountingKeepsTrueCounts};
+ghost use Rattle.moka_sketch.specs.Laws.{FindsNextPower, GrowingKeepsSketches, GrowingKeepsTrueCounts, ResiduesAreApart};
 
 /// No estimate is above what four bits hold.
 pub fn estimates_are_bounded()

@@ -4,8 +4,8 @@ use crate::looks::Looks;
 use crate::tally::Tally;
 use std::fmt;
 
-/// A soak, with what its callers met with and what is left of the cache in the end. Its text has a line for each number, and a last one that says whether all is as
-/// it must be.
+/// A soak, with what its callers met with and what is left of the cache in the end. Its text has a line for each number, and a last one that says
+/// whether all is as it must be.
 #[derive(Clone, Copy, Debug, PartialEq, Eq)]
 pub struct Report {
     pub calls: u64,

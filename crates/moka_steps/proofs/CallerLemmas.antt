@@ -16,8 +16,10 @@ use Rattle.moka_engine.specs.CoreState.{CoreState, pending_of}
 use Rattle.moka_engine.specs.Place.{Place, is_idle}
 use Rattle.moka_engine.specs.Reply.{Reply}
 use Rattle.moka_engine.specs.Run.{Happens}
-use Rattle.moka_engine.specs.WholeCall.{Log, OfReads, OfWrites, Turns, LastTurn, NextTurn, Maintains, MaintainsIf, MaintainsIfDue, PushesRead}
-use Rattle.moka_engine.specs.WholeCall.{PushesWrite, Pushed, WasFull, PushesIf, AfterGet, AfterInsert, CallsInsert, CallsGet, CallsInvalidate, CallsSync}
+use Rattle.moka_engine.specs.WholeCall.{Log, OfReads, OfWrites, Turns, LastTurn, NextTurn}
+use Rattle.moka_engine.specs.WholeCall.{Maintains, MaintainsIf, MaintainsIfDue, PushesRead}
+use Rattle.moka_engine.specs.WholeCall.{PushesWrite, Pushed, WasFull, PushesIf, AfterGet, AfterInsert}
+use Rattle.moka_engine.specs.WholeCall.{CallsInsert, CallsGet, CallsInvalidate, CallsSync}
 use Rattle.moka_core.specs.Core.{Core as CoreValue}
 use Rattle.moka_steps.specs.CoreCaller.{core_allows, core_caller, core_decides, kind_of}
 use Rattle.moka_steps.specs.StepLaws.{AreCalls}
@@ -139,7 +141,8 @@ module _ {K V S W : Type 0} (keys : Keys K S) (weighs : W → K → V → ℕ �
             next = c.next.state;
             first = taken;
             follows =
-                subst (λ b. PushesIf Step Decides has_pending CALLER b now c.next.state new.state) (pending_by_kind (pending_of CALLER c.next.state)) others;
+                subst (λ b. PushesIf Step Decides has_pending CALLER b now c.next.state new.state)
+                (pending_by_kind (pending_of CALLER c.next.state)) others;
           },
         ),
         end,

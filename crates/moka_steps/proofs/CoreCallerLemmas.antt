@@ -1,5 +1,6 @@
 -- What the caller of a core has under way after each of its steps.
-use Rattle.std.proofs.Common.{◌≡◌, ◌⊎◌, ℕ, nat_eq, nat_lt, not, Bool, true, false, List, [], ◌∷◌, ◌++◌, length, Option, Some, None, refl, sym, ◌∙◌, ap, subst}
+use Rattle.std.proofs.Common.{◌≡◌, ◌⊎◌, ℕ, nat_eq, nat_lt, not, Bool, true, false, List, [], ◌∷◌}
+use Rattle.std.proofs.Common.{◌++◌, length, Option, Some, None, refl, sym, ◌∙◌, ap, subst}
 use Rattle.std.proofs.Common.{inl, inr}
 use Rattle.std.specs.Bool.{MatchBool}
 use Rattle.std.specs.Map.{lookup}
@@ -23,7 +24,8 @@ use Rattle.moka_engine.specs.Entry.{Entry, entry_at}
 use Rattle.moka_engine.specs.CoreCall.{Decides, has_pending, scheduled}
 use Rattle.moka_engine.specs.CoreState.{CoreState, is_expired, pending_of, with_pending}
 use Rattle.moka_engine.specs.Event.{IsBeginning, IsForgetting, IsPush, IsTurn}
-use Rattle.moka_engine.specs.MapStep.{IsAddition, IsGet, IsHit, IsInsert, IsInvalidation, IsMiss, IsUpdate, OnlyReplies, fresh_entry, is_fresh}
+use Rattle.moka_engine.specs.MapStep.{IsAddition, IsGet, IsHit, IsInsert, IsInvalidation}
+use Rattle.moka_engine.specs.MapStep.{IsMiss, IsUpdate, OnlyReplies, fresh_entry, is_fresh}
 use Rattle.moka_engine.specs.Reply.{Reply}
 use Rattle.moka_engine.specs.Run.{Happens}
 use Rattle.moka_engine.specs.WholeCall.{Log}
@@ -86,7 +88,10 @@ module _ {K V S : Type 0} (keys : Keys K S) (weighs : K → V → ℕ → Type 0
   is_caller : (operation : Option Operation) (runs : Bool) → pending_of CALLER new ≡ operation → not (is_idle new.maintenance.place) ≡ runs
       → caller_of new ≡ record { pending = kind_of operation; is_maintaining = runs }
   is_caller operation runs pending place =
-      ap (λ (o : Option Operation). let k : Caller = record { pending = kind_of o; is_maintaining = not (is_idle new.maintenance.place) } in k) pending
+      ap (λ (o : Option Operation). let k : Caller = record {
+        pending = kind_of o;
+        is_maintaining = not (is_idle new.maintenance.place);
+      } in k) pending
       ∙ ap (λ (b : Bool). let k : Caller = record { pending = kind_of operation; is_maintaining = b } in k) place
 
   -- the place stays
@@ -116,11 +121,13 @@ module _ {K V S : Type 0} (keys : Keys K S) (weighs : K → V → ℕ → Type 0
 
     -- that an insert was accepted, or why it was refused, and what it has left
     inserted : (key : K) (value : V) (now : ℕ) (reply : Reply K V) → Step (event.Insert CALLER key value now) reply
-        → ((reply ≡ Done) × (caller_of new ≡ pends AWrite)) ⊎ (((reply ≡ OutOfMemory) ⊎ (reply ≡ TicketsUsedUp)) × (caller_of new ≡ at_rest))
+        → ((reply ≡ Done) × (caller_of new ≡ pends AWrite)) ⊎ (((reply ≡ OutOfMemory) ⊎ (reply ≡ TicketsUsedUp))
+        × (caller_of new ≡ at_rest))
     inserted key value now reply step = by step.refused (entry_at keys.eq key old.entries) (free reply _ step.step)
       where
         Put : Type 0
-        Put = ((reply ≡ Done) × (caller_of new ≡ pends AWrite)) ⊎ (((reply ≡ OutOfMemory) ⊎ (reply ≡ TicketsUsedUp)) × (caller_of new ≡ at_rest))
+        Put = ((reply ≡ Done) × (caller_of new ≡ pends AWrite))
+            ⊎ (((reply ≡ OutOfMemory) ⊎ (reply ≡ TicketsUsedUp)) × (caller_of new ≡ at_rest))
 
         added : (e : Entry K V) (used : Bool)
             → MatchBool used (OnlyReplies keys old TicketsUsedUp reply new) (IsAddition keys old CALLER e reply new) → Put
@@ -129,12 +136,14 @@ module _ {K V S : Type 0} (keys : Keys K S) (weighs : K → V → ℕ → Type 0
             inl (h.2, pends_now (Writing (Upsert e.ticket)) (ap (λ c. c.pending) h.3) (ap (λ c. c.maintenance.place) h.3))
 
         changed : (e : Entry K V) (full : Bool)
-            → MatchBool full (OnlyReplies keys old TicketsUsedUp reply new) (IsUpdate keys old CALLER e value now step.weight reply new) → Put
+            → MatchBool full (OnlyReplies keys old TicketsUsedUp reply new)
+            (IsUpdate keys old CALLER e value now step.weight reply new) → Put
         changed e true h = inr (inr h.0, same h.1)
         changed e false h =
             inl (h.0, pends_now (Writing (Upsert e.ticket)) (ap (λ c. c.pending) h.1) (ap (λ c. c.maintenance.place) h.1))
 
-        by : (refused : Bool) (present : Option (Entry K V)) → IsInsert keys old CALLER key value now step.weight refused present reply new → Put
+        by : (refused : Bool) (present : Option (Entry K V)) → IsInsert keys old CALLER key value now step.weight refused present
+            reply new → Put
         by true present h = inr (inl h.0, same h.1)
         by false None h = added (fresh_entry keys old key value step.weight now) _ h
         by false (Some e) h = changed e _ h
@@ -163,14 +172,16 @@ module _ {K V S : Type 0} (keys : Keys K S) (weighs : K → V → ℕ → Type 0
     got key now reply step = by (entry_at keys.eq key old.entries) (free reply _ step.step)
       where
         Got : Type 0
-        Got = ((found : Option V) × (reply ≡ Found found) × (caller_of new ≡ pends ARead)) ⊎ ((reply ≡ OutOfMemory) × (caller_of new ≡ at_rest))
+        Got = ((found : Option V) × (reply ≡ Found found) × (caller_of new ≡ pends ARead))
+            ⊎ ((reply ≡ OutOfMemory) × (caller_of new ≡ at_rest))
 
         missed : IsMiss keys old CALLER key reply new → Got
         missed h =
             inl (
               None,
               h.0,
-              pends_now (Reading (Miss (keys.hash_of old.settings.hash_state key))) (ap (λ c. c.pending) h.1) (ap (λ c. c.maintenance.place) h.1),
+              pends_now (Reading (Miss (keys.hash_of old.settings.hash_state key))) (ap (λ c. c.pending) h.1)
+                  (ap (λ c. c.maintenance.place) h.1),
             )
 
         here : (e : Entry K V) (expired refused : Bool)
@@ -186,7 +197,8 @@ module _ {K V S : Type 0} (keys : Keys K S) (weighs : K → V → ℕ → Type 0
         by (Some e) h = here e (is_expired old.settings old.valid_after now e) step.refused h
 
     -- what has found out has left a read
-    pub found_out : (key : K) (now : ℕ) (reply : Reply K V) → Step (event.Get CALLER key now) reply → (found : Option V) → reply ≡ Found found
+    pub found_out : (key : K) (now : ℕ) (reply : Reply K V) → Step (event.Get CALLER key now) reply → (found : Option V)
+        → reply ≡ Found found
         → caller_of new ≡ pends ARead
     found_out key now reply step found word =
         elim (got key now reply step) [
@@ -211,7 +223,8 @@ module _ {K V S : Type 0} (keys : Keys K S) (weighs : K → V → ℕ → Type 0
         Left : Type 0
         Left = caller_of new ≡ pends (left_by_invalidate (has_pending new))
 
-        removed : (write : Write) → new.pending ≡ with_pending CALLER (Writing write) old → new.maintenance.place ≡ old.maintenance.place → Left
+        removed : (write : Write) → new.pending ≡ with_pending CALLER (Writing write) old
+            → new.maintenance.place ≡ old.maintenance.place → Left
         removed write pending place =
             pends_now (Writing write) pending place
             ∙ ap (λ o. pends (left_by_invalidate (is_some o)))

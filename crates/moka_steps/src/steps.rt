@@ -2,8 +2,11 @@
 ghost use Rattle.std.specs.Prelude.{◌≡◌, ℕ, Bool, true, false};
 ghost use Rattle.moka_engine.specs.declared.event.Event.{Event as StepEvent};
 ghost use Rattle.moka_engine.specs.Reply.{Reply as StepReply};
-ghost use Rattle.moka_engine.specs.WholeCall.{Log, CallsContains, CallsInsert, CallsInvalidate, CallsInvalidateAll, CallsSync, Maintains, MaintainsIfDue, PushesRead, PushesWrite, Turns};
-ghost use Rattle.moka_steps.specs.Steps.{ARead, AWrite, AnswersGet, Caller, TakesTurns, at_rest, get_reply, goes_on, insert_reply, left_by_get, left_by_insert, left_by_invalidate, left_by_push, log_of, maintaining, pends, pends_by, read_reply, write_reply};
+ghost use Rattle.moka_engine.specs.WholeCall.{Log, CallsContains, CallsInsert, CallsInvalidate, CallsInvalidateAll};
+ghost use Rattle.moka_engine.specs.WholeCall.{CallsSync, Maintains, MaintainsIfDue, PushesRead, PushesWrite, Turns};
+ghost use Rattle.moka_steps.specs.Steps.{ARead, AWrite, AnswersGet, Caller, TakesTurns, at_rest, get_reply, goes_on};
+ghost use Rattle.moka_steps.specs.Steps.{insert_reply, left_by_get, left_by_insert, left_by_invalidate, left_by_push};
+ghost use Rattle.moka_steps.specs.Steps.{log_of, maintaining, pends, pends_by, read_reply, write_reply};
 
 mod engine;
 

@@ -42,7 +42,8 @@ module _ {K V : Type 0} where
   nodes-push (q ∷ items) p = ap (λ l. (q.0, q.1.entry) ∷ l) (nodes-push items p)
 
   nodes-rewrite : (id : ℕ) (n : Node K V) (items : List (ℕ × Node K V))
-      → entries_under (remove_entry (nat_eq id) items ++ (id, n) ∷ []) ≡ remove_entry (nat_eq id) (entries_under items) ++ (id, n.entry) ∷ []
+      → entries_under (remove_entry (nat_eq id) items ++ (id, n) ∷ [])
+      ≡ remove_entry (nat_eq id) (entries_under items) ++ (id, n.entry) ∷ []
   nodes-rewrite id n items =
       nodes-push (remove_entry (nat_eq id) items) (id, n) ∙ ap (λ l. l ++ (id, n.entry) ∷ []) (entries-remove id items)
 
@@ -87,11 +88,19 @@ module _ {X : Type 0} where
   capacity_set false items capacity wroom id x = refl
 
   -- and once one is rewritten and at the back
-  pub capacity_rewritten : (keeps : Bool) (items moved : List (ℕ × X)) (old new wroom wsame id : ℕ) (x y : X) → lookup (nat_eq id) items ≡ Some x
+  pub capacity_rewritten : (keeps : Bool) (items moved : List (ℕ × X)) (old new wroom wsame id : ℕ) (x y : X)
+      → lookup (nat_eq id) items ≡ Some x
       → moved ≡ remove_entry (nat_eq id) items ++ (id, y) ∷ [] → new ≡ old → wsame ≡ wroom
       → capacity_of keeps moved new wsame ≡ capacity_of keeps items old wroom
   capacity_rewritten true items moved old new wroom wsame id x y stood moved_is same writes_same =
-      grind (arith, ap length moved_is, length_push (remove_entry (nat_eq id) items) (id, y), length-remove id items (ap is_some stood), same, writes_same)
+      grind (
+        arith,
+        ap length moved_is,
+        length_push (remove_entry (nat_eq id) items) (id, y),
+        length-remove id items (ap is_some stood),
+        same,
+        writes_same,
+      )
   capacity_rewritten false items moved old new wroom wsame id x y stood moved_is same writes_same = same
 
   -- the id of a new node is below the number that all ids are below
@@ -152,7 +161,8 @@ module _ {K V : Type 0} {eq : K → K → Bool} (laws : IsEquivalence eq) {keeps
         rw moved_is (IsStored-rewrite laws s id n stood (touched n now) refl refl weight_small writes total (λ v. refl) s.written_once
         (grind (arith, weight_in_total)))
 
-    pub touch_is : (old new ids same : ℕ) → new ≡ old → same ≡ ids → Touches eq (seen items writes keeps old ids) id now (seen moved writes keeps new same)
+    pub touch_is : (old new ids same : ℕ) → new ≡ old → same ≡ ids
+        → Touches eq (seen items writes keeps old ids) id now (seen moved writes keeps new same)
     touch_is old new ids same capacity same_is =
         record {
           entry = n.entry;

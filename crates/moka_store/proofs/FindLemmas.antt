@@ -42,7 +42,13 @@ module _ {K V : Type 0} {eq : K → K → Bool} (laws : IsEquivalence eq) {keeps
   -- the first node is that of the front
   pub front_is : (items : List (ℕ × Node K V)) (writes : List (ℕ × ℕ)) {total : ℕ} (room ids : ℕ) → IsStored eq keeps items writes total
       → (o : Option ℕ) → o ≡ first_id items → Rattle.std.specs.Prelude.IfSome o
-      (λ id. IsFront eq (record { nodes = entries_under items; written = written_under items writes; keeps_writes = keeps; capacity = room; ids = ids })
+      (λ id. IsFront eq (record {
+        nodes = entries_under items;
+        written = written_under items writes;
+        keeps_writes = keeps;
+        capacity = room;
+        ids = ids;
+      })
       id)
   front_is [] writes room ids s o h = rw h tt
   front_is (p ∷ items) writes room ids s o h =
@@ -60,7 +66,13 @@ module _ {K V : Type 0} {eq : K → K → Bool} (laws : IsEquivalence eq) {keeps
   -- the node that the first write names is the oldest
   pub oldest_is : (items : List (ℕ × Node K V)) (writes : List (ℕ × ℕ)) {total : ℕ} (room ids : ℕ) → IsStored eq keeps items writes total
       → (id : ℕ) → Some id ≡ Rattle.std.specs.Prelude.slice_get (values_of writes) 0
-      → IsOldest eq (record { nodes = entries_under items; written = written_under items writes; keeps_writes = keeps; capacity = room; ids = ids }) id
+      → IsOldest eq (record {
+        nodes = entries_under items;
+        written = written_under items writes;
+        keeps_writes = keeps;
+        capacity = room;
+        ids = ids;
+      }) id
   oldest_is items [] room ids s id h = absurd (false≢true (sym (ap is_some h)))
   oldest_is items (w ∷ ws) room ids s id h =
       let named : lookup (nat_eq w.0) (w ∷ ws) ≡ Some w.1 = cond-true (nat_eq w.0 w.0) _ _ (nat_eq-same w.0) in
@@ -125,7 +137,13 @@ module _ {K V : Type 0} {eq : K → K → Bool} (laws : IsEquivalence eq) {keeps
   pub oldest_found : (items : List (ℕ × Node K V)) (writes : List (ℕ × ℕ)) {total : ℕ} (room ids : ℕ) → IsStored eq keeps items writes total
       → (o : Option ℕ) → o ≡ Rattle.std.specs.Prelude.slice_get (values_of writes) 0
       → Rattle.std.specs.Prelude.IfSome o
-      (λ id. IsOldest eq (record { nodes = entries_under items; written = written_under items writes; keeps_writes = keeps; capacity = room; ids = ids })
+      (λ id. IsOldest eq (record {
+        nodes = entries_under items;
+        written = written_under items writes;
+        keeps_writes = keeps;
+        capacity = room;
+        ids = ids;
+      })
       id)
   oldest_found items writes room ids s None h = tt
   oldest_found items writes room ids s (Some id) h = oldest_is laws items writes room ids s id h

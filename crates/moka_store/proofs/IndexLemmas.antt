@@ -296,7 +296,8 @@ module _ {K V : Type 0} where
           ids = h.ids;
         }
 
-    pub shown_touches : (now : ℕ) → n ≡ m → Touches eq a id now b → Touches eq (record a { capacity = m }) id now (record b { capacity = n })
+    pub shown_touches : (now : ℕ) → n ≡ m → Touches eq a id now b
+        → Touches eq (record a { capacity = m }) id now (record b { capacity = n })
     shown_touches now same h =
         record {
           entry = h.entry;
@@ -310,7 +311,8 @@ module _ {K V : Type 0} where
           nodes = h.nodes;
         }
 
-    pub shown_updates : (update : Entry K V) → n ≡ m → Updates eq a id update b → Updates eq (record a { capacity = m }) id update (record b { capacity = n })
+    pub shown_updates : (update : Entry K V) → n ≡ m → Updates eq a id update b
+        → Updates eq (record a { capacity = m }) id update (record b { capacity = n })
     shown_updates update same h =
         record {
           entry = h.entry;

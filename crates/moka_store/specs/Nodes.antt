@@ -7,7 +7,8 @@ use Rattle.moka_machine.specs.declared.entry.Entry.{Entry}
 use Rattle.moka_store.specs.declared.deques.Node.{Node}
 use Rattle.moka_machine.specs.Contents.{total_weight, Write, write_of}
 
--- how many entries fit, with those that are there: as many as in the chain, and where writes are kept, only as many more as there is room for writes
+-- how many entries fit, with those that are there: as many as in the chain, and where writes are kept,
+-- only as many more as there is room for writes
 abbrev pub capacity_of : {X : Type 0} → Bool → List (ℕ × X) → ℕ → ℕ → ℕ
 capacity_of true items capacity writes = min capacity (length items + writes)
 capacity_of false items capacity writes = capacity
@@ -47,7 +48,8 @@ module _ {K V : Type 0} where
 
   -- the chain and the deque name each other, no key stands twice, and the total is of all weights
   pub record IsStored (eq : K → K → Bool) (keeps : Bool) (items : List (ℕ × Node K V)) (writes : List (ℕ × ℕ)) (total : ℕ) : Type 0 where
-    pub apart : (i j : ℕ) (m n : Node K V) → lookup (nat_eq i) items ≡ Some m → lookup (nat_eq j) items ≡ Some n → eq m.entry.key n.entry.key ≡ true → i ≡ j
+    pub apart : (i j : ℕ) (m n : Node K V) → lookup (nat_eq i) items ≡ Some m → lookup (nat_eq j) items ≡ Some n
+        → eq m.entry.key n.entry.key ≡ true → i ≡ j
     pub tied : (i : ℕ) (n : Node K V) → lookup (nat_eq i) items ≡ Some n → IsTied keeps writes i n.write
     pub standing : (w i : ℕ) → lookup (nat_eq w) writes ≡ Some i → (n : Node K V) × (lookup (nat_eq i) items ≡ Some n) × (n.write ≡ Some w)
     pub once : IsDistinct nat_eq (keys_of items)

@@ -5,8 +5,8 @@ use Rattle.moka_machine.specs.declared.entry.Entry.{Entry}
 use Rattle.moka_machine.specs.Contents.{Write, entry_at, entries_without, write_of, writes_without}
 use Rattle.moka_machine.specs.Insert.{with_write}
 
--- the entries in order of use, each under the id of its node; the writes in their order, if they are kept; how many entries fit with no allocation;
--- and a number that the ids of all nodes are below
+-- the entries in order of use, each under the id of its node; the writes in their order, if they are kept;
+-- how many entries fit with no allocation; and a number that the ids of all nodes are below
 pub record Store (K V : Type 0) : Type 0 where
   pub nodes : List (ℕ × Entry K V)
   pub written : List (Write K)
@@ -72,7 +72,8 @@ module _ {K V : Type 0} where
     pub record Updates (old : Store K V) (id : ℕ) (update : Entry K V) (new : Store K V) : Type 0 where
       pub entry : Entry K V
       pub stood : lookup (nat_eq id) old.nodes ≡ Some entry
-      pub entries : entries_of new ≡ entries_without eq entry.key (entries_of old) ++ record update { key = entry.key; hash = entry.hash } ∷ []
+      pub entries : entries_of new ≡ entries_without eq entry.key (entries_of old) ++ record update
+          { key = entry.key; hash = entry.hash } ∷ []
       pub written : new.written ≡ with_write old.keeps_writes (writes_without eq entry.key old.written) entry.key update.modified
       pub keeps : new.keeps_writes ≡ old.keeps_writes
       pub capacity : new.capacity ≡ old.capacity

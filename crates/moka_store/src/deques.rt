@@ -1,5 +1,6 @@
 // The entries of a cache in order of use and in order of writing, with the total of their weights.
-ghost use Rattle.std.specs.Prelude.{◌≡◌, ◌≤◌, ◌<◌, ◌+◌, ◌-◌, ◌*◌, ◌^◌, ◌++◌, ◌∷◌, ℕ, [], length, nat_eq, IfOk, IsOk, OnOk, IfSome, IsNone, IsSome, None, Some, true};
+ghost use Rattle.std.specs.Prelude.{◌≡◌, ◌≤◌, ◌<◌, ◌+◌, ◌-◌, ◌*◌, ◌^◌, ℕ, [], length, nat_eq};
+ghost use Rattle.std.specs.Prelude.{IfOk, IsOk, OnOk, IfSome, IsNone, IsSome, None, Some, true};
 ghost use Rattle.std.specs.List.{IsDistinct};
 ghost use Rattle.std.specs.Map.{keys_of, lookup};
 ghost use Rattle.moka_deque.specs.Deque.{IsIn, first_id, next_id};

@@ -23,7 +23,7 @@ pub use Rattle.moka_engine_laws.specs.PlainMap
 pub use Rattle.moka_engine_laws.specs.Weights
 pub use Rattle.moka_engine_laws.specs.CallLaws
 pub use Rattle.moka_core.specs.Core
-pub use Rattle.moka_locks.specs.Builder
+pub use Rattle.moka_shared.specs.Builder
 pub use Rattle.moka_locks.specs.Rule
 pub use Rattle.moka_locks.specs.Cache
 pub use Rattle.moka_locks.specs.Locked

@@ -6,5 +6,6 @@ pub mod engine;
 
 pub use moka_engine::constants;
 pub use moka_engine_laws::laws;
-pub use moka_locks::{builder, cache, housekeeper, iter, mapref, rule};
+pub use moka_locks::{housekeeper, rule};
+pub use moka_shared::{builder, cache, iter, mapref};
 pub use moka_steps::{step_laws, steps};

@@ -194,7 +194,8 @@ fn look<S: BuildHasher + Drop, W: WeighShared<u64, u64>>(
     }
 }
 
-/// Inserts a pair, whose key and value are moved into memory of their own. Ticket numbers last longer than any trace, so it is memory that an insert is refused.
+/// Inserts a pair, whose key and value are moved into memory of their own. Ticket numbers last longer than any trace,
+/// so it is memory that an insert is refused.
 fn insert<S: BuildHasher + Drop, W: WeighShared<u64, u64>>(
     core: &mut Core<u64, u64, S, W>,
     alloc: Global,

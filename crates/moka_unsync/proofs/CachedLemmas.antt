@@ -1,5 +1,6 @@
 -- Lemmas on what holds of a cache's parts.
-use Rattle.std.proofs.Common.{◌≡◌, ℕ, Bool, true, not, List, [], ◌∷◌, All, length, nat_eq, is_some, Option, Some, None, unwrap_or, sym, ap, ◌∙◌}
+use Rattle.std.proofs.Common.{◌≡◌, ℕ, Bool, true, not, List, [], ◌∷◌, All, length, nat_eq}
+use Rattle.std.proofs.Common.{is_some, Option, Some, None, unwrap_or, sym, ap, ◌∙◌}
 use Rattle.std.proofs.Common.{◌++◌, refl, subst, inl, inr}
 use Rattle.std.proofs.lemmas.Bool.{cases_Bool, cond-true, cond-false, false≢true}
 use Rattle.std.proofs.lemmas.List.{length-map}

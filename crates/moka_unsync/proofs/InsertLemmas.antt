@@ -37,7 +37,8 @@ module _ {K V S W : Type 0} (eq : K → K → Bool) (cache : CacheState K V S W)
         by (Some victims) h = refl
 
     -- one that was not
-    pub insert_rejected : is_some gone ≡ false → record cache { contents = contents; capacity = capacity } ≡ after_insert eq cache new now refused
+    pub insert_rejected : is_some gone ≡ false → record cache { contents = contents; capacity = capacity }
+        ≡ after_insert eq cache new now refused
     insert_rejected rejected = (λ i. record cache { contents = is i; capacity = same i }) ∙ by gone rejected ∙ unfound
       where
         by : (o : Option (List (Entry K V))) → is_some o ≡ false

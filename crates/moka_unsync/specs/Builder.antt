@@ -16,7 +16,12 @@ pub record Builder (W : Type 0) : Type 0 where
 -- a builder as it begins, with this limit or none
 abbrev pub new_builder : {W : Type 0} → Option ℕ → W → Builder W
 new_builder limit weigher =
-    record { policy = record { max_capacity = limit; time_to_live = None; time_to_idle = None }; initial_capacity = 0; is_weighed = false; weigher = weigher }
+    record {
+      policy = record { max_capacity = limit; time_to_live = None; time_to_idle = None };
+      initial_capacity = 0;
+      is_weighed = false;
+      weigher = weigher;
+    }
 
 -- the first fault of what was set; where there is none, only memory can be refused
 abbrev pub refusal_of : {W : Type 0} → Builder W → BuildError
@@ -25,5 +30,6 @@ refusal_of builder = unwrap_or (duration_fault (live_nanos builder.policy) (idle
 -- what was set is legal, and it is a new cache of that, with at least the room that was asked for
 pub record IsBuilt {K V S W : Type 0} (builder : Builder W) (hash_state : S) (cache : CacheState K V S W) : Type 0 where
   pub legal : duration_fault (live_nanos builder.policy) (idle_nanos builder.policy) ≡ None
-  pub built : cache ≡ new_cache (record { hash_state = hash_state; policy = builder.policy; is_weighed = builder.is_weighed }) builder.weigher cache.capacity
+  pub built : cache ≡ new_cache (record { hash_state = hash_state; policy = builder.policy; is_weighed = builder.is_weighed })
+      builder.weigher cache.capacity
   pub room : builder.initial_capacity ≤ cache.capacity

@@ -10,7 +10,8 @@ use mathlib.Core.Option.{none}
 use Rattle.moka_machine.specs.CacheState.{CacheState}
 use Rattle.moka_unsync.specs.contracts.cache.Cache.{the_row}
 
-module _ (K V S W A H : RattleType) (key : HashMembers K.Denot) (build : builder.Ghosts S.Denot H.Denot) (hash : hasher.Ghosts H.Denot) (heap : Ghosts A.Denot) (copies : clone.Ghosts A.Denot) where
+module _ (K V S W A H : RattleType) (key : HashMembers K.Denot) (build : builder.Ghosts S.Denot H.Denot) (hash : hasher.Ghosts H.Denot)
+    (heap : Ghosts A.Denot) (copies : clone.Ghosts A.Denot) where
   -- it is this cache
   abbrev pub ends_as : MutBor (CacheState K.Denot V.Denot S.Denot W.Denot) → CacheState K.Denot V.Denot S.Denot W.Denot → Fml
   ends_as cache end = follows_so

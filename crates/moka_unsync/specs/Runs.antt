@@ -5,12 +5,14 @@ use Rattle.moka_unsync.specs.declared.runs.Call.{Call}
 use Rattle.moka_unsync.specs.declared.runs.Call.TheVariants as call
 use Rattle.moka_unsync.specs.declared.runs.Reply.{Reply}
 use Rattle.moka_unsync.specs.declared.runs.Reply.TheVariants as reply
-use Rattle.moka_machine.specs.Step.{Answer, Request, Get, ContainsKey, Insert, Invalidate, InvalidateAll, EntryCount, WeightedSize, Found, Truth, Done, OutOfMemory, Pairs, Number}
+use Rattle.moka_machine.specs.Step.{Answer, Request, Get, ContainsKey, Insert, Invalidate, InvalidateAll}
+use Rattle.moka_machine.specs.Step.{EntryCount, WeightedSize, Found, Truth, Done, OutOfMemory, Pairs, Number}
 
 -- a reply tells what was found: it has one more owner of it, or that is refused
 abbrev pub TellsFound : {V A : Type 0} → Option (Rc V A) → Reply V A → Type 0
 TellsFound None told = told ≡ reply.Found None
-TellsFound {V = V} {A = A} (Some value) told = (told ≡ reply.OutOfMemory) ⊎ ((copy : Rc V A) × (told ≡ reply.Found (Some copy)) × (copy.value ≡ value.value))
+TellsFound {V = V} {A = A} (Some value) told =
+    (told ≡ reply.OutOfMemory) ⊎ ((copy : Rc V A) × (told ≡ reply.Found (Some copy)) × (copy.value ≡ value.value))
 
 module _ {K V A : Type 0} where
   -- what a call asks

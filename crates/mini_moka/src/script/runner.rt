@@ -128,7 +128,8 @@ impl From<AllocError> for ScriptError {
 /// its name; in a sketch script `inc` and `ensure` by `ok`, and the others by a number. In a script of a core a turn is answered
 /// by `at` and the place after it, a push by `ok` or `discarded`, and a step that can't happen by `not possible`. A call that was
 /// refused is answered by `refused memory` or `refused tickets`. Where a line is bad, `bad line` and its number are all that is
-/// written. A script of the cache with locks is handed back, and nothing is written. The time is linear in the bytes, but for what the calls of a cache or a core take and the counts of an `inc`.
+/// written. A script of the cache with locks is handed back, and nothing is written. The time is linear in the bytes, but for what the
+/// calls of a cache or a core take and the counts of an `inc`.
 pub fn run<A: Allocator + Clone + Drop, I: Source, O: Sink>(
     alloc: A,
     source: &mut I,

@@ -7,12 +7,12 @@ ghost use Rattle.moka_engine.specs.Run.{Happens};
 ghost use Rattle.moka_engine.specs.WholeCall.{OfReads, OfWrites};
 
 use crate::engine::Core;
-use crate::rows::Rows;
 use moka_base::shared::Shared;
 use moka_base::time::Instant;
 use moka_engine::constants::CALLER;
 use moka_engine::event::{Event, Reply};
 use moka_engine::weigh::WeighShared;
+use moka_map::rows::Rows;
 use std::alloc::Allocator;
 use std::hash::{BuildHasher, Hash};
 

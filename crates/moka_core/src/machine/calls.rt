@@ -1,7 +1,8 @@
 //! Whole calls of one caller, each a chain of steps.
 ghost use Rattle.std.specs.Prelude.{◌≡◌, ◌≢◌, true};
 ghost use Rattle.moka_base.specs.Keys.{keys_by};
-ghost use Rattle.moka_core.specs.Calls.{AppliesNext, AppliesNextReads, AppliesNextWrite, CoreMaintains, CorePushesRead, CorePushesWrite, MaintainsAsDue, Pends, PendsRead, PendsWrite, having};
+ghost use Rattle.moka_core.specs.Calls.{AppliesNext, AppliesNextReads, AppliesNextWrite, CoreMaintains, CorePushesRead};
+ghost use Rattle.moka_core.specs.Calls.{CorePushesWrite, MaintainsAsDue, Pends, PendsRead, PendsWrite, having};
 ghost use Rattle.moka_core.specs.Machine.{KeepsRoom};
 ghost use Rattle.moka_engine.specs.Consistent.{IsConsistent};
 ghost use Rattle.moka_engine.specs.CoreCall.{CoreTurns, Finishes, IsAtRest, IsCall, scheduled};
@@ -11,7 +12,6 @@ ghost use Rattle.moka_engine.specs.declared.operation.Operation.TheVariants.{Rea
 
 use crate::housekeeper::is_due;
 use crate::machine::{Machine, refusal};
-use crate::rows::Rows;
 use moka_base::shared::Shared;
 use moka_base::time::Instant;
 use moka_engine::call::Call;
@@ -21,6 +21,7 @@ use moka_engine::operation::{Operation, Write};
 use moka_engine::place::Place;
 use moka_engine::weigh::WeighShared;
 use moka_maintenance::logs::{LoggedRead, NO_READ, READS_AT_ONCE};
+use moka_map::rows::Rows;
 use std::alloc::Allocator;
 use std::hash::{BuildHasher, Hash};
 

@@ -2,8 +2,7 @@
 //
 // `NONE` stands for the place before the first node and behind the last, so that the ends need no cases: its next node is the first, and its previous
 // one the last. A node that is not in the chain has no neighbours.
-ghost use Rattle.std.specs.Prelude.{◌≡◌, ℕ, ◌<◌, ◌≤◌, nat_eq, if◌then◌else◌, length, OnOk, OnErr};
-ghost use Rattle.std.specs.Vec.{vec_capacity};
+ghost use Rattle.std.specs.Prelude.{◌≡◌, ℕ, ◌<◌, ◌≤◌, if◌then◌else◌, length, OnOk};
 ghost use Rattle.moka_deque.specs.Links.{IsNumbered, IsPlace, Lengthened, LinkedBack, RelinksAt, Unlinked, next_at, prev_at};
 
 use std::alloc::{AllocError, Allocator, Global};

@@ -1,17 +1,18 @@
 // The turns that decide whether an entry enters: the scan, the removals and the entering.
-ghost use Rattle.std.specs.Prelude.{◌≡◌, ◌≤◌, ◌<◌, ◌+◌, ◌^◌, ℕ, [], ◌∷◌, ◌++◌, None, Option, Some, drop, is_some, length, map, option_copied, option_map};
+ghost use Rattle.std.specs.Prelude.{◌≡◌, ◌≤◌, ◌<◌, ◌+◌, ◌^◌, [], ◌∷◌, ◌++◌, None, Option, Some, drop, option_copied, option_map};
 ghost use Rattle.moka_engine.specs.declared.constants.TheConstants.{MAX_ABSENT, MAX_ROUNDS};
 ghost use Rattle.moka_base.specs.Settings.{keeps_writes};
-ghost use Rattle.moka_deque.specs.Deque.{first_id};
 ghost use Rattle.moka_engine.specs.Entry.{Entry as EntryState};
 ghost use Rattle.moka_engine.specs.Turn.Plan.{Alone, gone_to, moved_on};
 ghost use Rattle.moka_engine.specs.Parts.{NeedsNothing, NeedsShard, need_of};
 ghost use Rattle.moka_maintenance.specs.declared.maintenance.place.Work.{Work};
 ghost use Rattle.moka_maintenance.specs.Need.{need_named};
 ghost use Rattle.moka_engine.specs.Orders.{without_node};
-ghost use Rattle.moka_engine.specs.Turn.Admission.{after_entering, after_finding, after_rejection, after_seeing, after_victim, is_admitted, is_decided, next_seen, removing_or_enter};
+ghost use Rattle.moka_engine.specs.Turn.Admission.{after_entering, after_finding, after_rejection, after_seeing};
+ghost use Rattle.moka_engine.specs.Turn.Admission.{after_victim, is_admitted, is_decided, next_seen, removing_or_enter};
 ghost use Rattle.moka_orders.specs.OrdersState.{AtNode, orders_of};
-ghost use Rattle.moka_maintenance.specs.Held.{IsAtHand, IsEntering, IsRemoving, IsScanning, LooksAt, candidate_of, first_seen, first_tickets, maintenance_of, next_id_if, outcome_of, removal_plan, scan_plan, stage_of_removal, tally_of, work_of};
+ghost use Rattle.moka_maintenance.specs.Held.{IsAtHand, IsEntering, IsRemoving, IsScanning, LooksAt, candidate_of, first_seen, first_tickets};
+ghost use Rattle.moka_maintenance.specs.Held.{maintenance_of, next_id_if, outcome_of, removal_plan, scan_plan, stage_of_removal, tally_of, work_of};
 
 use crate::maintenance::Need;
 use crate::maintenance::fronts::{send_absent_back, send_back};

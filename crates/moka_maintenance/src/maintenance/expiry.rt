@@ -4,7 +4,6 @@ ghost use Rattle.moka_engine.specs.Orders.{rewritten, used};
 ghost use Rattle.moka_engine.specs.Place.{Evict, ExpireAccess, ExpireWrite};
 ghost use Rattle.moka_engine.specs.Turn.Expiry.{access_front, after_front, is_out_of_use, is_outlived, write_front};
 ghost use Rattle.moka_orders.specs.OrdersState.{orders_of};
-ghost use Rattle.moka_maintenance.specs.Fronts.{front_of};
 ghost use Rattle.moka_maintenance.specs.Held.{IsAtHand, maintenance_of, outcome_of};
 
 use crate::maintenance::fronts::{front_ticket, remove_front, remove_ticket, use_front};

@@ -15,7 +15,8 @@ if-some P (Some x) each = each x refl
 module _ {K V S : Type 0} (keys : Keys K S) (weighs : K → V → ℕ → Type 0) where
   -- a run of one step is that step, with the last of the replies
   one-step : (old new : CoreState K V S) (event : Event K V) (front replies : List (Reply K V)) (reply : Reply K V)
-      → RunsTo keys weighs old (event ∷ []) replies new → replies ≡ front ++ reply ∷ [] → (next : CoreState K V S) × Happens keys weighs old event reply next
+      → RunsTo keys weighs old (event ∷ []) replies new → replies ≡ front ++ reply ∷ [] → (next : CoreState K V S)
+      × Happens keys weighs old event reply next
   one-step old new event [] (r ∷ []) reply (next, step, done) are =
       let same : r ≡ reply = cc in
       (next, subst (λ told. Happens keys weighs old event told next) same step)
@@ -32,7 +33,8 @@ returns-in-Some-Found g c =
     let look = rw (c.in_ok-look.ensures.items) at c.push_reserved.ensures.items in
     let second = rw look at c.in_ok-replies.ensures.ok in
     let last = c.in-Some-Found.ensures.items ∙ ap (λ reply. c.pop.new.self.items ++ reply ∷ []) c.in-Some-Found.field-0-is in
-    let (past, runs, weighed, events, replies) = c.runs_are_happenings.ensures c.args.core.now.weigher _ _ _ _ c.in_ok-_replies.ensures.ok in
+    let (past, runs, weighed, events, replies) =
+    c.runs_are_happenings.ensures c.args.core.now.weigher _ _ _ _ c.in_ok-_replies.ensures.ok in
     if-some _ c.in-Some-Found.found (λ value found.
     let (next, step) =
     one-step keys _ mid _ _ c.pop.new.self.items c.in_ok-replies.replies.items (Found (Some value)) second

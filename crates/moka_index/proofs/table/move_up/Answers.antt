@@ -22,7 +22,8 @@ its_home g c =
 pub returns-clause-closing : goal.returns-clause-closing
 returns-clause-closing g c =
     let slots = c.args.slots.now.items in let at = c.args.at in
-    subst (λ s. IsClosing (slice_set (slice_set slots at s) c.args.hole c.index-slot.result.now) c.args.ids at (at + 1)) (sym c.free.ensures)
+    subst (λ s. IsClosing (slice_set (slice_set slots at s) c.args.hole c.index-slot.result.now) c.args.ids at (at + 1))
+    (sym c.free.ensures)
     (subst (λ s. IsClosing (slice_set (slice_set slots at FREE) c.args.hole s) c.args.ids at (at + 1)) (sym (its_slot g c))
     (closing_moved slots c.args.ids c.args.hole at c.requires.closing c.requires.taken (its_home g c)))
 

@@ -9,7 +9,8 @@ use Rattle.moka_script.specs.ScriptWeighers.{AnswersLine}
 use Rattle.moka_script.specs.UnsyncRun.{AreUnsyncReplies}
 use Rattle.moka_script.proofs.unsync.replies_of.Given as goal
 
--- the weigher may be asked and answers the lines to come, which are the cache's, and what answers them makes the text so far answer all lines
+-- the weigher may be asked and answers the lines to come, which are the cache's,
+-- and what answers them makes the text so far answer all lines
 abbrev pub invariant-loop-line : goal.invariant-loop-line
 invariant-loop-line g l = record {
   ready : g.W.Weigh.ready l.cache.weigher;

@@ -30,7 +30,8 @@ returns-in-Ok-build_with_hasher g c =
     let builder = c.builder_of-builder in
     let ok = c.in-Ok-build_with_hasher.ensures.ok in
     let new = subst (λ weighed. c.in-Ok-build_with_hasher.cache ≡ new_cache
-    (record { hash_state = record {}; policy = builder.result.policy; is_weighed = weighed }) builder.result.weigher c.in-Ok-build_with_hasher.cache.capacity)
+    (record { hash_state = record {}; policy = builder.result.policy; is_weighed = weighed }) builder.result.weigher
+    c.in-Ok-build_with_hasher.cache.capacity)
     builder.ensures.weighed ok.built in
     built c.args.header.options builder.result.policy builder.ensures.limits c.args.lines.items (λ text. text.items)
     c.replies_of-in-Ok-build_with_hasher.result false _ c.in-Ok-build_with_hasher.cache (sym c.if-header.false)

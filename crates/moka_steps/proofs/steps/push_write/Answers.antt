@@ -12,5 +12,6 @@ loop-preserved g c = record {
   pending = c.in_default.ensures.caller;
   tried = λ end later.
       c.loop.invariant.tried end
-      (WasFull c.loop.steps c.maintain_if_due.new.steps c.push_write.new.self end c.maintain_if_due.ensures.call c.in_default.ensures.step later);
+      (WasFull c.loop.steps c.maintain_if_due.new.steps c.push_write.new.self end c.maintain_if_due.ensures.call
+      c.in_default.ensures.step later);
 }

@@ -9,4 +9,5 @@ invariant_of-self g c =
     let keys = keys_by (record { eq = g.K.PartialEq.eq; hash_input = g.K.Hash.hash_input }) g.S.BuildHasher g.S.Hasher.Hasher in
     let old = c.self.inside.machine in
     subst (IsConsistent keys) (sym c.decide_for_writes.ensures.decision.1)
-    (good_scheduled keys g.met.K.Eq.laws (g.W.WeighShared.weighs old.weigher) c.decide_for_writes.result c.args.now old.state c.self.invariant)
+    (good_scheduled keys g.met.K.Eq.laws (g.W.WeighShared.weighs old.weigher) c.decide_for_writes.result c.args.now old.state
+    c.self.invariant)

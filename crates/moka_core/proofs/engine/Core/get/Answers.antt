@@ -12,14 +12,16 @@ pub invariant_of-self : goal.invariant_of-self
 invariant_of-self g c =
     let old = c.self.inside.machine in
     (call_rests (keys g) g.met.K.Eq.laws (g.W.WeighShared.weighs old.weigher) old.state
-    (record { good = c.self.invariant; rest = rw (← c.self.view_is) at c.requires.rest }) (call.Get c.args.key.now c.args.now) c.call_get.result
+    (record { good = c.self.invariant; rest = rw (← c.self.view_is) at c.requires.rest }) (call.Get c.args.key.now c.args.now)
+    c.call_get.result
     c.call_get.new.self.state c.call_get.ensures.step).good
 
 pub returns-clause-rest : goal.returns-clause-rest
 returns-clause-rest g c =
     let old = c.self.inside.machine in
     (call_rests (keys g) g.met.K.Eq.laws (g.W.WeighShared.weighs old.weigher) old.state
-    (record { good = c.self.invariant; rest = rw (← c.self.view_is) at c.requires.rest }) (call.Get c.args.key.now c.args.now) c.call_get.result
+    (record { good = c.self.invariant; rest = rw (← c.self.view_is) at c.requires.rest }) (call.Get c.args.key.now c.args.now)
+    c.call_get.result
     c.call_get.new.self.state c.call_get.ensures.step).rest
 
 pub returns-clause-step : goal.returns-clause-step

@@ -7,7 +7,8 @@ pub invariant_of-self : goal.invariant_of-self
 invariant_of-self g c =
     let keys = keys_by (record { eq = g.K.PartialEq.eq; hash_input = g.K.Hash.hash_input }) g.S.BuildHasher g.S.Hasher.Hasher in
     let old = c.self.inside.machine in
-    consistent_step keys g.met.K.Eq.laws (g.W.WeighShared.weighs old.weigher) old.state c.forget.new.self.state _ c.forget.result c.self.invariant
+    consistent_step keys g.met.K.Eq.laws (g.W.WeighShared.weighs old.weigher) old.state c.forget.new.self.state _ c.forget.result
+    c.self.invariant
     c.forget.ensures.step
 
 pub returns-clause-free : goal.returns-clause-free
@@ -15,4 +16,5 @@ returns-clause-free g c =
     let keys = keys_by (record { eq = g.K.PartialEq.eq; hash_input = g.K.Hash.hash_input }) g.S.BuildHasher g.S.Hasher.Hasher in
     let old = c.self.inside.machine in
     λ possible.
-    forgetting_leaves_none keys (g.W.WeighShared.weighs old.weigher) old.state c.forget.new.self.state c.self.invariant c.forget.result possible c.forget.ensures.step
+    forgetting_leaves_none keys (g.W.WeighShared.weighs old.weigher) old.state c.forget.new.self.state c.self.invariant c.forget.result
+    possible c.forget.ensures.step

@@ -3,8 +3,8 @@ use Rattle.std.specs.List.{fold}
 use Rattle.std.proofs.lemmas.List.{length-take-le, take-append-drop}
 use Rattle.moka_engine.specs.CoreState.{CoreState}
 use Rattle.moka_maintenance.specs.Taken.{AppliesReads, reads_left}
-use Rattle.moka_core.specs.Calls.{touched_by}
-use Rattle.moka_core.specs.MapState.{with_map}
+use Rattle.moka_map.specs.MapTurn.{touched_by}
+use Rattle.moka_map.specs.MapState.{with_map}
 use Rattle.moka_core.proofs.machine.Machine.apply_next_reads.Goals as goal
 
 pub returns-clause-turns : goal.returns-clause-turns

@@ -18,7 +18,8 @@ returns-in_default-clause-step g c =
     let weighs = g.W.WeighShared.weighs c.args.self.now.weigher in
     let old = c.args.self.now.state in
     let none = none_pending (keys g) g.met.K.Eq.laws weighs old c.requires.rest.pending in
-    refused_get (keys g) g.met.K.Eq.laws weighs old old c.requires.good c.requires.rest c.args.key.now c.args.now OutOfMemory (λ found is. cc)
+    refused_get (keys g) g.met.K.Eq.laws weighs old old c.requires.good c.requires.rest c.args.key.now c.args.now OutOfMemory
+    (λ found is. cc)
     (c.in_default.ensures.refused CALLER none)
 
 pub log_read-requires-clause-pends : goal.log_read-requires-clause-pends
@@ -26,7 +27,8 @@ log_read-requires-clause-pends g c =
     let weighs = g.W.WeighShared.weighs c.args.self.now.weigher in
     let old = c.args.self.now.state in
     let none = none_pending (keys g) g.met.K.Eq.laws weighs old c.requires.rest.pending in
-    found_pends (keys g) g.met.K.Eq.laws weighs old (having (Reading c.in-Ok.logged.read) old) c.requires.good c.requires.rest c.args.key.now c.args.now
+    found_pends (keys g) g.met.K.Eq.laws weighs old (having (Reading c.in-Ok.logged.read) old) c.requires.good c.requires.rest
+    c.args.key.now c.args.now
     (Found c.in-Ok.found) c.in-Ok.found refl (c.in-Ok.ensures.found CALLER none)
 
 pub returns-clause-step : goal.returns-clause-step
@@ -34,5 +36,6 @@ returns-clause-step g c =
     let weighs = g.W.WeighShared.weighs c.args.self.now.weigher in
     let old = c.args.self.now.state in
     let none = none_pending (keys g) g.met.K.Eq.laws weighs old c.requires.rest.pending in
-    called_get (keys g) g.met.K.Eq.laws weighs old (having (Reading c.in-Ok.logged.read) old) c.requires.good c.requires.rest c.args.key.now c.args.now
+    called_get (keys g) g.met.K.Eq.laws weighs old (having (Reading c.in-Ok.logged.read) old) c.requires.good c.requires.rest
+    c.args.key.now c.args.now
     c.log_read.new.self.state c.in-Ok.found (Found c.in-Ok.found) refl (c.in-Ok.ensures.found CALLER none) c.log_read.ensures.step

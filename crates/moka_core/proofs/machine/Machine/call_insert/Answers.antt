@@ -39,7 +39,8 @@ returns-in-Err-clause-step g c =
     let old = c.args.self.now.state in
     let none = none_pending (keys g) g.met.K.Eq.laws weighs old c.requires.rest.pending in
     rw c.refusal.ensures (
-    refused_insert (keys g) g.met.K.Eq.laws weighs old c.insert_into_map.new.self.state c.requires.good c.requires.rest c.args.key c.args.value
+    refused_insert (keys g) g.met.K.Eq.laws weighs old c.insert_into_map.new.self.state c.requires.good c.requires.rest c.args.key
+    c.args.value
     c.args.now (refusal_reply c.in-Err.error) (refusal_not_done (keys g) g.met.K.Eq.laws weighs c.in-Err.error)
     (c.in-Err.ensures.refused CALLER none)
     )

@@ -32,7 +32,8 @@ log_write-requires-clause-pends g c =
     let same = ap (λ s. s.pending) c.take_from_map.ensures.kept.state in
     let write = Writing c.in-Some.write in
     taken_pends (keys g) g.met.K.Eq.laws weighs old (having write new) c.requires.good c.requires.rest c.args.key.now c.args.now Done write
-    (left_is_pending (keys g) g.met.K.Eq.laws weighs old new write c.requires.rest.pending same) (c.in-Some.ensures.taken CALLER c.args.now none)
+    (left_is_pending (keys g) g.met.K.Eq.laws weighs old new write c.requires.rest.pending same)
+    (c.in-Some.ensures.taken CALLER c.args.now none)
 
 pub returns-clause-step : goal.returns-clause-step
 returns-clause-step g c =

@@ -15,7 +15,8 @@ returns-then-shard-ge-SHARDS g c =
         weight = 0;
         refused = false;
         weighed = tt;
-        step = copy_not_possible (keys g) c.args.self.now.state c.args.shard (λ below. omega (arith, below, c.if-shard-ge-SHARDS.true)) _ false;
+        step = copy_not_possible (keys g) c.args.self.now.state c.args.shard
+            (λ below. omega (arith, below, c.if-shard-ge-SHARDS.true)) _ false;
       };
     }
 

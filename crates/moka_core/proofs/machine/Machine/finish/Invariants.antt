@@ -10,7 +10,8 @@ use Rattle.moka_core.proofs.machine.Machine.finish.Given as goal
 abbrev pub invariant-loop-self : goal.invariant-loop-self
 invariant-loop-self g l = record {
   weigher : l.self.weigher ≡ l.fn.self.weigher;
-  good : IsConsistent (keys_by (record { eq = g.K.PartialEq.eq; hash_input = g.K.Hash.hash_input }) g.S.BuildHasher g.S.Hasher.Hasher) l.self.state;
+  good : IsConsistent (keys_by (record { eq = g.K.PartialEq.eq; hash_input = g.K.Hash.hash_input }) g.S.BuildHasher g.S.Hasher.Hasher)
+      l.self.state;
   busy : l.self.state.maintenance.place ≡ Idle → ⊥;
   took : (end : _)
       → CoreTurns (keys_by (record { eq = g.K.PartialEq.eq; hash_input = g.K.Hash.hash_input }) g.S.BuildHasher g.S.Hasher.Hasher)

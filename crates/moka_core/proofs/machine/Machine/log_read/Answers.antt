@@ -33,4 +33,5 @@ returns-clause-step g c =
     let log : c.push_logged.new.self ≡ inside.read_log ++ c.args.logged.read ∷ [] =
     where_room (keys g) g.met.K.Eq.laws weighs c.push_logged.result (length inside.read_log) READ_LOG_SIZE
     (c.push_logged.new.self ≡ inside.read_log ++ c.args.logged.read ∷ []) c.push_logged.ensures.variant room c.push_logged.ensures.ok in
-    rw (← c.self.view_is) (logs_read (keys g) g.met.K.Eq.laws weighs c.args.now old c.args.logged.read c.push_logged.new.self none rests log)
+    rw (← c.self.view_is) (logs_read (keys g) g.met.K.Eq.laws weighs c.args.now old c.args.logged.read c.push_logged.new.self
+    none rests log)

@@ -15,7 +15,8 @@ pub returns-clause-step : goal.returns-clause-step
 returns-clause-step g c =
     let weighs = g.W.WeighShared.weighs c.args.self.now.weigher in
     let next = c.maintain_if_due.new.self.state in
-    pushes_write (keys g) g.met.K.Eq.laws weighs c.args.now c.len-writes.result c.args.self.now.state next c.push.new.self.state c.push.result c.requires.pends
+    pushes_write (keys g) g.met.K.Eq.laws weighs c.args.now c.len-writes.result c.args.self.now.state next c.push.new.self.state
+    c.push.result c.requires.pends
     c.maintain_if_due.ensures.step (rw (← c.self.view_is) c.len-writes.ensures.len)
     (subst (λ w. Happens (keys g) (g.W.WeighShared.weighs w) next (Push CALLER) c.push.result c.push.new.self.state)
     c.maintain_if_due.ensures.weigher c.push.ensures.step)

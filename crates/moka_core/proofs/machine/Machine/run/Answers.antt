@@ -23,7 +23,8 @@ loop-event-init g c =
       room = omega (arith, lens, c.len-2.ensures, (c.in-Ok.ensures {u = tt}).ok);
       space = omega (arith, lens, c.len.ensures, (c.in_ok-replies.ensures {u = tt}).len, (c.in_ok-replies.ensures {u = tt}).capacity);
       ran = λ end rest runs.
-          rw ((c.in_ok-replies.ensures {u = tt}).items, ← c.self.view_is, ← items) (rw (← c.self.view_is, c.reserve.ensures.unchanged) at runs);
+          rw ((c.in_ok-replies.ensures {u = tt}).items, ← c.self.view_is, ← items)
+          (rw (← c.self.view_is, c.reserve.ensures.unchanged) at runs);
     }
 
 pub loop-event-preserved : goal.loop-event-preserved
@@ -41,7 +42,8 @@ loop-event-preserved g c =
           (invariant.ran end (c.step.result ∷ rest)
           (subst (λ events. RunsTo (keys g) weighs c.loop-event.self.state events (c.step.result ∷ rest) end) (sym items) (
             c.step.new.self.state,
-            subst (λ w. Happens (keys g) (g.W.WeighShared.weighs w) c.loop-event.self.state c.in-Some.event c.step.result c.step.new.self.state)
+            subst (λ w. Happens (keys g) (g.W.WeighShared.weighs w) c.loop-event.self.state c.in-Some.event c.step.result
+                c.step.new.self.state)
                 invariant.weigher c.step.ensures.step,
             runs,
           )));

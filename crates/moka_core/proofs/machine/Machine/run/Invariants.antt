@@ -5,8 +5,8 @@ use Rattle.moka_base.specs.Keys.{keys_by}
 use Rattle.moka_engine.specs.Run.{RunsTo}
 use Rattle.moka_core.proofs.machine.Machine.run.Given as goal
 
--- there is room for the replies to come and for what callers may have pending, and what runs from here on, runs from the start with the replies
--- so far
+-- there is room for the replies to come and for what callers may have pending, and what runs from here on,
+-- runs from the start with the replies so far
 abbrev pub invariant-loop-event : goal.invariant-loop-event
 invariant-loop-event g l = record {
   weigher : l.self.weigher ≡ l.fn.self.weigher;

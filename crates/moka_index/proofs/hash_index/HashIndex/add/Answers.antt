@@ -30,7 +30,8 @@ its_step g c =
     let home : c.home_of.result ≡ home_of ids (tag_of c.args.hash) = c.home_of.ensures ∙ ap (home_of ids) c.tag_of-tag.ensures.tag in
     let same : c.deref.result.now ≡ slots = search rules in
     let room : c.args.id < ids = search rules in
-    subst (λ t. AddsTo slots ids c.args.id c.args.hash (slice_set slots place (record { tag = t; id = c.args.id }))) (sym c.tag_of-tag.ensures.tag)
+    subst (λ t. AddsTo slots ids c.args.id c.args.hash (slice_set slots place (record { tag = t; id = c.args.id })))
+    (sym c.tag_of-tag.ensures.tag)
     (added slots ids c.args.id c.args.hash place c.self.invariant room
     (λ other. subst (λ v. is_candidate v other c.args.id ≡ false) (sym c.self.view_is) (c.requires.absent other))
     (subst (λ h. h ≤ place) home c.free_place-place.ensures.behind)

@@ -7,7 +7,8 @@ pub returns-then-ids-self-clause-empty : goal.returns-then-ids-self-clause-empty
 returns-then-ids-self-clause-empty g c =
     let ids = c.self.inside.ids in
     let len : c.len-len.result ≡ length c.self.inside.slots.items = search rules in
-    (cleared c.refill.new.slots.items c.len-len.result ids c.refill.ensures (len ∙ c.self.invariant.listed.len) c.self.invariant.listed.most).empty
+    (cleared c.refill.new.slots.items c.len-len.result ids c.refill.ensures (len ∙ c.self.invariant.listed.len)
+    c.self.invariant.listed.most).empty
 
 pub returns-clause-empty : goal.returns-clause-empty
 returns-clause-empty g c =

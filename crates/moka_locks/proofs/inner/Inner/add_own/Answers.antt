@@ -25,7 +25,8 @@ loop-key-preserved-in-Continue-1 g c =
     let own = own_pairs (hash_in g c.args.self.now) c.args.number in
     let items = c.in-Some.ensures.steps.0 in
     let same = c.get.ensures in
-    let here = ap (λ k. shard_of (hash_in g c.args.self.now k)) (sym same) ∙ ap shard_of (sym c.hash_of.ensures) ∙ c.if-hash_of-number.true in
+    let here = ap (λ k. shard_of (hash_in g c.args.self.now k)) (sym same) ∙ ap shard_of (sym c.hash_of.ensures)
+    ∙ c.if-hash_of-number.true in
     rw ((c.in_ok-push.ensures {u = tt}).items, append_assoc)
     (ap (λ xs. c.loop-key.pairs.items ++ xs)
     (sym (own_first (hash_in g c.args.self.now) c.args.number (c.in-Some.key, c.in-Some.value) _ here) ∙ ap own (sym items))

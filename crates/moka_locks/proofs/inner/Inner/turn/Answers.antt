@@ -1,7 +1,6 @@
 use Rattle.std.proofs.Common.{◌≤◌, arith}
 use Rattle.moka_maintenance.specs.Taken.{writes_left}
-use Rattle.moka_locks.specs.MaintenanceTurn.{OneTurn}
-use Rattle.moka_locks.proofs.TurnLemmas.{alone, with_reads, with_writes}
+use Rattle.moka_locks.proofs.TurnLemmas.{alone, keeping_all, with_reads, with_writes}
 use Rattle.moka_locks.proofs.WritesLeftLemmas.{keeps_left}
 use Rattle.moka_locks.proofs.inner.Inner.turn.Goals as goal
 
@@ -9,10 +8,15 @@ pub returns-in-Nothing-clause-turns : goal.returns-in-Nothing-clause-turns
 returns-in-Nothing-clause-turns g c =
     let turn = c.turn_alone.ensures in
     rw (← c.self.view_is)
-    (OneTurn _ _ (alone g.row.K.Denot g.row.V.Denot c.self.inside.settings _ turn.0 c.args.maintenance.now c.turn_alone.new.self turn.1))
+    (keeping_all g.row.K.Denot g.row.V.Denot c.self.inside.settings c.args.taken.now c.args.maintenance.now c.turn_alone.new.self
+    (λ takes. let is = c.takes_write.ensures.1 takes in let not = c.if-takes_write.false in absurd (cc)) c.requires
+    (alone g.row.K.Denot g.row.V.Denot c.self.inside.settings _ turn.0 c.args.maintenance.now c.turn_alone.new.self turn.1))
 
 pub returns-in-Entry-clause-turns : goal.returns-in-Entry-clause-turns
-returns-in-Entry-clause-turns g c = rw (← c.self.view_is) (OneTurn _ _ c.turn.ensures)
+returns-in-Entry-clause-turns g c =
+    rw (← c.self.view_is)
+    (keeping_all g.row.K.Denot g.row.V.Denot c.self.inside.settings c.args.taken.now c.args.maintenance.now c.turn.new.maintenance
+    (λ takes. let is = c.takes_write.ensures.1 takes in let not = c.if-takes_write.false in absurd (cc)) c.requires c.turn.ensures)
 
 pub returns-in-Entry-clause-left : goal.returns-in-Entry-clause-left
 returns-in-Entry-clause-left g c =
@@ -26,9 +30,15 @@ returns-in-Entry-clause-left g c =
 pub returns-in-Reads-clause-turns : goal.returns-in-Reads-clause-turns
 returns-in-Reads-clause-turns g c =
     let turn = c.turn_with_reads.ensures in
-    rw (← c.self.view_is) (OneTurn _ _ (with_reads c.self.inside.settings _ turn.0 c.args.maintenance.now c.turn_with_reads.new.self _ _ turn.1))
+    rw (← c.self.view_is)
+    (keeping_all g.row.K.Denot g.row.V.Denot c.self.inside.settings c.args.taken.now c.args.maintenance.now c.turn_with_reads.new.self
+    (λ takes. let is = c.takes_write.ensures.1 takes in let not = c.if-takes_write.false in absurd (cc)) c.requires
+    (with_reads c.self.inside.settings _ turn.0 c.args.maintenance.now c.turn_with_reads.new.self _ _ turn.1))
 
 pub returns-in-Writes-clause-turns : goal.returns-in-Writes-clause-turns
 returns-in-Writes-clause-turns g c =
     let turn = c.turn_with_writes.ensures in
-    rw (← c.self.view_is) (OneTurn _ _ (with_writes c.self.inside.settings _ turn.0 c.args.maintenance.now c.turn_with_writes.new.self _ _ turn.1))
+    rw (← c.self.view_is)
+    (keeping_all g.row.K.Denot g.row.V.Denot c.self.inside.settings c.args.taken.now c.args.maintenance.now c.turn_with_writes.new.self
+    (λ takes. let is = c.takes_write.ensures.1 takes in let not = c.if-takes_write.false in absurd (cc)) c.requires
+    (with_writes c.self.inside.settings _ turn.0 c.args.maintenance.now c.turn_with_writes.new.self _ _ turn.1))

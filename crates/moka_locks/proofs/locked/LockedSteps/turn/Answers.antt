@@ -8,7 +8,7 @@ use Rattle.moka_locks.proofs.locked.LockedSteps.turn.Given.{Over}
 use Rattle.moka_locks.proofs.locked.LockedSteps.turn.Goals as goal
 
 -- the caller had a maintenance under way
-had : (g : Over) (c : In_default-place g) → c.args.self.now.maintenance ≡ Some c.in-Some.running
+had : (g : Over) (c : In_default-place g) → c.args.self.now.working ≡ Some c.in-Some.running
 had g c = rw (← c.self.view_is) c.in-Some.is
 
 pub returns-in_default-place : goal.returns-in_default-place
@@ -17,7 +17,7 @@ returns-in_default-place g c = record {
       turns_allowed g.P.PairRule.holds c.args.self.now c.in-Some.running c.turn-place.new.self (had g c) c.turn-place.result
       c.turn-place.ensures.place _
       (rw (kept_elsewhere c.turn-place.new.self c.turn-place.result c.turn-place.ensures.place c.in_default-place.not-Idle)
-      (ap (λ (l : Locked g.row.S.Denot g.row.W.Denot). record l { maintenance = Some c.turn-place.new.self }) c.self.view_is))
+      (ap (λ (l : Locked g.row.S.Denot g.row.W.Denot). record l { working = Some c.turn-place.new.self }) c.self.view_is))
       (rw (← c.self.view_is) c.turn-place.ensures.turns);
   caller = rw (goes_on_elsewhere c.turn-place.result c.in_default-place.not-Idle)
       (ap (λ (l : Locked g.row.S.Denot g.row.W.Denot). maintaining true (locked_caller l)) c.self.view_is);

@@ -23,7 +23,12 @@ invariant_of-self g c =
 pub invariant_of-self-2 : goal.invariant_of-self-2
 invariant_of-self-2 g c =
     let step = c.add.ensures.step in
-    insert_meet g.P.PairRule.holds g.K.PartialEq.eq g.met.P.PairRule.agrees (state_of c.self.inside.shard) c.args.hash c.args.key c.args.value step.0
-    c.args.now step.1 None c.add.result (state_of c.add.new.self) step.3 (subst (λ key. entry_at g.K.PartialEq.eq key (entries_in c.self.inside.shard.slots) ≡ None) c.get.ensures
-    ((sym (c.find.ensures.value (c.if-hash-hash_of.false ∙ c.hash_of.ensures ∙ ap (λ key. (keys_by (record { eq = g.K.PartialEq.eq; hash_input = g.K.Hash.hash_input }) g.S.BuildHasher g.S.Hasher.Hasher).hash_of c.self.inside.shard.hash_state key) (c.get-2.ensures ∙ sym c.get.ensures)))) ∙ ap (λ found. entry_found c.self.inside.shard.slots found) c.in_default.is))
+    insert_meet g.P.PairRule.holds g.K.PartialEq.eq g.met.P.PairRule.agrees (state_of c.self.inside.shard) c.args.hash c.args.key
+    c.args.value step.0
+    c.args.now step.1 None c.add.result (state_of c.add.new.self) step.3
+    (subst (λ key. entry_at g.K.PartialEq.eq key (entries_in c.self.inside.shard.slots) ≡ None) c.get.ensures
+    ((sym (c.find.ensures.value (c.if-hash-hash_of.false ∙ c.hash_of.ensures
+    ∙ ap (λ key. (keys_by (record { eq = g.K.PartialEq.eq; hash_input = g.K.Hash.hash_input }) g.S.BuildHasher g.S.Hasher.Hasher).hash_of
+    c.self.inside.shard.hash_state key) (c.get-2.ensures ∙ sym c.get.ensures))))
+    ∙ ap (λ found. entry_found c.self.inside.shard.slots found) c.in_default.is))
     c.len.ensures.valid.tickets_apart c.requires.ruled c.self.invariant

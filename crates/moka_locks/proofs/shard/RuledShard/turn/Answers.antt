@@ -10,7 +10,8 @@ pub invariant_of-self : goal.invariant_of-self
 invariant_of-self g c =
     let changed = c.change.ensures.step c.args.ticket c.find_ticket-slot.ensures.value in
     subst (AllMeet g.P.PairRule.holds) (sym (ap (λ (s : ShardState g.row.K.Denot g.row.V.Denot g.row.S.Denot). s.entries) changed))
-    (after_change_meet g.P.PairRule.holds c.args.ticket c.turn_at_entry-change.result (entries_in c.self.inside.shard.slots) c.self.invariant)
+    (after_change_meet g.P.PairRule.holds c.args.ticket c.turn_at_entry-change.result (entries_in c.self.inside.shard.slots)
+    c.self.invariant)
 
 pub returns : goal.returns
 returns g c =

@@ -5,4 +5,5 @@ use Rattle.moka_maintenance.proofs.maintenance.fronts.remove_ticket.Goals as goa
 
 pub returns-in_default : goal.returns-in_default
 returns-in_default g c =
-    sym (without_absent c.args.ticket (orders_of c.args.orders.now) (c.in_default.ensures.absent refl) (c.in_default.ensures.unwritten refl))
+    sym (without_absent c.args.ticket (orders_of c.args.orders.now) (c.in_default.ensures.absent refl)
+    (c.in_default.ensures.unwritten refl))

@@ -8,4 +8,5 @@ use Rattle.moka_maintenance.proofs.maintenance.fronts.send_absent_back.Given as 
 
 abbrev pub invariant-send : goal.invariant-send
 invariant-send g l =
-    IsWalked (all_used (absent_of (first_seen l.count l.initial.orders.nodes)) (orders_of l.initial.orders)) (l.count - l.counter) l.here l.orders
+    IsWalked (all_used (absent_of (first_seen l.count l.initial.orders.nodes)) (orders_of l.initial.orders))
+    (l.count - l.counter) l.here l.orders

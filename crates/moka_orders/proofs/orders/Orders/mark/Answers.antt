@@ -35,4 +35,5 @@ pub returns-clause-orders : goal.returns-clause-orders
 returns-clause-orders g c =
     let old = c.self.inside in
     rw (← c.self.view_is)
-    (marked_orders c.self.invariant.0 c.args.id c.get_mut.result.now c.get_mut.ensures.value old.access.room old.writes.room old.index.ids c.args.is_present)
+    (marked_orders c.self.invariant.0 c.args.id c.get_mut.result.now c.get_mut.ensures.value old.access.room old.writes.room old.index.ids
+    c.args.is_present)

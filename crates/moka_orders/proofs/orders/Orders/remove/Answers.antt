@@ -32,7 +32,8 @@ returns-clause-room g c =
     rw (← c.self.view_is, c.unlink-node.ensures.items, c.unlink_write.ensures.room, c.id.ensures)
     (room_removed old.access.items (remove_entry (nat_eq c.args.id) old.access.items) old.access.room c.unlink-node.new.self.room
     old.writes.room old.index.ids c.remove.new.self.ids n.write
-    (length-remove c.args.id old.access.items (ap is_some c.unlink-node.ensures.value)) c.unlink-node.ensures.room c.unlink-node.ensures.room_after c.remove.ensures.step.ids)
+    (length-remove c.args.id old.access.items (ap is_some c.unlink-node.ensures.value)) c.unlink-node.ensures.room
+    c.unlink-node.ensures.room_after c.remove.ensures.step.ids)
 
 pub returns-clause-orders : goal.returns-clause-orders
 returns-clause-orders g c =

@@ -22,7 +22,8 @@ returns-in-Some-clause-orders g c =
     let old = c.self.inside in
     rw (← c.self.view_is, c.move_to_back.ensures)
     (λ n stood.
-    let named : n.write ≡ Some c.in-Some.write = ap (λ m. m.write) (some_parts n c.get.result.now (sym stood ∙ c.get.ensures)) ∙ sym c.id-write.ensures ∙ c.in-Some.is in
+    let named : n.write ≡ Some c.in-Some.write =
+    ap (λ m. m.write) (some_parts n c.get.result.now (sym stood ∙ c.get.ensures)) ∙ sym c.id-write.ensures ∙ c.in-Some.is in
     subst (λ o.
     orders_of (seen old.access.items (with_write_last o old.writes.items) old.access.room old.writes.room old.index.ids)
     ≡ rewritten n.ticket (orders_of (seen old.access.items old.writes.items old.access.room old.writes.room old.index.ids)))
@@ -34,7 +35,8 @@ returns-in_default-clause-orders g c =
     let old = c.self.inside in
     rw (← c.self.view_is)
     (λ n stood.
-    let named : n.write ≡ None = ap (λ m. m.write) (some_parts n c.get.result.now (sym stood ∙ c.get.ensures)) ∙ sym c.id-write.ensures ∙ c.in_default.is in
+    let named : n.write ≡ None =
+    ap (λ m. m.write) (some_parts n c.get.result.now (sym stood ∙ c.get.ensures)) ∙ sym c.id-write.ensures ∙ c.in_default.is in
     subst (λ o.
     orders_of (seen old.access.items (with_write_last o old.writes.items) old.access.room old.writes.room old.index.ids)
     ≡ rewritten n.ticket (orders_of (seen old.access.items old.writes.items old.access.room old.writes.room old.index.ids)))

@@ -8,7 +8,8 @@ use Rattle.moka_orders.proofs.orders.Orders.use_node.Goals as goal
 pub invariant_of-self : goal.invariant_of-self
 invariant_of-self g c =
     let old = c.self.inside in
-    let here = node_in old.access.items c.args.id (subst (λ v. Rattle.moka_deque.specs.Deque.IsIn v.nodes c.args.id) (sym c.self.view_is) c.requires) in
+    let here = node_in old.access.items c.args.id (subst (λ v. Rattle.moka_deque.specs.Deque.IsIn v.nodes c.args.id)
+    (sym c.self.view_is) c.requires) in
     rw c.move_to_back.ensures.items (
       IsKept-moved c.self.invariant.0 c.args.id here.0 here.1,
       moved_indexed c.self.invariant.0 c.args.id here.0 here.1 old.index c.self.invariant.1,
@@ -18,7 +19,8 @@ invariant_of-self g c =
 pub returns-clause-step : goal.returns-clause-step
 returns-clause-step g c =
     let old = c.self.inside in
-    let here = node_in old.access.items c.args.id (subst (λ v. Rattle.moka_deque.specs.Deque.IsIn v.nodes c.args.id) (sym c.self.view_is) c.requires) in
+    let here = node_in old.access.items c.args.id (subst (λ v. Rattle.moka_deque.specs.Deque.IsIn v.nodes c.args.id)
+    (sym c.self.view_is) c.requires) in
     rw (← c.self.view_is, c.move_to_back.ensures.items, c.move_to_back.ensures.room)
     (moved_is c.self.invariant.0 c.args.id here.0 here.1 old.access.room old.writes.room old.index.ids)
 

@@ -19,7 +19,8 @@ invariant_of-self g c =
 pub invariant_of-self-in-UpsertDone : goal.invariant_of-self-in-UpsertDone
 invariant_of-self-in-UpsertDone g c =
     rw c.finish_upsert.ensures
-    (rewritten _ c.self-in-UpsertDone.invariant c.in-Some.slot c.index_mut-in-UpsertDone.result.now c.index_mut-in-UpsertDone.ensures.value _ refl
+    (rewritten _ c.self-in-UpsertDone.invariant c.in-Some.slot c.index_mut-in-UpsertDone.result.now
+    c.index_mut-in-UpsertDone.ensures.value _ refl
     refl)
 
 pub returns-in-Touched : goal.returns-in-Touched

@@ -20,7 +20,8 @@ returns g c =
         c.weigh-weight.result,
         weighed,
         update_at _ _ c.self.invariant.0 c.args.slot c.index_mut-entry.result.now c.index_mut-entry.ensures.value 0 c.args.key c.args.value
-            c.weigh-weight.result c.args.now _ (set c.self.inside.slots.slots c.args.slot (Some c.update.new.self)) (λ full. c.if-outstanding.false (c.outstanding.ensures ∙ full)) (ap Ok (c.ticket.ensures ∙ ap (λ e. e.ticket) c.update.ensures))
+            c.weigh-weight.result c.args.now _ (set c.self.inside.slots.slots c.args.slot (Some c.update.new.self))
+            (λ full. c.if-outstanding.false (c.outstanding.ensures ∙ full)) (ap Ok (c.ticket.ensures ∙ ap (λ e. e.ticket) c.update.ensures))
             (ap (λ e. set c.self.inside.slots.slots c.args.slot (Some e)) c.update.ensures),
       );
     })

@@ -2,7 +2,8 @@ use Rattle.std.proofs.Common.{◌≡◌, ◌∙◌, ◌++◌, ◌∷◌, [], Non
 use Rattle.moka_machine.specs.Contents.{entry_at}
 use Rattle.std.proofs.lemmas.Bool.{false≢true}
 use Rattle.moka_store.specs.Store.{entries_of}
-use Rattle.moka_store.proofs.ChangeLemmas.{capacity_pushed, capacity_set, enter_is, enter_keeps, id_below, is_pushed, same_bounds, unkept_is, unkept_keeps}
+use Rattle.moka_store.proofs.ChangeLemmas.{capacity_pushed, capacity_set, enter_is, enter_keeps}
+use Rattle.moka_store.proofs.ChangeLemmas.{id_below, is_pushed, same_bounds, unkept_is, unkept_keeps}
 use Rattle.moka_store.proofs.StoreLemmas.{total_bound}
 use Rattle.moka_store.proofs.deques.Deques.enter.Goals as goal
 
@@ -11,16 +12,20 @@ with_weight-self-inside-requires g c = total_bound c.self.invariant
 
 pub get_mut-requires : goal.get_mut-requires
 get_mut-requires g c =
-    let pushed : c.push_reserved-id.new.self.items ≡ c.self.inside.order.items ++ (c.push_reserved-id.result, record { entry = c.args.entry; write = None }) ∷ [] =
-    subst (λ w. c.push_reserved-id.new.self.items ≡ c.self.inside.order.items ++ (c.push_reserved-id.result, record { entry = c.args.entry; write = w }) ∷ [])
+    let pushed : c.push_reserved-id.new.self.items ≡ c.self.inside.order.items
+    ++ (c.push_reserved-id.result, record { entry = c.args.entry; write = None }) ∷ [] =
+    subst (λ w. c.push_reserved-id.new.self.items ≡ c.self.inside.order.items
+    ++ (c.push_reserved-id.result, record { entry = c.args.entry; write = w }) ∷ [])
     c.none.ensures c.push_reserved-id.ensures.items in
     ap is_some (is_pushed g.met.K.Eq.laws c.self.invariant c.push_reserved-id.result c.args.entry c.push_reserved-id.ensures.new_id
     c.push_reserved-id.new.self.items pushed)
 
 pub invariant_of-self : goal.invariant_of-self
 invariant_of-self g c =
-    let pushed : c.push_reserved-id.new.self.items ≡ c.self.inside.order.items ++ (c.push_reserved-id.result, record { entry = c.args.entry; write = None }) ∷ [] =
-    subst (λ w. c.push_reserved-id.new.self.items ≡ c.self.inside.order.items ++ (c.push_reserved-id.result, record { entry = c.args.entry; write = w }) ∷ [])
+    let pushed : c.push_reserved-id.new.self.items ≡ c.self.inside.order.items
+    ++ (c.push_reserved-id.result, record { entry = c.args.entry; write = None }) ∷ [] =
+    subst (λ w. c.push_reserved-id.new.self.items ≡ c.self.inside.order.items
+    ++ (c.push_reserved-id.result, record { entry = c.args.entry; write = w }) ∷ [])
     c.none.ensures c.push_reserved-id.ensures.items in
     rw c.to.ensures
     (enter_keeps g.met.K.Eq.laws c.self.invariant c.push_reserved-id.result c.args.entry c.push_reserved-id.ensures.new_id
@@ -32,8 +37,10 @@ invariant_of-self g c =
 
 pub invariant_of-self-else-self : goal.invariant_of-self-else-self
 invariant_of-self-else-self g c =
-    let pushed : c.push_reserved-id.new.self.items ≡ c.self.inside.order.items ++ (c.push_reserved-id.result, record { entry = c.args.entry; write = None }) ∷ [] =
-    subst (λ w. c.push_reserved-id.new.self.items ≡ c.self.inside.order.items ++ (c.push_reserved-id.result, record { entry = c.args.entry; write = w }) ∷ [])
+    let pushed : c.push_reserved-id.new.self.items ≡ c.self.inside.order.items
+    ++ (c.push_reserved-id.result, record { entry = c.args.entry; write = None }) ∷ [] =
+    subst (λ w. c.push_reserved-id.new.self.items ≡ c.self.inside.order.items
+    ++ (c.push_reserved-id.result, record { entry = c.args.entry; write = w }) ∷ [])
     c.none.ensures c.push_reserved-id.ensures.items in
     unkept_keeps g.met.K.Eq.laws c.self.invariant c.push_reserved-id.result c.args.entry c.push_reserved-id.ensures.new_id
     c.push_reserved-id.new.self.items pushed
@@ -43,10 +50,13 @@ invariant_of-self-else-self g c =
 
 pub returns-then-self : goal.returns-then-self
 returns-then-self g c =
-    let pushed : c.push_reserved-id.new.self.items ≡ c.self.inside.order.items ++ (c.push_reserved-id.result, record { entry = c.args.entry; write = None }) ∷ [] =
-    subst (λ w. c.push_reserved-id.new.self.items ≡ c.self.inside.order.items ++ (c.push_reserved-id.result, record { entry = c.args.entry; write = w }) ∷ [])
+    let pushed : c.push_reserved-id.new.self.items ≡ c.self.inside.order.items
+    ++ (c.push_reserved-id.result, record { entry = c.args.entry; write = None }) ∷ [] =
+    subst (λ w. c.push_reserved-id.new.self.items ≡ c.self.inside.order.items
+    ++ (c.push_reserved-id.result, record { entry = c.args.entry; write = w }) ∷ [])
     c.none.ensures c.push_reserved-id.ensures.items in
-    let bounds = same_bounds c.self.inside.order c.push_reserved-id.new.self c.push_reserved-id.new.self.items c.push_reserved-id.new.self.room
+    let bounds =
+    same_bounds c.self.inside.order c.push_reserved-id.new.self c.push_reserved-id.new.self.items c.push_reserved-id.new.self.room
     c.push_reserved-id.ensures.unchanged in
     rw (← c.self.view_is)
     (rw c.to.ensures
@@ -63,10 +73,13 @@ returns-then-self g c =
 
 pub returns-else-self : goal.returns-else-self
 returns-else-self g c =
-    let pushed : c.push_reserved-id.new.self.items ≡ c.self.inside.order.items ++ (c.push_reserved-id.result, record { entry = c.args.entry; write = None }) ∷ [] =
-    subst (λ w. c.push_reserved-id.new.self.items ≡ c.self.inside.order.items ++ (c.push_reserved-id.result, record { entry = c.args.entry; write = w }) ∷ [])
+    let pushed : c.push_reserved-id.new.self.items ≡ c.self.inside.order.items
+    ++ (c.push_reserved-id.result, record { entry = c.args.entry; write = None }) ∷ [] =
+    subst (λ w. c.push_reserved-id.new.self.items ≡ c.self.inside.order.items
+    ++ (c.push_reserved-id.result, record { entry = c.args.entry; write = w }) ∷ [])
     c.none.ensures c.push_reserved-id.ensures.items in
-    let bounds = same_bounds c.self.inside.order c.push_reserved-id.new.self c.push_reserved-id.new.self.items c.push_reserved-id.new.self.room
+    let bounds =
+    same_bounds c.self.inside.order c.push_reserved-id.new.self c.push_reserved-id.new.self.items c.push_reserved-id.new.self.room
     c.push_reserved-id.ensures.unchanged in
     rw (← c.self.view_is)
     (unkept_is g.met.K.Eq.laws c.self.invariant c.push_reserved-id.result c.args.entry c.push_reserved-id.ensures.new_id

@@ -27,7 +27,8 @@ returns g c =
     (remove_is g.met.K.Eq.laws c.self.invariant c.args.id c.unlink-node.result c.unlink-node.ensures.value
     c.unlink-node.new.self.items c.unlink-node.ensures.items c.unlink_write.new.writes.items c.unlink_write.ensures.items
     _ _ _ _
-    (capacity_removed c.self.inside.keeps_writes c.self.inside.order.items _ _ _ _ _ c.args.id c.unlink-node.result c.unlink-node.ensures.value
+    (capacity_removed c.self.inside.keeps_writes c.self.inside.order.items _ _ _ _ _ c.args.id c.unlink-node.result
+    c.unlink-node.ensures.value
     c.unlink-node.ensures.items bounds.0
     (λ kept. c.unlink_write.ensures.room
     ∙ room_tied c.self.inside.keeps_writes c.self.inside.writes.items c.args.id _ c.unlink-node.result.write

@@ -20,7 +20,8 @@ returns-then-eq-clause-found g c =
     rw (← c.self.view_is) (
       c.get-entry.result.now,
       c.get-entry.ensures,
-      c.len.ensures.alone c.from_number-id.result c.get-entry.result.now c.args.key.now c.get-entry.ensures (sym c.eq.ensures ∙ c.if-eq.true),
+      c.len.ensures.alone c.from_number-id.result c.get-entry.result.now c.args.key.now c.get-entry.ensures
+          (sym c.eq.ensures ∙ c.if-eq.true),
     )
 
 pub loop-number-preserved : goal.loop-number-preserved
@@ -56,5 +57,6 @@ returns-clause-absent g c =
 pub returns-clause-unwritten : goal.returns-clause-unwritten
 returns-clause-unwritten g c =
     rw (← c.self.view_is)
-    (λ _. c.len.ensures.unwritten c.args.key.now (none_ahead g.K.PartialEq.eq c.args.key.now c.self.inside.deques.nodes c.len.ensures.distinct
+    (λ _. c.len.ensures.unwritten c.args.key.now (none_ahead g.K.PartialEq.eq c.args.key.now c.self.inside.deques.nodes
+    c.len.ensures.distinct
     (subst (IsAhead g.K.PartialEq.eq c.args.key.now c.self.inside.deques.nodes) c.in-None.ensures.steps.0 c.loop-number.invariant.2)))

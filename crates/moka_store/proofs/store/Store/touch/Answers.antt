@@ -10,4 +10,5 @@ invariant_of-self g c =
 
 pub returns : goal.returns
 returns g c = rw (← c.self.view_is) (shown_touches _ _ c.args.now
-    (indexed_capacity-same c.self.inside.deques c.touch.new.self c.self.inside.index c.self.inside.index c.touch.ensures.ids refl c.touch.ensures.capacity) c.touch.ensures)
+    (indexed_capacity-same c.self.inside.deques c.touch.new.self c.self.inside.index c.self.inside.index c.touch.ensures.ids refl
+    c.touch.ensures.capacity) c.touch.ensures)

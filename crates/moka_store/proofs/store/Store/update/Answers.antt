@@ -10,4 +10,5 @@ invariant_of-self g c =
 
 pub returns : goal.returns
 returns g c = rw (← c.self.view_is) (shown_updates _ _ c.args.update
-    (indexed_capacity-same c.self.inside.deques c.update.new.self c.self.inside.index c.self.inside.index c.update.ensures.ids refl c.update.ensures.capacity) c.update.ensures)
+    (indexed_capacity-same c.self.inside.deques c.update.new.self c.self.inside.index c.self.inside.index c.update.ensures.ids refl
+    c.update.ensures.capacity) c.update.ensures)

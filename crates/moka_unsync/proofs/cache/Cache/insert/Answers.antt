@@ -60,7 +60,8 @@ its_room g c =
 its_capacity : (g : Over) (c : After-upkeep g) → length (entries_of c.self.inside.store) < c.self.inside.store.capacity
     → c.reserve.new.self.capacity ≡ c.self.inside.store.capacity
 its_capacity g c fits =
-    let room : length c.self.inside.store.nodes + 1 ≤ c.self.inside.store.capacity = omega (arith, length-entries c.self.inside.store, fits) in
+    let room : length c.self.inside.store.nodes + 1 ≤ c.self.inside.store.capacity =
+    omega (arith, length-entries c.self.inside.store, fits) in
     ap (λ s. s.capacity) (c.reserve.ensures.had_room (omega arith) room).1
 
 pub returns-in-Some-clause-step : goal.returns-in-Some-clause-step
@@ -109,7 +110,8 @@ its_hash g c =
 its_contents : (g : Over) (c : After-admit g)
     → contents_of c.upkeep.new.store ≡ kept g.K.PartialEq.eq (its_cache g c) (its_entry g c (its_hash g c)) c.args.now true
 its_contents g c =
-    c.upkeep.ensures.step ∙ ap (λ s. after_upkeep g.K.PartialEq.eq c.self.inside.limits c.args.now (contents_of s)) c.reserve.ensures.unchanged
+    c.upkeep.ensures.step ∙ ap (λ s. after_upkeep g.K.PartialEq.eq c.self.inside.limits c.args.now (contents_of s))
+    c.reserve.ensures.unchanged
 
 its_victims : (g : Over) (c : After-admit g)
     → victims_of c.max_capacity.result c.self.inside.sketch (its_entry g c c.hash_one.result) (contents_of c.upkeep.new.store)

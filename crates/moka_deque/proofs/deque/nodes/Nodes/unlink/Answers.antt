@@ -18,7 +18,8 @@ returns g c =
             let joins =
             c.join.ensures.joins (before_stays old mid id node.element es listed at out.updates node.prev before_is)
             (after_stays old mid id node.element es listed at out.updates node.next after_is) in
-            IsListed-unlink old mid id node.element es listed at out.updates c.join.new.self node.prev node.next before_is after_is refl refl
+            IsListed-unlink old mid id node.element es listed at out.updates c.join.new.self node.prev node.next before_is
+            after_is refl refl
             out.len out.capacity joins;
         value = was;
         len = omega (arith, kept.len, out.len);

@@ -6,12 +6,14 @@ use Rattle.moka_maintenance.proofs.maintenance.state.State.remove_next.Goals as 
 pub next-next-requires : goal.next-next-requires
 next-next-requires g c =
     let s = subst (λ (v : Held). IsRemoving v.orders c.args.removal) (sym c.self.view_is) c.requires.removing in
-    ap is_some (next_node c.self.inside.orders c.args.work c.args.removal c.len.ensures.distinct s c.requires.left c.args.id c.requires.next).found
+    ap is_some (next_node c.self.inside.orders c.args.work c.args.removal c.len.ensures.distinct s c.requires.left c.args.id
+    c.requires.next).found
 
 pub remove-requires : goal.remove-requires
 remove-requires g c =
     let s = subst (λ (v : Held). IsRemoving v.orders c.args.removal) (sym c.self.view_is) c.requires.removing in
-    ap is_some (next_node c.self.inside.orders c.args.work c.args.removal c.len.ensures.distinct s c.requires.left c.args.id c.requires.next).found
+    ap is_some (next_node c.self.inside.orders c.args.work c.args.removal c.len.ensures.distinct s c.requires.left c.args.id
+    c.requires.next).found
 
 pub returns-clause-step : goal.returns-clause-step
 returns-clause-step g c =

@@ -11,25 +11,29 @@ use Rattle.moka_maintenance.proofs.maintenance.state.State.see.Goals as goal
 pub get-requires : goal.get-requires
 get-requires g c =
     let s = subst (λ (v : Held). IsScanning v.orders c.args.scan) (sym c.self.view_is) c.requires.scanning in
-    let at = next_parts (is_decided (candidate_of c.args.scan.candidate) (tally_of c.args.scan.tally)) c.args.scan.next c.args.id c.requires.next in
+    let at = next_parts (is_decided (candidate_of c.args.scan.candidate) (tally_of c.args.scan.tally)) c.args.scan.next c.args.id
+    c.requires.next in
     ap is_some (scanned_node c.self.inside.orders c.args.scan c.len.ensures.distinct s c.args.id at.1).found
 
 pub next-next-requires : goal.next-next-requires
 next-next-requires g c =
     let s = subst (λ (v : Held). IsScanning v.orders c.args.scan) (sym c.self.view_is) c.requires.scanning in
-    let at = next_parts (is_decided (candidate_of c.args.scan.candidate) (tally_of c.args.scan.tally)) c.args.scan.next c.args.id c.requires.next in
+    let at = next_parts (is_decided (candidate_of c.args.scan.candidate) (tally_of c.args.scan.tally)) c.args.scan.next c.args.id
+    c.requires.next in
     ap is_some (scanned_node c.self.inside.orders c.args.scan c.len.ensures.distinct s c.args.id at.1).found
 
 pub mark-requires : goal.mark-requires
 mark-requires g c =
     let s = subst (λ (v : Held). IsScanning v.orders c.args.scan) (sym c.self.view_is) c.requires.scanning in
-    let at = next_parts (is_decided (candidate_of c.args.scan.candidate) (tally_of c.args.scan.tally)) c.args.scan.next c.args.id c.requires.next in
+    let at = next_parts (is_decided (candidate_of c.args.scan.candidate) (tally_of c.args.scan.tally)) c.args.scan.next c.args.id
+    c.requires.next in
     ap is_some (scanned_node c.self.inside.orders c.args.scan c.len.ensures.distinct s c.args.id at.1).found
 
 pub returns-clause-step : goal.returns-clause-step
 returns-clause-step g c =
     let s = subst (λ (v : Held). IsScanning v.orders c.args.scan) (sym c.self.view_is) c.requires.scanning in
-    let at = next_parts (is_decided (candidate_of c.args.scan.candidate) (tally_of c.args.scan.tally)) c.args.scan.next c.args.id c.requires.next in
+    let at = next_parts (is_decided (candidate_of c.args.scan.candidate) (tally_of c.args.scan.tally)) c.args.scan.next c.args.id
+    c.requires.next in
     rw (← c.self.view_is)
     (λ entry weighs n found.
     let same : c.get.result.now ≡ n = some_parts c.get.result.now n (sym c.get.ensures.value ∙ found) in
@@ -39,7 +43,8 @@ returns-clause-step g c =
     after_finding v.sketch c.get.result.now.ticket (tally_of c.args.scan.tally) entry) (sym c.self.view_is)
     ∙ ap (λ (m : Node). after_finding c.self.inside.sketch m.ticket (tally_of c.args.scan.tally) entry) same in
     let seen =
-    seen_more c.self.inside.orders c.args.scan c.len.ensures.distinct s c.args.id at.1 c.mark.new.self c.is_some.result c.mark.ensures.step n found
+    seen_more c.self.inside.orders c.args.scan c.len.ensures.distinct s c.args.id at.1 c.mark.new.self c.is_some.result
+    c.mark.ensures.step n found
     ∙ ap (λ b. first_seen c.args.scan.seen c.self.inside.orders.nodes ++ record { ticket = n.ticket; is_present = b } ∷ [])
     (c.is_some.ensures ∙ ap is_some (sym weighs) ∙ is_some_weighed entry) in
     λ i. record {
@@ -56,7 +61,8 @@ returns-clause-step g c =
 pub returns-clause-holds : goal.returns-clause-holds
 returns-clause-holds g c =
     let s = subst (λ (v : Held). IsScanning v.orders c.args.scan) (sym c.self.view_is) c.requires.scanning in
-    let at = next_parts (is_decided (candidate_of c.args.scan.candidate) (tally_of c.args.scan.tally)) c.args.scan.next c.args.id c.requires.next in (
+    let at = next_parts (is_decided (candidate_of c.args.scan.candidate) (tally_of c.args.scan.tally)) c.args.scan.next c.args.id
+    c.requires.next in (
       c.requires.round,
       scanning_on c.self.inside.orders c.args.scan c.len.ensures.distinct s c.args.id at.1 c.mark.new.self c.is_some.result
           c.mark.ensures.step c.with_found-tally.result c.next-next.result c.next-next.ensures c.mark.ensures.orders,

@@ -7,7 +7,8 @@ use Rattle.moka_maintenance.proofs.maintenance.state.State.skip.Goals as goal
 pub next-requires : goal.next-requires
 next-requires g c =
     let s = subst (λ (v : Held). IsRemoving v.orders c.args.removal) (sym c.self.view_is) c.requires.removing in
-    ap is_some (next_node c.self.inside.orders c.args.work c.args.removal c.len.ensures.distinct s c.requires.left c.args.id c.requires.next).found
+    ap is_some (next_node c.self.inside.orders c.args.work c.args.removal c.len.ensures.distinct s c.requires.left c.args.id
+    c.requires.next).found
 
 pub returns-clause-step : goal.returns-clause-step
 returns-clause-step g c =
@@ -21,7 +22,8 @@ returns-clause-step g c =
       moment = c.self.inside.moment;
       published = Rattle.moka_maintenance.specs.Published.published_of c.self.inside.published;
     })))
-    (skipped_place c.self.inside.orders c.args.work c.args.removal c.len.ensures.distinct s c.requires.left c.args.id c.requires.next n found
+    (skipped_place c.self.inside.orders c.args.work c.args.removal c.len.ensures.distinct s c.requires.left c.args.id
+    c.requires.next n found
     c.next.result))
 
 pub returns-clause-holds : goal.returns-clause-holds

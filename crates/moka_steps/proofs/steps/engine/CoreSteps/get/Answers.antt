@@ -16,6 +16,7 @@ returns-in-Found-clause-caller g c =
 pub returns : goal.returns
 returns g c =
     let old = c.args.self.now in
-    let refusal = refused_get (keys g) (g.W.WeighShared.weighs old.weigher) old.state c.step_get.new.self.state c.requires c.args.key.now c.args.now
+    let refusal =
+    refused_get (keys g) (g.W.WeighShared.weighs old.weigher) old.state c.step_get.new.self.state c.requires c.args.key.now c.args.now
     c.step_get.result c.step_get.ensures.step c.in_default.not-Found in
     record { step = (refusal.0, c.step_get.ensures.weigher); caller = refusal.1 }

@@ -17,7 +17,8 @@ returns-clause-caller g c =
     let new = c.step_insert.new.self.state in
     elim c.match-step_insert.branch [
       | in-Done w ↦
-          accepted (keys g) weighs old.state new c.requires.rest c.args.key c.args.value c.args.now c.step_insert.result c.step_insert.ensures.step
+          accepted (keys g) weighs old.state new c.requires.rest c.args.key c.args.value c.args.now c.step_insert.result
+          c.step_insert.ensures.step
           w.in-Done.is
           ∙ ap (λ r. pends (left_by_insert r)) (sym w.result-is)
       | in-OutOfMemory w ↦

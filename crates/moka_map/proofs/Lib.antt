@@ -1,0 +1,9 @@
+pub mod ShardsLemmas
+pub mod MapLemmas
+pub mod MapTurnLemmas
+pub mod ShardTurnLemmas
+pub mod FindLemmas
+pub mod PendingLemmas
+pub mod RoomLemmas
+pub mod CopyLemmas
+pub mod NewLemmas

@@ -1,0 +1,6 @@
+pub mod Pending
+-- inside
+pub mod MapState
+pub mod Shards
+pub mod PendingPlace
+pub mod MapTurn

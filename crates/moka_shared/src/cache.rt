@@ -1,0 +1,346 @@
+//! The cache that threads share.
+ghost use Rattle.std.specs.Prelude.{◌≡◌, ◌∷◌, [], ℕ, List, None, Some, map, IfErr, IfOk, IfSome};
+ghost use Rattle.std.specs.List.{IsDistinct};
+ghost use Rattle.moka_locks.specs.Rule.{PairsMeet};
+ghost use Rattle.moka_engine.specs.declared.constants.TheConstants.{CALLER};
+ghost use Rattle.moka_engine.specs.WholeCall.{CallsContains, CallsInsert, CallsInvalidate, CallsInvalidateAll, CallsSync};
+ghost use Rattle.moka_engine.specs.declared.event.Reply.TheVariants as reply;
+ghost use Rattle.moka_shared.specs.Builder.{new_builder};
+ghost use Rattle.moka_locks.specs.Cache.{new_cache};
+ghost use Rattle.moka_locks.specs.Charged.{counts_of};
+ghost use Rattle.moka_published.specs.Log.{IsSuffix, opening};
+ghost use Rattle.moka_locks.specs.Locked.{Locked as LockedValue, locked_allows, locked_caller, locked_decides, resting_at};
+ghost use Rattle.moka_steps.specs.Steps.{AnswersGet, insert_reply, pends_by};
+
+use crate::builder::CacheBuilder;
+use crate::iter::Iter;
+use moka_base::error::{BuildError, InsertError, OutOfMemory};
+use moka_base::hash::FixedState;
+use moka_base::policy::Policy;
+use moka_base::shared::Shared;
+use moka_base::time::Instant;
+use moka_base::weigh::UnitWeight;
+use moka_core::engine::CoreParts;
+use moka_engine::constants::SHARDS;
+use moka_engine::weigh::WeighShared;
+use moka_locks::inner::Inner;
+use moka_locks::locked::Locked;
+use moka_locks::rule::{AnyPair, PairRule};
+use moka_published::counts::{CountPass, Publisher};
+use moka_published::rule::Published;
+use moka_steps::steps;
+use std::alloc::{AllocError, Allocator, Global};
+use std::hash::{BuildHasher, Hash};
+use std::marker::Model;
+use std::sync::Wait;
+
+/// A cache that threads share: a map that forgets, bounded by a number of entries or by their weight, with expiry by time to live and by time to
+/// idle. Its clones are the same cache.
+///
+/// ```
+/// let now = Instant::from_secs(0);
+/// let cache: Cache<u64, u64> = Cache::new(alloc, 100)?;
+/// let again = cache.clone()?;
+/// cache.insert(rt, 1, 10, now)?;
+/// again.insert(rt, 2, 20, now)?;
+/// cache.sync(rt, now);
+/// let counts = (cache.entry_count(), again.entry_count());
+/// ```
+///
+/// # Locks
+///
+/// The map has 16 shards, each behind a lock of its own. A call takes the lock of its key's shard, frees it, and then puts what it has done into a log
+/// behind another lock: a read into one, which drops it where it is full, and a write into the other, where it waits for room. No call takes two locks
+/// at a time but a maintenance, which has its own and one other. A value is cloned when no lock is held; the weigher is asked behind the shard's.
+/// `policy`, `entry_count`, `weighted_size`, `invalidate_all` and `clone` take no lock. No clause says that a call which waits returns.
+///
+/// # Maintenance
+///
+/// What stands in the logs is applied by a maintenance, which some caller runs in its call: once a log holds 64 operations, or half a second of the
+/// moments that are handed in has passed since the last one, and nobody else runs one; or at a caller's word, by `sync`. Only then is an entry charged,
+/// and admitted by the size-aware TinyLFU of Caffeine (Einziger, Friedman and Manes) or turned away, and only then do entries leave that are expired or
+/// too much, and one for whose place in the orders there is no memory. Until then the map may have more entries than its limit, by as many as the logs
+/// hold and threads are about to push, and the counts are those of the last maintenance. No read gives an expired entry, whether or not it has left.
+///
+/// # Pairs
+///
+/// A rule of keys and values (`PairRule`) can be a cache's type: then each insert has to meet it, and each pair that comes out does, by contract.
+///
+/// # Size, expiry, hashing
+///
+/// These are as at `unsync::Cache`, but that limits hold after a maintenance. A call hashes its key once, before it takes a lock; the insert of a key that
+/// isn't there hashes it once more behind the lock.
+///
+/// # Cost
+///
+/// A call takes constant time in the mean, beside waiting and but for the caller that runs a maintenance, which takes constant time for each operation
+/// that it applies and each entry that it looks at. Building and inserting take memory, and `iter` for its snapshot; a look-up takes none of its own.
+///
+/// # What differs from mini-moka
+///
+/// Moments are handed in, and calls that wait take the runtime. Want of memory is a named refusal. Entries have tickets, so that a late operation acts on
+/// the entry that it meant. `iter` takes a snapshot and holds no lock when it comes out. There is no `Debug` of the cache itself, which would wait.
+#[derive(Drop)]
+pub struct Cache<
+    K: Eq + Hash + Drop,
+    V: Drop,
+    S: BuildHasher + Drop = FixedState,
+    P: PairRule<K, V> = AnyPair,
+    W: Drop = UnitWeight,
+    A: Allocator + Clone + Drop = Global,
+> {
+    inner: Shared<Inner<K, V, S, P, W, A>, A>,
+}
+
+impl<
+    K: Eq + Hash + Drop,
+    V: Drop,
+    S: BuildHasher + Drop,
+    P: PairRule<K, V>,
+    W: Drop,
+    A: Allocator + Clone + Drop,
+> Model for Cache<K, V, S, P, W, A> {
+    ghost use Rattle.moka_locks.specs.Cache.{Cache as CacheValue};
+
+    ghost Value = { CacheValue S W };
+
+    ghost view = { λ c. c.inner };
+}
+
+impl<
+    K: Eq + Hash + Drop,
+    V: Drop,
+    S: BuildHasher + Drop,
+    P: PairRule<K, V>,
+    W: Drop,
+    A: Allocator + Clone + Drop,
+> Clone for Cache<K, V, S, P, W, A> {
+    ghost is_clone = { λ cache copy. copy ≡ cache };
+
+    /// The same cache once more. It takes no memory: only where there are too many clones to count is it refused.
+    fn clone(&self) -> Result<Self, AllocError> {
+        Ok(Cache {
+            inner: self.inner.try_clone()?,
+        })
+    }
+}
+
+impl<K: Eq + Hash + Drop, V: Drop, A: Allocator + Clone + Drop> Cache<
+    K,
+    V,
+    FixedState,
+    AnyPair,
+    UnitWeight,
+    A,
+> {
+    /// A cache with a limit: that many entries.
+    pub fn new(alloc: A, max_capacity: u64) -> Result<Self, BuildError>
+        ensures ok { IfOk result (λ cache. cache.settings.policy ≡ (new_builder (Some max_capacity) cache.weigher).policy) }
+        ensures err { IfErr result (λ error. error ≡ BuildError.OutOfMemory) }
+    {
+        CacheBuilder::new(alloc, max_capacity).build()
+    }
+
+    /// A builder of caches without limits.
+    pub fn builder(alloc: A) -> CacheBuilder<K, V, UnitWeight, A>
+        ensures { result ≡ new_builder None result.weigher }
+    {
+        CacheBuilder::default(alloc)
+    }
+}
+
+impl<
+    K: Eq + Hash + Drop,
+    V: Drop,
+    S: BuildHasher + Drop,
+    P: PairRule<K, V>,
+    W: Drop,
+    A: Allocator + Clone + Drop,
+> Cache<K, V, S, P, W, A> {
+    /// A cache of these parts, with nothing done to it, and its publisher, if there is one.
+    pub(crate) fn of_parts(
+        alloc: A,
+        parts: CoreParts<S, W>,
+        publisher: Option<Publisher>,
+    ) -> Result<Self, OutOfMemory>
+        requires { IfSome publisher (λ p. p.published ≡ opening ∷ []) }
+        ensures { IfOk result (λ cache. cache ≡ new_cache
+            (record { hash_state = parts.hash_state; policy = parts.policy; is_weighed = parts.is_weighed }) parts.weigher (counts_of publisher)) }
+    {
+        let inner = Inner::new(alloc.clone()?, parts, publisher)?;
+        Ok(Cache {
+            inner: Shared::new(alloc, inner)?,
+        })
+    }
+
+    /// What it was built with.
+    pub fn policy(&self) -> Policy
+        ensures { result ≡ self.now.settings.policy }
+    {
+        self.inner.get().settings().limits().policy()
+    }
+
+    /// How many entries it had when a maintenance last ended, 0 before the first one. It is one load: no contract says of which maintenance.
+    pub fn entry_count(&self) -> u64 {
+        self.inner.get().entry_count()
+    }
+
+    /// What they weighed together, at most `u64::MAX`. It is another load, so it may be of another maintenance than the count.
+    pub fn weighted_size(&self) -> u64 {
+        self.inner.get().weighted_size()
+    }
+
+    /// The count and the weight that were published last, of one maintenance, with the number of the publication, from 1 on; before the first, three zeros.
+    /// The pass must be of this cache, and has seen them then: none of them is older than what it had seen. No lock is taken but where a publication
+    /// comes between.
+    pub fn published<R: Wait>(&self, rt: &R, pass: &mut CountPass) -> Published
+        requires { self.now.counted ≡ Some pass.old.counts }
+        ensures counts { pass.new.counts ≡ pass.old.counts }
+        ensures newest { (older : List _) × (pass.new.seen ≡ result ∷ older) }
+        ensures seen { IsSuffix pass.old.seen pass.new.seen }
+    {
+        self.inner.get().published(rt, pass)
+    }
+
+    /// One more pass, which has seen what this one has. It takes no memory.
+    pub fn split_pass(&self, pass: &mut CountPass) -> CountPass
+        requires { self.now.counted ≡ Some pass.old.counts }
+        ensures { (pass.new ≡ pass.old) × (result ≡ pass.old) }
+    {
+        self.inner.get().split(pass)
+    }
+
+    /// A snapshot of the unexpired pairs, shard by shard: the pairs of a shard are those of one moment, and no lock is held when they come out. It
+    /// counts as no read. It is refused for want of memory.
+    pub fn iter<R: Wait>(&self, rt: &R, now: Instant) -> Result<Iter<K, V, A>, OutOfMemory>
+        ensures ruled { IfOk result (λ pairs. PairsMeet P.holds pairs) }
+        ensures once { IfOk result (λ pairs. IsDistinct K.eq (map (λ p. p.0) pairs)) }
+    {
+        let inner = self.inner.get();
+        let mut pairs = Vec::new(inner.alloc().clone()?);
+        for number in 0..SHARDS {
+            inner.copy(rt, number, now, &mut pairs)?;
+        }
+        Ok(Iter::new(pairs))
+    }
+}
+
+impl<
+    K: Eq + Hash + Drop,
+    V: Drop,
+    S: BuildHasher + Drop,
+    P: PairRule<K, V>,
+    W: WeighShared<K, V>,
+    A: Allocator + Clone + Drop,
+> Cache<K, V, S, P, W, A> {
+    /// Whether a key has an unexpired value. That counts as no read.
+    pub fn contains_key<R: Wait>(&self, rt: &R, key: &K, now: Instant) -> bool
+        ensures call { CallsContains (locked_allows P.holds) locked_decides (pends_by locked_caller) CALLER key.now now (reply.Bool result)
+            (resting_at self.now) (resting_at self.now) }
+    {
+        steps::contains_key(rt, &Locked::new(self.inner.get()), key, now)
+    }
+
+    /// Puts a value at a key, in place of the one that is there. The pair has to meet the rule. It is refused for want of memory, or where the key's
+    /// shard has no ticket left, and then the cache is as it was.
+    pub fn insert<R: Wait>(&self, rt: &R, key: K, value: V, now: Instant) -> Result<(), InsertError>
+        requires ruled { P.holds key value }
+        requires ready { W.ready self.now.weigher }
+        ensures call { (new : LockedValue S W) × CallsInsert (locked_allows P.holds) locked_decides (pends_by locked_caller) CALLER
+            key value now (insert_reply result) (resting_at self.now) new }
+    {
+        let Some((key, value)) = shared(self.inner.get().alloc(), key, value) else {
+            return Err(InsertError::OutOfMemory);
+        };
+        steps::insert(rt, &mut Locked::new(self.inner.get()), key, value, now)
+    }
+
+    /// Takes the entry of a key out.
+    pub fn invalidate<R: Wait>(&self, rt: &R, key: &K, now: Instant)
+        ensures call { (new : LockedValue S W) × CallsInvalidate (locked_allows P.holds) locked_decides (pends_by locked_caller) CALLER
+            key.now now reply.Done (resting_at self.now) new }
+    {
+        steps::invalidate(rt, &mut Locked::new(self.inner.get()), key, now);
+    }
+
+    /// Hides all entries that were inserted or read last before this moment. Those of the moment itself stay. It takes no lock.
+    pub fn invalidate_all(&self, now: Instant)
+        ensures call { (new : LockedValue S W) × CallsInvalidateAll (locked_allows P.holds) locked_decides (pends_by locked_caller) CALLER
+            now reply.Done (resting_at self.now) new }
+    {
+        steps::invalidate_all(&mut Locked::new(self.inner.get()), now);
+    }
+}
+
+impl<
+    K: Eq + Hash + Drop,
+    V: Clone,
+    S: BuildHasher + Drop,
+    P: PairRule<K, V>,
+    W: WeighShared<K, V>,
+    A: Allocator + Clone + Drop,
+> Cache<K, V, S, P, W, A> {
+    /// A clone of the unexpired value of a key, made when no lock is held.
+    pub fn get<R: Wait>(&self, rt: &R, key: &K, now: Instant) -> Result<Option<V>, OutOfMemory>
+        ensures call { (new : LockedValue S W) × AnswersGet (locked_allows P.holds) locked_decides locked_caller V.is_clone V.is_infallible
+            key.now now result (resting_at self.now) new }
+
+        // It is a clone of a value that meets the rule with the key.
+        ensures ruled { IfOk result (λ found. IfSome found (λ copy. (value : V) × P.holds key.now value × V.is_clone value copy)) }
+    {
+        steps::get(rt, &mut Locked::new(self.inner.get()), key, now)
+    }
+
+    /// The same.
+    pub fn get_if_present<R: Wait>(
+        &self,
+        rt: &R,
+        key: &K,
+        now: Instant,
+    ) -> Result<Option<V>, OutOfMemory>
+        ensures call { (new : LockedValue S W) × AnswersGet (locked_allows P.holds) locked_decides locked_caller V.is_clone V.is_infallible
+            key.now now result (resting_at self.now) new }
+        ensures ruled { IfOk result (λ found. IfSome found (λ copy. (value : V) × P.holds key.now value × V.is_clone value copy)) }
+    {
+        self.get(rt, key, now)
+    }
+}
+
+/// A key and a value as they are stored, unless memory is refused.
+fn shared<K: Drop, V: Drop, A: Allocator + Clone + Drop>(
+    alloc: &A,
+    key: K,
+    value: V,
+) -> Option<(Shared<K, A>, Shared<V, A>)>
+    ensures { IfSome result (λ pair. (pair.0 ≡ key) × (pair.1 ≡ value)) }
+{
+    let key = Shared::new(alloc.clone().ok()?, key).ok()?;
+    let value = Shared::new(alloc.clone().ok()?, value).ok()?;
+    Some((key, value))
+}
+
+/// A maintenance at a caller's word.
+pub trait ConcurrentCacheExt {
+    // What a whole maintenance is, at a moment.
+    ghost synced: { Self → ℕ → Type 0 };
+
+    /// Runs a whole maintenance, once nobody else does: it applies what is in the logs, takes out what is expired or too much, and publishes the counts.
+    fn sync<R: Wait>(&self, rt: &R, now: Instant)
+        ensures { synced self.now now };
+}
+
+impl<
+    K: Eq + Hash + Drop,
+    V: Drop,
+    S: BuildHasher + Drop,
+    P: PairRule<K, V>,
+    W: WeighShared<K, V>,
+    A: Allocator + Clone + Drop,
+> ConcurrentCacheExt for Cache<K, V, S, P, W, A> {
+    ghost synced = { λ cache now. (new : LockedValue S W) × CallsSync (locked_allows P.holds) locked_decides (pends_by locked_caller) CALLER
+        now reply.Done (resting_at cache) new };
+
+    fn sync<R: Wait>(&self, rt: &R, now: Instant) {
+        steps::sync(rt, &mut Locked::new(self.inner.get()), now);
+    }
+}
