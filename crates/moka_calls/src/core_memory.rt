@@ -1,7 +1,6 @@
 // What a core does when its heap is full: a maintenance that needs memory for a node or for the sketch's table, and hits, which need none.
 ghost use Rattle.std.specs.Prelude.{◌≡◌, ⊤};
 
-use crate::heap::{blocks_of, words_of};
 use linked_list_allocator::LocalHeap;
 use moka_common::hash::FixedState;
 use moka_common::shared::Shared;
@@ -12,6 +11,7 @@ use moka_engine::call::Call;
 use moka_engine::event::Reply;
 use moka_engine::weigh::WeighShared;
 use moka_sync::builder::CacheBuilder;
+use moka_unsync_calls::heap::{blocks_of, words_of};
 use std::test::Fail;
 
 /// An entry weighs what its value says.

@@ -4,3 +4,4 @@ pub mod Locked
 pub mod Snapshot
 pub mod MaintenanceTurn
 pub mod Charged
+pub mod WriteQueue

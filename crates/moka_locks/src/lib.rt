@@ -5,6 +5,7 @@ pub mod housekeeper;
 pub mod inner;
 pub mod locked;
 mod logs;
+mod queue;
 mod resting;
 pub mod rule;
 mod running;

@@ -1,12 +1,13 @@
 // The two logs of a cache, each behind a lock of its own, with a word beside it that tells what callers ask before they take the lock.
 ghost use Rattle.std.specs.Prelude.{◌≡◌, ◌≤◌, [], length};
 
+use crate::queue::WriteQueue;
 use crate::waiting::{ROOM_AWAITED, has_room, lock, lock_giving_way};
 use crossbeam_utils::CachePadded;
 use moka_base::error::OutOfMemory;
 use moka_engine::constants::{FLUSH_POINT, READ_LOG_SIZE, WRITE_LOG_SIZE};
 use moka_engine::operation::Write;
-use moka_maintenance::logs::{LoggedRead, ReadLog, WriteLog};
+use moka_maintenance::logs::{LoggedRead, ReadLog};
 use moka_maintenance::taken::TakenWrites;
 use std::alloc::{Allocator, Global};
 use std::sync::atomic::{AtomicUsize, Ordering};
@@ -14,10 +15,10 @@ use std::sync::{Mutex, MutexGuard, Wait};
 
 /// The write log behind its lock. Whoever has taken the lock writes the word beside it, so both lie on one line.
 #[derive(Drop)]
-struct ToldLog<A: Allocator + Clone + Drop> {
-    /// How many operations the log held at least when it was left last, as `told_writes` has it.
+struct ToldQueue<A: Allocator + Clone + Drop> {
+    /// How many writes were on their way at least when the log was left last, as `told_writes` has it.
     len: AtomicUsize,
-    log: Mutex<WriteLog<A>>,
+    queue: Mutex<WriteQueue<A>>,
 }
 
 /// The logs. What threads write to lies on lines of its own.
@@ -27,16 +28,16 @@ pub(crate) struct Logs<A: Allocator + Clone + Drop = Global> {
     /// How many operations the read log held at least when it was left last, as `told_reads` has it. It seldom changes, so it lies apart from the lock,
     /// where those who look at it keep the line.
     reads: CachePadded<AtomicUsize>,
-    writes: CachePadded<ToldLog<A>>,
+    writes: CachePadded<ToldQueue<A>>,
 }
 
 impl<A: Allocator + Clone + Drop> Logs<A> {
     /// Empty logs, with room for all that they will hold.
     pub(crate) fn new(alloc: &A) -> Result<Self, OutOfMemory> {
         let read_log = ReadLog::new(alloc.clone()?)?;
-        let writes = ToldLog {
+        let writes = ToldQueue {
             len: AtomicUsize::new(0),
-            log: Mutex::new(WriteLog::new(alloc.clone()?)?),
+            queue: Mutex::new(WriteQueue::new(alloc.clone()?)?),
         };
         Ok(Logs {
             read_log: CachePadded::new(Mutex::new(read_log)),
@@ -50,7 +51,7 @@ impl<A: Allocator + Clone + Drop> Logs<A> {
         self.reads.load(Ordering::Acquire)
     }
 
-    /// How many writes there were at least when theirs was: a multiple of `ROOM_AWAITED`.
+    /// How many writes were on their way at least when theirs was: a multiple of `ROOM_AWAITED`.
     pub(crate) fn writes(&self) -> usize {
         self.writes.len.load(Ordering::Acquire)
     }
@@ -63,8 +64,8 @@ impl<A: Allocator + Clone + Drop> Logs<A> {
 
     /// The write log, locked. Before it is left, `tell_writes` is to have its length.
     #[inline]
-    pub(crate) fn lock_writes<R: Wait>(&self, rt: &R) -> MutexGuard<'_, WriteLog<A>> {
-        lock(rt, &self.writes.log)
+    pub(crate) fn lock_writes<R: Wait>(&self, rt: &R) -> MutexGuard<'_, WriteQueue<A>> {
+        lock(rt, &self.writes.queue)
     }
 
     /// Tells how many reads there are. A store would take the line from all who look at it, so there is one only where what is told changes.
@@ -75,7 +76,7 @@ impl<A: Allocator + Clone + Drop> Logs<A> {
         }
     }
 
-    /// Tells how many writes there are. A store is an exchange here, so there is one only where what is told changes.
+    /// Tells how many writes are on their way. A store is an exchange here, so there is one only where what is told changes.
     pub(crate) fn tell_writes(&self, len: usize) {
         let told = told_writes(len);
         if self.writes() != told {
@@ -117,9 +118,9 @@ impl<A: Allocator + Clone + Drop> Logs<A> {
         if !has_room(&self.writes.len, WRITE_LOG_SIZE) {
             return false;
         }
-        let mut log = self.lock_writes(rt);
-        let is_pushed = log.push(write).is_ok();
-        self.tell_writes(log.len());
+        let mut queue = self.lock_writes(rt);
+        let is_pushed = queue.push(write);
+        self.tell_writes(queue.len());
         is_pushed
     }
 
@@ -128,9 +129,16 @@ impl<A: Allocator + Clone + Drop> Logs<A> {
         requires { taken.old ≡ [] }
         ensures { length taken.new ≤ wanted }
     {
-        let mut log = self.lock_writes(rt);
-        taken.refill(&mut log, wanted);
-        self.tell_writes(log.len());
+        let mut queue = self.lock_writes(rt);
+        queue.take_first(wanted, taken);
+        self.tell_writes(queue.len());
+    }
+
+    /// The writes that were taken are applied, and take no room any more.
+    pub(crate) fn note_applied<R: Wait>(&self, rt: &R) {
+        let mut queue = self.lock_writes(rt);
+        queue.note_applied();
+        self.tell_writes(queue.len());
     }
 }
 

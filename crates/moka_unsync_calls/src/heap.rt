@@ -1,4 +1,4 @@
-// A heap that is filled.
+//! A heap that is filled.
 use linked_list_allocator::LocalHeap;
 use std::alloc::{AllocError, Global};
 use std::rc::Rc;

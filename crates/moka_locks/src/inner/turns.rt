@@ -1,0 +1,166 @@
+// The turns of a maintenance, each with the lock of what it needs.
+ghost use Rattle.std.specs.Prelude.{◌≡◌, ◌<◌, ◌≤◌, [], drop, length, slice_get, IfSome, IsNone, IsSome};
+ghost use Rattle.moka_locks.specs.MaintenanceTurn.{AreTurns, empty_handed};
+ghost use Rattle.moka_maintenance.specs.Taken.{TakesRead, TakesWrite, writes_left};
+
+use crate::inner::Inner;
+use crate::rule::PairRule;
+use crate::waiting::lock;
+use moka_engine::operation::{Read, Write};
+use moka_maintenance::logs::{LoggedRead, NO_READ, READS_AT_ONCE};
+use moka_maintenance::maintenance::{Maintenance, Need};
+use moka_maintenance::taken::TakenWrites;
+use std::alloc::Allocator;
+use std::hash::{BuildHasher, Hash};
+use std::sync::Wait;
+
+impl<
+    K: Eq + Hash + Drop,
+    V: Drop,
+    S: BuildHasher + Drop,
+    P: PairRule<K, V>,
+    W: Drop,
+    A: Allocator + Clone + Drop,
+> Inner<K, V, S, P, W, A> {
+    /// One turn of the maintenance, with the lock of what it needs; or several, where operations leave their log and are applied at once. Of the writes
+    /// that have left their log no more are to be applied than the round will.
+    pub(crate) fn turn<R: Wait>(
+        &self,
+        rt: &R,
+        maintenance: &mut Maintenance<A>,
+        taken: &mut TakenWrites,
+    )
+        requires { length taken.old ≤ writes_left maintenance.old.place }
+        ensures turns { AreTurns K V self.now.settings (record { maintenance = maintenance.old; at_hand = taken.old })
+            (record { maintenance = maintenance.new; at_hand = taken.new }) }
+        ensures left { length taken.new ≤ writes_left maintenance.new.place }
+    {
+        if maintenance.takes_read() {
+            self.apply_next_reads(rt, maintenance);
+            return;
+        }
+        if maintenance.takes_write() {
+            let is_last = maintenance.writes_left() <= 1;
+            self.apply_next_write(rt, maintenance, taken);
+            if is_last {
+                // The round has no more, so none is left at hand.
+                self.logs.note_applied(rt);
+            }
+            return;
+        }
+        let valid_after = self.valid_after();
+        match maintenance.need::<K, V, S>(&self.settings, valid_after) {
+            Need::Nothing => maintenance.turn_alone::<K, V, S>(&self.settings, valid_after),
+            Need::Reads => {
+                let mut log = self.logs.lock_reads(rt);
+                maintenance.turn_with_reads::<K, V, S>(&self.settings, valid_after, &mut log);
+                self.logs.tell_reads(log.len());
+            }
+            Need::Writes => {
+                let mut queue = self.logs.lock_writes(rt);
+                queue.turn_with_writes::<K, V, S>(maintenance, &self.settings, valid_after);
+                self.logs.tell_writes(queue.len());
+            }
+            Need::Entry(ticket) => {
+                let mut shard = lock(rt, self.shard(ticket.hash));
+                let valid_after = self.valid_after_since(valid_after);
+                shard.turn(maintenance, ticket, &self.settings, valid_after);
+            }
+        }
+    }
+
+    /// How many of the reads that are left in a round may leave their log together. Where a time to idle is set a get sees whether an entry was touched,
+    /// so there each leaves when its turn comes.
+    fn reads_wanted(&self, left: usize) -> usize
+        ensures within { result ≤ left }
+        ensures singly { IsSome self.now.settings.policy.time_to_idle → result ≤ 1 }
+    {
+        if self.settings.limits().has_time_to_idle() {
+            return left.min(1);
+        }
+        left
+    }
+
+    /// The turns that take the next reads and apply them, if there are any. No lock is held while their hashes are counted and nodes move, which lie in
+    /// memory of their own.
+    fn apply_next_reads<R: Wait>(&self, rt: &R, maintenance: &mut Maintenance<A>)
+        requires { TakesRead maintenance.old }
+        ensures { AreTurns K V self.now.settings (empty_handed maintenance.old) (empty_handed maintenance.new) }
+    {
+        let mut copy = [NO_READ; READS_AT_ONCE];
+        let wanted = self.reads_wanted(maintenance.reads_left());
+        let count = self.logs.take_reads(rt, wanted, &mut copy);
+        if count == 0 {
+            return;
+        }
+        let reads = &mut copy[..count];
+        self.touch_all(rt, reads);
+        maintenance.apply_reads(reads);
+    }
+
+    /// The entries of hits were used, one after another, each behind the lock of its shard. Their hints tell then where their nodes may be found.
+    fn touch_all<R: Wait>(&self, rt: &R, reads: &mut [LoggedRead])
+        ensures { length reads.new ≡ length reads.old }
+    {
+        for logged in reads.iter_mut() {
+            logged.hint = self.touch(rt, logged.read, logged.hint);
+        }
+    }
+
+    /// The entry of a hit, if it stands, was used; it is looked for in a slot first. The answer is where its node may be found.
+    fn touch<R: Wait>(&self, rt: &R, read: Read, slot: usize) -> usize {
+        let Read::Hit { ticket, moment } = read else {
+            return 0;
+        };
+        let mut shard = lock(rt, self.shard(ticket.hash));
+        shard.touch(ticket, slot, moment)
+    }
+
+    /// The turn that takes a write, and the one that applies it, if there is one.
+    fn apply_next_write<R: Wait>(
+        &self,
+        rt: &R,
+        maintenance: &mut Maintenance<A>,
+        taken: &mut TakenWrites,
+    )
+        requires takes { TakesWrite maintenance.old }
+        requires left { length taken.old ≤ writes_left maintenance.old.place }
+        ensures turns { AreTurns K V self.now.settings (record { maintenance = maintenance.old; at_hand = taken.old })
+            (record { maintenance = maintenance.new; at_hand = taken.new }) }
+        ensures left { length taken.new ≤ writes_left maintenance.new.place }
+    {
+        let Some(write) = self.next_write(rt, maintenance, taken) else {
+            return;
+        };
+        match write {
+            Write::Upsert { ticket } => {
+                let mut shard = lock(rt, self.shard(ticket.hash));
+                shard.turn_with_upsert(maintenance, ticket, &self.settings, self.valid_after());
+            }
+            Write::Remove { ticket } => maintenance.turn_with_removal::<K, V, S>(
+                &self.settings,
+                self.valid_after(),
+                ticket,
+            ),
+        }
+    }
+
+    /// The write that the maintenance is to take next. It has left its log before, or leaves it now with those behind it.
+    fn next_write<R: Wait>(
+        &self,
+        rt: &R,
+        maintenance: &Maintenance<A>,
+        taken: &mut TakenWrites,
+    ) -> Option<Write>
+        requires takes { TakesWrite maintenance.now }
+        requires left { length taken.old ≤ writes_left maintenance.now.place }
+        ensures some { IfSome result (λ write. length taken.new < writes_left maintenance.now.place) }
+        ensures none { IsNone result → taken.new ≡ [] }
+        ensures first { 0 < length taken.old → (result ≡ slice_get taken.old 0) × (taken.new ≡ drop 1 taken.old) }
+    {
+        if taken.is_empty() {
+            self.logs.take_writes(rt, maintenance.writes_left(), taken);
+        }
+        taken.pop()
+    }
+}
