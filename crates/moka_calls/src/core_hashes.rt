@@ -11,18 +11,31 @@ use std::test::Fail;
 /// A call on keys and values of this core.
 type SharedCall = Call<Shared<u64>, Shared<u32>>;
 
+/// A whole call of key 7, or a maintenance.
+#[derive(Clone, Copy, Debug)]
+enum Kind {
+    Insert,
+    Contains,
+    Invalidate,
+    Sync,
+}
+
 fn start() -> Instant {
     Instant::from_nanos(0)
 }
 
-/// An insert of key 7.
-fn insert_of(alloc: Global, value: u32) -> Result<SharedCall, AllocError> {
+fn call_of(alloc: Global, kind: Kind) -> Result<SharedCall, AllocError> {
+    let now = start();
     let key = Shared::new(alloc, 7)?;
-    let value = Shared::new(alloc, value)?;
-    Ok(Call::Insert {
-        key,
-        value,
-        now: start(),
+    Ok(match kind {
+        Kind::Insert => Call::Insert {
+            key,
+            value: Shared::new(alloc, 1)?,
+            now,
+        },
+        Kind::Contains => Call::Contains { key, now },
+        Kind::Invalidate => Call::Invalidate { key, now },
+        Kind::Sync => Call::Sync { now },
     })
 }
 
@@ -50,27 +63,31 @@ fn asked_by_get(core: &mut Core<u64, u32, CountingState>, asked: &Cell<u64>) -> 
     Ok(asked.get().wrapping_sub(before))
 }
 
+// A new key, an update, and then the key that is there; and a miss. A maintenance hashes none, though it applies all of these.
 #[test]
 fn a_call_hashes_its_key_once(rt: HostRuntime) -> Result<(), Fail> {
-    let alloc = rt.alloc();
     let asked = Cell::new(0);
-    let mut core = Core::new(alloc, CountingState { asked: &asked })?;
-    let (now, key) = (start(), Shared::new(alloc, 7)?);
-    // A new key, an update, and then the key that is there.
-    assert_eq!(rt; asked_by(&mut core, &asked, insert_of(alloc, 1)?)?, 1);
-    assert_eq!(rt; asked_by(&mut core, &asked, insert_of(alloc, 2)?)?, 1);
+    let mut core = Core::new(rt.alloc(), CountingState { asked: &asked })?;
+    for (kind, hashes) in [
+        (Kind::Insert, 1),
+        (Kind::Insert, 1),
+        (Kind::Contains, 1),
+        (Kind::Invalidate, 1),
+        (Kind::Contains, 1),
+        (Kind::Sync, 0),
+    ] {
+        let call = call_of(rt.alloc(), kind)?;
+        assert_eq!(rt; asked_by(&mut core, &asked, call)?, hashes, "by {kind:?}");
+    }
+    Ok(())
+}
+
+#[test]
+fn a_get_hashes_its_key_once(rt: HostRuntime) -> Result<(), Fail> {
+    let asked = Cell::new(0);
+    let mut core = Core::new(rt.alloc(), CountingState { asked: &asked })?;
     assert_eq!(rt; asked_by_get(&mut core, &asked)?, 1);
-    let contains = Call::Contains {
-        key: key.try_clone()?,
-        now,
-    };
-    assert_eq!(rt; asked_by(&mut core, &asked, contains)?, 1);
-    assert_eq!(rt;
-        asked_by(&mut core, &asked, Call::Invalidate { key, now })?,
-        1
-    );
-    // Maintenance hashes none, though it applies all of these; and a miss is hashed once too.
-    assert_eq!(rt; asked_by(&mut core, &asked, Call::Sync { now })?, 0);
+    asked_by(&mut core, &asked, call_of(rt.alloc(), Kind::Insert)?)?;
     assert_eq!(rt; asked_by_get(&mut core, &asked)?, 1);
     Ok(())
 }

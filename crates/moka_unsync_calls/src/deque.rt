@@ -19,37 +19,45 @@ fn assert_steps(rt: &impl Abort, list: &mut Deque<char>, expected: &[Option<char
     }
 }
 
+/// Moves the second of three to the back, behind the cursor.
+fn assert_past_a_move(rt: &impl Abort, list: &mut Deque<char>, b: NodeId) {
+    assert_steps(rt, list, &[Some('a')]);
+    assert!(rt; list.contains(b));
+    list.move_to_back(b);
+    assert_steps(rt, list, &[Some('c'), Some('b'), None]);
+}
+
+/// Takes out the node at the cursor.
+fn assert_past_a_removal(rt: &impl Abort, list: &mut Deque<char>, c: NodeId) {
+    assert_steps(rt, list, &[Some('a')]);
+    assert!(rt; list.contains(c));
+    assert_eq!(rt; list.unlink(c), 'c');
+    assert_steps(rt, list, &[Some('b'), None]);
+}
+
+/// Takes all three out from the front, at the cursor and before it.
+fn assert_past_the_front(rt: &impl Abort, list: &mut Deque<char>) {
+    assert_steps(rt, list, &[Some('a')]);
+    assert_eq!(rt; list.pop_front(), Some('a'));
+    assert_eq!(rt; list.pop_front(), Some('b'));
+    assert_steps(rt, list, &[Some('c'), None]);
+    assert_eq!(rt; list.pop_front(), Some('c'));
+    assert_steps(rt, list, &[None, None]);
+}
+
 #[test]
 fn the_cursor_steps_past_moves_and_removals(rt: HostRuntime) -> Result<(), Fail> {
     let mut list = list(rt.alloc());
     assert_steps(&rt, &mut list, &[None, None]);
-    let (_a, b, c) = (
-        pushed(&mut list, 'a')?,
-        pushed(&mut list, 'b')?,
-        pushed(&mut list, 'c')?,
-    );
+    pushed(&mut list, 'a')?;
+    let (b, c) = (pushed(&mut list, 'b')?, pushed(&mut list, 'c')?);
     let round = [Some('a'), Some('b'), Some('c'), None];
     assert_steps(&rt, &mut list, &round);
     assert_steps(&rt, &mut list, &round);
-
-    assert_steps(&rt, &mut list, &[Some('a')]);
-    assert!(rt; list.contains(b));
-    list.move_to_back(b);
-    assert_steps(&rt, &mut list, &[Some('c'), Some('b'), None]);
-
-    assert_steps(&rt, &mut list, &[Some('a')]);
-    assert!(rt; list.contains(c));
-    assert_eq!(rt; list.unlink(c), 'c');
-    assert_steps(&rt, &mut list, &[Some('b'), None]);
-
+    assert_past_a_move(&rt, &mut list, b);
+    assert_past_a_removal(&rt, &mut list, c);
     pushed(&mut list, 'c')?;
-    assert_steps(&rt, &mut list, &[Some('a')]);
-    assert_eq!(rt; list.pop_front(), Some('a'));
-    assert_eq!(rt; list.pop_front(), Some('b'));
-    assert_steps(&rt, &mut list, &[Some('c'), None]);
-
-    assert_eq!(rt; list.pop_front(), Some('c'));
-    assert_steps(&rt, &mut list, &[None, None]);
+    assert_past_the_front(&rt, &mut list);
     Ok(())
 }
 
@@ -94,25 +102,35 @@ impl Drop for Noted<'_> {
     }
 }
 
+/// A list of such elements.
+type NotedList<'a> = Deque<Noted<'a>>;
+
+/// Adds an element with this number.
+fn note<'a>(
+    list: &mut NotedList<'a>,
+    notes: &'a RefCell<Vec<u32>>,
+    number: u32,
+) -> Result<(), Fail> {
+    let added = list.push_back(Noted { number, notes });
+    added.map(|_| ()).map_err(|_| Fail::from("no memory"))
+}
+
+/// Adds four elements, takes the first one out, and moves the next one to the back. The last one takes the place that the first had in the slab.
+fn fill<'a>(list: &mut NotedList<'a>, notes: &'a RefCell<Vec<u32>>) -> Result<(), Fail> {
+    for number in [3, 1, 4, 2] {
+        note(list, notes, number)?;
+    }
+    drop(list.pop_front());
+    note(list, notes, 5)?;
+    list.move_front_to_back();
+    Ok(())
+}
+
 #[test]
 fn elements_are_dropped_from_front_to_back(rt: HostRuntime) -> Result<(), Fail> {
     let notes = RefCell::new(Vec::new(rt.alloc()));
     let mut list = Deque::new(rt.alloc(), CacheRegion::Window);
-    for number in [3, 1, 4, 2] {
-        let noted = Noted {
-            number,
-            notes: &notes,
-        };
-        list.push_back(noted).map_err(|_| Fail::from("no memory"))?;
-    }
-    // 5 takes the place that 3 had in the slab, and 1 goes to the back.
-    drop(list.pop_front());
-    let noted = Noted {
-        number: 5,
-        notes: &notes,
-    };
-    list.push_back(noted).map_err(|_| Fail::from("no memory"))?;
-    list.move_front_to_back();
+    fill(&mut list, &notes)?;
     drop(list);
     assert_eq!(rt; notes.into_inner().as_slice(), [3, 4, 2, 5, 1].as_slice());
     Ok(())

@@ -27,18 +27,23 @@ fn without_a_table_nothing_is_counted(rt: HostRuntime) {
     assert_eq!(rt; sketch.frequency(7), 0);
 }
 
+/// Whether a sketch is given a capacity, and then the length of its table and how often it has seen the hash 0.
+fn grown<A: Allocator + Clone + Drop>(
+    sketch: &mut FrequencySketch<A>,
+    capacity: u32,
+) -> (bool, usize, u8) {
+    let is_given = sketch.ensure_capacity(capacity).is_ok();
+    (is_given, sketch.table_len(), sketch.frequency(0))
+}
+
 #[test]
 fn a_refused_table_leaves_the_counters(rt: HostRuntime) -> Result<(), Fail> {
     let heap = LocalHeap::new(rt.alloc(), 4096)?;
     let mut sketch = FrequencySketch::default(&heap);
-    sketch.ensure_capacity(4)?;
+    assert_eq!(rt; grown(&mut sketch, 4), (true, 4, 0));
     count(&mut sketch, 0, 3);
-    assert!(rt; sketch.ensure_capacity(1024).is_err());
-    assert_eq!(rt; sketch.table_len(), 4);
-    assert_eq!(rt; sketch.frequency(0), 3);
-    sketch.ensure_capacity(32)?;
-    assert_eq!(rt; sketch.table_len(), 32);
-    assert_eq!(rt; sketch.frequency(0), 0);
+    assert_eq!(rt; grown(&mut sketch, 1024), (false, 4, 3));
+    assert_eq!(rt; grown(&mut sketch, 32), (true, 32, 0));
     Ok(())
 }
 

@@ -1,4 +1,6 @@
 // The cache for one thread: what no script shows of it.
+ghost use Rattle.std.specs.Prelude.{⊤};
+
 use crate::hashers::Zero;
 use crate::heap::blocks_of;
 use linked_list_allocator::LocalHeap;
@@ -6,10 +8,11 @@ use moka_common::error::{BuildError, InsertError};
 use moka_common::hash::FixedState;
 use moka_common::policy::Policy;
 use moka_common::time::Instant;
-use moka_common::weigh::UnitWeight;
+use moka_common::weigh::{UnitWeight, Weigh};
 use moka_unsync::builder::CacheBuilder;
 use moka_unsync::cache::Cache;
 use std::alloc::{Allocator, Global};
+use std::cell::Cell;
 use std::hash::BuildHasher;
 use std::process::Abort;
 use std::test::Fail;
@@ -25,59 +28,84 @@ fn start() -> Instant {
     Instant::from_nanos(0)
 }
 
-#[test]
-fn the_weigher_is_asked_once_for_each_insert(rt: HostRuntime) -> Result<(), Fail> {
-    let mut calls = 0u32;
-    let mut cache = Cache::builder(rt.alloc())
-        .max_capacity(10)
-        .weigher(|_key: &u64, value: &u32| {
-            calls = calls.saturating_add(1);
-            *value
-        })
-        .build()?;
-    // A new key, an update, and one that is rejected.
-    for (key, value) in [(0, 5), (0, 6), (1, 11)] {
-        cache.insert(key, value, start())?;
+/// Weighs by value, and counts how often it is asked.
+#[derive(Drop)]
+struct Counting<'a> {
+    asked: &'a Cell<u64>,
+}
+
+impl Weigh<u64, u32> for Counting<'_> {
+    ghost ready = { λ _. ⊤ };
+
+    ghost weighs = { λ _ _ _ _ _. ⊤ };
+
+    fn weigh(&mut self, _key: &u64, value: &u32) -> u32 {
+        self.asked.set(self.asked.get().wrapping_add(1));
+        *value
     }
-    assert_eq!(rt; cache.weighted_size(), 6);
-    drop(cache);
-    assert_eq!(rt; calls, 3);
-    Ok(())
 }
 
 #[test]
-fn a_refused_insert_asks_no_weigher_and_leaves_the_entries(rt: HostRuntime) -> Result<(), Fail> {
-    let heap = LocalHeap::new(rt.alloc(), 4096)?;
-    let mut calls = 0u64;
-    let mut cache = Cache::builder(&heap)
-        .time_to_live(Duration::from_nanos(10))
-        .weigher(|_key: &u64, value: &u32| {
-            calls = calls.saturating_add(1);
-            *value
-        })
+fn the_weigher_is_asked_once_for_each_insert(rt: HostRuntime) -> Result<(), Fail> {
+    let asked = Cell::new(0);
+    let mut cache = Cache::builder(rt.alloc())
+        .max_capacity(10)
+        .weigher(Counting { asked: &asked })
         .build()?;
-    let mut accepted = 0u64;
+    // A new key, an update, and one that is rejected.
+    for (key, value) in [(0, 5), (0, 6), (1, 11)] {
+        assert!(rt; cache.insert(key, value, start()).is_ok());
+    }
+    assert_eq!(rt; (cache.weighted_size(), asked.get()), (6, 3));
+    Ok(())
+}
+
+/// A cache on a heap, by such a weigher.
+type Counted<'a> = Cache<u64, u32, FixedState, Counting<'a>, &'a LocalHeap>;
+
+/// How many keys a cache takes, of weight 2 each, until its heap is full.
+fn accepted_by(cache: &mut Counted) -> u64 {
     for key in 0..MANY {
         if cache.insert(key, 2, start()).is_err() {
-            break;
+            return key;
         }
-        accepted = key + 1;
     }
-    assert!(rt; 0 < accepted && accepted < MANY);
+    MANY
+}
+
+/// Whether a cache of so many entries of weight 2 refuses an insert, and has as many afterwards.
+fn refuses(cache: &mut Counted, key: u64, now: Instant, entries: u64) -> bool {
+    cache.insert(key, 9, now) == Err(InsertError::OutOfMemory)
+        && cache.entry_count() == entries
+        && cache.weighted_size() == entries.wrapping_mul(2)
+}
+
+/// Whether each key below this one has the value 2, and the key itself none.
+fn has_keys_below(cache: &mut Counted, end: u64) -> bool {
+    for key in 0..end {
+        if cache.get(&key, start()) != Some(&2) {
+            return false;
+        }
+    }
+    !cache.contains_key(&end, start())
+}
+
+// A new key is refused, and so is an update of an old one; neither removes what is expired.
+#[test]
+fn a_refused_insert_asks_no_weigher_and_leaves_the_entries(rt: HostRuntime) -> Result<(), Fail> {
+    let heap = LocalHeap::new(rt.alloc(), 4096)?;
+    let asked = Cell::new(0);
+    let mut cache = Cache::builder(&heap)
+        .time_to_live(Duration::from_nanos(10))
+        .weigher(Counting { asked: &asked })
+        .build()?;
+    let accepted = accepted_by(&mut cache);
+    assert!(rt; 1 < accepted && accepted < MANY);
     let expired = Instant::from_nanos(10);
-    // A new key, and an update of an old one. Neither removes what is expired.
-    for key in [accepted, 0] {
-        let refused = cache.insert(key, 9, expired);
-        assert_eq!(rt; refused, Err(InsertError::OutOfMemory));
-        assert_eq!(rt; cache.entry_count(), accepted);
-        assert_eq!(rt; cache.weighted_size(), accepted.wrapping_mul(2));
-    }
-    for key in 0..accepted {
-        assert_eq!(rt; cache.get(&key, start()), Some(&2));
-    }
-    assert!(rt; !cache.contains_key(&accepted, start()));
-    drop(cache);
-    assert_eq!(rt; calls, accepted);
+    assert!(rt; refuses(&mut cache, accepted, expired, accepted));
+    assert!(rt; refuses(&mut cache, 0, expired, accepted));
+    assert!(rt; has_keys_below(&mut cache, accepted));
+    assert_eq!(rt; asked.get(), accepted);
     Ok(())
 }
 
@@ -116,18 +144,20 @@ fn a_duration_of_more_than_a_thousand_years_is_refused(rt: HostRuntime) -> Resul
     Ok(())
 }
 
+/// Why no cache with this room is built on a heap, by std's hash state and by another.
+fn refusals_of_room(heap: &LocalHeap, room: usize) -> [Option<BuildError>; 2] {
+    let builder = Cache::builder(heap).initial_capacity(room);
+    let built: Result<Cache<u64, u32, _, _, _>, BuildError> = builder.build();
+    let builder = Cache::builder(heap).initial_capacity(room);
+    let hashed: Result<Cache<u64, u32, _, _, _>, BuildError> = builder.build_with_hasher(Zero);
+    [built.err(), hashed.err()]
+}
+
 #[test]
 fn room_from_the_start_is_refused_where_memory_is(rt: HostRuntime) -> Result<(), Fail> {
     let heap = LocalHeap::new(rt.alloc(), 4096)?;
     for (room, error) in [(0, None), (4, None), (1000, Some(BuildError::OutOfMemory))] {
-        let built: Result<Cache<u64, u32, _, _, _>, BuildError> = Cache::builder(&heap)
-            .initial_capacity(room)
-            .build();
-        assert_eq!(rt; built.err(), error);
-        let built: Result<Cache<u64, u32, _, _, _>, BuildError> = Cache::builder(&heap)
-            .initial_capacity(room)
-            .build_with_hasher(Zero);
-        assert_eq!(rt; built.err(), error);
+        assert_eq!(rt; refusals_of_room(&heap, room), [error, error], "of {room}");
     }
     Ok(())
 }

@@ -1,8 +1,11 @@
 // Invalidations, the iterator, the Debug text and runs of calls of the cache for one thread: what no script shows of them.
+ghost use Rattle.std.specs.Prelude.{◌≡◌, ⊤};
+
 use crate::heap::blocks_of;
 use linked_list_allocator::LocalHeap;
-use moka_common::error::OutOfMemory;
+use moka_common::hash::FixedState;
 use moka_common::time::Instant;
+use moka_common::weigh::{UnitWeight, Weigh};
 use moka_unsync::builder::CacheBuilder;
 use moka_unsync::cache::Cache;
 use moka_unsync::runs::{Call, Reply, run};
@@ -13,6 +16,20 @@ use std::time::Duration;
 
 fn start() -> Instant {
     Instant::from_nanos(0)
+}
+
+/// An entry weighs what its value says.
+#[derive(Drop)]
+struct ByValue;
+
+impl Weigh<u64, u32> for ByValue {
+    ghost ready = { λ _. ⊤ };
+
+    ghost weighs = { λ _ _ value weight _. weight ≡ value };
+
+    fn weigh(&mut self, _key: &u64, value: &u32) -> u32 {
+        *value
+    }
 }
 
 /// The texts of a cache of texts, without entries and after each of two inserts, joined.
@@ -112,13 +129,29 @@ fn an_iterator_stays_at_its_end(rt: HostRuntime) -> Result<(), Fail> {
     Ok(())
 }
 
-#[test]
-fn a_predicate_is_asked_once_of_each_entry_in_order_of_use(rt: HostRuntime) -> Result<(), Fail> {
-    let mut cache: Cache<u64, u32> = Cache::new(rt.alloc(), 10)?;
+/// The keys 0 to 3, of which 0 was used last.
+fn four_keys(alloc: Global) -> Result<Cache<u64, u32>, Fail> {
+    let mut cache: Cache<u64, u32> = Cache::new(alloc, 10)?;
     for key in 0..4 {
         cache.insert(key, 1, start())?;
     }
-    assert_eq!(rt; cache.get(&0, start()), Some(&1));
+    let _ = cache.get(&0, start());
+    Ok(cache)
+}
+
+/// Which of the keys 0 to 3 have an entry, as a digit each, the first one in front.
+fn keys_left(cache: &mut Cache<u64, u32>) -> u64 {
+    let mut digits = 0u64;
+    for key in 0..4 {
+        let digit = u64::from(cache.contains_key(&key, start()));
+        digits = digits.wrapping_mul(10).wrapping_add(digit);
+    }
+    digits
+}
+
+#[test]
+fn a_predicate_is_asked_once_of_each_entry_in_order_of_use(rt: HostRuntime) -> Result<(), Fail> {
+    let mut cache = four_keys(rt.alloc())?;
     // Each answer's digit is the key that it was asked of; the keys 1 and 3 leave.
     let mut asked = 0u64;
     cache.invalidate_entries_if(|key: &u64, _value: &u32| {
@@ -126,29 +159,32 @@ fn a_predicate_is_asked_once_of_each_entry_in_order_of_use(rt: HostRuntime) -> R
         *key % 2 == 1
     });
     assert_eq!(rt; asked, 1230);
-    assert_eq!(rt; cache.entry_count(), 2);
-    assert_eq!(rt; cache.weighted_size(), 2);
-    for (key, there) in [(0, true), (1, false), (2, true), (3, false)] {
-        assert_eq!(rt; cache.contains_key(&key, start()), there, "at {key}");
-    }
+    assert_eq!(rt; (cache.entry_count(), cache.weighted_size()), (2, 2));
+    assert_eq!(rt; keys_left(&mut cache), 1010);
     Ok(())
 }
 
-#[test]
-fn all_are_invalidated_with_their_writes(rt: HostRuntime) -> Result<(), Fail> {
-    let mut cache = Cache::builder(rt.alloc())
+/// Three entries that weigh 5 each and live for ten nanoseconds, until all are invalidated.
+fn emptied(alloc: Global) -> Result<Cache<u64, u32, FixedState, ByValue>, Fail> {
+    let mut cache = Cache::builder(alloc)
         .time_to_live(Duration::from_nanos(10))
-        .weigher(|_key: &u64, value: &u32| *value)
+        .weigher(ByValue)
         .build()?;
     for key in 0..3 {
         cache.insert(key, 5, start())?;
     }
     cache.invalidate_all();
-    assert_eq!(rt; cache.entry_count(), 0);
-    assert_eq!(rt; cache.weighted_size(), 0);
+    Ok(cache)
+}
+
+#[test]
+fn all_are_invalidated_with_their_writes(rt: HostRuntime) -> Result<(), Fail> {
+    let mut cache = emptied(rt.alloc())?;
+    assert_eq!(rt; (cache.entry_count(), cache.weighted_size()), (0, 0));
     // The old writes are gone too: nothing of them expires now.
-    cache.insert(1, 7, Instant::from_nanos(20))?;
-    assert_eq!(rt; cache.get(&1, Instant::from_nanos(20)), Some(&7));
+    let later = Instant::from_nanos(20);
+    cache.insert(1, 7, later)?;
+    assert_eq!(rt; cache.get(&1, later).copied(), Some(7));
     assert_eq!(rt; cache.entry_count(), 1);
     Ok(())
 }
@@ -201,6 +237,13 @@ fn replies_of_each_kind(alloc: Global) -> Result<Vec<Reply<u32>>, Fail> {
     Ok(run(alloc, &mut cache, calls)?)
 }
 
+/// Whether a reply is told so.
+fn is_told(replies: &[Reply<u32>], number: usize, expected: (&str, u64)) -> bool {
+    replies
+        .get(number)
+        .is_some_and(|reply| told(reply) == expected)
+}
+
 #[test]
 fn a_run_replies_to_each_call(rt: HostRuntime) -> Result<(), Fail> {
     let replies = replies_of_each_kind(rt.alloc())?;
@@ -218,8 +261,8 @@ fn a_run_replies_to_each_call(rt: HostRuntime) -> Result<(), Fail> {
         ("number", 0),
     ];
     assert_eq!(rt; replies.len(), meant.len());
-    for (reply, expected) in replies.iter().zip(meant) {
-        assert_eq!(rt; told(reply), expected);
+    for (number, expected) in meant.iter().enumerate() {
+        assert!(rt; is_told(&replies, number, *expected), "reply {number}");
     }
     Ok(())
 }
@@ -236,28 +279,49 @@ fn counts<'a>(
     Ok(calls)
 }
 
+/// A cache of one entry on a heap.
+type HeapCache<'a> = Cache<u64, Rc<u32, &'a LocalHeap>, FixedState, UnitWeight, &'a LocalHeap>;
+
+fn one_entry(heap: &LocalHeap) -> Result<HeapCache<'_>, Fail> {
+    let mut cache: HeapCache = Cache::new(heap, 10)?;
+    cache.insert(0, Rc::new(heap, 10)?, start())?;
+    Ok(cache)
+}
+
+/// Whether a run of eight calls is refused once nothing is left of the heap.
+fn is_refused<'a>(
+    alloc: Global,
+    heap: &'a LocalHeap,
+    cache: &mut HeapCache<'a>,
+) -> Result<bool, Fail> {
+    let calls = counts(heap, 8)?;
+    let _taken = blocks_of(alloc, heap)?;
+    Ok(run(heap, cache, calls).is_err())
+}
+
 #[test]
 fn a_run_without_room_for_its_replies_makes_no_call(rt: HostRuntime) -> Result<(), Fail> {
     let heap = LocalHeap::new(rt.alloc(), 4096)?;
-    let mut cache: Cache<u64, Rc<u32, _>, _, _, _> = Cache::new(&heap, 10)?;
-    cache.insert(0, Rc::new(&heap, 10)?, start())?;
-    let calls = counts(&heap, 8)?;
-    let taken = blocks_of(rt.alloc(), &heap)?;
-    assert_eq!(rt; run(&heap, &mut cache, calls).err(), Some(OutOfMemory));
+    let mut cache = one_entry(&heap)?;
+    assert!(rt; is_refused(rt.alloc(), &heap, &mut cache)?);
     assert_eq!(rt; cache.entry_count(), 1);
-    drop(taken);
     Ok(())
+}
+
+/// Calls that look up the keys below this number.
+fn gets(alloc: Global, number: u64) -> Result<Vec<Call<u64, u32>>, AllocError> {
+    let mut calls = Vec::new(alloc);
+    for key in 0..number {
+        calls.push(Call::Get { key, now: start() })?;
+    }
+    Ok(calls)
 }
 
 #[test]
 fn a_run_makes_two_thousand_calls(rt: HostRuntime) -> Result<(), Fail> {
     let mut cache: Cache<u64, Rc<u32>> = Cache::new(rt.alloc(), 10)?;
-    let mut calls = Vec::new(rt.alloc());
-    for key in 0..2000 {
-        calls.push(Call::Get { key, now: start() })?;
-    }
-    let replies = run(rt.alloc(), &mut cache, calls)?;
+    let replies = run(rt.alloc(), &mut cache, gets(rt.alloc(), 2000)?)?;
     assert_eq!(rt; replies.len(), 2000);
-    assert_eq!(rt; replies.last().map(told), Some(("none", 0)));
+    assert!(rt; is_told(&replies, 1999, ("none", 0)));
     Ok(())
 }

@@ -12,7 +12,7 @@ use std::hint::spin_loop;
 use std::sync::atomic::{AtomicBool, Ordering};
 use std::sync::{Arc, Barrier, Wait};
 use std::test::Fail;
-use std::thread;
+use std::thread::{Builder, Threads};
 
 /// How often a weigher looks for the other one.
 const LOOKS: u32 = 10_000_000;
@@ -54,6 +54,27 @@ fn insert_together<R: Wait>(rt: &R, cache: &MeetingCache, together: &Barrier, ke
     cache.insert(rt, key, 0, Instant::from_nanos(0)).is_ok()
 }
 
+/// Whether two threads insert a key each, which first meet.
+fn are_inserted_together<R: Wait + Threads + Copy + Send + 'static>(
+    rt: R,
+    alloc: Global,
+    cache: &MeetingCache,
+) -> Result<bool, Fail> {
+    let together = Arc::new(alloc, Barrier::new(2))?;
+    let mut threads = Vec::new(alloc);
+    for key in 0..2u64 {
+        let (shared, together) = (cache.clone()?, together.clone()?);
+        threads.push(Builder::new().spawn(&rt, move || {
+            insert_together(&rt, &shared, &together, key)
+        })?)?;
+    }
+    let mut is_well = true;
+    for thread in threads {
+        is_well &= thread.join(&rt);
+    }
+    Ok(is_well)
+}
+
 #[test]
 fn keys_of_two_shards_are_weighed_at_the_same_time(rt: HostRuntime) -> Result<(), Fail> {
     let meeting = Meeting {
@@ -63,15 +84,7 @@ fn keys_of_two_shards_are_weighed_at_the_same_time(rt: HostRuntime) -> Result<()
     let cache: MeetingCache = CacheBuilder::default(rt.alloc())
         .weigher(meeting)
         .build_with_hasher(OwnState)?;
-    let together = Arc::new(rt.alloc(), Barrier::new(2))?;
-    let mut threads = Vec::new(rt.alloc());
-    for key in 0..2u64 {
-        let (shared, together) = (cache.clone()?, together.clone()?);
-        threads.push(thread::spawn(&rt, move || insert_together(&rt, &shared, &together, key))?)?;
-    }
-    for thread in threads {
-        assert!(rt; thread.join(&rt));
-    }
+    assert!(rt; are_inserted_together(rt, rt.alloc(), &cache)?);
     cache.sync(&rt, Instant::from_nanos(0));
     assert_eq!(rt; cache.weighted_size(), 4);
     Ok(())

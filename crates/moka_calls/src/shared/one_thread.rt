@@ -1,59 +1,114 @@
 // Calls of a cache that threads share, by one of them.
+use moka_common::error::OutOfMemory;
 use moka_common::time::Instant;
 use moka_sync::cache::{Cache, ConcurrentCacheExt};
+use moka_sync::iter::Iter;
+use std::alloc::{AllocError, Global};
 use std::sync::Wait;
 use std::test::Fail;
+
+/// The cache of all tests here.
+type Numbers = Cache<u64, u64>;
 
 fn at(nanos: u64) -> Instant {
     Instant::from_nanos(nanos)
 }
 
+/// Inserts keys, each with ten times itself for its value.
+fn insert_all<R: Wait>(rt: &R, cache: &Numbers, keys: &[u64], now: Instant) -> Result<(), Fail> {
+    for key in keys {
+        cache.insert(rt, *key, key.wrapping_mul(10), now)?;
+    }
+    Ok(())
+}
+
+/// What a get finds.
+fn found<R: Wait>(rt: &R, cache: &Numbers, key: u64, now: Instant) -> Option<u64> {
+    cache.get(rt, &key, now).unwrap_or(None)
+}
+
+/// How many entries are counted, and their weight.
+fn counts(cache: &Numbers) -> (u64, u64) {
+    (cache.entry_count(), cache.weighted_size())
+}
+
 #[test]
 fn the_counts_are_those_of_the_last_maintenance(rt: HostRuntime) -> Result<(), Fail> {
-    let cache: Cache<u64, u64> = Cache::new(rt.alloc(), 10)?;
-    for key in 0..3u64 {
-        cache.insert(&rt, key, key, at(0))?;
-    }
-    assert_eq!(rt; cache.entry_count(), 0);
+    let cache: Numbers = Cache::new(rt.alloc(), 10)?;
+    insert_all(&rt, &cache, &[0, 1, 2], at(0))?;
+    assert_eq!(rt; counts(&cache), (0, 0));
     cache.sync(&rt, at(0));
-    assert_eq!(rt; cache.entry_count(), 3);
-    assert_eq!(rt; cache.weighted_size(), 3);
+    assert_eq!(rt; counts(&cache), (3, 3));
     for key in 0..3u64 {
-        assert_eq!(rt; cache.get_if_present(&rt, &key, at(0)), Ok(Some(key)));
+        let present = cache.get_if_present(&rt, &key, at(0));
+        assert!(rt; present == Ok(Some(key * 10)));
     }
     Ok(())
 }
 
 #[test]
 fn an_invalidation_of_all_hides_what_is_from_before_it(rt: HostRuntime) -> Result<(), Fail> {
-    let cache: Cache<u64, u64> = Cache::builder(rt.alloc()).build()?;
-    cache.insert(&rt, 0, 7, at(5))?;
+    let cache: Numbers = Cache::builder(rt.alloc()).build()?;
+    insert_all(&rt, &cache, &[1], at(5))?;
     cache.invalidate_all(at(5));
-    assert_eq!(rt; cache.get(&rt, &0, at(6)), Ok(Some(7)));
+    assert_eq!(rt; found(&rt, &cache, 1, at(6)), Some(10));
     cache.invalidate_all(at(6));
     cache.invalidate_all(at(3));
-    assert_eq!(rt; cache.get(&rt, &0, at(6)), Ok(None));
-    assert!(rt; !cache.contains_key(&rt, &0, at(6)));
+    assert_eq!(rt; found(&rt, &cache, 1, at(6)), None);
+    assert!(rt; !cache.contains_key(&rt, &1, at(6)));
     Ok(())
+}
+
+/// A snapshot of a cache into which these keys were inserted in turn.
+fn snapshot_of<R: Wait>(rt: &R, alloc: Global, keys: &[u64]) -> Result<Iter<u64, u64>, Fail> {
+    let cache: Numbers = Cache::builder(alloc).build()?;
+    insert_all(rt, &cache, keys, at(0))?;
+    let pairs: Result<Iter<u64, u64>, OutOfMemory> = cache.iter(rt, at(0));
+    Ok(pairs?)
+}
+
+/// The sum of the values in a snapshot, and how many they are.
+fn sum_of(pairs: Iter<u64, u64>) -> (u64, u64) {
+    let mut sum = 0u64;
+    let mut count = 0u64;
+    for pair in pairs {
+        sum = sum.saturating_add(*pair.value());
+        count = count.saturating_add(1);
+    }
+    (sum, count)
 }
 
 #[test]
 fn a_snapshot_has_each_pair_once(rt: HostRuntime) -> Result<(), Fail> {
-    let cache: Cache<u64, u64> = Cache::builder(rt.alloc()).build()?;
-    cache.insert(&rt, 3, 30, at(0))?;
-    cache.insert(&rt, 1, 10, at(0))?;
-    cache.insert(&rt, 3, 31, at(0))?;
-    let mut pairs = cache.iter(&rt, at(0))?;
-    let (first, second) = (pairs.next(), pairs.next());
-    assert!(rt; pairs.next().is_none());
-    let sum = first
-        .map_or(0, |e| *e.value())
-        .saturating_add(second.map_or(0, |e| *e.value()));
-    assert_eq!(rt; sum, 41);
+    let pairs = snapshot_of(&rt, rt.alloc(), &[3, 1, 3])?;
+    assert_eq!(rt; sum_of(pairs), (40, 2));
     Ok(())
 }
 
-/// A call at the moment 0. An insert stores the key as value.
+fn debug_text(alloc: Global, pairs: &Iter<u64, u64>) -> Result<String, AllocError> {
+    format!(in alloc; "{pairs:?}")
+}
+
+#[test]
+fn a_snapshot_shows_what_is_left(rt: HostRuntime) -> Result<(), Fail> {
+    let mut pairs = snapshot_of(&rt, rt.alloc(), &[3])?;
+    assert!(rt; debug_text(rt.alloc(), &pairs)?.as_str() == "{3: 30}");
+    drop(pairs.next());
+    assert!(rt; debug_text(rt.alloc(), &pairs)?.as_str() == "{}");
+    Ok(())
+}
+
+#[test]
+fn a_pair_of_a_snapshot_reads_as_its_value(rt: HostRuntime) -> Result<(), Fail> {
+    let Some(pair) = snapshot_of(&rt, rt.alloc(), &[3])?.next() else {
+        return Err("a pair".into());
+    };
+    assert!(rt; pair.pair() == (&3, &30));
+    assert!(rt; *pair.key() == 3 && *pair == 30);
+    Ok(())
+}
+
+/// A call at the moment 0. An insert stores ten times the key.
 #[derive(Clone, Copy)]
 enum Step {
     Insert(u64),
@@ -62,13 +117,13 @@ enum Step {
 }
 
 /// Makes the calls in turn. The answer has a decimal digit for each get, the first one in front: 1 where it found its key's value.
-fn found_by<R: Wait>(rt: &R, cache: &Cache<u64, u64>, steps: &[Step]) -> Result<u64, Fail> {
+fn found_by<R: Wait>(rt: &R, cache: &Numbers, steps: &[Step]) -> Result<u64, Fail> {
     let mut digits = 0u64;
     for step in steps {
         match *step {
-            Step::Insert(key) => cache.insert(rt, key, key, at(0))?,
+            Step::Insert(key) => insert_all(rt, cache, &[key], at(0))?,
             Step::Get(key) => {
-                let is_found = cache.get(rt, &key, at(0))? == Some(key);
+                let is_found = found(rt, cache, key, at(0)) == Some(key.wrapping_mul(10));
                 digits = digits.wrapping_mul(10).wrapping_add(u64::from(is_found));
             }
             Step::Sync => cache.sync(rt, at(0)),
@@ -81,7 +136,7 @@ fn found_by<R: Wait>(rt: &R, cache: &Cache<u64, u64>, steps: &[Step]) -> Result<
 fn a_key_is_admitted_once_it_is_asked_for_more_often_than_another(
     rt: HostRuntime,
 ) -> Result<(), Fail> {
-    let cache: Cache<u64, u64> = Cache::new(rt.alloc(), 3)?;
+    let cache: Numbers = Cache::new(rt.alloc(), 3)?;
     let steps = [
         Step::Insert(0),
         Step::Sync,
@@ -107,22 +162,5 @@ fn a_key_is_admitted_once_it_is_asked_for_more_often_than_another(
         Step::Get(3),
     ];
     assert_eq!(rt; found_by(&rt, &cache, &steps)?, 111_110_001);
-    Ok(())
-}
-
-#[test]
-fn a_snapshot_shows_what_is_left_and_gives_pairs_that_read_as_their_values(
-    rt: HostRuntime,
-) -> Result<(), Fail> {
-    let cache: Cache<u64, u64> = Cache::builder(rt.alloc()).build()?;
-    cache.insert(&rt, 3, 30, at(0))?;
-    let mut pairs = cache.iter(&rt, at(0))?;
-    assert_eq!(rt; format!(in rt.alloc(); "{pairs:?}")?.as_str(), "{3: 30}");
-    let Some(pair) = pairs.next() else {
-        return Err("a pair".into());
-    };
-    assert_eq!(rt; pair.pair(), (&3, &30));
-    assert_eq!(rt; (*pair.key(), *pair), (3, 30));
-    assert_eq!(rt; format!(in rt.alloc(); "{pairs:?}")?.as_str(), "{}");
     Ok(())
 }

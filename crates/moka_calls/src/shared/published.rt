@@ -8,7 +8,7 @@ use std::alloc::Global;
 use std::marker::Model;
 use std::sync::Wait;
 use std::test::Fail;
-use std::thread;
+use std::thread::{Builder, Threads};
 
 /// A cache with a pass for its counts.
 #[derive(Drop)]
@@ -52,32 +52,28 @@ fn start() -> Instant {
     Instant::from_nanos(0)
 }
 
+/// What a maintenance with this number has published of so many entries that weigh 1 each.
+fn published(number: u64, count: u64) -> Published {
+    Published {
+        number,
+        count,
+        weight: count,
+    }
+}
+
 #[test]
 fn each_maintenance_publishes_its_counts(rt: HostRuntime) -> Result<(), Fail> {
     let mut watched = Watched::new(rt.alloc(), 10)?;
-    let nothing = Published {
-        number: 0,
-        count: 0,
-        weight: 0,
-    };
-    assert_eq!(rt; watched.look(&rt), nothing);
-    for key in 0..3u64 {
-        assert!(rt; watched.cache.insert(&rt, key, key, start()).is_ok());
-    }
-    for number in 1..3u64 {
-        watched.cache.sync(&rt, start());
-        let three = Published {
-            number,
-            count: 3,
-            weight: 3,
-        };
-        assert_eq!(rt; watched.look(&rt), three);
-    }
-    assert_eq!(rt; watched.split()?.look(&rt).number, 2);
+    assert!(rt; watched.look(&rt) == published(0, 0));
+    assert!(rt; insert_all(&rt, &watched.cache, 3));
+    assert!(rt; watched.look(&rt) == published(1, 3));
+    watched.cache.sync(&rt, start());
+    assert!(rt; watched.look(&rt) == published(2, 3));
+    assert!(rt; watched.split()?.look(&rt) == published(2, 3));
     Ok(())
 }
 
-/// Inserts as many keys, each with itself for its value.
+/// Inserts as many keys, each with itself for its value, and runs a maintenance.
 fn insert_all<R: Wait>(rt: &R, cache: &Cache<u64, u64>, keys: u64) -> bool {
     for key in 0..keys {
         if cache.insert(rt, key, key, start()).is_err() {
@@ -88,26 +84,43 @@ fn insert_all<R: Wait>(rt: &R, cache: &Cache<u64, u64>, keys: u64) -> bool {
     true
 }
 
+/// Whether counts and weights are those of one maintenance, and none is older than the one before.
+fn are_whole<R: Wait>(rt: &R, watched: &mut Watched, looks: u64) -> bool {
+    let mut last = 0u64;
+    for _ in 0..looks {
+        let published = watched.look(rt);
+        // Each entry weighs 1.
+        if published.count != published.weight || published.number < last {
+            return false;
+        }
+        last = published.number;
+    }
+    true
+}
+
+/// Whether they are while four threads insert, and these have inserted all.
+fn are_whole_meanwhile<R: Wait + Threads + Copy + Send + 'static>(
+    rt: R,
+    alloc: Global,
+    watched: &mut Watched,
+) -> Result<bool, Fail> {
+    let mut threads = Vec::new(alloc);
+    for _ in 0..4u64 {
+        let shared = watched.cache.clone()?;
+        threads.push(Builder::new().spawn(&rt, move || insert_all(&rt, &shared, 5000))?)?;
+    }
+    let mut is_well = are_whole(&rt, watched, 10_000);
+    for thread in threads {
+        is_well &= thread.join(&rt);
+    }
+    Ok(is_well)
+}
+
 #[test]
 fn counts_are_whole_and_never_go_back_while_threads_insert(rt: HostRuntime) -> Result<(), Fail> {
     let mut watched = Watched::new(rt.alloc(), 100)?;
-    let mut threads = Vec::new(rt.alloc());
-    for _ in 0..4u64 {
-        let shared = watched.cache.clone()?;
-        threads.push(thread::spawn(&rt, move || insert_all(&rt, &shared, 5000))?)?;
-    }
-    let mut last = 0u64;
-    for _ in 0..10_000u64 {
-        let published = watched.look(&rt);
-        // Each entry weighs 1.
-        assert_eq!(rt; published.count, published.weight);
-        assert!(rt; published.number >= last);
-        last = published.number;
-    }
-    for thread in threads {
-        assert!(rt; thread.join(&rt));
-    }
-    assert!(rt; watched.look(&rt).number >= 4);
-    assert_eq!(rt; watched.look(&rt).count, 100);
+    assert!(rt; are_whole_meanwhile(rt, rt.alloc(), &mut watched)?);
+    let last = watched.look(&rt);
+    assert!(rt; last.number >= 4 && last.count == 100);
     Ok(())
 }

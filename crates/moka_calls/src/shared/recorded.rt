@@ -3,13 +3,13 @@ use moka_common::hash::FixedState;
 use moka_common::shared::Shared;
 use moka_common::time::Instant;
 use moka_record::pass::{CallPass, CloseError};
-use moka_record::record::NotRecorded;
+use moka_record::record::{NotRecorded, Record};
 use moka_record::recorded::Recorded;
 use moka_sync::engine::{Call, Core, Reply};
 use std::alloc::{AllocError, Global};
 use std::sync::{Arc, Wait};
 use std::test::Fail;
-use std::thread;
+use std::thread::{Builder, Threads};
 
 /// A recording cache without a limit, and as many passes as there are callers.
 fn open(alloc: Global, callers: usize) -> Result<(Recorded<u64, u64>, Vec<CallPass>), Fail> {
@@ -77,34 +77,47 @@ fn read_back_all<R: Wait>(
     Some(pass)
 }
 
-#[test]
-fn a_record_has_what_two_threads_have_made(rt: HostRuntime) -> Result<(), Fail> {
-    let alloc = rt.alloc();
-    let (cache, passes) = open(alloc, 2)?;
-    let cache = Arc::new(alloc, cache)?;
+/// The passes of callers, once each has read back a hundred keys of its own by a thread of its own.
+fn passes_of_threads<R: Wait + Threads + Copy + Send + 'static>(
+    rt: R,
+    alloc: Global,
+    cache: &Arc<Recorded<u64, u64>>,
+    passes: Vec<CallPass>,
+) -> Result<Vec<CallPass>, Fail> {
     let mut threads = Vec::new(alloc);
-    let mut first = 0u64;
-    for pass in passes {
-        let shared = Arc::try_clone(&cache)?;
-        let key = first;
-        threads.push(thread::spawn(&rt, move || {
-            read_back_all(&rt, alloc, &shared, pass, key)
+    for (caller, pass) in passes.into_iter().enumerate() {
+        let shared = Arc::try_clone(cache)?;
+        let first = (caller as u64).wrapping_mul(100);
+        threads.push(Builder::new().spawn(&rt, move || {
+            read_back_all(&rt, alloc, &shared, pass, first)
         })?)?;
-        first = first.saturating_add(100);
     }
     let mut passes = Vec::new(alloc);
     for thread in threads {
         let Some(pass) = thread.join(&rt) else {
             return Err("a thread that reads back what it has written".into());
         };
-        assert_eq!(rt; pass.made(), 200);
         passes.push(pass)?;
     }
-    let Ok(cache) = Arc::try_unwrap(cache) else {
-        return Err("one owner".into());
-    };
-    let record = cache.close(passes)?;
-    assert_eq!(rt; record.calls().len(), 400);
+    Ok(passes)
+}
+
+/// The record of a cache that nobody else has any more.
+fn closed(cache: Arc<Recorded<u64, u64>>, passes: Vec<CallPass>) -> Result<Record<u64, u64>, Fail> {
+    match Arc::try_unwrap(cache) {
+        Ok(cache) => Ok(cache.close(passes)?),
+        Err(_) => Err("one owner".into()),
+    }
+}
+
+#[test]
+fn a_record_has_what_two_threads_have_made(rt: HostRuntime) -> Result<(), Fail> {
+    let alloc = rt.alloc();
+    let (cache, passes) = open(alloc, 2)?;
+    let cache = Arc::new(alloc, cache)?;
+    let passes = passes_of_threads(rt, alloc, &cache, passes)?;
+    assert!(rt; passes.iter().all(|pass| pass.made() == 200));
+    assert_eq!(rt; closed(cache, passes)?.calls().len(), 400);
     Ok(())
 }
 
@@ -118,28 +131,30 @@ fn a_cache_is_closed_with_all_its_passes(rt: HostRuntime) -> Result<(), Fail> {
     Ok(())
 }
 
+/// Whether a cache records an insert.
+fn records_insert<R: Wait>(
+    rt: &R,
+    alloc: Global,
+    cache: &Recorded<u64, u64>,
+    pass: &mut CallPass,
+) -> Result<bool, Fail> {
+    match cache.call(rt, pass, insert(alloc, 7)?) {
+        Ok(Reply::Done) => Ok(true),
+        Ok(_) => Err("an insert that is done".into()),
+        Err(NotRecorded) => Ok(false),
+    }
+}
+
 #[test]
 fn a_pass_of_another_cache_is_strange(rt: HostRuntime) -> Result<(), Fail> {
     let alloc = rt.alloc();
     let (cache, mut passes) = open(alloc, 1)?;
     let (other, _) = open(alloc, 1)?;
-    let Some(mut pass) = passes.pop() else {
-        return Err("a pass".into());
-    };
-    assert!(rt;
-        matches!(
-            cache.call(&rt, &mut pass, insert(alloc, 7)?),
-            Ok(Reply::Done)
-        )
-    );
-    assert!(rt;
-        matches!(
-            other.call(&rt, &mut pass, insert(alloc, 7)?),
-            Err(NotRecorded)
-        )
-    );
-    assert_eq!(rt; pass.made(), 1);
-    passes.push(pass)?;
+    for pass in passes.iter_mut() {
+        assert!(rt; records_insert(&rt, alloc, &cache, pass)?);
+        assert!(rt; !records_insert(&rt, alloc, &other, pass)?);
+        assert_eq!(rt; pass.made(), 1);
+    }
     assert!(rt; matches!(other.close(passes), Err(CloseError::StrangePass)));
     Ok(())
 }

@@ -1,9 +1,10 @@
 // Calls of one cache from several threads at a time.
 use moka_common::time::Instant;
 use moka_sync::cache::Cache;
+use std::alloc::Global;
 use std::sync::Wait;
 use std::test::Fail;
-use std::thread;
+use std::thread::{Builder, Threads};
 
 fn start() -> Instant {
     Instant::from_nanos(0)
@@ -38,36 +39,6 @@ fn insert_two<R: Wait>(rt: &R, cache: &Cache<u64, u64>) -> bool {
     }
     cache.invalidate(rt, &10, start());
     true
-}
-
-#[test]
-fn each_thread_reads_its_own_writes(rt: HostRuntime) -> Result<(), Fail> {
-    let cache: Cache<u64, u64> = Cache::builder(rt.alloc()).build()?;
-    let mut threads = Vec::new(rt.alloc());
-    for number in 0..4u64 {
-        let shared = cache.clone()?;
-        threads.push(thread::spawn(&rt, move || are_read_back(&rt, &shared, number * 64))?)?;
-    }
-    for thread in threads {
-        assert!(rt; thread.join(&rt));
-    }
-    Ok(())
-}
-
-#[test]
-fn what_all_threads_invalidate_is_gone(rt: HostRuntime) -> Result<(), Fail> {
-    let cache: Cache<u64, u64> = Cache::new(rt.alloc(), 100)?;
-    let mut threads = Vec::new(rt.alloc());
-    for _ in 0..4u64 {
-        let shared = cache.clone()?;
-        threads.push(thread::spawn(&rt, move || insert_two(&rt, &shared))?)?;
-    }
-    for thread in threads {
-        assert!(rt; thread.join(&rt));
-    }
-    assert_eq!(rt; cache.get(&rt, &10, start()), Ok(None));
-    assert_eq!(rt; cache.get(&rt, &20, start()), Ok(Some(2)));
-    Ok(())
 }
 
 /// Inserts each of the first keys, with itself for its value.
@@ -108,39 +79,94 @@ fn keep_three_of_four<R: Wait>(rt: &R, cache: &Cache<u64, u64>, first: u64) -> b
     true
 }
 
+/// What one of several threads does with the cache that all share.
+#[derive(Clone, Copy)]
+enum Task {
+    ReadBack,
+    InsertTwo,
+    InsertAll,
+    Look,
+    KeepThreeOfFour,
+}
+
+impl Task {
+    /// Does it, with the keys from this one on where each thread has keys of its own. The answer is whether all was as it should be.
+    fn is_well_done<R: Wait>(self, rt: &R, cache: &Cache<u64, u64>, first: u64) -> bool {
+        match self {
+            Task::ReadBack => are_read_back(rt, cache, first),
+            Task::InsertTwo => insert_two(rt, cache),
+            Task::InsertAll => insert_all(rt, cache, 1024),
+            Task::Look => is_whole(rt, cache, 1024),
+            Task::KeepThreeOfFour => keep_three_of_four(rt, cache, first),
+        }
+    }
+}
+
+/// Whether each of these threads does well, of which each has 64 keys of its own.
+fn are_well_done<R: Wait + Threads + Copy + Send + 'static>(
+    rt: R,
+    alloc: Global,
+    cache: &Cache<u64, u64>,
+    tasks: &[Task],
+) -> Result<bool, Fail> {
+    let mut threads = Vec::new(alloc);
+    for (number, task) in tasks.iter().enumerate() {
+        let (shared, task) = (cache.clone()?, *task);
+        let first = (number as u64).wrapping_mul(64);
+        threads.push(Builder::new().spawn(&rt, move || task.is_well_done(&rt, &shared, first))?)?;
+    }
+    let mut is_well = true;
+    for thread in threads {
+        is_well &= thread.join(&rt);
+    }
+    Ok(is_well)
+}
+
+#[test]
+fn each_thread_reads_its_own_writes(rt: HostRuntime) -> Result<(), Fail> {
+    let cache: Cache<u64, u64> = Cache::builder(rt.alloc()).build()?;
+    assert!(rt; are_well_done(rt, rt.alloc(), &cache, &[Task::ReadBack; 4])?);
+    Ok(())
+}
+
+#[test]
+fn what_all_threads_invalidate_is_gone(rt: HostRuntime) -> Result<(), Fail> {
+    let cache: Cache<u64, u64> = Cache::new(rt.alloc(), 100)?;
+    assert!(rt; are_well_done(rt, rt.alloc(), &cache, &[Task::InsertTwo; 4])?);
+    assert!(rt; cache.get(&rt, &10, start()) == Ok(None));
+    assert!(rt; cache.get(&rt, &20, start()) == Ok(Some(2)));
+    Ok(())
+}
+
 #[test]
 fn a_snapshot_is_whole_while_threads_insert_the_same_pairs(rt: HostRuntime) -> Result<(), Fail> {
     let cache: Cache<u64, u64> = Cache::new(rt.alloc(), 2048)?;
     assert!(rt; insert_all(&rt, &cache, 1024));
-    let mut threads = Vec::new(rt.alloc());
-    for number in 0..16u64 {
-        let shared = cache.clone()?;
-        if number % 2 == 0 {
-            threads.push(thread::spawn(&rt, move || insert_all(&rt, &shared, 1024))?)?;
-        } else {
-            threads.push(thread::spawn(&rt, move || is_whole(&rt, &shared, 1024))?)?;
+    let mut tasks = [Task::InsertAll; 16];
+    for (number, task) in tasks.iter_mut().enumerate() {
+        if number % 2 == 1 {
+            *task = Task::Look;
         }
     }
-    for thread in threads {
-        assert!(rt; thread.join(&rt));
-    }
+    assert!(rt; are_well_done(rt, rt.alloc(), &cache, &tasks)?);
     Ok(())
+}
+
+/// Whether the keys divisible by 4 are absent, and each other one has itself for its value.
+fn has_three_of_four<R: Wait>(rt: &R, cache: &Cache<u64, u64>) -> bool {
+    for key in 0..1024u64 {
+        let expected = if key % 4 == 0 { None } else { Some(key) };
+        if cache.get(rt, &key, start()) != Ok(expected) {
+            return false;
+        }
+    }
+    true
 }
 
 #[test]
 fn sixteen_threads_keep_three_keys_of_four(rt: HostRuntime) -> Result<(), Fail> {
     let cache: Cache<u64, u64> = Cache::new(rt.alloc(), 10_000)?;
-    let mut threads = Vec::new(rt.alloc());
-    for number in 0..16u64 {
-        let shared = cache.clone()?;
-        threads.push(thread::spawn(&rt, move || keep_three_of_four(&rt, &shared, number * 64))?)?;
-    }
-    for thread in threads {
-        assert!(rt; thread.join(&rt));
-    }
-    for key in 0..1024u64 {
-        let expected = if key % 4 == 0 { None } else { Some(key) };
-        assert_eq!(rt; cache.get(&rt, &key, start()), Ok(expected));
-    }
+    assert!(rt; are_well_done(rt, rt.alloc(), &cache, &[Task::KeepThreeOfFour; 16])?);
+    assert!(rt; has_three_of_four(&rt, &cache));
     Ok(())
 }
