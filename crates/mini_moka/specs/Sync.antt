@@ -30,6 +30,7 @@ pub use Rattle.moka_sync.specs.Cache
 pub use Rattle.moka_sync.specs.Locked
 pub use Rattle.moka_sync.specs.Snapshot
 pub use Rattle.moka_sync.specs.MaintenanceTurn
+pub use Rattle.moka_sync.specs.LockedTurn
 pub use Rattle.moka_sync.specs.Steps
 pub use Rattle.moka_sync.specs.CoreCaller
 pub use Rattle.moka_sync.specs.StepLaws

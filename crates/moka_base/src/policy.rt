@@ -21,7 +21,7 @@ impl Model for Policy {
 }
 
 impl Policy {
-    ghost use Rattle.std.specs.Prelude.{◌≡◌};
+    ghost use Rattle.std.specs.Prelude.{◌≡◌, Some};
 
     /// The policy of these limits.
     pub fn new(
@@ -35,6 +35,36 @@ impl Policy {
             max_capacity,
             time_to_live,
             time_to_idle,
+        }
+    }
+
+    /// The same with this limit on what all entries weigh together.
+    pub fn with_max_capacity(self, max_capacity: u64) -> Policy
+        ensures { result ≡ record self { max_capacity = Some max_capacity } }
+    {
+        Policy {
+            max_capacity: Some(max_capacity),
+            ..self
+        }
+    }
+
+    /// The same with this time to live.
+    pub fn with_time_to_live(self, time_to_live: Duration) -> Policy
+        ensures { result ≡ record self { time_to_live = Some time_to_live } }
+    {
+        Policy {
+            time_to_live: Some(time_to_live),
+            ..self
+        }
+    }
+
+    /// The same with this time to idle.
+    pub fn with_time_to_idle(self, time_to_idle: Duration) -> Policy
+        ensures { result ≡ record self { time_to_idle = Some time_to_idle } }
+    {
+        Policy {
+            time_to_idle: Some(time_to_idle),
+            ..self
         }
     }
 

@@ -12,6 +12,7 @@ use moka_engine::event::Reply;
 use moka_engine::weigh::WeighShared;
 use moka_sync::builder::CacheBuilder;
 use moka_unsync_calls::heap::{blocks_of, words_of};
+use std::alloc::Global;
 use std::test::Fail;
 
 /// An entry weighs what its value says.
@@ -86,11 +87,6 @@ fn found(core: &mut HeapCore, key: u64) -> Result<Option<u32>, Fail> {
     }
 }
 
-/// Whether a key has an entry. It counts no read.
-fn contains(core: &HeapCore, key: u64) -> bool {
-    matches!(core.step_contains_key(&key, start()), Reply::Bool(true))
-}
-
 /// How many entries are charged after a maintenance.
 fn charged(core: &mut HeapCore) -> Result<usize, Fail> {
     call(core, Call::Sync { now: start() })?;
@@ -113,22 +109,44 @@ fn with_a_fifth(heap: &LocalHeap) -> Result<HeapCore<'_>, Fail> {
     Ok(core)
 }
 
+/// How many of the keys 0 to 4 have the value 1.
+fn found_of_five(core: &mut HeapCore) -> Result<usize, Fail> {
+    let mut count = 0usize;
+    for key in 0..5 {
+        if found(core, key)? == Some(1) {
+            count = count.wrapping_add(1);
+        }
+    }
+    Ok(count)
+}
+
+/// How many entries are charged after a maintenance, and how many of the keys 0 to 4 are found.
+fn counts(core: &mut HeapCore) -> Result<(usize, usize), Fail> {
+    Ok((charged(core)?, found_of_five(core)?))
+}
+
+/// The same while nothing is left of the heap.
+fn counts_without_memory<'a>(
+    alloc: Global,
+    heap: &'a LocalHeap,
+    core: &mut HeapCore<'a>,
+) -> Result<(usize, usize), Fail> {
+    let _blocks = blocks_of(alloc, heap)?;
+    counts(core)
+}
+
 // Room for nodes is made for 1, 2, 4 and 8, so the fifth needs memory.
 #[test]
 fn an_entry_whose_node_is_refused_leaves_and_may_come_again(rt: HostRuntime) -> Result<(), Fail> {
     let heap = LocalHeap::new(rt.alloc(), 65_536)?;
     let mut core = with_a_fifth(&heap)?;
-    assert!(rt; contains(&core, 4));
-    let blocks = blocks_of(rt.alloc(), &heap)?;
-    assert_eq!(rt; charged(&mut core)?, 4);
-    assert!(rt; !contains(&core, 4));
-    for key in 0..4 {
-        assert_eq!(rt; found(&mut core, key)?, Some(1), "of {key}");
-    }
-    drop(blocks);
+    assert_eq!(rt; found_of_five(&mut core)?, 5);
+    assert_eq!(rt;
+        counts_without_memory(rt.alloc(), &heap, &mut core)?,
+        (4, 4)
+    );
     insert(&mut core, &heap, 4, 1)?;
-    assert_eq!(rt; charged(&mut core)?, 5);
-    assert_eq!(rt; found(&mut core, 4)?, Some(1));
+    assert_eq!(rt; counts(&mut core)?, (5, 5));
     Ok(())
 }
 
@@ -162,7 +180,24 @@ fn enters_often_wanted<'a>(core: &mut HeapCore<'a>, others: &'a LocalHeap) -> Re
     charged(core)?;
     insert(core, others, 7, 1)?;
     charged(core)?;
-    Ok(contains(core, 7))
+    Ok(found(core, 7)?.is_some())
+}
+
+/// The same of a core with four entries, while nothing is left of its heap.
+fn enters_without_memory<'a>(
+    alloc: Global,
+    heap: &'a LocalHeap,
+    others: &'a LocalHeap,
+    core: &mut HeapCore<'a>,
+) -> Result<bool, Fail> {
+    let _blocks = blocks_of(alloc, heap)?;
+    for key in 0..4 {
+        insert(core, others, key, 1)?;
+    }
+    if charged(core)? != 4 {
+        return Err("four entries".into());
+    }
+    enters_often_wanted(core, others)
 }
 
 // Without a table nothing is counted: candidate and victim are even, so the candidate is rejected.
@@ -171,29 +206,35 @@ fn a_core_asks_again_for_a_refused_table(rt: HostRuntime) -> Result<(), Fail> {
     let heap = LocalHeap::new(rt.alloc(), 98_304)?;
     let others = LocalHeap::new(rt.alloc(), 8192)?;
     let mut core = with_room_for_nodes(&heap, &others)?;
-    let blocks = blocks_of(rt.alloc(), &heap)?;
-    for key in 0..4 {
-        insert(&mut core, &others, key, 1)?;
-    }
-    assert_eq!(rt; charged(&mut core)?, 4);
-    assert!(rt; !enters_often_wanted(&mut core, &others)?);
-    drop(blocks);
+    assert!(rt; !enters_without_memory(rt.alloc(), &heap, &others, &mut core)?);
     assert!(rt; enters_often_wanted(&mut core, &others)?);
     assert_eq!(rt; charged(&mut core)?, 4);
     Ok(())
 }
 
-// More hits than make a maintenance due, several times over.
+/// Whether a key is found three hundred times while nothing is left of the heap. They make a maintenance due, several times over.
+fn is_found_without_memory<'a>(
+    alloc: Global,
+    heap: &'a LocalHeap,
+    core: &mut HeapCore<'a>,
+) -> Result<bool, Fail> {
+    let _words = words_of(alloc, heap)?;
+    if Box::new(heap, 0u64).is_ok() {
+        return Err("a full heap".into());
+    }
+    for _ in 0..300 {
+        if found(core, 3)? != Some(1) {
+            return Ok(false);
+        }
+    }
+    Ok(true)
+}
+
 #[test]
 fn a_hit_takes_no_memory(rt: HostRuntime) -> Result<(), Fail> {
     let heap = LocalHeap::new(rt.alloc(), 65_536)?;
     let mut core = with_a_fifth(&heap)?;
     charged(&mut core)?;
-    let words = words_of(rt.alloc(), &heap)?;
-    assert!(rt; Box::new(&heap, 0u64).is_err());
-    for _ in 0..300 {
-        assert_eq!(rt; found(&mut core, 3)?, Some(1));
-    }
-    drop(words);
+    assert!(rt; is_found_without_memory(rt.alloc(), &heap, &mut core)?);
     Ok(())
 }

@@ -6,8 +6,8 @@ use moka_core::pending::{Operation, PendingOperations};
 use moka_engine::call::Call;
 use moka_engine::operation::{Read, Write};
 use moka_engine::ticket::Ticket;
-use moka_maintenance::logs::{LoggedRead, NO_READ, ReadLog, WriteLog};
-use moka_maintenance::taken::TakenWrites;
+use moka_logs::logs::{LoggedRead, NO_READ, ReadLog, WriteLog};
+use moka_logs::taken::TakenWrites;
 use std::alloc::Global;
 use std::test::Fail;
 

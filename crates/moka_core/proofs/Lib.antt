@@ -1,7 +1,2 @@
-pub mod FreshLemmas
-pub mod StepLemmas
-pub mod TurnLemmas
-pub mod PlaceLemmas
-pub mod NewLemmas
-pub mod MaintenanceLemmas
-pub mod CallLemmas
+pub mod CoreCallerLemmas
+pub mod CallerLemmas

@@ -1,5 +1,4 @@
 pub use Rattle.moka_map.specs.Pending
 pub mod Core
--- inside
-pub mod Machine
-pub mod Calls
+pub mod CoreCaller
+pub mod StepLaws

@@ -8,9 +8,9 @@ ghost use Rattle.moka_engine.specs.CoreState.{IsNew, new_core};
 ghost use Rattle.moka_engine.specs.declared.call.Call.TheVariants as call;
 ghost use Rattle.moka_engine.specs.Run.{RunsTo};
 
+mod caller;
 mod steps;
 
-use crate::machine::Machine;
 use moka_base::error::{BuildError, OutOfMemory};
 use moka_base::hash::FixedState;
 use moka_base::policy::Policy;
@@ -19,8 +19,10 @@ use moka_base::time::Instant;
 use moka_base::weigh::UnitWeight;
 use moka_engine::call::Call;
 use moka_engine::event::{Event, Reply};
+use moka_engine::settings::CoreParts;
 use moka_engine::weigh::WeighShared;
 use moka_map::rows::Rows;
+use moka_parts::machine::Machine;
 use std::alloc::{Allocator, Global};
 use std::hash::{BuildHasher, Hash};
 use std::marker::Model;
@@ -61,16 +63,6 @@ impl<
 
     ghost invariant = { λ c. IsConsistent
         (keys_by (record { eq = K.eq; hash_input = K.hash_input }) S.BuildHasher S.Hasher.Hasher) c.machine.state };
-}
-
-/// What a core is built of, with room for `capacity` entries in each shard.
-#[derive(Drop)]
-pub struct CoreParts<S: Drop, W: Drop> {
-    pub hash_state: S,
-    pub policy: Policy,
-    pub is_weighed: bool,
-    pub weigher: W,
-    pub capacity: usize,
 }
 
 impl<K: Eq + Hash + Drop, V: Drop, S: BuildHasher + Drop, A: Allocator + Clone + Drop> Core<

@@ -2,7 +2,6 @@
 #![tactic(auto)]
 
 pub mod engine;
-pub mod housekeeper;
-mod machine;
+pub mod step_laws;
 
 pub use moka_map::{pending, rows};

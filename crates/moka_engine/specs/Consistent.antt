@@ -12,7 +12,9 @@ use Rattle.moka_engine.specs.declared.operation.Write.TheVariants.{Upsert, Remov
 use Rattle.moka_engine.specs.Operation.{count_of, count_pending}
 use Rattle.moka_engine.specs.Orders.{Orders, charge_of, is_written, charged_weight}
 use Rattle.moka_engine.specs.Place as place
-use Rattle.moka_engine.specs.Place.{Place, Work, Candidate, held}
+use Rattle.moka_engine.specs.declared.at_hand.Work.{Work}
+use Rattle.moka_engine.specs.declared.at_hand.Candidate.{Candidate}
+use Rattle.moka_engine.specs.Place.{Place, held}
 use Rattle.moka_engine.specs.CoreState.{CoreState}
 use Rattle.moka_base.specs.Settings.{keeps_writes}
 use Rattle.moka_engine.specs.Queues.{AreQueuesConsistent}

@@ -18,6 +18,10 @@ use Rattle.moka_engine.specs.WholeCall.{CallsContains, CallsInvalidateAll, Calls
 abbrev pub is_due : ℕ → ℕ → Option ℕ → ℕ → Bool
 is_due len flush_point sync_after now = nat_le flush_point len || option_map_or (λ due. nat_le due now) sync_after false
 
+-- the moment from which on the next one is due by time, after one that a call runs now: a while later, as far as there is a moment
+abbrev pub due_after : ℕ → ℕ
+due_after now = min (now + SYNC_INTERVAL) (2 ^ 64 - 1)
+
 -- the numbers from this one on
 abbrev pub numbers_from : ℕ → ℕ → List ℕ
 numbers_from first zero = []
@@ -36,7 +40,7 @@ module _ {K V S : Type 0} where
 
   -- the next maintenance is due by time a while after this moment
   abbrev pub scheduled : Bool → ℕ → CoreState K V S → CoreState K V S
-  scheduled true now core = record core { sync_after = Some (min (now + SYNC_INTERVAL) (2 ^ 64 - 1)) }
+  scheduled true now core = record core { sync_after = Some (due_after now) }
   scheduled false now core = core
 
   -- the call runs a maintenance where one is due, since nobody else does

@@ -1,5 +1,8 @@
 -- Where a maintenance is, and what it has at hand there.
 use Rattle.std.specs.Prelude.{ℕ, Bool, true, false, List, [], ◌∷◌}
+use Rattle.moka_engine.specs.declared.at_hand.Work.{Work}
+use Rattle.moka_engine.specs.declared.at_hand.Candidate.{Candidate}
+use Rattle.moka_engine.specs.declared.at_hand.Tally.{Tally}
 use Rattle.moka_engine.specs.declared.operation.Read.{Read}
 use Rattle.moka_engine.specs.declared.operation.Write.{Write}
 use Rattle.moka_engine.specs.declared.operation.Write.TheVariants.{Upsert}
@@ -7,27 +10,10 @@ use Rattle.moka_engine.specs.declared.place.Place.{Place as PlaceName}
 use Rattle.moka_engine.specs.declared.place.Place.TheVariants as name
 use Rattle.moka_engine.specs.declared.ticket.Ticket.{Ticket}
 
--- a round, and how many operations of this part of it are left
-pub record Work : Type 0 where
-  pub round : ℕ
-  pub left : ℕ
-
--- an entry that asks to enter: its ticket, its weight and its estimate as they were applied
-pub record Candidate : Type 0 where
-  pub ticket : Ticket
-  pub weight : ℕ
-  pub estimate : ℕ
-
 -- a node that a scan has looked at: its entry stood, or was absent
 pub record Seen : Type 0 where
   pub ticket : Ticket
   pub is_present : Bool
-
--- what a scan has found: the weights and the estimates of the present ones together, and how many absent ones came last in a row
-pub record Tally : Type 0 where
-  pub weight : ℕ
-  pub estimate : ℕ
-  pub absent : ℕ
 
 -- the places of a maintenance, each with what it has at hand
 pub data Place : Type 0 where

@@ -10,7 +10,8 @@ use Rattle.moka_engine.specs.declared.operation.Read.TheVariants.{Hit, Miss}
 use Rattle.moka_engine.specs.declared.ticket.Ticket.{Ticket}
 use Rattle.moka_engine.specs.Ticket.{IsToCome, same_ticket}
 use Rattle.moka_engine.specs.Place as place
-use Rattle.moka_engine.specs.Place.{Place, Seen, Tally}
+use Rattle.moka_engine.specs.declared.at_hand.Tally.{Tally}
+use Rattle.moka_engine.specs.Place.{Place, Seen}
 use Rattle.moka_engine.specs.CoreState.{CoreState}
 
 -- how often a read is a hit of the ticket

@@ -2,10 +2,12 @@
 //! the laws both stand, and the types that both name.
 #![tactic(auto)]
 
+pub mod at_hand;
 pub mod call;
 pub mod constants;
 pub mod entry;
 pub mod event;
+pub mod housekeeper;
 pub mod operation;
 pub mod place;
 pub mod settings;

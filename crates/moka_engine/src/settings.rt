@@ -56,3 +56,13 @@ impl<S: Drop, A: Allocator + Drop> Settings<S, A> {
         self.is_weighed
     }
 }
+
+/// What a core is built of, with room for `capacity` entries in each shard.
+#[derive(Drop)]
+pub struct CoreParts<S: Drop, W: Drop> {
+    pub hash_state: S,
+    pub policy: Policy,
+    pub is_weighed: bool,
+    pub weigher: W,
+    pub capacity: usize,
+}

@@ -10,7 +10,10 @@ use Rattle.moka_engine.specs.Entry.{Entry, entry_of, with_upsert_done}
 use Rattle.moka_engine.specs.declared.operation.Write.TheVariants.{Upsert, Remove}
 use Rattle.moka_engine.specs.Orders.{Node, Orders, charge_of, is_written, without_node, with_node, all_used}
 use Rattle.moka_engine.specs.Place as place
-use Rattle.moka_engine.specs.Place.{Place, Work, Candidate, Seen, Tally, held}
+use Rattle.moka_engine.specs.declared.at_hand.Work.{Work}
+use Rattle.moka_engine.specs.declared.at_hand.Candidate.{Candidate}
+use Rattle.moka_engine.specs.declared.at_hand.Tally.{Tally}
+use Rattle.moka_engine.specs.Place.{Place, Seen, held}
 use Rattle.moka_engine.specs.CoreState.{CoreState}
 use Rattle.moka_base.specs.Settings.{keeps_writes}
 use Rattle.moka_engine.specs.Turn.Plan.{Outcome, after_change, after_plan_at, Plan, after_plan}

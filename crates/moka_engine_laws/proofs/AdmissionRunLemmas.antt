@@ -10,7 +10,10 @@ use Rattle.moka_engine.specs.Ticket.{same_ticket, without}
 use Rattle.moka_engine.specs.Entry.{Entry, entry_of}
 use Rattle.moka_engine.specs.Orders.{Node, without_node, all_used}
 use Rattle.moka_engine.specs.Place as place
-use Rattle.moka_engine.specs.Place.{Place, Work, Candidate, Tally, Seen}
+use Rattle.moka_engine.specs.declared.at_hand.Work.{Work}
+use Rattle.moka_engine.specs.declared.at_hand.Candidate.{Candidate}
+use Rattle.moka_engine.specs.declared.at_hand.Tally.{Tally}
+use Rattle.moka_engine.specs.Place.{Seen}
 use Rattle.moka_engine.specs.CoreState.{CoreState}
 use Rattle.moka_base.specs.Settings.{keeps_writes}
 use Rattle.moka_engine.specs.Turn.Plan.{after_plan, after_plan_at, writes_or_on}

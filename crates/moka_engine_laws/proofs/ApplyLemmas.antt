@@ -15,7 +15,8 @@ use Rattle.moka_engine.specs.declared.operation.Write.TheVariants.{Upsert, Remov
 use Rattle.moka_engine.specs.Operation.{same_write, count_of, count_pending}
 use Rattle.moka_engine.specs.Orders.{Orders, charge_of, is_written, charged_weight, without_node, with_node, used, renewed, recharged}
 use Rattle.moka_engine.specs.Place as place
-use Rattle.moka_engine.specs.Place.{Place, Work, held}
+use Rattle.moka_engine.specs.declared.at_hand.Work.{Work}
+use Rattle.moka_engine.specs.Place.{Place, held}
 use Rattle.moka_engine.specs.CoreState.{CoreState}
 use Rattle.moka_base.specs.Settings.{keeps_writes}
 use Rattle.moka_engine.specs.Turn.Plan.{Stays, Outcome, outcome, moved_on, after_change, after_plan_at, gone_to, after_plan}

@@ -21,7 +21,9 @@ use Rattle.moka_engine.specs.declared.operation.Operation.TheVariants.{Reading, 
 use Rattle.moka_engine.specs.Operation.{same_write, count_of, count_in, count_pending}
 use Rattle.moka_engine.specs.Orders.{Orders, charge_of}
 use Rattle.moka_engine.specs.Place as place
-use Rattle.moka_engine.specs.Place.{Place, Work, Candidate, held, is_idle}
+use Rattle.moka_engine.specs.declared.at_hand.Work.{Work}
+use Rattle.moka_engine.specs.declared.at_hand.Candidate.{Candidate}
+use Rattle.moka_engine.specs.Place.{Place, held, is_idle}
 use Rattle.moka_engine.specs.CoreState.{CoreState, pending_of, with_pending, without_pending}
 use Rattle.moka_base.specs.Settings.{keeps_writes}
 use Rattle.moka_engine.specs.Turn.Plan.{Change, Becomes, Leaves}

@@ -14,7 +14,10 @@ use Rattle.moka_engine.specs.declared.operation.Write.{Write}
 use Rattle.moka_engine.specs.declared.operation.Write.TheVariants.{Upsert, Remove}
 use Rattle.moka_engine.specs.Orders.{Node, Orders, charge_of, charged_weight}
 use Rattle.moka_engine.specs.Place as place
-use Rattle.moka_engine.specs.Place.{Place, Work, Candidate, Tally, Seen}
+use Rattle.moka_engine.specs.declared.at_hand.Work.{Work}
+use Rattle.moka_engine.specs.declared.at_hand.Candidate.{Candidate}
+use Rattle.moka_engine.specs.declared.at_hand.Tally.{Tally}
+use Rattle.moka_engine.specs.Place.{Place, Seen}
 use Rattle.moka_engine.specs.CoreState.{CoreState, Maintenance}
 use Rattle.moka_base.specs.Settings.{Settings, keeps_writes}
 use Rattle.moka_engine.specs.Turn.Plan.{Outcome, Plan, Alone, AtReads, AtWrites, AtEntry, after_plan, reads_or_on, writes_or_on}

@@ -18,7 +18,7 @@ use Rattle.moka_engine.specs.declared.operation.Write.TheVariants.{Upsert, Remov
 use Rattle.moka_engine.specs.declared.operation.Operation.{Operation}
 use Rattle.moka_engine.specs.declared.operation.Operation.TheVariants.{Reading, Writing}
 use Rattle.moka_engine.specs.Place as place
-use Rattle.moka_engine.specs.Place.{Place, is_idle, name_of}
+use Rattle.moka_engine.specs.Place.{is_idle, name_of}
 use Rattle.moka_engine.specs.CoreState.{CoreState, is_expired, pending_of, with_pending, without_pending}
 use Rattle.moka_engine.specs.Turn.Turn.{after_turn}
 use Rattle.moka_engine.specs.declared.event.Event.TheVariants as event

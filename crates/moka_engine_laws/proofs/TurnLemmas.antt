@@ -6,7 +6,8 @@ use Rattle.moka_engine.specs.declared.constants.TheConstants.{FLUSH_POINT, MAX_R
 use Rattle.moka_engine.specs.Operation.{count_of, count_pending}
 use Rattle.moka_engine.specs.Orders.{used, rewritten}
 use Rattle.moka_engine.specs.Place as place
-use Rattle.moka_engine.specs.Place.{Place, Work, held}
+use Rattle.moka_engine.specs.declared.at_hand.Work.{Work}
+use Rattle.moka_engine.specs.Place.{Place, held}
 use Rattle.moka_engine.specs.CoreState.{CoreState, Maintenance}
 use Rattle.moka_engine.specs.Turn.Plan.{reads_or_on, writes_or_on, after_plan}
 use Rattle.moka_engine.specs.Turn.Expiry.{is_outlived, is_out_of_use, write_front, access_front}

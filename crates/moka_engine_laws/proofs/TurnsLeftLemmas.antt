@@ -11,7 +11,8 @@ use Rattle.moka_engine.specs.declared.operation.Read.{Read}
 use Rattle.moka_engine.specs.declared.operation.Write.{Write}
 use Rattle.moka_engine.specs.Orders.{Node, Orders, without_node, with_node, used, recharged, all_used}
 use Rattle.moka_engine.specs.Place as place
-use Rattle.moka_engine.specs.Place.{Place, Work, Candidate, Tally, Seen, held}
+use Rattle.moka_engine.specs.declared.at_hand.Work.{Work}
+use Rattle.moka_engine.specs.Place.{Place, held}
 use Rattle.moka_engine.specs.TurnsLeft.{round_turns, place_turns, write_cost, nodes_to_come, turns_with}
 use Rattle.moka_engine.specs.Queues.{IsRound}
 use Rattle.moka_engine.specs.Turn.Plan.{reads_or_on, writes_or_on}

@@ -6,7 +6,9 @@ use Rattle.moka_engine.specs.declared.operation.Write.TheVariants.{Upsert}
 use Rattle.moka_engine.specs.declared.ticket.Ticket.{Ticket}
 use Rattle.moka_engine.specs.Entry.{Entry, entry_of}
 use Rattle.moka_engine.specs.Orders.{all_used, charge_of}
-use Rattle.moka_engine.specs.Place.{Work, Candidate, Idle, Apply, Enter, Publish}
+use Rattle.moka_engine.specs.declared.at_hand.Work.{Work}
+use Rattle.moka_engine.specs.declared.at_hand.Candidate.{Candidate}
+use Rattle.moka_engine.specs.Place.{Idle, Apply, Enter, Publish}
 use Rattle.moka_engine.specs.CoreState.{CoreState}
 use Rattle.moka_engine.specs.Turn.Plan.{moved_on, writes_or_on}
 use Rattle.moka_engine.specs.Turn.Turn.{after_turn}

@@ -7,7 +7,9 @@ use Rattle.moka_engine.specs.Entry.{Entry}
 use Rattle.moka_engine.specs.declared.operation.Write.TheVariants.{Upsert}
 use Rattle.moka_engine.specs.Orders.{charge_of, charged_weight}
 use Rattle.moka_engine.specs.Place as place
-use Rattle.moka_engine.specs.Place.{Place, Candidate, Tally, Seen}
+use Rattle.moka_engine.specs.declared.at_hand.Candidate.{Candidate}
+use Rattle.moka_engine.specs.declared.at_hand.Tally.{Tally}
+use Rattle.moka_engine.specs.Place.{Place, Seen}
 use Rattle.moka_engine.specs.CoreState.{CoreState}
 use Rattle.moka_engine.specs.Turn.Admission.{is_admitted, next_seen}
 use Rattle.moka_engine.specs.Turn.Expiry.{is_outlived, is_out_of_use}

@@ -8,7 +8,9 @@ use Rattle.moka_engine.specs.declared.ticket.Ticket.{Ticket}
 use Rattle.moka_engine.specs.Ticket.{without, changed}
 use Rattle.moka_engine.specs.Entry.{Entry, entry_of, with_upsert_done}
 use Rattle.moka_engine.specs.Orders.{Node, charged_weight, without_node, with_node}
-use Rattle.moka_engine.specs.Place.{Place, Work, Candidate}
+use Rattle.moka_engine.specs.declared.at_hand.Work.{Work}
+use Rattle.moka_engine.specs.declared.at_hand.Candidate.{Candidate}
+use Rattle.moka_engine.specs.Place.{Place}
 use Rattle.moka_engine.specs.CoreState.{CoreState}
 use Rattle.moka_base.specs.Settings.{keeps_writes}
 use Rattle.moka_engine.specs.Turn.Plan.{writes_or_on}

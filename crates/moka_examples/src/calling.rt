@@ -34,7 +34,7 @@ use mini_moka::sync::recorded::{Answer, NotRecorded, Record, SharedCall};
 use mini_moka::unsync::Cache;
 use mini_moka::unsync::history::{hits_are_current, runs_have_a_history};
 use mini_moka::{script, unsync};
-use std::alloc::{Allocator, Global};
+use std::alloc::Global;
 use std::hash::{BuildHasher, Hash};
 use std::rc::Rc;
 use std::time::Duration;

@@ -1,4 +1,3 @@
-pub mod RuleLemmas
 pub mod TurnLemmas
 pub mod SnapshotLemmas
 pub mod WritesLeftLemmas

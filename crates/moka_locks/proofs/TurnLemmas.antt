@@ -1,8 +1,7 @@
 -- A turn behind the lock of the maintenance.
-use Rattle.std.proofs.Common.{◌≡◌, ◌∙◌, ◌<◌, ◌≤◌, ◌-◌, ℕ, Bool, true, false, List, [], ◌∷◌, length}
+use Rattle.std.proofs.Common.{◌≡◌, ◌∙◌, ◌<◌, ◌≤◌, ◌-◌, ℕ, Bool, false, List, [], ◌∷◌, length}
 use Rattle.std.proofs.Common.{Option, Some, None, drop, slice_get, if◌then◌else◌, ap, refl, sym, subst, arith}
 use Rattle.moka_base.specs.Settings.{Settings}
-use Rattle.moka_engine.specs.declared.entry.EntryChange.{EntryChange}
 use Rattle.moka_engine.specs.declared.operation.Read.{Read}
 use Rattle.moka_engine.specs.declared.operation.Read.TheVariants.{Hit, Miss}
 use Rattle.moka_engine.specs.declared.operation.Write.{Write}
@@ -11,28 +10,23 @@ use Rattle.moka_engine.specs.declared.ticket.Ticket.{Ticket}
 use Rattle.moka_engine.specs.declared.place.Place.{Place as PlaceName}
 use Rattle.moka_engine.specs.declared.place.Place.TheVariants as name
 use Rattle.moka_engine.specs.CoreState.{Maintenance}
-use Rattle.moka_engine.specs.Entry.{Entry}
-use Rattle.moka_engine.specs.Parts.{TurnsAlone, TurnsAtEntry, TurnsWithReads, TurnsWithWrites}
+use Rattle.moka_engine.specs.Parts.{TurnsAlone, TurnsWithReads, TurnsWithWrites}
 use Rattle.moka_engine.specs.Place as place
-use Rattle.moka_engine.specs.Place.{Place, Idle, Work, is_idle, name_of}
+use Rattle.moka_engine.specs.declared.at_hand.Work.{Work}
+use Rattle.moka_engine.specs.Place.{Idle, is_idle, name_of}
 use Rattle.moka_engine.specs.Turn.Plan.{AtReads, AtWrites, gone_to}
 use Rattle.moka_engine.specs.Turn.Turn.{after_read_taken, after_write_taken, turn_at}
-use Rattle.moka_core.proofs.MaintenanceLemmas.{applied_later, not_named_idle, reads_on}
+use Rattle.moka_engine.proofs.PlaceLemmas.{busy_by_name, is_idle_name, not_named_idle, same_idle}
+use Rattle.moka_maintenance.proofs.TakenLemmas.{applied_later, reads_on}
 use Rattle.moka_maintenance.specs.Taken.{TakesRead, TakesWrite, having_applied, having_taken}
 use Rattle.moka_maintenance.specs.Taken.{having_taken_write, place_with, place_with_write, writes_left}
 use Rattle.moka_steps.specs.Steps.{TakesTurns}
 use Rattle.moka_steps.specs.Steps as steps
 use Rattle.moka_locks.specs.Locked.{Locked, kept_running, locked_allows, running}
-use Rattle.moka_locks.specs.MaintenanceTurn.{AreTurns, IsPlanned, IsTurn, IsWorkingTurn, MoreTurns}
+use Rattle.moka_behind.specs.LockedTurn.{IsPlanned, IsTurn}
+use Rattle.moka_locks.specs.MaintenanceTurn.{AreTurns, IsWorkingTurn, MoreTurns}
 use Rattle.moka_locks.specs.MaintenanceTurn.{OneTurn, TakesFirst, Working, empty_handed}
 use Rattle.moka_locks.proofs.WritesLeftLemmas.{keeps_left}
-
--- one that looks at an entry
-pub at_entry : {K V S : Type 0} (settings : Settings S) (valid_after : ℕ) (refused : Bool) (old new : Maintenance)
-    (found : Option (Entry K V)) (change : EntryChange) → TurnsAtEntry K V settings valid_after refused old new found change
-    → IsTurn K V settings old new
-at_entry settings valid_after refused old new found change turn =
-    (valid_after, refused, subst (λ plan. IsPlanned plan new) (sym turn.is) (found, ap (λ o. o.maintenance) (sym turn.ends)))
 
 -- one that looks at nothing
 pub alone : (K V : Type 0) {S : Type 0} (settings : Settings S) (valid_after : ℕ) (refused : Bool) (old new : Maintenance)
@@ -64,24 +58,12 @@ with_writes settings valid_after refused old new old_log new_log turn = (
 pub kept_elsewhere : (w : Working) (place : PlaceName) → place ≡ name_of w.maintenance.place → (place ≡ name.Idle → ⊥)
     → kept_running w ≡ Some w
 kept_elsewhere w place is elsewhere =
-    ap (λ b. if b then None else Some w) (busy w.maintenance.place (λ idle. elsewhere (is ∙ idle)))
-  where
-    busy : (p : Place) → (name_of p ≡ name.Idle → ⊥) → is_idle p ≡ false
-    busy Idle other = absurd (other refl)
-    busy p other = refl
-
-abbrev names_idle : PlaceName → Bool
-names_idle name.Idle = true
-names_idle other = false
+    ap (λ b. if b then None else Some w) (busy_by_name w.maintenance.place (λ idle. elsewhere (is ∙ idle)))
 
 -- one that is idle is given back
 pub given_back : (w : Working) (place : PlaceName) → place ≡ name_of w.maintenance.place → place ≡ name.Idle → kept_running w ≡ None
 given_back w place is idle =
-    ap (λ b. if b then None else Some w) (same w.maintenance.place ∙ ap names_idle (sym is ∙ idle))
-  where
-    same : (p : Place) → is_idle p ≡ names_idle (name_of p)
-    same Idle = refl
-    same p = refl
+    ap (λ b. if b then None else Some w) (sym (same_idle w.maintenance.place) ∙ ap is_idle_name (sym is ∙ idle))
 
 -- ---- turns with writes at hand
 

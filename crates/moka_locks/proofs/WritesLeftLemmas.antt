@@ -12,14 +12,17 @@ use Rattle.moka_engine.specs.CoreState.{Maintenance}
 use Rattle.moka_engine.specs.Entry.{Entry}
 use Rattle.moka_engine.specs.Orders.{Node, charge_of, charged_weight}
 use Rattle.moka_engine.specs.Place as place
-use Rattle.moka_engine.specs.Place.{Candidate, Place, Seen, Tally, Work}
+use Rattle.moka_engine.specs.declared.at_hand.Candidate.{Candidate}
+use Rattle.moka_engine.specs.declared.at_hand.Tally.{Tally}
+use Rattle.moka_engine.specs.declared.at_hand.Work.{Work}
+use Rattle.moka_engine.specs.Place.{Place, Seen}
 use Rattle.moka_engine.specs.Turn.Plan.{Plan, Alone, AtReads, AtWrites, AtEntry, Outcome, writes_or_on}
 use Rattle.moka_engine.specs.Turn.Apply.{after_present_upsert, after_upsert}
 use Rattle.moka_engine.specs.Turn.Admission.{after_entering, after_removing, after_scan, after_verdict, after_victim}
 use Rattle.moka_engine.specs.Turn.Admission.{is_admitted, next_seen, removing_or_enter}
 use Rattle.moka_engine.specs.Turn.Turn.{turn_at}
 use Rattle.moka_maintenance.specs.Taken.{TakesWrite, having_taken_write, place_with_write, writes_left}
-use Rattle.moka_locks.specs.MaintenanceTurn.{IsPlanned, IsTurn}
+use Rattle.moka_behind.specs.LockedTurn.{IsPlanned, IsTurn}
 
 module _ (work : Work) where
   -- these places leave as many

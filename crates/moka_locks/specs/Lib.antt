@@ -1,7 +1,6 @@
-pub mod Rule
 pub mod Cache
 pub mod Locked
 pub mod Snapshot
 pub mod MaintenanceTurn
+-- inside
 pub mod Charged
-pub mod WriteQueue

@@ -15,8 +15,7 @@ use Rattle.moka_engine.specs.CoreState.{Maintenance}
 use Rattle.moka_engine.specs.Place.{Idle, ReadCount, name_of, is_idle}
 use Rattle.moka_engine.specs.Reply.{Reply}
 use Rattle.moka_engine.specs.WholeCall.{Log}
-use Rattle.moka_steps.specs.CoreCaller.{kind_of}
-use Rattle.moka_steps.specs.Steps.{Caller}
+use Rattle.moka_steps.specs.Steps.{Caller, kind_of}
 use Rattle.moka_locks.specs.declared.locked.Pending.{Pending}
 use Rattle.moka_locks.specs.declared.locked.Pending.TheVariants as pending
 use Rattle.moka_locks.specs.Cache.{Cache}

@@ -4,8 +4,9 @@ ghost use Rattle.moka_engine.specs.CoreCall.{is_due};
 ghost use Rattle.moka_engine.specs.declared.constants.TheConstants.{FLUSH_POINT};
 
 use moka_base::time::Instant;
-pub use moka_core::housekeeper::is_due;
-use moka_engine::constants::{FLUSH_POINT, SYNC_INTERVAL};
+use moka_engine::constants::FLUSH_POINT;
+use moka_engine::housekeeper::due_after;
+pub use moka_engine::housekeeper::is_due;
 use std::sync::atomic::{AtomicBool, AtomicU64, Ordering};
 
 /// Says when a maintenance is due, and lets one caller at a time run it. Its calls neither wait nor take memory.
@@ -86,8 +87,8 @@ impl Housekeeper {
         if won.is_err() {
             return false;
         }
-        let due = now.nanos().saturating_add(SYNC_INTERVAL);
-        self.sync_after.store(due, Ordering::Release);
+        let due = due_after(now);
+        self.sync_after.store(due.nanos(), Ordering::Release);
         self.is_scheduled.store(true, Ordering::Release);
         true
     }

@@ -7,34 +7,33 @@ ghost use Rattle.moka_base.specs.Keys.{keys_by};
 ghost use Rattle.moka_locks.specs.Cache.{new_cache};
 ghost use Rattle.moka_locks.specs.Charged.{counts_of};
 ghost use Rattle.moka_published.specs.Log.{IsSuffix, opening};
-ghost use Rattle.moka_locks.specs.Rule.{PairsMeet};
+ghost use Rattle.moka_behind.specs.Rule.{PairsMeet};
 ghost use Rattle.moka_locks.specs.Snapshot.{IsSnapshot, own_pairs};
-ghost use Rattle.moka_engine.specs.CoreState.{Maintenance as MaintenanceState};
+ghost use Rattle.moka_engine.specs.CoreState.{Maintenance as MaintenanceState, new_maintenance};
 ghost use Rattle.moka_engine.specs.Place.{Idle, ReadCount};
 ghost use Rattle.moka_locks.specs.MaintenanceTurn.{empty_handed};
 
 mod turns;
 
 use crate::housekeeper::Housekeeper;
-use crate::logs::Logs;
 use crate::resting::Resting;
-use crate::rule::PairRule;
 use crate::running::Running;
-use crate::shard::RuledShard;
-use crate::waiting::lock;
 use crate::working::Working;
 use crossbeam_utils::CachePadded;
 use moka_base::error::{InsertError, OutOfMemory};
 use moka_base::policy::Policy;
 use moka_base::shared::Shared;
 use moka_base::time::Instant;
-use moka_core::engine::CoreParts;
+use moka_behind::logs::Logs;
+use moka_behind::rule::PairRule;
+use moka_behind::shard::RuledShard;
+use moka_behind::waiting::lock;
 use moka_engine::constants::SHARDS;
 use moka_engine::operation::Write;
-use moka_engine::settings::Settings;
+use moka_engine::settings::{CoreParts, Settings};
 use moka_engine::ticket::Ticket;
 use moka_engine::weigh::WeighShared;
-use moka_maintenance::logs::LoggedRead;
+use moka_logs::logs::LoggedRead;
 use moka_maintenance::maintenance::Maintenance;
 use moka_published::counts::{CountPass, Counts, Publisher};
 use moka_published::rule::Published;
@@ -121,7 +120,8 @@ impl<
             parts.is_weighed,
             parts.capacity,
         )?;
-        let (logs, maintenance) = logs_and_maintenance(&alloc, publisher)?;
+        let (logs, working) = logs_and_maintenance(&alloc)?;
+        let maintenance = Resting::new(working, publisher);
         Ok(Inner {
             settings,
             weigher: parts.weigher,
@@ -374,17 +374,15 @@ fn counts_of(publisher: &Option<Publisher>) -> Result<Option<Counts>, OutOfMemor
     }
 }
 
-/// Empty logs, and a maintenance that has done nothing, with its publisher, if there is one.
+/// Empty logs, and a maintenance that has done nothing.
 fn logs_and_maintenance<A: Allocator + Clone + Drop>(
     alloc: &A,
-    publisher: Option<Publisher>,
-) -> Result<(Logs<A>, Resting<A>), OutOfMemory>
-    requires { IfSome publisher (λ p. p.published ≡ opening ∷ []) }
+) -> Result<(Logs<A>, Box<Working<A>, A>), OutOfMemory>
+    ensures { IfOk result (λ made. made.1.value.maintenance ≡ new_maintenance) }
 {
-    let logs = Logs::new(alloc)?;
     let maintenance = Maintenance::new(alloc.clone()?)?;
     let working = Box::new(alloc.clone()?, Working::new(maintenance))?;
-    Ok((logs, Resting::new(working, publisher)))
+    Ok((Logs::new(alloc)?, working))
 }
 
 /// The settings of a new cache, and its shards, with room for `capacity` entries in each.
@@ -425,8 +423,28 @@ fn locked_shards<
 {
     let mut shards = Vec::with_capacity(alloc.clone()?, SHARDS)?;
     for number in 0..SHARDS {
-        let shard = Shard::new(alloc.clone()?, number, 0, capacity, hash_state.try_clone()?)?;
-        shards.push(CachePadded::new(Mutex::new(RuledShard::new(shard))))?;
+        let shard = empty_shard(alloc, hash_state, number, capacity)?;
+        shards.push(CachePadded::new(Mutex::new(shard)))?;
     }
     Ok(shards)
+}
+
+/// A shard of a new cache, by its number, with room for `capacity` entries.
+fn empty_shard<
+    K: Eq + Hash + Drop,
+    V: Drop,
+    S: BuildHasher + Drop,
+    P: PairRule<K, V>,
+    A: Allocator + Clone + Drop,
+>(
+    alloc: &A,
+    hash_state: &Shared<S, A>,
+    number: usize,
+    capacity: usize,
+) -> Result<RuledShard<K, V, S, P, A>, OutOfMemory>
+    requires { number < SHARDS }
+{
+    let hash_state = hash_state.try_clone()?;
+    let shard = Shard::new(alloc.clone()?, number, 0, capacity, hash_state)?;
+    Ok(RuledShard::new(shard))
 }

@@ -4,11 +4,6 @@
 pub mod housekeeper;
 pub mod inner;
 pub mod locked;
-mod logs;
-mod queue;
 mod resting;
-pub mod rule;
 mod running;
-mod shard;
-mod waiting;
 mod working;

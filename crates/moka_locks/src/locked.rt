@@ -4,15 +4,15 @@ ghost use Rattle.moka_engine.specs.Place.{Idle};
 ghost use Rattle.moka_locks.specs.Locked.{resting_at, running};
 
 use crate::inner::Inner;
-use crate::rule::PairRule;
 use crate::running::Running;
 use moka_base::error::{InsertError, OutOfMemory};
 use moka_base::shared::Shared;
 use moka_base::time::Instant;
+use moka_behind::rule::PairRule;
 use moka_engine::operation::{Read, Write};
 use moka_engine::place::Place;
 use moka_engine::weigh::WeighShared;
-use moka_maintenance::logs::LoggedRead;
+use moka_logs::logs::LoggedRead;
 use moka_steps::steps::{ReadPush, Steps, WhichLog, WritePush};
 use std::alloc::Allocator;
 use std::hash::{BuildHasher, Hash};
@@ -20,7 +20,7 @@ use std::marker::Model;
 use std::sync::Wait;
 
 /// What the caller has left and not pushed to a log yet.
-#[derive(Clone, Copy, Debug)]
+#[derive(Clone, Copy)]
 enum Pending {
     Nothing,
     Read(LoggedRead),
@@ -28,7 +28,6 @@ enum Pending {
 }
 
 /// A cache as one caller has it for the time of a call.
-#[derive(Drop)]
 pub struct Locked<
     'a,
     K: Eq + Hash + Drop,
@@ -44,6 +43,26 @@ pub struct Locked<
     running: Option<Running<'a, A>>,
     /// Whether the caller has been told to run it, and nobody else is until it has ended.
     has_won: bool,
+}
+
+// By hand, and not derived: wherever a call may end, there is one call to prove then, in place of one for each of its parts.
+impl<
+    'a,
+    K: Eq + Hash + Drop,
+    V: Drop,
+    S: BuildHasher + Drop,
+    P: PairRule<K, V>,
+    W: Drop,
+    A: Allocator + Clone + Drop,
+> Drop for Locked<'a, K, V, S, P, W, A> {
+    fn drop(self) {
+        let Locked {
+            inner: _,
+            pending: _,
+            running: _,
+            has_won: _,
+        } = self;
+    }
 }
 
 impl<

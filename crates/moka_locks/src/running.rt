@@ -6,10 +6,10 @@ ghost use Rattle.moka_locks.specs.MaintenanceTurn.{AreTurns, empty_handed};
 
 use crate::inner::Inner;
 use crate::resting::Resting;
-use crate::rule::PairRule;
-use crate::waiting::lock;
 use crate::working::Working;
 use moka_base::time::Instant;
+use moka_behind::rule::PairRule;
+use moka_behind::waiting::lock;
 use moka_engine::place::Place;
 use moka_maintenance::maintenance::Maintenance;
 use moka_published::counts::Publisher;

@@ -4,11 +4,11 @@ ghost use Rattle.moka_engine.specs.Place.{Idle, ReadCount, name_of};
 ghost use Rattle.moka_locks.specs.MaintenanceTurn.{AreTurns, empty_handed};
 
 use crate::inner::Inner;
-use crate::rule::PairRule;
 use moka_base::time::Instant;
+use moka_behind::rule::PairRule;
 use moka_engine::place::Place;
+use moka_logs::taken::TakenWrites;
 use moka_maintenance::maintenance::Maintenance;
-use moka_maintenance::taken::TakenWrites;
 use std::alloc::Allocator;
 use std::hash::{BuildHasher, Hash};
 use std::marker::Model;

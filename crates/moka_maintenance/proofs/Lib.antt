@@ -1,4 +1,3 @@
-pub mod LogLemmas
 pub mod AbsentLemmas
 pub mod SendLemmas
 pub mod NextLemmas

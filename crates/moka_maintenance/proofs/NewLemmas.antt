@@ -1,7 +1,7 @@
 -- A maintenance with which nothing was done.
-use Rattle.std.proofs.Common.{◌≡◌, ◌<◌, ◌≤◌, ◌^◌, ◌&&◌, ℕ, Bool, true, false, nat_eq, List}
-use Rattle.std.proofs.Common.{[], ◌∷◌, length, Option, Some, None, is_some, refl, sym, ap}
-use Rattle.std.proofs.Common.{◌∙◌, subst, arith, slice_get}
+use Rattle.std.proofs.Common.{◌≡◌, ◌≤◌, ◌&&◌, ℕ, Bool, true, false, nat_eq, List}
+use Rattle.std.proofs.Common.{[], ◌∷◌, length, Option, Some, None, is_some, refl, sym}
+use Rattle.std.proofs.Common.{arith, slice_get}
 use Rattle.std.proofs.lemmas.Bool.{and_parts, eqb-true, false≢true}
 use Rattle.moka_sketch.specs.Sketch.{Table, IsSketch}
 use Rattle.moka_sketch.specs.SketchCapacity.{table_len}

@@ -5,6 +5,8 @@ use Rattle.std.proofs.lemmas.Bool.{cases_Bool, false≢true}
 use Rattle.std.specs.List.{IsDistinct}
 use Rattle.std.specs.Map.{lookup, keys_of}
 use Rattle.moka_deque.specs.Deque.{first_id}
+use Rattle.moka_engine.specs.declared.at_hand.Candidate.{Candidate}
+use Rattle.moka_engine.specs.declared.at_hand.Tally.{Tally}
 use Rattle.moka_engine.specs.Place as place
 use Rattle.moka_engine.specs.Place.{Seen}
 use Rattle.moka_engine.specs.CoreState.{Maintenance}
@@ -15,10 +17,10 @@ use Rattle.moka_engine.specs.Turn.Admission.{after_rejection, after_removing, af
 use Rattle.moka_engine.specs.Turn.Admission.{after_victim, is_admitted, is_decided, next_if, next_seen, removing_or_enter}
 use Rattle.moka_orders.specs.declared.orders.Node.{Node}
 use Rattle.moka_orders.specs.OrdersState.{OrdersState, access_of, charged, orders_of}
-use Rattle.moka_maintenance.specs.declared.maintenance.place.Work.{Work}
+use Rattle.moka_engine.specs.declared.at_hand.Work.{Work}
 use Rattle.moka_maintenance.specs.declared.maintenance.place.Scan.{Scan}
 use Rattle.moka_maintenance.specs.declared.maintenance.place.Removal.{Removal}
-use Rattle.moka_maintenance.specs.Held.{Held, IsScanning, IsRemoving, candidate_of, tally_of, work_of}
+use Rattle.moka_maintenance.specs.Held.{Held, IsScanning, IsRemoving}
 use Rattle.moka_maintenance.specs.Held.{first_seen, first_tickets, maintenance_of, next_id_if, removal_plan}
 use Rattle.moka_maintenance.specs.Held.{place_of, scan_plan}
 use Rattle.moka_maintenance.specs.declared.maintenance.place.Stage.TheVariants as stage
@@ -43,28 +45,28 @@ none_first [] h = refl
 none_first (x ∷ xs) h = absurd (cc)
 
 module _ (o : OrdersState) (scan : Scan) (s : IsScanning o scan) where
-  next_is : next_seen (candidate_of scan.candidate) (tally_of scan.tally) (first_seen scan.seen o.nodes) (orders_of o)
-      ≡ next_if (is_decided (candidate_of scan.candidate) (tally_of scan.tally)) (access_of (drop scan.seen o.nodes))
+  next_is : next_seen scan.candidate scan.tally (first_seen scan.seen o.nodes) (orders_of o)
+      ≡ next_if (is_decided scan.candidate scan.tally) (access_of (drop scan.seen o.nodes))
   next_is =
-      ap (next_if (is_decided (candidate_of scan.candidate) (tally_of scan.tally)))
+      ap (next_if (is_decided scan.candidate scan.tally))
       (ap (λ n. drop n (access_of o.nodes)) (length_seen scan.seen o.nodes s.within) ∙ drop_access scan.seen o.nodes)
 
   -- a scan that goes on looks at the next node
   pub scan_next : IsDistinct nat_eq (keys_of o.nodes) → (id : ℕ)
-      → next_id_if (is_decided (candidate_of scan.candidate) (tally_of scan.tally)) scan.next ≡ Some id
+      → next_id_if (is_decided scan.candidate scan.tally) scan.next ≡ Some id
       → (n : Node) → lookup (nat_eq id) o.nodes ≡ Some n
-      → next_seen (candidate_of scan.candidate) (tally_of scan.tally) (first_seen scan.seen o.nodes) (orders_of o) ≡ Some (charged n)
+      → next_seen scan.candidate scan.tally (first_seen scan.seen o.nodes) (orders_of o) ≡ Some (charged n)
   scan_next once id is n found =
-      let parts = next_parts (is_decided (candidate_of scan.candidate) (tally_of scan.tally)) scan.next id is in
+      let parts = next_parts (is_decided scan.candidate scan.tally) scan.next id is in
       let at = scanned_node o scan once s id parts.1 in
       let same : at.x ≡ n = ap (λ p. unwrap_or p n) (sym at.found ∙ found) in
       next_is
       ∙ ((λ i. next_if (parts.0 i) (access_of (at.here i))) ∙ ap (λ (m : Node). Some (charged m)) same)
 
   -- one that has ended looks at none
-  pub scan_ended : next_id_if (is_decided (candidate_of scan.candidate) (tally_of scan.tally)) scan.next ≡ None
-      → next_seen (candidate_of scan.candidate) (tally_of scan.tally) (first_seen scan.seen o.nodes) (orders_of o) ≡ None
-  scan_ended is = next_is ∙ by (is_decided (candidate_of scan.candidate) (tally_of scan.tally)) is
+  pub scan_ended : next_id_if (is_decided scan.candidate scan.tally) scan.next ≡ None
+      → next_seen scan.candidate scan.tally (first_seen scan.seen o.nodes) (orders_of o) ≡ None
+  scan_ended is = next_is ∙ by (is_decided scan.candidate scan.tally) is
     where
       by : (b : Bool) → next_id_if b scan.next ≡ None → next_if b (access_of (drop scan.seen o.nodes)) ≡ None
       by true h = refl
@@ -88,7 +90,7 @@ module _ (o : OrdersState) (work : Work) (r : Removal) (once : IsDistinct nat_eq
           ap (first_seen (suc l)) here
           ∙ sym (ap (λ ys. record { ticket = n.ticket; is_present = n.is_present } ∷ drop 1 (first_seen (suc l) ys)) here)
 
-module _ (K V : Type 0) (work : place.Work) (c : place.Candidate) (t : place.Tally) (skipped : List Ticket) (seen : List Seen) (s : Seen)
+module _ (K V : Type 0) (work : Work) (c : Candidate) (t : Tally) (skipped : List Ticket) (seen : List Seen) (s : Seen)
     (left : List Seen) (is : seen ≡ s ∷ left) (m : Maintenance) where
   -- one that was present is looked at
   pub removal_at : s.is_present ≡ true
@@ -128,7 +130,7 @@ module _ (K V : Type 0) (work : place.Work) (c : place.Candidate) (t : place.Tal
 module _ (K V : Type 0) (work : Work) (held : Held) where
   module _ (scan : Scan) (s : IsScanning held.orders scan) where
     abbrev pub decided : Bool
-    decided = is_decided (candidate_of scan.candidate) (tally_of scan.tally)
+    decided = is_decided scan.candidate scan.tally
 
     abbrev pub seen_so_far : List Seen
     seen_so_far = first_seen scan.seen held.orders.nodes
@@ -137,23 +139,23 @@ module _ (K V : Type 0) (work : Work) (held : Held) where
     pub scan_goes_on : IsDistinct nat_eq (keys_of held.orders.nodes) → (id : ℕ) → next_id_if decided scan.next ≡ Some id → (n : Node)
         → lookup (nat_eq id) held.orders.nodes ≡ Some n
         → scan_plan {K = K} {V = V} work scan held
-        ≡ AtEntry n.ticket (after_seeing (work_of work) (candidate_of scan.candidate) (tally_of scan.tally) seen_so_far n.ticket
+        ≡ AtEntry n.ticket (after_seeing work scan.candidate scan.tally seen_so_far n.ticket
         (maintenance_of held))
     scan_goes_on once id is n found =
-        ap (λ o. after_scan {K = K} {V = V} (work_of work) (candidate_of scan.candidate) (tally_of scan.tally) seen_so_far o
+        ap (λ o. after_scan {K = K} {V = V} work scan.candidate scan.tally seen_so_far o
         (maintenance_of held))
         (scan_next held.orders scan s once id is n found)
 
     -- one that has ended, with its verdict
     pub scan_verdict : next_id_if decided scan.next ≡ None → (b : Bool)
-        → is_admitted (candidate_of scan.candidate) (tally_of scan.tally) ≡ b
+        → is_admitted scan.candidate scan.tally ≡ b
         → scan_plan {K = K} {V = V} work scan held
-        ≡ after_verdict (work_of work) (candidate_of scan.candidate) (tally_of scan.tally) seen_so_far b (maintenance_of held)
+        ≡ after_verdict work scan.candidate scan.tally seen_so_far b (maintenance_of held)
     scan_verdict is b verdict =
-        ap (λ o. after_scan {K = K} {V = V} (work_of work) (candidate_of scan.candidate) (tally_of scan.tally) seen_so_far o
+        ap (λ o. after_scan {K = K} {V = V} work scan.candidate scan.tally seen_so_far o
         (maintenance_of held))
         (scan_ended held.orders scan s is)
-        ∙ ap (λ v. after_verdict {K = K} {V = V} (work_of work) (candidate_of scan.candidate) (tally_of scan.tally) seen_so_far v
+        ∙ ap (λ v. after_verdict {K = K} {V = V} work scan.candidate scan.tally seen_so_far v
         (maintenance_of held))
         verdict
 
@@ -161,9 +163,9 @@ module _ (K V : Type 0) (work : Work) (held : Held) where
     pub scan_rejects : next_id_if decided scan.next ≡ None → (t : Ticket)
         → need_of (scan_plan {K = K} {V = V} work scan held) ≡ NeedsShard t
         → scan_plan {K = K} {V = V} work scan held
-        ≡ AtEntry scan.candidate.ticket (after_rejection (work_of work) seen_so_far (maintenance_of held))
+        ≡ AtEntry scan.candidate.ticket (after_rejection work seen_so_far (maintenance_of held))
     scan_rejects is t need =
-        elim (cases_Bool (is_admitted (candidate_of scan.candidate) (tally_of scan.tally))) [
+        elim (cases_Bool (is_admitted scan.candidate scan.tally)) [
           | inl admitted ↦
               let both : NeedsNothing ≡ NeedsShard t = sym (ap need_of (scan_verdict is true admitted)) ∙ need in absurd (cc)
           | inr rejected ↦ scan_verdict is false rejected
@@ -185,29 +187,29 @@ module _ (K V : Type 0) (work : Work) (held : Held) where
 
       pub removal_present : n.is_present ≡ true
           → removal_plan {K = K} {V = V} work r held
-          ≡ AtEntry n.ticket (after_victim (work_of work) (candidate_of r.candidate) (tally_of r.tally) skipped_first this_node left_behind
+          ≡ AtEntry n.ticket (after_victim work r.candidate r.tally skipped_first this_node left_behind
           (maintenance_of held))
       removal_present present =
-          removal_at K V (work_of work) (candidate_of r.candidate) (tally_of r.tally) skipped_first _ this_node left_behind first_is
+          removal_at K V work r.candidate r.tally skipped_first _ this_node left_behind first_is
           (maintenance_of held) present
 
       pub removal_absent : n.is_present ≡ false
           → removal_plan {K = K} {V = V} work r held
-          ≡ Alone (gone_to (removing_or_enter (work_of work) (candidate_of r.candidate) (tally_of r.tally) (skipped_first ++ n.ticket ∷ [])
+          ≡ Alone (gone_to (removing_or_enter work r.candidate r.tally (skipped_first ++ n.ticket ∷ [])
           left_behind)
           (maintenance_of held))
       removal_absent absent =
-          removal_alone K V (work_of work) (candidate_of r.candidate) (tally_of r.tally) skipped_first _ this_node left_behind first_is
+          removal_alone K V work r.candidate r.tally skipped_first _ this_node left_behind first_is
           (maintenance_of held) absent
 
       pub removal_needs_entry : (t : Ticket) → need_of (removal_plan {K = K} {V = V} work r held) ≡ NeedsShard t → n.is_present ≡ true
       removal_needs_entry t need =
-          present_by_need K V (work_of work) (candidate_of r.candidate) (tally_of r.tally) skipped_first _ this_node left_behind first_is
+          present_by_need K V work r.candidate r.tally skipped_first _ this_node left_behind first_is
           (maintenance_of held) t need
 
       pub removal_needs_nothing : need_of (removal_plan {K = K} {V = V} work r held) ≡ NeedsNothing → n.is_present ≡ false
       removal_needs_nothing need =
-          absent_by_need K V (work_of work) (candidate_of r.candidate) (tally_of r.tally) skipped_first _ this_node left_behind first_is
+          absent_by_need K V work r.candidate r.tally skipped_first _ this_node left_behind first_is
           (maintenance_of held) need
 
     -- while some are left there is a next one
@@ -222,16 +224,16 @@ module _ (K V : Type 0) (work : Work) (held : Held) where
 
   -- so is that of a scan
   pub scan_node : (scan : Scan) → IsScanning held.orders scan → IsDistinct nat_eq (keys_of held.orders.nodes) → (id : ℕ)
-      → next_id_if (is_decided (candidate_of scan.candidate) (tally_of scan.tally)) scan.next ≡ Some id
+      → next_id_if (is_decided scan.candidate scan.tally) scan.next ≡ Some id
       → (n : Node) × (lookup (nat_eq id) held.orders.nodes ≡ Some n)
   scan_node scan s once id is =
-      let parts = next_parts (is_decided (candidate_of scan.candidate) (tally_of scan.tally)) scan.next id is in
+      let parts = next_parts (is_decided scan.candidate scan.tally) scan.next id is in
       let at = scanned_node held.orders scan once s id parts.1 in (at.x, at.found)
 
 -- the plan at a write
 pub write_plan : (K V : Type 0) {S : Type 0} (settings : Settings S) (valid_after : ℕ) (refused : Bool) (held : Held) (work : Work)
     (write : Write) → held.stage ≡ stage.Apply work write
     → turn_at {K = K} {V = V} settings valid_after refused (maintenance_of held).place (maintenance_of held)
-    ≡ write_turn settings valid_after refused (work_of work) write (maintenance_of held)
+    ≡ write_turn settings valid_after refused work write (maintenance_of held)
 write_plan K V settings valid_after refused held work write is =
     ap (λ s. turn_at {K = K} {V = V} settings valid_after refused (place_of held.orders.nodes s) (maintenance_of held)) is

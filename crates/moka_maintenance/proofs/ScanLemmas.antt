@@ -18,13 +18,13 @@ use Rattle.moka_engine.proofs.TicketLemmas.{cases_ticket}
 use Rattle.moka_engine.proofs.OrdersLemmas.{ChangesNode-without, charge_of-without}
 use Rattle.moka_orders.specs.declared.orders.Node.{Node}
 use Rattle.moka_orders.specs.OrdersState.{OrdersState, orders_of}
-use Rattle.moka_maintenance.specs.declared.maintenance.place.Work.{Work}
-use Rattle.moka_maintenance.specs.declared.maintenance.place.Candidate.{Candidate}
-use Rattle.moka_maintenance.specs.declared.maintenance.place.Tally.{Tally}
+use Rattle.moka_engine.specs.declared.at_hand.Work.{Work}
+use Rattle.moka_engine.specs.declared.at_hand.Candidate.{Candidate}
+use Rattle.moka_engine.specs.declared.at_hand.Tally.{Tally}
 use Rattle.moka_maintenance.specs.declared.maintenance.place.Scan.{Scan}
 use Rattle.moka_maintenance.specs.declared.maintenance.place.Removal.{Removal}
 use Rattle.moka_maintenance.specs.declared.maintenance.place.Stage.TheVariants as stage
-use Rattle.moka_maintenance.specs.Held.{IsAtHand, IsScanning, IsRemoving, candidate_of, tally_of, work_of, place_of}
+use Rattle.moka_maintenance.specs.Held.{IsAtHand, IsScanning, IsRemoving, place_of}
 use Rattle.moka_maintenance.specs.Held.{first_seen, first_tickets, seen_node, next_id_if, stage_of_removal}
 use Rattle.moka_maintenance.proofs.NextLemmas.{IsNext, next_of, some_next}
 use Rattle.moka_maintenance.proofs.WalkLemmas.{drop_front}
@@ -75,22 +75,22 @@ unzero l = false_from_ne_true (suc l == 0) (λ same. let zero : suc l ≡ 0 = eq
 -- the place of a removal, with victims left or none
 pub removal_place : (work : Work) (c : Candidate) (t : Tally) (k l : ℕ) (next : Option ℕ) (nodes : List (ℕ × Node)) → k + l ≤ length nodes
     → place_of nodes (stage_of_removal work (record { candidate = c; tally = t; skipped = k; left = l; next = next }))
-    ≡ removing_or_enter (work_of work) (candidate_of c) (tally_of t) (first_tickets k nodes) (first_seen l (drop k nodes))
+    ≡ removing_or_enter work c t (first_tickets k nodes) (first_seen l (drop k nodes))
 removal_place work c t k Prim.Native.Nat.zero next nodes within = refl
 removal_place work c t k (suc l) next nodes within = by (drop k nodes) refl
   where
     by : (xs : List (ℕ × Node)) → drop k nodes ≡ xs
         → place_of nodes (stage_of_removal work (record { candidate = c; tally = t; skipped = k; left = suc l; next = next }))
-        ≡ removing_or_enter (work_of work) (candidate_of c) (tally_of t) (first_tickets k nodes) (first_seen (suc l) (drop k nodes))
+        ≡ removing_or_enter work c t (first_tickets k nodes) (first_seen (suc l) (drop k nodes))
     by [] is =
         let there = some_next nodes k (omega (arith, within)) in
         absurd (false≢true (ap is_some (sym (ap first_id is) ∙ there.1)))
     by (x ∷ xs) is =
         ap (λ b. place_of nodes (cond b (stage.Enter work c k)
         (stage.Removing work (record { candidate = c; tally = t; skipped = k; left = suc l; next = next })))) (unzero l)
-        ∙ (ap (λ seen. place.Removing (work_of work) (candidate_of c) (tally_of t) (first_tickets k nodes) seen)
+        ∙ (ap (λ seen. place.Removing work c t (first_tickets k nodes) seen)
         (ap (λ ys. map seen_node (take (suc l) ys)) is)
-        ∙ sym (ap (λ ys. removing_or_enter (work_of work) (candidate_of c) (tally_of t) (first_tickets k nodes)
+        ∙ sym (ap (λ ys. removing_or_enter work c t (first_tickets k nodes)
         (map seen_node (take (suc l) ys))) is))
 
 -- and what holds there
@@ -123,13 +123,13 @@ module _ (o : OrdersState) (work : Work) (r : Removal) (once : IsDistinct nat_eq
   pub skipped_place : (n : Node) → lookup (nat_eq id) o.nodes ≡ Some n → (next : Option ℕ)
       → place_of o.nodes (stage_of_removal work
       (record { candidate = r.candidate; tally = r.tally; skipped = r.skipped + 1; left = r.left - 1; next = next }))
-      ≡ removing_or_enter (work_of work) (candidate_of r.candidate) (tally_of r.tally) (first_tickets r.skipped o.nodes ++ n.ticket ∷ [])
+      ≡ removing_or_enter work r.candidate r.tally (first_tickets r.skipped o.nodes ++ n.ticket ∷ [])
       (drop 1 (first_seen r.left (drop r.skipped o.nodes)))
   skipped_place n found next =
       let same : next_node.x ≡ n = ap (λ p. unwrap_or p n) (sym next_node.found ∙ found) in
       let one : r.skipped + 1 ≡ suc r.skipped = omega arith in
       removal_place work r.candidate r.tally (r.skipped + 1) (r.left - 1) next o.nodes (omega (arith, s.within, some))
-      ∙ (λ i. removing_or_enter (work_of work) (candidate_of r.candidate) (tally_of r.tally)
+      ∙ (λ i. removing_or_enter work r.candidate r.tally
       ((ap (λ m. first_tickets m o.nodes) one
       ∙ (ap (map (λ (p : ℕ × Node). p.1.ticket)) (take_more o.nodes r.skipped (id, next_node.x) next_node.rest next_node.here)
       ∙ (map_push (λ (p : ℕ × Node). p.1.ticket) (take r.skipped o.nodes) (id, next_node.x)
@@ -163,11 +163,11 @@ module _ (o : OrdersState) (work : Work) (r : Removal) (once : IsDistinct nat_eq
 
     pub removed_place : (next : Option ℕ) → place_of new.nodes (stage_of_removal work
         (record { candidate = r.candidate; tally = r.tally; skipped = r.skipped; left = r.left - 1; next = next }))
-        ≡ removing_or_enter (work_of work) (candidate_of r.candidate) (tally_of r.tally) (first_tickets r.skipped o.nodes)
+        ≡ removing_or_enter work r.candidate r.tally (first_tickets r.skipped o.nodes)
         (drop 1 (first_seen r.left (drop r.skipped o.nodes)))
     removed_place next =
         removal_place work r.candidate r.tally r.skipped (r.left - 1) next new.nodes within_new
-        ∙ (λ i. removing_or_enter (work_of work) (candidate_of r.candidate) (tally_of r.tally)
+        ∙ (λ i. removing_or_enter work r.candidate r.tally
         ((ap (first_tickets r.skipped) nodes_are
         ∙ ap (map (λ (p : ℕ × Node). p.1.ticket)) (take_front o.nodes r.skipped within_old next_node.rest)) i)
         (left_seen (r.left - 1) (sym fewer) (drop r.skipped new.nodes) left_are i))

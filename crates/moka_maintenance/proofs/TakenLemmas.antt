@@ -1,12 +1,14 @@
 -- An operation that leaves its log.
-use Rattle.std.proofs.Common.{◌≡◌, ◌∙◌, ◌+◌, ◌-◌, ◌==◌, ℕ, if◌then◌else◌, Bool, true, false, List}
-use Rattle.std.proofs.Common.{[], ◌∷◌, drop, slice_get, Option, Some, None, refl, sym, ap, subst}
-use Rattle.std.proofs.lemmas.Bool.{false≢true}
+use Rattle.std.proofs.Common.{◌≡◌, ◌∙◌, ◌+◌, ◌-◌, ◌<◌, ◌≤◌, ◌==◌, ℕ, if◌then◌else◌, Bool, true, false, List}
+use Rattle.std.proofs.Common.{[], ◌∷◌, length, drop, slice_get, Option, Some, None, refl, sym, ap, subst, arith}
+use Rattle.std.specs.List.{fold}
+use Rattle.std.proofs.lemmas.Bool.{eqb-true, false≢true}
 use Rattle.moka_base.specs.Admission.{is_within}
 use Rattle.moka_base.specs.Settings.{Settings}
 use Rattle.moka_sketch.specs.Sketch.{estimate}
 use Rattle.moka_engine.specs.declared.entry.EntryChange.{EntryChange}
 use Rattle.moka_engine.specs.EntryChange.{change_of}
+use Rattle.moka_engine.specs.declared.operation.Read.{Read}
 use Rattle.moka_engine.specs.declared.operation.Write.TheVariants.{Remove, Upsert}
 use Rattle.moka_engine.specs.declared.ticket.Ticket.{Ticket}
 use Rattle.moka_engine.specs.CoreState.{Maintenance}
@@ -14,17 +16,17 @@ use Rattle.moka_engine.specs.Entry.{Entry}
 use Rattle.moka_engine.specs.Orders.{charge_of, charged_weight}
 use Rattle.moka_engine.specs.Parts.{TurnsAlone, TurnsAtEntry}
 use Rattle.moka_engine.specs.Place as place
-use Rattle.moka_engine.specs.Place.{Place, Work, is_idle}
+use Rattle.moka_engine.specs.declared.at_hand.Work.{Work}
+use Rattle.moka_engine.specs.Place.{Place, is_idle}
 use Rattle.moka_engine.specs.Turn.Apply.{after_entry, after_first_upsert, after_present_upsert}
 use Rattle.moka_engine.specs.Turn.Apply.{after_refusal, after_removal, after_upsert, no_tally}
-use Rattle.moka_engine.specs.Turn.Plan.{Alone, Outcome, Stays, gone_to, outcome, writes_or_on}
+use Rattle.moka_engine.specs.Turn.Plan.{Alone, Outcome, Stays, gone_to, outcome, reads_or_on, writes_or_on}
 use Rattle.moka_engine.specs.Turn.Turn.{turn_at}
 use Rattle.moka_orders.specs.declared.orders.Node.{Node}
 use Rattle.moka_maintenance.specs.declared.maintenance.place.Stage.{Stage}
 use Rattle.moka_maintenance.specs.declared.maintenance.place.Stage.TheVariants as stage
-use Rattle.moka_maintenance.specs.declared.maintenance.place.Work as stage_work
 use Rattle.moka_maintenance.specs.Held.{place_of}
-use Rattle.moka_maintenance.specs.Taken.{IsTaken, having_taken_write, place_with_write}
+use Rattle.moka_maintenance.specs.Taken.{IsTaken, counted, having_applied, having_taken_write, place_with_write, used_by}
 
 -- the first one is taken, if there is one
 pub taken : {X : Type 0} (Takes : Type 0) → Takes → (old new : List X) (operation : Option X) → operation ≡ slice_get old 0
@@ -114,10 +116,30 @@ is_writes (place.Writes work) = true
 is_writes other = false
 
 -- no write is taken at another stage
-pub takes_no_write : (nodes : List (ℕ × Node)) (s : Stage) → ((work : stage_work.Work) → s ≡ stage.Writes work → ⊥) → (work : Work)
+pub takes_no_write : (nodes : List (ℕ × Node)) (s : Stage) → ((work : Work) → s ≡ stage.Writes work → ⊥) → (work : Work)
     → place_of nodes s ≡ place.Writes work → ⊥
 takes_no_write nodes s other work is = false≢true (sym (by s other) ∙ ap is_writes is)
   where
-    by : (s : Stage) → ((work : stage_work.Work) → s ≡ stage.Writes work → ⊥) → is_writes (place_of nodes s) ≡ false
+    by : (s : Stage) → ((work : Work) → s ≡ stage.Writes work → ⊥) → is_writes (place_of nodes s) ≡ false
     by (stage.Writes work) other = absurd (other work refl)
     by s other = refl
+
+-- ---- reads that are applied together
+
+-- a round goes on while reads of it are left
+pub reads_on : (work : Work) → 0 < work.left → reads_or_on work ≡ place.Reads work
+reads_on work some = by (work.left == 0) refl
+  where
+    by : (none : Bool) → (work.left == 0) ≡ none → (if none then place.WriteCount work.round else place.Reads work) ≡ place.Reads work
+    by true none = absurd (omega (arith, eqb-true work.left 0 none, some))
+    by false other = refl
+
+-- one read, and then others
+pub applied_later : (work : Work) (read : Read) (later : List Read) (m : Maintenance) → length (read ∷ later) ≤ work.left
+    → having_applied (record work { left = work.left - 1 }) later (having_applied work (read ∷ []) m) ≡ having_applied work (read ∷ later) m
+applied_later work read later m left =
+    ap (λ n. record m {
+      orders = fold used_by m.orders (read ∷ later);
+      sketch = fold counted m.sketch (read ∷ later);
+      place = reads_or_on (record work { left = n });
+    }) (omega (arith, left))

@@ -1,7 +1,7 @@
 -- A walk from the front of the order of use on, in which absent nodes go to the back.
-use Rattle.std.proofs.Common.{◌≡◌, ◌<◌, ◌≤◌, ◌+◌, ℕ, suc, Bool, true, false, cond, not}
+use Rattle.std.proofs.Common.{◌≡◌, ◌<◌, ◌≤◌, ◌+◌, ℕ, suc, true, false, cond, not}
 use Rattle.std.proofs.Common.{nat_eq, List, [], ◌∷◌, ◌++◌, map, take, drop, length, Option}
-use Rattle.std.proofs.Common.{Some, None, is_some, unwrap_or, refl, sym, ap, ◌∙◌, subst, arith, filter, append_assoc, inl, inr}
+use Rattle.std.proofs.Common.{Some, None, is_some, refl, sym, ap, ◌∙◌, subst, arith, append_assoc, inl, inr}
 use Rattle.std.proofs.lemmas.Bool.{cases_Bool, cond-true, cond-false, false≢true}
 use Rattle.std.proofs.lemmas.List.{take-append-le, length_push}
 use Rattle.std.specs.List.{IsDistinct}

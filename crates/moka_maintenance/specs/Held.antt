@@ -17,9 +17,8 @@ use Rattle.moka_engine.specs.Turn.Admission.{after_removing, after_scan, next_se
 use Rattle.moka_engine.specs.Turn.Apply.{no_tally}
 use Rattle.moka_orders.specs.declared.orders.Node.{Node}
 use Rattle.moka_orders.specs.OrdersState.{OrdersState, orders_of}
-use Rattle.moka_maintenance.specs.declared.maintenance.place.Work.{Work}
-use Rattle.moka_maintenance.specs.declared.maintenance.place.Candidate.{Candidate}
-use Rattle.moka_maintenance.specs.declared.maintenance.place.Tally.{Tally}
+use Rattle.moka_engine.specs.declared.at_hand.Work.{Work}
+use Rattle.moka_engine.specs.declared.at_hand.Candidate.{Candidate}
 use Rattle.moka_maintenance.specs.declared.maintenance.place.Scan.{Scan}
 use Rattle.moka_maintenance.specs.declared.maintenance.place.Removal.{Removal}
 use Rattle.moka_maintenance.specs.declared.maintenance.place.Stage.{Stage}
@@ -33,19 +32,7 @@ pub record Held : Type 0 where
   pub moment : ℕ
   pub published : Published
 
--- what the steps see of a part of a round
-abbrev pub work_of : Work → place.Work
-work_of work = record { round = work.round; left = work.left }
-
--- of a candidate
-abbrev pub candidate_of : Candidate → place.Candidate
-candidate_of c = record { ticket = c.ticket; weight = c.weight; estimate = c.estimate }
-
--- of what a scan has found
-abbrev pub tally_of : Tally → place.Tally
-tally_of t = record { weight = t.weight; estimate = t.estimate; absent = t.absent }
-
--- of a node that a scan has looked at
+-- what the steps see of a node that a scan has looked at
 abbrev pub seen_node : ℕ × Node → Seen
 seen_node p = record { ticket = p.1.ticket; is_present = p.1.is_present }
 
@@ -61,17 +48,17 @@ first_tickets count nodes = map (λ p. p.1.ticket) (take count nodes)
 abbrev pub place_of : List (ℕ × Node) → Stage → Place
 place_of nodes stage.Idle = place.Idle
 place_of nodes (stage.ReadCount round) = place.ReadCount round
-place_of nodes (stage.Reads work) = place.Reads (work_of work)
-place_of nodes (stage.ReadApply work read) = place.ReadApply (work_of work) read
+place_of nodes (stage.Reads work) = place.Reads work
+place_of nodes (stage.ReadApply work read) = place.ReadApply work read
 place_of nodes (stage.WriteCount round) = place.WriteCount round
-place_of nodes (stage.Writes work) = place.Writes (work_of work)
-place_of nodes (stage.Apply work write) = place.Apply (work_of work) write
+place_of nodes (stage.Writes work) = place.Writes work
+place_of nodes (stage.Apply work write) = place.Apply work write
 place_of nodes (stage.Scanning work scan) =
-    place.Scan (work_of work) (candidate_of scan.candidate) (tally_of scan.tally) (first_seen scan.seen nodes)
+    place.Scan work scan.candidate scan.tally (first_seen scan.seen nodes)
 place_of nodes (stage.Removing work removal) =
-    place.Removing (work_of work) (candidate_of removal.candidate) (tally_of removal.tally) (first_tickets removal.skipped nodes)
+    place.Removing work removal.candidate removal.tally (first_tickets removal.skipped nodes)
     (first_seen removal.left (drop removal.skipped nodes))
-place_of nodes (stage.Enter work candidate skipped) = place.Enter (work_of work) (candidate_of candidate) (first_tickets skipped nodes)
+place_of nodes (stage.Enter work candidate skipped) = place.Enter work candidate (first_tickets skipped nodes)
 place_of nodes (stage.Sketch round) = place.Sketch round
 place_of nodes (stage.MoreReads round) = place.MoreReads round
 place_of nodes (stage.MoreWrites round) = place.MoreWrites round
@@ -95,7 +82,7 @@ abbrev pub outcome_of : {K V : Type 0} → EntryChange → Held → Outcome K V
 outcome_of change held = record { change = change_of change; maintenance = maintenance_of held }
 
 -- a scan that has looked at nothing
-abbrev pub scan_begun : place.Work → Ticket → ℕ → Option Table → Place
+abbrev pub scan_begun : Work → Ticket → ℕ → Option Table → Place
 scan_begun work t weight sketch =
     place.Scan work (record { ticket = t; weight = weight; estimate = estimate sketch t.hash }) no_tally []
 
@@ -157,13 +144,13 @@ module _ {K V : Type 0} where
   abbrev pub scan_plan : Work → Scan → Held → Plan K V
   scan_plan work scan held =
       let seen = first_seen scan.seen held.orders.nodes in
-      after_scan (work_of work) (candidate_of scan.candidate) (tally_of scan.tally) seen
-      (next_seen (candidate_of scan.candidate) (tally_of scan.tally) seen (orders_of held.orders)) (maintenance_of held)
+      after_scan work scan.candidate scan.tally seen
+      (next_seen scan.candidate scan.tally seen (orders_of held.orders)) (maintenance_of held)
 
   -- what the removals plan to do
   abbrev pub removal_plan : Work → Removal → Held → Plan K V
   removal_plan work removal held =
-      after_removing (work_of work) (candidate_of removal.candidate) (tally_of removal.tally)
+      after_removing work removal.candidate removal.tally
       (first_tickets removal.skipped held.orders.nodes)
       (first_seen removal.left (drop removal.skipped held.orders.nodes)) (maintenance_of held)
 

@@ -1,6 +1,6 @@
 -- Operations that leave their log and are applied at once, with no stage between: a write by its two turns,
 -- and reads by the turns of all of them.
-use Rattle.std.specs.Prelude.{◌≡◌, ◌-◌, ℕ, List, [], ◌∷◌, length, map, Option, None, Some}
+use Rattle.std.specs.Prelude.{◌≡◌, ◌-◌, ℕ, List, [], ◌∷◌, length, Option, None, Some}
 use Rattle.std.specs.List.{fold}
 use Rattle.moka_sketch.specs.Sketch.{Table, after_increment}
 use Rattle.moka_engine.specs.declared.operation.Read.{Read}
@@ -8,10 +8,12 @@ use Rattle.moka_engine.specs.declared.operation.Read.TheVariants.{Hit, Miss}
 use Rattle.moka_engine.specs.declared.operation.Write.{Write}
 use Rattle.moka_engine.specs.CoreState.{Maintenance}
 use Rattle.moka_engine.specs.Place as place
-use Rattle.moka_engine.specs.Place.{Candidate, Place, Seen, Tally, Work}
+use Rattle.moka_engine.specs.declared.at_hand.Candidate.{Candidate}
+use Rattle.moka_engine.specs.declared.at_hand.Tally.{Tally}
+use Rattle.moka_engine.specs.declared.at_hand.Work.{Work}
+use Rattle.moka_engine.specs.Place.{Place, Seen}
 use Rattle.moka_engine.specs.Orders.{Orders, used}
 use Rattle.moka_engine.specs.Turn.Plan.{gone_to, reads_or_on}
-use Rattle.moka_maintenance.specs.declared.logs.LoggedRead.{LoggedRead}
 
 -- its next turn is to take a read
 abbrev pub TakesRead : Maintenance → Type 0
@@ -60,10 +62,6 @@ writes_left (place.Scan work c tally seen) = work.left
 writes_left (place.Removing work c tally skipped seen) = work.left
 writes_left (place.Enter work c skipped) = work.left
 writes_left other = 0
-
--- the reads among what is logged of them
-abbrev pub reads_of : List LoggedRead → List Read
-reads_of logged = map (λ l. l.read) logged
 
 -- the hash that a read counts
 abbrev pub hash_of_read : Read → ℕ

@@ -11,7 +11,8 @@ ghost use Rattle.moka_engine.specs.Entry.{Entry as EntryState};
 ghost use Rattle.moka_engine.specs.declared.operation.Write.TheVariants.{Remove, Upsert};
 ghost use Rattle.moka_maintenance.specs.Need.{need_at_front, need_named, need_to_read, need_to_write};
 ghost use Rattle.moka_maintenance.specs.Published.{published_of};
-ghost use Rattle.moka_maintenance.specs.Taken.{AppliesReads, IsScan, IsTaken, TakesRead, TakesWrite, having_taken_write, reads_left, reads_of, writes_left};
+ghost use Rattle.moka_logs.specs.LoggedReads.{reads_of};
+ghost use Rattle.moka_maintenance.specs.Taken.{AppliesReads, IsScan, IsTaken, TakesRead, TakesWrite, having_taken_write, reads_left, writes_left};
 
 mod admission;
 mod eviction;
@@ -24,7 +25,6 @@ mod sketch;
 mod state;
 mod writes;
 
-use crate::logs::{LoggedRead, ReadLog, WriteLog};
 use crate::maintenance::place::Stage;
 use crate::maintenance::state::State;
 use moka_base::time::Instant;
@@ -33,6 +33,7 @@ use moka_engine::operation::{Read, Write};
 use moka_engine::place::Place;
 use moka_engine::settings::Settings;
 use moka_engine::ticket::Ticket;
+use moka_logs::logs::{LoggedRead, ReadLog, WriteLog};
 use moka_orders::orders::Orders;
 use moka_sketch::frequency_sketch::FrequencySketch;
 pub use publish::Published;

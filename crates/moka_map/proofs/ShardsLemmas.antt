@@ -1,6 +1,6 @@
 -- The shards of the map: each has its number, and a key's entry stands in the shard that its hash belongs to.
 use Rattle.std.proofs.Common.{◌≡◌, ◌≢◌, ℕ, suc, ◌+◌, ◌<◌, true, false, List, [], ◌∷◌}
-use Rattle.std.proofs.Common.{◌++◌, length, map, get_or, Option, Some, None, refl, sym}
+use Rattle.std.proofs.Common.{◌++◌, length, map, get_or, Some, None, refl, sym}
 use Rattle.std.proofs.Common.{◌∙◌, ap, subst, arith, inl, inr, add-zero, zero-add, lit<, append_assoc, replicate}
 use Rattle.std.proofs.Math.ListN.{set}
 use Rattle.std.specs.Cmp.{IsEquivalence}

@@ -1,11 +1,11 @@
 -- What each change of the chain and the deque is to a contract of the orders.
-use Rattle.std.proofs.Common.{◌≡◌, ◌<◌, ◌≤◌, ◌^◌, ◌+◌, ◌-◌, ℕ, suc, Bool, true, false}
+use Rattle.std.proofs.Common.{◌≡◌, ◌+◌, ◌-◌, ℕ, Bool, true, false}
 use Rattle.std.proofs.Common.{nat_eq, List, [], ◌∷◌, ◌++◌, length, Option, Some, None}
 use Rattle.std.proofs.Common.{is_some, refl, sym, ap, ◌∙◌, arith, subst}
 use Rattle.std.proofs.lemmas.Bool.{false≢true}
 use Rattle.std.proofs.lemmas.List.{length_push}
 use Rattle.std.proofs.lemmas.Map.{length-set_value}
-use Rattle.std.specs.Map.{lookup, remove_entry, set_value, keys_of, values_of}
+use Rattle.std.specs.Map.{lookup, remove_entry, set_value, values_of}
 use Rattle.moka_deque.specs.Deque.{Deque, IsIn, moved_to_back, after_move_to_back, after_move_front_to_back}
 use Rattle.moka_deque.proofs.DequeLemmas.{length-remove, lookup-set}
 use Rattle.moka_engine.specs.declared.ticket.Ticket.{Ticket}
@@ -13,11 +13,11 @@ use Rattle.moka_engine.specs.Orders.{charge_of, used, rewritten, recharged, with
 use Rattle.moka_index.specs.HashIndex.{HashIndex}
 use Rattle.moka_orders.specs.declared.orders.Node.{Node}
 use Rattle.moka_orders.specs.Indexed.{IsIndexed}
-use Rattle.moka_orders.specs.Kept.{IsKept, room_of, room_after, with_write_last, without_write}
+use Rattle.moka_orders.specs.Kept.{IsKept, room_of, with_write_last, without_write}
 use Rattle.moka_orders.specs.OrdersState.{OrdersState, IsNodeOf, orders_of, access_of, charged}
 use Rattle.moka_deque.proofs.IdLemmas.{lookup-rewritten, moved-found}
 use Rattle.moka_orders.proofs.IndexLemmas.{IsIndexed-rewrite}
-use Rattle.moka_orders.proofs.KeptLemmas.{IsKept-moved, IsKept-set, IsKept-rewritten, access-moved, access-set, access-same, access-removed}
+use Rattle.moka_orders.proofs.KeptLemmas.{IsKept-rewritten, access-moved, access-set, access-same, access-removed}
 use Rattle.moka_orders.proofs.KeptLemmas.{charge_found, written-moved, written-removed}
 use Rattle.moka_orders.proofs.TicketsLemmas.{seen-push}
 

@@ -1,6 +1,6 @@
 -- A call that is made by a rule of weights is made by a wider one.
 use Rattle.std.proofs.Common.{◌≡◌, ◌<◌, ◌+◌, arith, slice_index, slice_set, sum_by, get_or, ℕ, Bool, true, false, List}
-use Rattle.std.proofs.Common.{[], ◌∷◌, ◌++◌, Some, None, Result, Ok, length, refl, sym, ap, ◌∙◌, subst, inl, inr}
+use Rattle.std.proofs.Common.{Some, None, Ok, length, ap, ◌∙◌, inl, inr}
 use Rattle.std.proofs.lemmas.List.{length-append}
 use Rattle.std.proofs.lemmas.List.Sums.{sum_by-set}
 use Rattle.moka_base.specs.Keys.{Keys}
@@ -17,8 +17,7 @@ use Rattle.moka_engine.specs.Reply.{Reply}
 use Rattle.moka_engine.specs.Run.{Happens, IsWeighed}
 use Rattle.moka_engine.specs.WholeCall as whole
 use Rattle.moka_engine.specs.WholeCall.{LastTurn, NextTurn, Pushed, WasFull}
-use Rattle.moka_record.specs.declared.record.NotRecorded.{NotRecorded}
-use Rattle.moka_record.specs.Record.{IsApplied, Makes, Memory, RecordState}
+use Rattle.moka_record.specs.Record.{IsApplied, Memory, RecordState}
 use Rattle.moka_record.specs.Replay.{Replays}
 use Rattle.moka_record.proofs.RecordLemmas.{Replays-push}
 

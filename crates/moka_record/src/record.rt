@@ -35,7 +35,6 @@ pub struct Made<K: Drop, V: Drop, A: Allocator + Drop = Global> {
 }
 
 /// A cache with the calls that were made on it, in their order.
-#[derive(Drop)]
 pub struct Record<
     K: Eq + Hash + Drop,
     V: Drop,
@@ -46,6 +45,18 @@ pub struct Record<
     core: Core<K, V, S, W, A>,
     first_ticket: u64,
     calls: Vec<Made<K, V, A>, A>,
+}
+
+// By hand, and not derived: wherever a record may end, there is one call to prove then, in place of one for each of its parts.
+impl<K: Eq + Hash + Drop, V: Drop, S: BuildHasher + Drop, W: Drop, A: Allocator + Clone + Drop> Drop
+    for Record<K, V, S, W, A> {
+    fn drop(self) {
+        let Record {
+            core: _,
+            first_ticket: _,
+            calls: _,
+        } = self;
+    }
 }
 
 impl<

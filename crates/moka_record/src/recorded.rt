@@ -25,7 +25,6 @@ use std::sync::{Mutex, Wait};
 /// A caller has a pass, which counts its calls. The cache is closed with all of them, so that no call is left out of the record unseen.
 ///
 /// All calls go through one lock. It is for audits and tests, where what a cache did is to be known afterwards.
-#[derive(Drop)]
 pub struct Recorded<
     K: Eq + Hash + Drop,
     V: Drop,
@@ -35,6 +34,20 @@ pub struct Recorded<
     A: Allocator + Clone + Drop = Global,
 > {
     counted: Mutex<Counted<K, V, S, W, Q, A>>,
+}
+
+// By hand, and not derived: wherever a recording cache may end, there is one call to prove then.
+impl<
+    K: Eq + Hash + Drop,
+    V: Drop,
+    S: BuildHasher + Drop,
+    W: Drop,
+    Q: WeightRule<K, V>,
+    A: Allocator + Clone + Drop,
+> Drop for Recorded<K, V, S, W, Q, A> {
+    fn drop(self) {
+        let Recorded { counted: _ } = self;
+    }
 }
 
 impl<
@@ -92,7 +105,8 @@ impl<
         ensures replays { IfOk result (λ kept. Replays (keys_by K.Hash S.BuildHasher S.Hasher.Hasher) Q.weighs kept.state) }
         ensures made { IfOk result (λ kept. length kept.state.calls ≡ made_by passes.items) }
     {
-        self.counted.into_inner().close(&passes)
+        let Recorded { counted } = self;
+        counted.into_inner().close(&passes)
     }
 }
 

@@ -6,7 +6,7 @@ use Rattle.moka_base.specs.Policy.{Policy}
 use Rattle.moka_base.specs.Settings.{duration_fault, idle_nanos, live_nanos}
 use Rattle.moka_engine.specs.declared.constants.TheConstants.{WRITE_LOG_SIZE}
 use Rattle.moka_engine.specs.CoreState.{new_core}
-use Rattle.moka_core.specs.declared.engine.CoreParts.{CoreParts}
+use Rattle.moka_engine.specs.declared.settings.CoreParts.{CoreParts}
 use Rattle.moka_core.specs.Core.{Core}
 
 -- the limits, for how many entries there is room from the start, and the weigher, if one was given

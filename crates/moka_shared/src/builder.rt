@@ -12,10 +12,11 @@ use moka_base::hash::FixedState;
 use moka_base::policy::Policy;
 use moka_base::settings::duration_fault;
 use moka_base::weigh::UnitWeight;
-use moka_core::engine::{Core, CoreParts};
+use moka_behind::rule::{AnyPair, PairRule};
+use moka_core::engine::Core;
 use moka_engine::constants::{SHARDS, WRITE_LOG_SIZE};
+use moka_engine::settings::CoreParts;
 use moka_engine::weigh::WeighShared;
-use moka_locks::rule::{AnyPair, PairRule};
 use moka_published::counts::{CountPass, Publisher};
 use std::alloc::{Allocator, Global};
 use std::hash::{BuildHasher, Hash};
@@ -104,12 +105,10 @@ impl<K, V, W: Drop, A: Allocator + Clone + Drop, P> CacheBuilder<K, V, W, A, P> 
     pub fn max_capacity(self, max_capacity: u64) -> Self
         ensures { result ≡ record self { policy = record self.policy { max_capacity = Some max_capacity } } }
     {
-        let policy = Policy::new(
-            Some(max_capacity),
-            self.policy.time_to_live(),
-            self.policy.time_to_idle(),
-        );
-        CacheBuilder { policy, ..self }
+        CacheBuilder {
+            policy: self.policy.with_max_capacity(max_capacity),
+            ..self
+        }
     }
 
     /// For how many entries the cache has room from the start, with as many more as a log holds, in equal parts for its shards. More are found room for
@@ -127,24 +126,20 @@ impl<K, V, W: Drop, A: Allocator + Clone + Drop, P> CacheBuilder<K, V, W, A, P> 
     pub fn time_to_live(self, time_to_live: Duration) -> Self
         ensures { result ≡ record self { policy = record self.policy { time_to_live = Some time_to_live } } }
     {
-        let policy = Policy::new(
-            self.policy.max_capacity(),
-            Some(time_to_live),
-            self.policy.time_to_idle(),
-        );
-        CacheBuilder { policy, ..self }
+        CacheBuilder {
+            policy: self.policy.with_time_to_live(time_to_live),
+            ..self
+        }
     }
 
     /// How long an entry lives after it was last read or written.
     pub fn time_to_idle(self, time_to_idle: Duration) -> Self
         ensures { result ≡ record self { policy = record self.policy { time_to_idle = Some time_to_idle } } }
     {
-        let policy = Policy::new(
-            self.policy.max_capacity(),
-            self.policy.time_to_live(),
-            Some(time_to_idle),
-        );
-        CacheBuilder { policy, ..self }
+        CacheBuilder {
+            policy: self.policy.with_time_to_idle(time_to_idle),
+            ..self
+        }
     }
 
     /// What says how much an entry weighs: a closure, or a type with an impl of `WeighShared`. It is asked behind the lock of the

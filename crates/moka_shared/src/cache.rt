@@ -1,7 +1,7 @@
 //! The cache that threads share.
 ghost use Rattle.std.specs.Prelude.{◌≡◌, ◌∷◌, [], ℕ, List, None, Some, map, IfErr, IfOk, IfSome};
 ghost use Rattle.std.specs.List.{IsDistinct};
-ghost use Rattle.moka_locks.specs.Rule.{PairsMeet};
+ghost use Rattle.moka_behind.specs.Rule.{PairsMeet};
 ghost use Rattle.moka_engine.specs.declared.constants.TheConstants.{CALLER};
 ghost use Rattle.moka_engine.specs.WholeCall.{CallsContains, CallsInsert, CallsInvalidate, CallsInvalidateAll, CallsSync};
 ghost use Rattle.moka_engine.specs.declared.event.Reply.TheVariants as reply;
@@ -20,12 +20,12 @@ use moka_base::policy::Policy;
 use moka_base::shared::Shared;
 use moka_base::time::Instant;
 use moka_base::weigh::UnitWeight;
-use moka_core::engine::CoreParts;
+use moka_behind::rule::{AnyPair, PairRule};
 use moka_engine::constants::SHARDS;
+use moka_engine::settings::CoreParts;
 use moka_engine::weigh::WeighShared;
 use moka_locks::inner::Inner;
 use moka_locks::locked::Locked;
-use moka_locks::rule::{AnyPair, PairRule};
 use moka_published::counts::{CountPass, Publisher};
 use moka_published::rule::Published;
 use moka_steps::steps;
@@ -80,7 +80,6 @@ use std::sync::Wait;
 ///
 /// Moments are handed in, and calls that wait take the runtime. Want of memory is a named refusal. Entries have tickets, so that a late operation acts on
 /// the entry that it meant. `iter` takes a snapshot and holds no lock when it comes out. There is no `Debug` of the cache itself, which would wait.
-#[derive(Drop)]
 pub struct Cache<
     K: Eq + Hash + Drop,
     V: Drop,
@@ -90,6 +89,20 @@ pub struct Cache<
     A: Allocator + Clone + Drop = Global,
 > {
     inner: Shared<Inner<K, V, S, P, W, A>, A>,
+}
+
+// By hand, and not derived: wherever a cache may end, there is one call to prove then, in place of one for each of its parts.
+impl<
+    K: Eq + Hash + Drop,
+    V: Drop,
+    S: BuildHasher + Drop,
+    P: PairRule<K, V>,
+    W: Drop,
+    A: Allocator + Clone + Drop,
+> Drop for Cache<K, V, S, P, W, A> {
+    fn drop(self) {
+        let Cache { inner: _ } = self;
+    }
 }
 
 impl<

@@ -1,3 +1,1 @@
 pub mod StepsLemmas
-pub mod CoreCallerLemmas
-pub mod CallerLemmas

@@ -7,6 +7,8 @@ use Rattle.moka_engine.specs.declared.constants.TheConstants.{CALLER}
 use Rattle.moka_engine.specs.declared.event.Event.{Event}
 use Rattle.moka_engine.specs.declared.event.Event.TheVariants.{Turn}
 use Rattle.moka_engine.specs.declared.event.Reply.TheVariants.{At, Done, Found, Discarded, NotPossible, OutOfMemory, TicketsUsedUp}
+use Rattle.moka_engine.specs.declared.operation.Operation.{Operation}
+use Rattle.moka_engine.specs.declared.operation.Operation.TheVariants.{Reading, Writing}
 use Rattle.moka_engine.specs.declared.place.Place.{Place as PlaceName}
 use Rattle.moka_engine.specs.declared.place.Place.TheVariants as name
 use Rattle.moka_engine.specs.Reply.{Reply}
@@ -40,6 +42,12 @@ at_rest = pends Nothing
 -- the same caller, which runs a maintenance or doesn't
 abbrev pub maintaining : Bool → Caller → Caller
 maintaining runs caller = record caller { is_maintaining = runs }
+
+-- whether an operation is a read or a write
+abbrev pub kind_of : Option Operation → Pending
+kind_of None = Nothing
+kind_of (Some (Reading read)) = ARead
+kind_of (Some (Writing write)) = AWrite
 
 -- whether a caller has anything pending
 abbrev pub has_operation : Pending → Bool

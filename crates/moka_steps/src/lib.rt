@@ -1,5 +1,4 @@
 //! Whole calls over any cache that takes their atomic steps.
 #![tactic(auto)]
 
-pub mod step_laws;
 pub mod steps;

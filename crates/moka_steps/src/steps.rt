@@ -8,8 +8,6 @@ ghost use Rattle.moka_steps.specs.Steps.{ARead, AWrite, AnswersGet, Caller, Take
 ghost use Rattle.moka_steps.specs.Steps.{insert_reply, left_by_get, left_by_insert, left_by_invalidate, left_by_push};
 ghost use Rattle.moka_steps.specs.Steps.{log_of, maintaining, pends, pends_by, read_reply, write_reply};
 
-mod engine;
-
 use moka_base::error::{InsertError, OutOfMemory};
 use moka_base::shared::Shared;
 use moka_base::time::Instant;

@@ -3,8 +3,8 @@ use Rattle.std.proofs.Common.{◌≡◌, ℕ, Bool, true, false, nat_eq, List, [
 use Rattle.std.proofs.Common.{is_some, option_map, unwrap_or, refl, sym, ap, ◌∙◌, inl, inr, subst}
 use Rattle.std.proofs.lemmas.Bool.{cases_Bool, cond-true, cond-false, false≢true}
 use Rattle.std.specs.Cmp.{IsEquivalence}
-use Rattle.std.specs.List.{IsDistinct, AllByRecursion, filter_map}
-use Rattle.std.specs.Map.{lookup, remove_entry, set_value, keys_of, values_of}
+use Rattle.std.specs.List.{AllByRecursion}
+use Rattle.std.specs.Map.{lookup, remove_entry, set_value, values_of}
 use Rattle.moka_deque.specs.Deque.{IsIn, first_id, moved_to_back}
 use Rattle.moka_machine.specs.declared.entry.Entry.{Entry}
 use Rattle.moka_store.specs.declared.deques.Node.{Node}

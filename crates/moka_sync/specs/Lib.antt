@@ -24,13 +24,14 @@ pub use Rattle.moka_engine_laws.specs.Weights
 pub use Rattle.moka_engine_laws.specs.CallLaws
 pub use Rattle.moka_core.specs.Core
 pub use Rattle.moka_shared.specs.Builder
-pub use Rattle.moka_locks.specs.Rule
+pub use Rattle.moka_behind.specs.Rule
 pub use Rattle.moka_locks.specs.Cache
 pub use Rattle.moka_locks.specs.Locked
 pub use Rattle.moka_locks.specs.Snapshot
 pub use Rattle.moka_locks.specs.MaintenanceTurn
+pub use Rattle.moka_behind.specs.LockedTurn
 pub use Rattle.moka_steps.specs.Steps
-pub use Rattle.moka_steps.specs.CoreCaller
-pub use Rattle.moka_steps.specs.StepLaws
+pub use Rattle.moka_core.specs.CoreCaller
+pub use Rattle.moka_core.specs.StepLaws
 pub use Rattle.moka_published.specs.Log
 pub use Rattle.moka_published.specs.Counts

@@ -4,8 +4,10 @@
 pub mod counts;
 pub mod engine;
 
+pub use moka_behind::rule;
+pub use moka_core::step_laws;
 pub use moka_engine::constants;
 pub use moka_engine_laws::laws;
-pub use moka_locks::{housekeeper, rule};
+pub use moka_locks::housekeeper;
 pub use moka_shared::{builder, cache, iter, mapref};
-pub use moka_steps::{step_laws, steps};
+pub use moka_steps::steps;

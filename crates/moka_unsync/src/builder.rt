@@ -81,12 +81,10 @@ impl<K, V, W: Drop, A: Allocator + Clone + Drop> CacheBuilder<K, V, W, A> {
     pub fn max_capacity(self, max_capacity: u64) -> Self
         ensures { result ≡ record self { policy = record self.policy { max_capacity = Some max_capacity } } }
     {
-        let policy = Policy::new(
-            Some(max_capacity),
-            self.policy.time_to_live(),
-            self.policy.time_to_idle(),
-        );
-        CacheBuilder { policy, ..self }
+        CacheBuilder {
+            policy: self.policy.with_max_capacity(max_capacity),
+            ..self
+        }
     }
 
     /// For how many entries the cache has room from the start: while it has fewer, no insert is refused. More are found room for as they come. Without
@@ -104,24 +102,20 @@ impl<K, V, W: Drop, A: Allocator + Clone + Drop> CacheBuilder<K, V, W, A> {
     pub fn time_to_live(self, time_to_live: Duration) -> Self
         ensures { result ≡ record self { policy = record self.policy { time_to_live = Some time_to_live } } }
     {
-        let policy = Policy::new(
-            self.policy.max_capacity(),
-            Some(time_to_live),
-            self.policy.time_to_idle(),
-        );
-        CacheBuilder { policy, ..self }
+        CacheBuilder {
+            policy: self.policy.with_time_to_live(time_to_live),
+            ..self
+        }
     }
 
     /// How long an entry lives after it was last read or written.
     pub fn time_to_idle(self, time_to_idle: Duration) -> Self
         ensures { result ≡ record self { policy = record self.policy { time_to_idle = Some time_to_idle } } }
     {
-        let policy = Policy::new(
-            self.policy.max_capacity(),
-            self.policy.time_to_live(),
-            Some(time_to_idle),
-        );
-        CacheBuilder { policy, ..self }
+        CacheBuilder {
+            policy: self.policy.with_time_to_idle(time_to_idle),
+            ..self
+        }
     }
 
     /// What says how much an entry weighs: a closure, or a type with an impl of `Weigh`. It is asked once for each insert that has its room.

@@ -1,8 +1,9 @@
 //! The cache for one thread.
-ghost use Rattle.std.specs.Prelude.{◌≡◌, ◌<◌, ◌≤◌, ◌-◌, ◌^◌, Bool, List, false, length, min, None, Some, option_copied, IfErr, IfOk, OnErr, OnOk};
+ghost use Rattle.std.specs.Prelude.{◌≡◌, ◌<◌, ◌≤◌, ◌-◌, ◌^◌, Bool, List, [], false, length, min, None, Some, option_copied, IfErr, IfOk, OnErr, OnOk};
 ghost use Rattle.std.specs.Borrow.{sem};
 ghost use Rattle.moka_base.specs.Keys.{keys_by};
 ghost use Rattle.moka_sketch.specs.Enabling.{enables_sketch, expected_entries};
+ghost use Rattle.moka_base.specs.Settings.{keeps_writes};
 ghost use Rattle.moka_unsync.specs.Builder.{new_builder};
 ghost use Rattle.moka_machine.specs.CacheState.{new_cache};
 ghost use Rattle.moka_machine.specs.Contents.{total_weight, weighted_size};
@@ -191,12 +192,10 @@ impl<
             parts.weigher cache.capacity) }
         ensures room { IfOk result (λ cache. parts.initial_capacity ≤ cache.capacity) }
     {
-        let limits = Limits::new(parts.policy);
-        let mut store = Store::new(alloc.clone()?, parts.policy)?;
-        store.reserve(parts.initial_capacity, 0)?;
+        let store = empty_store(&alloc, parts.policy, parts.initial_capacity)?;
         Ok(Cache {
             hash_state: parts.hash_state,
-            limits,
+            limits: Limits::new(parts.policy),
             is_weighed: parts.is_weighed,
             weigher: parts.weigher,
             store,
@@ -401,4 +400,24 @@ impl<
         }
         Ok(())
     }
+}
+
+/// A store without entries, with room for so many.
+fn empty_store<K: Eq + Drop, V: Drop, A: Allocator + Clone + Drop>(
+    alloc: &A,
+    policy: Policy,
+    room: usize,
+) -> Result<Store<K, V, A>, OutOfMemory>
+    ensures empty { IfOk result (λ store. store ≡ record {
+      nodes = [];
+      written = [];
+      keeps_writes = keeps_writes policy;
+      capacity = store.capacity;
+      ids = store.ids;
+    }) }
+    ensures room { IfOk result (λ store. room ≤ store.capacity) }
+{
+    let mut store = Store::new(alloc.clone()?, policy)?;
+    store.reserve(room, 0)?;
+    Ok(store)
 }

@@ -11,7 +11,7 @@ ghost use Rattle.moka_deque.specs.Deque.{moved_to_back};
 ghost use Rattle.moka_deque.specs.Lends.{lends_element};
 
 use slab::Slab;
-use std::alloc::{AllocError, Allocator, Global};
+use std::alloc::{Allocator, Global};
 
 // No node.
 pub(crate) const NONE: usize = usize::MAX;

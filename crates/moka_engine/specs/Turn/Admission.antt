@@ -6,7 +6,10 @@ use Rattle.moka_engine.specs.declared.constants.TheConstants.{MAX_ABSENT}
 use Rattle.moka_engine.specs.declared.ticket.Ticket.{Ticket}
 use Rattle.moka_engine.specs.Entry.{Entry, with_upsert_done}
 use Rattle.moka_engine.specs.Orders.{Node, Orders, without_node, with_node, all_used}
-use Rattle.moka_engine.specs.Place.{Place, Work, Candidate, Seen, Tally, Scan, Removing, Enter}
+use Rattle.moka_engine.specs.declared.at_hand.Work.{Work}
+use Rattle.moka_engine.specs.declared.at_hand.Candidate.{Candidate}
+use Rattle.moka_engine.specs.declared.at_hand.Tally.{Tally}
+use Rattle.moka_engine.specs.Place.{Place, Seen, Scan, Removing, Enter}
 use Rattle.moka_engine.specs.CoreState.{Maintenance}
 use Rattle.moka_engine.specs.Turn.Plan.{Stays, Becomes, Leaves, Outcome, outcome, writes_or_on, Plan, Alone, AtEntry, gone_to}
 

@@ -5,7 +5,9 @@ use Rattle.moka_sketch.specs.Sketch.{estimate, after_increment}
 use Rattle.moka_engine.specs.declared.ticket.Ticket.{Ticket}
 use Rattle.moka_engine.specs.Entry.{Entry, touched, with_upsert_done}
 use Rattle.moka_engine.specs.Orders.{charge_of, charged_weight, without_node, with_node, used, renewed, recharged}
-use Rattle.moka_engine.specs.Place.{Work, Tally, Scan}
+use Rattle.moka_engine.specs.declared.at_hand.Work.{Work}
+use Rattle.moka_engine.specs.declared.at_hand.Tally.{Tally}
+use Rattle.moka_engine.specs.Place.{Scan}
 use Rattle.moka_base.specs.Settings.{Settings, keeps_writes}
 use Rattle.moka_engine.specs.CoreState.{Maintenance}
 use Rattle.moka_engine.specs.Turn.Plan.{Stays, Becomes, Leaves, Outcome, outcome, reads_or_on, writes_or_on}

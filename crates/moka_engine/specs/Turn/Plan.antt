@@ -6,7 +6,8 @@ use Rattle.moka_engine.specs.Entry.{Entry, entry_of}
 use Rattle.moka_engine.specs.declared.operation.Read.{Read}
 use Rattle.moka_engine.specs.declared.operation.Write.{Write}
 use Rattle.moka_engine.specs.Orders.{Orders}
-use Rattle.moka_engine.specs.Place.{Place, Work, Reads, WriteCount, Writes, Sketch}
+use Rattle.moka_engine.specs.declared.at_hand.Work.{Work}
+use Rattle.moka_engine.specs.Place.{Place, Reads, WriteCount, Writes, Sketch}
 use Rattle.moka_engine.specs.CoreState.{CoreState, Maintenance}
 
 -- what becomes of the entry that the turn looked at

@@ -11,7 +11,8 @@ use Rattle.moka_engine.specs.declared.operation.Write.{Write}
 use Rattle.moka_engine.specs.declared.operation.Write.TheVariants.{Upsert, Remove}
 use Rattle.moka_engine.specs.Orders.{Orders, charged_weight, used, rewritten}
 use Rattle.moka_engine.specs.Place as place
-use Rattle.moka_engine.specs.Place.{Place, Work}
+use Rattle.moka_engine.specs.declared.at_hand.Work.{Work}
+use Rattle.moka_engine.specs.Place.{Place}
 use Rattle.moka_engine.specs.CoreState.{CoreState, Maintenance, Published}
 use Rattle.moka_base.specs.Settings.{Settings, keeps_writes}
 use Rattle.moka_engine.specs.Turn.Plan.{Plan, Alone, AtReads, AtWrites, AtEntry, gone_to, after_plan, reads_or_on, writes_or_on}

@@ -1,15 +1,16 @@
 // The turns of a maintenance, each with the lock of what it needs.
 ghost use Rattle.std.specs.Prelude.{◌≡◌, ◌<◌, ◌≤◌, [], drop, length, slice_get, IfSome, IsNone, IsSome};
+ghost use Rattle.moka_behind.specs.LockedTurn.{IsTurn};
 ghost use Rattle.moka_locks.specs.MaintenanceTurn.{AreTurns, empty_handed};
 ghost use Rattle.moka_maintenance.specs.Taken.{TakesRead, TakesWrite, writes_left};
 
 use crate::inner::Inner;
-use crate::rule::PairRule;
-use crate::waiting::lock;
+use moka_behind::rule::PairRule;
+use moka_behind::waiting::lock;
 use moka_engine::operation::{Read, Write};
-use moka_maintenance::logs::{LoggedRead, NO_READ, READS_AT_ONCE};
+use moka_logs::logs::{LoggedRead, NO_READ, READS_AT_ONCE};
+use moka_logs::taken::TakenWrites;
 use moka_maintenance::maintenance::{Maintenance, Need};
-use moka_maintenance::taken::TakenWrites;
 use std::alloc::Allocator;
 use std::hash::{BuildHasher, Hash};
 use std::sync::Wait;
@@ -48,6 +49,13 @@ impl<
             }
             return;
         }
+        self.turn_by_need(rt, maintenance);
+    }
+
+    /// One turn that takes no operation out of a log, with the lock of what it needs.
+    fn turn_by_need<R: Wait>(&self, rt: &R, maintenance: &mut Maintenance<A>)
+        ensures { IsTurn K V self.now.settings maintenance.old maintenance.new }
+    {
         let valid_after = self.valid_after();
         match maintenance.need::<K, V, S>(&self.settings, valid_after) {
             Need::Nothing => maintenance.turn_alone::<K, V, S>(&self.settings, valid_after),

@@ -5,49 +5,32 @@ ghost use Rattle.moka_base.specs.Settings.{keeps_writes};
 ghost use Rattle.moka_engine.specs.Entry.{Entry as EntryState};
 ghost use Rattle.moka_engine.specs.Turn.Plan.{Alone, gone_to, moved_on};
 ghost use Rattle.moka_engine.specs.Parts.{NeedsNothing, NeedsShard, need_of};
-ghost use Rattle.moka_maintenance.specs.declared.maintenance.place.Work.{Work};
+ghost use Rattle.moka_engine.specs.declared.at_hand.Work.{Work};
 ghost use Rattle.moka_maintenance.specs.Need.{need_named};
 ghost use Rattle.moka_engine.specs.Orders.{without_node};
 ghost use Rattle.moka_engine.specs.Turn.Admission.{after_entering, after_finding, after_rejection, after_seeing};
-ghost use Rattle.moka_engine.specs.Turn.Admission.{after_victim, is_admitted, is_decided, next_seen, removing_or_enter};
+ghost use Rattle.moka_engine.specs.Turn.Admission.{after_victim, is_decided, next_seen, removing_or_enter};
 ghost use Rattle.moka_orders.specs.OrdersState.{AtNode, orders_of};
-ghost use Rattle.moka_maintenance.specs.Held.{IsAtHand, IsEntering, IsRemoving, IsScanning, LooksAt, candidate_of, first_seen, first_tickets};
-ghost use Rattle.moka_maintenance.specs.Held.{maintenance_of, next_id_if, outcome_of, removal_plan, scan_plan, stage_of_removal, tally_of, work_of};
+ghost use Rattle.moka_maintenance.specs.Held.{IsAtHand, IsEntering, IsRemoving, IsScanning, LooksAt, first_seen, first_tickets};
+ghost use Rattle.moka_maintenance.specs.Held.{maintenance_of, next_id_if, outcome_of, removal_plan, scan_plan, stage_of_removal};
 
 use crate::maintenance::Need;
 use crate::maintenance::fronts::{send_absent_back, send_back};
-use crate::maintenance::place::{Candidate, Removal, Scan, Stage, Tally, Work};
+use crate::maintenance::place::{Removal, Scan, Stage};
 use crate::maintenance::state::State;
 use crate::maintenance::writes::writes_or_on;
 use moka_deque::deque::NodeId;
+use moka_engine::at_hand::{Candidate, Tally, Work};
 use moka_engine::constants::MAX_ABSENT;
 use moka_engine::entry::{Entry, EntryChange};
 use moka_engine::settings::Settings;
 use moka_engine::ticket::Ticket;
-use std::alloc::{Allocator, Global};
-
-impl Tally {
-    /// Whether what was found decides: the present ones weigh enough, or are used more, or too many in a row were absent.
-    fn decides(&self, candidate: &Candidate) -> bool
-        ensures { result ≡ is_decided (candidate_of candidate.now) (tally_of self.now) }
-    {
-        u64::from(candidate.weight) <= self.weight
-            || u32::from(candidate.estimate) < self.estimate
-            || MAX_ABSENT <= self.absent
-    }
-
-    /// Whether the candidate is admitted: the present ones weigh enough, and it is used more than all of them together.
-    pub(crate) fn admits(&self, candidate: &Candidate) -> bool
-        ensures { result ≡ is_admitted (candidate_of candidate.now) (tally_of self.now) }
-    {
-        u64::from(candidate.weight) <= self.weight && self.estimate < u32::from(candidate.estimate)
-    }
-}
+use std::alloc::Allocator;
 
 impl Scan {
     /// The node that it looks at next: none where it has ended.
     pub(crate) fn next_seen(&self) -> Option<NodeId>
-        ensures { result ≡ next_id_if (is_decided (candidate_of self.now.candidate) (tally_of self.now.tally)) self.now.next }
+        ensures { result ≡ next_id_if (is_decided self.now.candidate self.now.tally) self.now.next }
     {
         if self.tally.decides(&self.candidate) {
             return None;
@@ -81,10 +64,10 @@ impl<A: Allocator + Clone + Drop> State<A> {
     )
         requires round { work.round ≤ MAX_ROUNDS }
         requires scanning { IsScanning self.old.orders scan }
-        requires next { next_id_if (is_decided (candidate_of scan.candidate) (tally_of scan.tally)) scan.next ≡ Some id }
+        requires next { next_id_if (is_decided scan.candidate scan.tally) scan.next ≡ Some id }
         ensures step { (found : Option (EntryState K V)) → option_map (λ e. e.weight) found ≡ weight
             → AtNode self.old.orders id (λ n. outcome_of EntryChange.Stays self.new
-            ≡ after_seeing (work_of work) (candidate_of scan.candidate) (tally_of scan.tally) (first_seen scan.seen self.old.orders.nodes)
+            ≡ after_seeing work scan.candidate scan.tally (first_seen scan.seen self.old.orders.nodes)
             n.ticket (maintenance_of self.old) found) }
         ensures holds { IsAtHand self.new.orders self.new.stage }
     {
@@ -114,7 +97,7 @@ impl<A: Allocator + Clone + Drop> State<A> {
     ) -> Tally
         requires small { (tally.weight < 2 ^ 32) × (tally.estimate < 2 ^ 8) × (tally.absent < MAX_ABSENT) }
         ensures { (found : Option (EntryState K V)) → option_map (λ e. e.weight) found ≡ weight
-            → tally_of result ≡ after_finding self.now.sketch ticket (tally_of tally) found }
+            → result ≡ after_finding self.now.sketch ticket tally found }
     {
         let Some(weight) = weight else {
             return Tally {
@@ -135,7 +118,7 @@ impl<A: Allocator + Clone + Drop> State<A> {
         requires round { work.round ≤ MAX_ROUNDS }
         requires scanning { IsScanning self.old.orders scan }
         ensures step { (found : Option (EntryState K V)) → outcome_of result self.new
-            ≡ after_rejection (work_of work) (first_seen scan.seen self.old.orders.nodes) (maintenance_of self.old) found }
+            ≡ after_rejection work (first_seen scan.seen self.old.orders.nodes) (maintenance_of self.old) found }
         ensures holds { IsAtHand self.new.orders self.new.stage }
     {
         send_absent_back(&mut self.orders, scan.seen);
@@ -147,7 +130,7 @@ impl<A: Allocator + Clone + Drop> State<A> {
     pub(crate) fn admit(&mut self, work: Work, scan: Scan)
         requires round { work.round ≤ MAX_ROUNDS }
         requires scanning { IsScanning self.old.orders scan }
-        ensures step { maintenance_of self.new ≡ gone_to (removing_or_enter (work_of work) (candidate_of scan.candidate) (tally_of scan.tally) []
+        ensures step { maintenance_of self.new ≡ gone_to (removing_or_enter work scan.candidate scan.tally []
             (first_seen scan.seen self.old.orders.nodes)) (maintenance_of self.old) }
         ensures holds { IsAtHand self.new.orders self.new.stage }
     {
@@ -170,7 +153,7 @@ impl<A: Allocator + Clone + Drop> State<A> {
         requires left { 0 < removal.left }
         requires next { removal.next ≡ Some id }
         ensures step { AtNode self.old.orders id (λ n. maintenance_of self.new
-            ≡ gone_to (removing_or_enter (work_of work) (candidate_of removal.candidate) (tally_of removal.tally)
+            ≡ gone_to (removing_or_enter work removal.candidate removal.tally
             (first_tickets removal.skipped self.old.orders.nodes ++ n.ticket ∷ [])
             (drop 1 (first_seen removal.left (drop removal.skipped self.old.orders.nodes)))) (maintenance_of self.old)) }
         ensures holds { IsAtHand self.new.orders self.new.stage }
@@ -197,7 +180,7 @@ impl<A: Allocator + Clone + Drop> State<A> {
         requires next { removal.next ≡ Some id }
         ensures step { AtNode self.old.orders id (λ n. maintenance_of self.new
             ≡ moved_on (maintenance_of self.old) (without_node n.ticket (orders_of self.old.orders))
-            (removing_or_enter (work_of work) (candidate_of removal.candidate) (tally_of removal.tally)
+            (removing_or_enter work removal.candidate removal.tally
             (first_tickets removal.skipped self.old.orders.nodes)
             (drop 1 (first_seen removal.left (drop removal.skipped self.old.orders.nodes))))) }
         ensures holds { IsAtHand self.new.orders self.new.stage }
@@ -230,7 +213,7 @@ impl<A: Allocator + Clone + Drop> State<A> {
         requires left { 0 < removal.left }
         requires next { removal.next ≡ Some id }
         ensures step { AtNode self.old.orders id (λ n. outcome_of result self.new
-            ≡ after_victim (work_of work) (candidate_of removal.candidate) (tally_of removal.tally)
+            ≡ after_victim work removal.candidate removal.tally
             (first_tickets removal.skipped self.old.orders.nodes) (record { ticket = n.ticket; is_present = n.is_present })
             (drop 1 (first_seen removal.left (drop removal.skipped self.old.orders.nodes))) (maintenance_of self.old) (option_copied found.entry)) }
         ensures holds { IsAtHand self.new.orders self.new.stage }
@@ -255,7 +238,7 @@ impl<A: Allocator + Clone + Drop> State<A> {
         requires round { work.round ≤ MAX_ROUNDS }
         requires entering { IsEntering self.old.orders candidate skipped }
         ensures step { outcome_of result self.new
-            ≡ after_entering (keeps_writes settings.now.policy) (work_of work) (candidate_of candidate)
+            ≡ after_entering (keeps_writes settings.now.policy) work candidate
             (first_tickets skipped self.old.orders.nodes) (maintenance_of self.old) (option_copied found.entry) }
         ensures holds { IsAtHand self.new.orders self.new.stage }
     {

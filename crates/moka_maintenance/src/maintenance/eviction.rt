@@ -14,7 +14,7 @@ use moka_engine::constants::SYNC_BATCH_SIZE;
 use moka_engine::entry::{Entry, EntryChange};
 use moka_engine::settings::Settings;
 use moka_engine::ticket::Ticket;
-use std::alloc::{Allocator, Global};
+use std::alloc::Allocator;
 
 impl<A: Allocator + Clone + Drop> State<A> {
     /// The ticket at the front of the order of use, where there is a turn at it because more is charged than the limit.

@@ -14,7 +14,7 @@ use moka_engine::constants::SYNC_BATCH_SIZE;
 use moka_engine::entry::{Entry, EntryChange};
 use moka_engine::settings::Settings;
 use moka_engine::ticket::Ticket;
-use std::alloc::{Allocator, Global};
+use std::alloc::Allocator;
 
 /// Whether the last write of an entry is too long ago.
 fn is_outlived<K: Drop, V: Drop, S: Drop, A: Allocator + Drop>(

@@ -10,7 +10,7 @@ ghost use Rattle.moka_maintenance.specs.Held.{first_seen, first_tickets};
 use moka_deque::deque::NodeId;
 use moka_engine::ticket::Ticket;
 use moka_orders::orders::Orders;
-use std::alloc::{Allocator, Global};
+use std::alloc::Allocator;
 
 /// The ticket's node, if there is one, becomes the most recently used one. It is looked for at a place first.
 pub(crate) fn use_ticket<A: Allocator + Clone + Drop>(

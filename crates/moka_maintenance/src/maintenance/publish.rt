@@ -6,7 +6,7 @@ ghost use Rattle.moka_maintenance.specs.Held.{IsAtHand, maintenance_of};
 
 use crate::maintenance::place::Stage;
 use crate::maintenance::state::State;
-use std::alloc::{Allocator, Global};
+use std::alloc::Allocator;
 
 /// What a maintenance has published last: how often one has, and the count and the weight that were charged then, as far as 64 bits tell.
 #[derive(Clone, Copy, Debug, PartialEq, Eq)]

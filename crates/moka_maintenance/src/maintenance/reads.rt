@@ -7,24 +7,26 @@ ghost use Rattle.moka_engine.specs.Turn.Plan.{gone_to, moved_on, reads_or_on};
 ghost use Rattle.moka_engine.specs.Turn.Apply.{after_miss};
 ghost use Rattle.moka_engine.specs.Turn.Turn.{after_more_reads, after_read_taken};
 ghost use Rattle.moka_orders.specs.OrdersState.{orders_of};
-ghost use Rattle.moka_maintenance.specs.Held.{IsAtHand, IsPlain, maintenance_of, work_of};
-ghost use Rattle.moka_maintenance.specs.Taken.{counted, hash_of_read, having_applied, reads_of, used_by};
+ghost use Rattle.moka_maintenance.specs.Held.{IsAtHand, IsPlain, maintenance_of};
+ghost use Rattle.moka_logs.specs.LoggedReads.{reads_of};
+ghost use Rattle.moka_maintenance.specs.Taken.{counted, hash_of_read, having_applied, used_by};
 
-use crate::logs::{LoggedRead, ReadLog};
 use crate::maintenance::fronts::use_ticket;
-use crate::maintenance::place::{Stage, Work};
+use crate::maintenance::place::Stage;
 use crate::maintenance::state::State;
+use moka_engine::at_hand::Work;
 use moka_engine::constants::{FLUSH_POINT, MAX_ROUNDS};
 use moka_engine::operation::Read;
 use moka_engine::ticket::Ticket;
+use moka_logs::logs::{LoggedRead, ReadLog};
 use moka_orders::orders::Orders;
 use moka_sketch::frequency_sketch::FrequencySketch;
-use std::alloc::{Allocator, Global};
+use std::alloc::Allocator;
 
 /// The stage after an operation, where so many reads are left.
 fn reads_or_on(work: Work) -> Stage
     requires { work.round ≤ MAX_ROUNDS }
-    ensures { IsPlain result (reads_or_on (work_of work)) }
+    ensures { IsPlain result (reads_or_on work) }
 {
     if work.left == 0 {
         return Stage::WriteCount { round: work.round };
@@ -98,7 +100,7 @@ impl<A: Allocator + Clone + Drop> State<A> {
     pub(crate) fn take_read(&mut self, work: Work, log: &mut ReadLog<A>)
         requires round { work.round ≤ MAX_ROUNDS }
         requires holds { IsAtHand self.old.orders self.old.stage }
-        ensures step { (maintenance_of self.new, log.new) ≡ after_read_taken (work_of work) (maintenance_of self.old) log.old }
+        ensures step { (maintenance_of self.new, log.new) ≡ after_read_taken work (maintenance_of self.old) log.old }
         ensures holds { IsAtHand self.new.orders self.new.stage }
     {
         if let Some(read) = log.pop() {
@@ -121,7 +123,7 @@ impl<A: Allocator + Clone + Drop> State<A> {
     /// A miss: its hash is counted.
     pub(crate) fn apply_miss(&mut self, work: Work, hash: u64)
         requires { work.round ≤ MAX_ROUNDS }
-        ensures step { maintenance_of self.new ≡ after_miss (work_of work) hash (maintenance_of self.old) }
+        ensures step { maintenance_of self.new ≡ after_miss work hash (maintenance_of self.old) }
         ensures holds { IsAtHand self.new.orders self.new.stage }
     {
         self.sketch.increment(hash);
@@ -131,8 +133,8 @@ impl<A: Allocator + Clone + Drop> State<A> {
     /// A hit: its hash is counted, and its node, which is looked for at a place first, becomes the most recently used one.
     pub(crate) fn apply_hit(&mut self, work: Work, ticket: Ticket, place: usize)
         requires { work.round ≤ MAX_ROUNDS }
-        ensures step { maintenance_of self.new ≡ moved_on (after_miss (work_of work) ticket.hash (maintenance_of self.old))
-            (used ticket (orders_of self.old.orders)) (reads_or_on (work_of work)) }
+        ensures step { maintenance_of self.new ≡ moved_on (after_miss work ticket.hash (maintenance_of self.old))
+            (used ticket (orders_of self.old.orders)) (reads_or_on work) }
         ensures holds { IsAtHand self.new.orders self.new.stage }
     {
         use_ticket(&mut self.orders, ticket, place);
@@ -142,7 +144,7 @@ impl<A: Allocator + Clone + Drop> State<A> {
     /// Reads are applied: their hashes are counted, and then the nodes of the hits move.
     pub(crate) fn apply_reads(&mut self, work: Work, reads: &[LoggedRead])
         requires { work.round ≤ MAX_ROUNDS }
-        ensures step { maintenance_of self.new ≡ having_applied (work_of work) (reads_of reads.now) (maintenance_of self.old) }
+        ensures step { maintenance_of self.new ≡ having_applied work (reads_of reads.now) (maintenance_of self.old) }
         ensures holds { IsAtHand self.new.orders self.new.stage }
     {
         count_hashes(&mut self.sketch, reads);

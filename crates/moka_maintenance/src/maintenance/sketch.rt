@@ -12,7 +12,7 @@ use crate::maintenance::place::Stage;
 use crate::maintenance::state::State;
 use moka_engine::settings::Settings;
 use moka_sketch::frequency_sketch::sketch_capacity;
-use std::alloc::{Allocator, Global};
+use std::alloc::Allocator;
 
 impl<A: Allocator + Clone + Drop> State<A> {
     /// Asks for the sketch's table, if the cache is at least half full and has none. Without memory for it the sketch stays off, and is asked for

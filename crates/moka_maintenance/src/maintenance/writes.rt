@@ -8,25 +8,26 @@ ghost use Rattle.moka_engine.specs.Turn.Apply.{after_first_upsert, after_removal
 ghost use Rattle.moka_engine.specs.Parts.{NeedsShard, need_of};
 ghost use Rattle.moka_engine.specs.Turn.Turn.{after_more_writes, after_write_taken, write_turn};
 ghost use Rattle.moka_orders.specs.OrdersState.{orders_of};
-ghost use Rattle.moka_maintenance.specs.Held.{IsAtHand, IsPlain, LooksAt, maintenance_of, outcome_of, scan_begun, work_of};
+ghost use Rattle.moka_maintenance.specs.Held.{IsAtHand, IsPlain, LooksAt, maintenance_of, outcome_of, scan_begun};
 
-use crate::logs::WriteLog;
 use crate::maintenance::fronts::remove_ticket;
-use crate::maintenance::place::{Candidate, Scan, Stage, Tally, Work};
+use crate::maintenance::place::{Scan, Stage};
 use crate::maintenance::state::State;
 use moka_base::limits::Limits;
 use moka_base::time::Instant;
+use moka_engine::at_hand::{Candidate, Tally, Work};
 use moka_engine::constants::{FLUSH_POINT, MAX_ROUNDS};
 use moka_engine::entry::{Entry, EntryChange};
 use moka_engine::operation::Write;
 use moka_engine::settings::Settings;
 use moka_engine::ticket::Ticket;
-use std::alloc::{Allocator, Global};
+use moka_logs::logs::WriteLog;
+use std::alloc::Allocator;
 
 /// The stage after an operation, where so many writes are left.
 pub(crate) fn writes_or_on(work: Work) -> Stage
     requires { work.round ≤ MAX_ROUNDS }
-    ensures { IsPlain result (writes_or_on (work_of work)) }
+    ensures { IsPlain result (writes_or_on work) }
 {
     if work.left == 0 {
         return Stage::Sketch { round: work.round };
@@ -70,7 +71,7 @@ impl<A: Allocator + Clone + Drop> State<A> {
     pub(crate) fn take_write(&mut self, work: Work, log: &mut WriteLog<A>)
         requires round { work.round ≤ MAX_ROUNDS }
         requires holds { IsAtHand self.old.orders self.old.stage }
-        ensures step { (maintenance_of self.new, log.new) ≡ after_write_taken (work_of work) (maintenance_of self.old) log.old }
+        ensures step { (maintenance_of self.new, log.new) ≡ after_write_taken work (maintenance_of self.old) log.old }
         ensures holds { IsAtHand self.new.orders self.new.stage }
     {
         if let Some(write) = log.pop() {
@@ -93,7 +94,7 @@ impl<A: Allocator + Clone + Drop> State<A> {
     /// A removal: the ticket's node leaves.
     pub(crate) fn apply_removal(&mut self, work: Work, ticket: Ticket)
         requires { work.round ≤ MAX_ROUNDS }
-        ensures step { maintenance_of self.new ≡ after_removal (work_of work) ticket (maintenance_of self.old) }
+        ensures step { maintenance_of self.new ≡ after_removal work ticket (maintenance_of self.old) }
         ensures holds { IsAtHand self.new.orders self.new.stage }
     {
         remove_ticket(&mut self.orders, ticket);
@@ -111,7 +112,7 @@ impl<A: Allocator + Clone + Drop> State<A> {
     ) -> EntryChange
         requires { work.round ≤ MAX_ROUNDS }
         ensures step { (refused : Bool) × (outcome_of result self.new
-            ≡ after_upsert settings.now refused (work_of work) ticket (maintenance_of self.old) (option_copied found.entry)) }
+            ≡ after_upsert settings.now refused work ticket (maintenance_of self.old) (option_copied found.entry)) }
         ensures holds { IsAtHand self.new.orders self.new.stage }
     {
         let Some(entry) = found else {
@@ -138,9 +139,9 @@ impl<A: Allocator + Clone + Drop> State<A> {
     ) -> EntryChange
         requires round { work.round ≤ MAX_ROUNDS }
         requires need { (t : Ticket)
-            × (need_of (write_turn {K = K} {V = V} settings.now valid_after false (work_of work) write (maintenance_of self.old)) ≡ NeedsShard t) }
+            × (need_of (write_turn {K = K} {V = V} settings.now valid_after false work write (maintenance_of self.old)) ≡ NeedsShard t) }
         ensures step { (refused : Bool)
-            × LooksAt (write_turn settings.now valid_after refused (work_of work) write (maintenance_of self.old))
+            × LooksAt (write_turn settings.now valid_after refused work write (maintenance_of self.old))
             (option_copied found.entry) result self.new }
         ensures holds { IsAtHand self.new.orders self.new.stage }
     {
@@ -162,7 +163,7 @@ impl<A: Allocator + Clone + Drop> State<A> {
         requires round { work.round ≤ MAX_ROUNDS }
         requires absent { charge_of ticket (orders_of self.old.orders) ≡ None }
         ensures step { (refused : Bool) × (outcome_of result self.new
-            ≡ after_first_upsert settings.now refused (work_of work) ticket entry.now (maintenance_of self.old)) }
+            ≡ after_first_upsert settings.now refused work ticket entry.now (maintenance_of self.old)) }
         ensures holds { IsAtHand self.new.orders self.new.stage }
     {
         let weight = entry.weight();
@@ -192,7 +193,7 @@ impl<A: Allocator + Clone + Drop> State<A> {
         requires room { 0 < self.old.orders.room }
         requires absent { charge_of ticket (orders_of self.old.orders) ≡ None }
         ensures step { maintenance_of self.new
-            ≡ gone_to (scan_begun (work_of work) ticket weight self.old.sketch) (maintenance_of self.old) }
+            ≡ gone_to (scan_begun work ticket weight self.old.sketch) (maintenance_of self.old) }
         ensures holds { IsAtHand self.new.orders self.new.stage }
     {
         self.stage = Stage::Scanning {

@@ -1,4 +1,4 @@
-use Rattle.std.proofs.Common.{◌≡◌, ◌∙◌}
+use Rattle.std.proofs.Common.{◌∙◌}
 use Rattle.moka_machine.specs.Upkeep.{after_eviction}
 use Rattle.moka_store.specs.Turns.{contents_of}
 use Rattle.moka_store.proofs.TrimLemmas.{last_turn, next_turn}

@@ -3,7 +3,7 @@ use Rattle.moka_base.specs.Keys.{keys_by}
 use Rattle.moka_engine.specs.Consistent.{IsConsistent}
 use Rattle.moka_engine.specs.CoreState.{IsNew}
 use Rattle.moka_engine_laws.proofs.ConsistentLemmas.{new_is_consistent}
-use Rattle.moka_core.proofs.NewLemmas.{new-started}
+use Rattle.moka_parts.proofs.NewLemmas.{new-started}
 use Rattle.moka_core.proofs.engine.Core.with_first_ticket.Goals as goal
 
 pub invariant_of-self : goal.invariant_of-self

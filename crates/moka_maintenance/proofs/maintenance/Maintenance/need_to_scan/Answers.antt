@@ -1,5 +1,5 @@
 use Rattle.std.proofs.Common.{◌∙◌, ap, sym}
-use Rattle.moka_maintenance.specs.Held.{candidate_of, first_seen, place_of, tally_of, work_of}
+use Rattle.moka_maintenance.specs.Held.{first_seen, place_of}
 use Rattle.moka_maintenance.proofs.maintenance.Maintenance.need_to_scan.Goals as goal
 
 pub returns-in-Entry-clause-scans : goal.returns-in-Entry-clause-scans
@@ -8,4 +8,4 @@ returns-in-Entry-clause-scans g c =
     let scan = c.in-Scanning.scan in
     let is = ap (λ m. m.state.stage) (sym c.self-inside.view_is) ∙ c.in-Scanning.is in
     rw (← c.self.view_is)
-    (work_of c.in-Scanning.work, candidate_of scan.candidate, tally_of scan.tally, first_seen scan.seen nodes, ap (place_of nodes) is)
+    (c.in-Scanning.work, scan.candidate, scan.tally, first_seen scan.seen nodes, ap (place_of nodes) is)

@@ -1,5 +1,5 @@
 use Rattle.std.proofs.Common.{◌≡◌, ◌∙◌, ap, sym}
-use Rattle.moka_maintenance.specs.Held.{maintenance_of, place_of, work_of}
+use Rattle.moka_maintenance.specs.Held.{maintenance_of, place_of}
 use Rattle.moka_maintenance.proofs.TakenLemmas.{less_one, upsert_turn}
 use Rattle.moka_maintenance.proofs.maintenance.Maintenance.turn_with_upsert.Goals as goal
 
@@ -8,11 +8,11 @@ returns-in-Writes g c =
     let held = c.self.inside.state in
     let t = c.args.ticket in
     let is = ap (λ m. m.state.stage) (sym c.self-inside.view_is) ∙ c.in-Writes.is in
-    let left : work_of c.less_one.result ≡ less_one (work_of c.in-Writes.work) =
+    let left : c.less_one.result ≡ less_one c.in-Writes.work =
     λ i. record { round = c.less_one.ensures.round i; left = c.less_one.ensures.left i } in
     let step = c.apply_upsert.ensures.step in
     rw (← c.self.view_is) (
       step.0,
-      upsert_turn c.args.settings.now c.args.valid_after step.0 (maintenance_of held) _ (work_of c.in-Writes.work)
-          (ap (place_of held.orders.nodes) is) t _ _ (work_of c.less_one.result) left step.1,
+      upsert_turn c.args.settings.now c.args.valid_after step.0 (maintenance_of held) _ c.in-Writes.work
+          (ap (place_of held.orders.nodes) is) t _ _ c.less_one.result left step.1,
     )

@@ -1,6 +1,7 @@
 use Rattle.std.proofs.Common.{◌≡◌, take}
 use Rattle.std.specs.List.{fold}
-use Rattle.moka_maintenance.specs.Taken.{counted, reads_of}
+use Rattle.moka_logs.specs.LoggedReads.{reads_of}
+use Rattle.moka_maintenance.specs.Taken.{counted}
 use Rattle.moka_maintenance.proofs.maintenance.reads.count_hashes.Given as goal
 
 -- the hashes of the reads before this one are counted

@@ -5,8 +5,8 @@ use Rattle.std.proofs.lemmas.List.{get_or-map, length-map}
 use Rattle.std.proofs.lemmas.List.Sums.{fold_more}
 use Rattle.moka_engine.specs.declared.operation.Read.{Read}
 use Rattle.moka_engine.specs.Entry.{Entry}
-use Rattle.moka_maintenance.specs.declared.logs.LoggedRead.{LoggedRead}
-use Rattle.moka_maintenance.specs.Taken.{reads_of}
+use Rattle.moka_logs.specs.declared.logs.LoggedRead.{LoggedRead}
+use Rattle.moka_logs.specs.LoggedReads.{reads_of}
 use Rattle.moka_map.specs.MapTurn.{touched_by}
 use Rattle.moka_map.specs.MapState.{MapState}
 use Rattle.moka_map.proofs.map.Map.touch_all.Goals as goal

@@ -1,6 +1,6 @@
 use Rattle.std.proofs.Common.{◌≡◌, take}
 use Rattle.std.specs.List.{fold}
-use Rattle.moka_maintenance.specs.Taken.{reads_of}
+use Rattle.moka_logs.specs.LoggedReads.{reads_of}
 use Rattle.moka_map.specs.MapTurn.{touched_by}
 use Rattle.moka_map.proofs.map.Map.touch_all.Given as goal
 

@@ -1,8 +1,6 @@
 use Rattle.std.proofs.Common.{◌∙◌, arith, sym}
 use Rattle.std.specs.Map.{values_of}
-use Rattle.moka_orders.proofs.KeptLemmas.{IsKept-moved, IsKept-set, IsKept-remove, IsKept-enter}
-use Rattle.moka_orders.proofs.KeptLemmas.{IsKept-unwritten, IsKept-oldest, written-oldest}
-use Rattle.moka_orders.proofs.KeptLemmas.{oldest_stands, charge_found, charge_in_total, total_bound, rest_bound, ticket_absent}
+use Rattle.moka_orders.proofs.KeptLemmas.{total_bound}
 use Rattle.moka_orders.proofs.orders.Orders.charged_weight.Goals as goal
 
 pub returns-clause-small : goal.returns-clause-small

@@ -1,8 +1,4 @@
 use Rattle.moka_orders.proofs.HighWaterLemmas.{AreCovered-none}
-use Rattle.moka_orders.proofs.KeptLemmas.{IsKept-moved, IsKept-set, IsKept-remove, IsKept-rewritten}
-use Rattle.moka_orders.proofs.KeptLemmas.{IsKept-enter, IsKept-unwritten, IsKept-oldest}
-use Rattle.moka_orders.proofs.KeptLemmas.{written-oldest, oldest_stands, charge_found}
-use Rattle.moka_orders.proofs.KeptLemmas.{charge_in_total, total_bound, rest_bound, ticket_absent}
 use Rattle.moka_orders.proofs.IndexLemmas.{IsIndexed-none}
 use Rattle.moka_orders.proofs.orders.Orders.new.Goals as goal
 

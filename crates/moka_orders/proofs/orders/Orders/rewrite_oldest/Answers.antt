@@ -1,6 +1,4 @@
-use Rattle.moka_orders.proofs.ChangeLemmas.{node_in, seen, moved_indexed, moved_is, moved_orders, set_is, recharged_orders}
-use Rattle.moka_orders.proofs.ChangeLemmas.{marked_orders, rewritten_orders, removed_orders, set_indexed, write_in}
-use Rattle.moka_orders.proofs.ChangeLemmas.{rewritten_kept, entered_orders, values-push, front_items}
+use Rattle.moka_orders.proofs.ChangeLemmas.{front_items}
 use Rattle.moka_orders.proofs.KeptLemmas.{IsKept-oldest}
 use Rattle.moka_orders.proofs.orders.Orders.rewrite_oldest.Goals as goal
 

@@ -1,5 +1,4 @@
 use Rattle.std.proofs.Common.{subst, sym}
-use Rattle.moka_deque.specs.Deque.{moved_to_back}
 use Rattle.moka_orders.proofs.ChangeLemmas.{node_in, moved_indexed, moved_is, moved_orders}
 use Rattle.moka_orders.proofs.HighWaterLemmas.{AreCovered-moved}
 use Rattle.moka_orders.proofs.KeptLemmas.{IsKept-moved}

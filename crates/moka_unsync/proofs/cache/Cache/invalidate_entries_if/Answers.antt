@@ -1,4 +1,3 @@
-use Rattle.std.proofs.Common.{ap}
 use Rattle.moka_machine.specs.Contents.{entry_keys}
 use Rattle.moka_machine.specs.Invalidate.{chosen}
 use Rattle.moka_store.specs.Store.{entries_of}

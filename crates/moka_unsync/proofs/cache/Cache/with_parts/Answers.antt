@@ -6,7 +6,5 @@ use Rattle.moka_unsync.proofs.cache.Cache.with_parts.Goals as goal
 
 pub invariant_of-result : goal.invariant_of-result
 invariant_of-result g c =
-    IsCached-new
-    (ap entries_of (c.in_ok-reserve.ensures {u = tt}).unchanged ∙ ap entries_of (c.in_ok-store.ensures {u = tt}))
-    (ap (λ s. s.keeps_writes) (c.in_ok-reserve.ensures {u = tt}).unchanged ∙ ap (λ s. s.keeps_writes) (c.in_ok-store.ensures {u = tt})
-    ∙ ap keeps_writes (sym c.new-limits.ensures))
+    let store = (c.in_ok-store.ensures {u = tt}).empty in
+    IsCached-new (ap entries_of store) (ap (λ s. s.keeps_writes) store ∙ ap keeps_writes (sym c.new.ensures))

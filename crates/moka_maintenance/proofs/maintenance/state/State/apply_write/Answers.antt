@@ -1,7 +1,7 @@
 use Rattle.std.proofs.Common.{ap, sym}
 use Rattle.moka_engine.specs.Turn.Apply.{after_upsert}
 use Rattle.moka_engine.specs.Turn.Turn.{write_turn}
-use Rattle.moka_maintenance.specs.Held.{maintenance_of, work_of}
+use Rattle.moka_maintenance.specs.Held.{maintenance_of}
 use Rattle.moka_maintenance.proofs.maintenance.state.State.apply_write.Goals as goal
 
 pub returns-in-Upsert-clause-step : goal.returns-in-Upsert-clause-step
@@ -11,8 +11,8 @@ returns-in-Upsert-clause-step g c =
       s.0,
       record {
         ticket = c.in-Upsert.ticket;
-        looks = after_upsert c.args.settings.now s.0 (work_of c.args.work) c.in-Upsert.ticket (maintenance_of held);
-        is = ap (λ w. write_turn c.args.settings.now c.args.valid_after s.0 (work_of c.args.work) w (maintenance_of held)) c.in-Upsert.is;
+        looks = after_upsert c.args.settings.now s.0 c.args.work c.in-Upsert.ticket (maintenance_of held);
+        is = ap (λ w. write_turn c.args.settings.now c.args.valid_after s.0 c.args.work w (maintenance_of held)) c.in-Upsert.is;
         ends = sym s.1;
       },
     )

@@ -9,7 +9,7 @@ use Rattle.moka_maintenance.proofs.maintenance.state.State.need_of_scan.Goals as
 
 pub get-requires : goal.get-requires
 get-requires g c =
-    let work : Rattle.moka_maintenance.specs.declared.maintenance.place.Work.Work = record { round = 0; left = 0 } in
+    let work : Rattle.moka_engine.specs.declared.at_hand.Work.Work = record { round = 0; left = 0 } in
     let once = subst (λ (v : Held). IsDistinct nat_eq (keys_of v.orders.nodes)) c.self.view_is c.len.ensures.distinct in
     let held = c.args.self.now in
     let is = sym c.next_seen.ensures ∙ c.in-Some.is in

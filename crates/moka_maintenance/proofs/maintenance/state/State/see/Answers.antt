@@ -4,35 +4,35 @@ use Rattle.moka_engine.specs.Turn.Plan.{Stays}
 use Rattle.moka_engine.specs.Turn.Admission.{after_finding, is_decided}
 use Rattle.moka_orders.specs.declared.orders.Node.{Node}
 use Rattle.moka_deque.proofs.IdLemmas.{some_parts}
-use Rattle.moka_maintenance.specs.Held.{Held, IsScanning, candidate_of, first_seen, tally_of, work_of}
+use Rattle.moka_maintenance.specs.Held.{Held, IsScanning, first_seen}
 use Rattle.moka_maintenance.proofs.ScanLemmas.{next_parts, scanned_node, scanning_on, seen_more, is_some_weighed}
 use Rattle.moka_maintenance.proofs.maintenance.state.State.see.Goals as goal
 
 pub get-requires : goal.get-requires
 get-requires g c =
     let s = subst (λ (v : Held). IsScanning v.orders c.args.scan) (sym c.self.view_is) c.requires.scanning in
-    let at = next_parts (is_decided (candidate_of c.args.scan.candidate) (tally_of c.args.scan.tally)) c.args.scan.next c.args.id
+    let at = next_parts (is_decided c.args.scan.candidate c.args.scan.tally) c.args.scan.next c.args.id
     c.requires.next in
     ap is_some (scanned_node c.self.inside.orders c.args.scan c.len.ensures.distinct s c.args.id at.1).found
 
 pub next-next-requires : goal.next-next-requires
 next-next-requires g c =
     let s = subst (λ (v : Held). IsScanning v.orders c.args.scan) (sym c.self.view_is) c.requires.scanning in
-    let at = next_parts (is_decided (candidate_of c.args.scan.candidate) (tally_of c.args.scan.tally)) c.args.scan.next c.args.id
+    let at = next_parts (is_decided c.args.scan.candidate c.args.scan.tally) c.args.scan.next c.args.id
     c.requires.next in
     ap is_some (scanned_node c.self.inside.orders c.args.scan c.len.ensures.distinct s c.args.id at.1).found
 
 pub mark-requires : goal.mark-requires
 mark-requires g c =
     let s = subst (λ (v : Held). IsScanning v.orders c.args.scan) (sym c.self.view_is) c.requires.scanning in
-    let at = next_parts (is_decided (candidate_of c.args.scan.candidate) (tally_of c.args.scan.tally)) c.args.scan.next c.args.id
+    let at = next_parts (is_decided c.args.scan.candidate c.args.scan.tally) c.args.scan.next c.args.id
     c.requires.next in
     ap is_some (scanned_node c.self.inside.orders c.args.scan c.len.ensures.distinct s c.args.id at.1).found
 
 pub returns-clause-step : goal.returns-clause-step
 returns-clause-step g c =
     let s = subst (λ (v : Held). IsScanning v.orders c.args.scan) (sym c.self.view_is) c.requires.scanning in
-    let at = next_parts (is_decided (candidate_of c.args.scan.candidate) (tally_of c.args.scan.tally)) c.args.scan.next c.args.id
+    let at = next_parts (is_decided c.args.scan.candidate c.args.scan.tally) c.args.scan.next c.args.id
     c.requires.next in
     rw (← c.self.view_is)
     (λ entry weighs n found.
@@ -40,8 +40,8 @@ returns-clause-step g c =
     let tally =
     c.with_found-tally.ensures entry weighs
     ∙ ap (λ (v : Held).
-    after_finding v.sketch c.get.result.now.ticket (tally_of c.args.scan.tally) entry) (sym c.self.view_is)
-    ∙ ap (λ (m : Node). after_finding c.self.inside.sketch m.ticket (tally_of c.args.scan.tally) entry) same in
+    after_finding v.sketch c.get.result.now.ticket c.args.scan.tally entry) (sym c.self.view_is)
+    ∙ ap (λ (m : Node). after_finding c.self.inside.sketch m.ticket c.args.scan.tally entry) same in
     let seen =
     seen_more c.self.inside.orders c.args.scan c.len.ensures.distinct s c.args.id at.1 c.mark.new.self c.is_some.result
     c.mark.ensures.step n found
@@ -52,7 +52,7 @@ returns-clause-step g c =
       maintenance = record {
         orders = c.mark.ensures.orders i;
         sketch = c.self.inside.sketch;
-        place = place.Scan (work_of c.args.work) (candidate_of c.args.scan.candidate) (tally i) (seen i);
+        place = place.Scan c.args.work c.args.scan.candidate (tally i) (seen i);
         moment = c.self.inside.moment;
         published = Rattle.moka_maintenance.specs.Published.published_of c.self.inside.published;
       };
@@ -61,7 +61,7 @@ returns-clause-step g c =
 pub returns-clause-holds : goal.returns-clause-holds
 returns-clause-holds g c =
     let s = subst (λ (v : Held). IsScanning v.orders c.args.scan) (sym c.self.view_is) c.requires.scanning in
-    let at = next_parts (is_decided (candidate_of c.args.scan.candidate) (tally_of c.args.scan.tally)) c.args.scan.next c.args.id
+    let at = next_parts (is_decided c.args.scan.candidate c.args.scan.tally) c.args.scan.next c.args.id
     c.requires.next in (
       c.requires.round,
       scanning_on c.self.inside.orders c.args.scan c.len.ensures.distinct s c.args.id at.1 c.mark.new.self c.is_some.result

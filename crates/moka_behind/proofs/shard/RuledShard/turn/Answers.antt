@@ -1,0 +1,19 @@
+use Rattle.std.proofs.Common.{ap, subst, sym}
+use Rattle.moka_engine.specs.Parts.{ShardState}
+use Rattle.moka_shard.specs.Shard.{entries_in}
+use Rattle.moka_behind.specs.Rule.{AllMeet}
+use Rattle.moka_behind.proofs.RuleLemmas.{after_change_meet}
+use Rattle.moka_behind.proofs.TurnLemmas.{at_entry}
+use Rattle.moka_behind.proofs.shard.RuledShard.turn.Goals as goal
+
+pub invariant_of-self : goal.invariant_of-self
+invariant_of-self g c =
+    let changed = c.change.ensures.step c.args.ticket c.find_ticket-slot.ensures.value in
+    subst (AllMeet g.P.PairRule.holds) (sym (ap (λ (s : ShardState g.row.K.Denot g.row.V.Denot g.row.S.Denot). s.entries) changed))
+    (after_change_meet g.P.PairRule.holds c.args.ticket c.turn_at_entry-change.result (entries_in c.self.inside.shard.slots)
+    c.self.invariant)
+
+pub returns : goal.returns
+returns g c =
+    let turn = c.turn_at_entry-change.ensures in
+    at_entry c.args.settings.now c.args.valid_after turn.0 c.args.maintenance.now c.turn_at_entry-change.new.self _ _ turn.1

@@ -1,0 +1,4 @@
+pub mod Rule
+pub mod LockedTurn
+-- inside
+pub mod WriteQueue

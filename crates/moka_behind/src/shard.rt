@@ -1,0 +1,205 @@
+//! What lies behind the lock of a shard: its entries, whose pairs meet the rule.
+ghost use Rattle.std.specs.Prelude.{◌≡◌, [], false, is_some, map, IfOk, IfSome};
+ghost use Rattle.std.specs.List.{IsDistinct};
+ghost use Rattle.moka_base.specs.Keys.{keys_by};
+ghost use Rattle.moka_engine.specs.declared.entry.EntryChange.TheVariants.{Touched};
+ghost use Rattle.moka_engine.specs.declared.operation.Write.TheVariants.{Upsert};
+ghost use Rattle.moka_engine.specs.Entry.{entry_at};
+ghost use Rattle.moka_engine.specs.EntryChange.{change_of};
+ghost use Rattle.moka_engine.specs.Parts.{NeedsShard, need_of};
+ghost use Rattle.moka_engine.specs.Turn.Plan.{after_change};
+ghost use Rattle.moka_engine.specs.Turn.Turn.{turn_at};
+ghost use Rattle.moka_behind.specs.LockedTurn.{IsTurn};
+ghost use Rattle.moka_behind.specs.Rule.{PairsMeet};
+ghost use Rattle.moka_maintenance.specs.Taken.{TakesWrite, having_taken_write};
+ghost use Rattle.moka_shard.specs.Shard.{entries_in, state_of, unexpired};
+ghost use Rattle.moka_shard.specs.ShardStep.{IsInvalidation};
+
+use crate::rule::PairRule;
+use moka_base::error::{InsertError, OutOfMemory};
+use moka_base::shared::Shared;
+use moka_base::time::Instant;
+use moka_engine::settings::Settings;
+use moka_engine::ticket::Ticket;
+use moka_engine::weigh::WeighShared;
+use moka_maintenance::maintenance::Maintenance;
+use moka_shard::shard::Shard;
+use std::alloc::{Allocator, Global};
+use std::hash::{BuildHasher, Hash};
+use std::marker::{Model, PhantomData};
+
+/// A shard whose pairs meet the rule.
+#[derive(Drop)]
+pub struct RuledShard<
+    K: Eq + Hash + Drop,
+    V: Drop,
+    S: BuildHasher + Drop,
+    P: PairRule<K, V>,
+    A: Allocator + Clone + Drop = Global,
+> {
+    shard: Shard<K, V, S, A>,
+    rule: PhantomData<P>,
+}
+
+impl<
+    K: Eq + Hash + Drop,
+    V: Drop,
+    S: BuildHasher + Drop,
+    P: PairRule<K, V>,
+    A: Allocator + Clone + Drop,
+> Model for RuledShard<K, V, S, P, A> {
+    ghost use Rattle.moka_shard.specs.Shard.{Shard as ShardValue, entries_in};
+    ghost use Rattle.moka_behind.specs.Rule.{AllMeet};
+
+    ghost Value = { ShardValue K V S };
+
+    ghost view = { λ s. s.shard };
+
+    ghost invariant = { λ s. AllMeet P.holds (entries_in s.shard.slots) };
+}
+
+impl<
+    K: Eq + Hash + Drop,
+    V: Drop,
+    S: BuildHasher + Drop,
+    P: PairRule<K, V>,
+    A: Allocator + Clone + Drop,
+> RuledShard<K, V, S, P, A> {
+    /// The shard, which has no entries yet.
+    pub fn new(shard: Shard<K, V, S, A>) -> Self
+        requires { entries_in shard.slots ≡ [] }
+        ensures { result ≡ shard }
+    {
+        RuledShard {
+            shard,
+            rule: PhantomData,
+        }
+    }
+
+    /// The value at a key, found by its hash and shared once more, and the ticket of its entry, if that counts at a moment; and the slot in which it may
+    /// be found again.
+    #[inline(always)]
+    pub fn get(
+        &self,
+        key: &K,
+        hash: u64,
+        settings: &Settings<S, A>,
+        valid_after: Instant,
+        now: Instant,
+    ) -> Result<(Option<(Shared<V, A>, Ticket)>, usize), OutOfMemory>
+        ensures ruled { IfOk result (λ found. IfSome found.0 (λ f. P.holds key.now f.0)) }
+    {
+        let slot = self.shard.find(key, hash);
+        let found = self.shard.value(slot, settings, valid_after, now)?;
+        Ok((found, slot.unwrap_or(0)))
+    }
+
+    /// Whether a key has an entry, found by its hash, that counts at a moment.
+    pub fn contains_key(
+        &self,
+        key: &K,
+        hash: u64,
+        settings: &Settings<S, A>,
+        valid_after: Instant,
+        now: Instant,
+    ) -> bool
+        ensures { hash ≡ (keys_by K.Hash S.BuildHasher S.Hasher.Hasher).hash_of self.now.hash_state key.now
+            → result ≡ is_some (unexpired settings.now valid_after now (entry_at K.eq key.now (entries_in self.now.slots))) }
+    {
+        let slot = self.shard.find(key, hash);
+        self.shard.counts(slot, settings, valid_after, now)
+    }
+
+    /// Puts the value at the key, whose hash it is. The answer is the entry's ticket. An entry is added once the key is hashed again, since nothing
+    /// that a lock keeps says whose hash this is.
+    pub fn insert<W: WeighShared<K, V>>(
+        &mut self,
+        hash: u64,
+        key: Shared<K, A>,
+        value: Shared<V, A>,
+        weigher: &W,
+        now: Instant,
+    ) -> Result<Ticket, InsertError>
+        requires ruled { P.holds key value }
+        requires ready { W.ready weigher.now }
+    {
+        // What holds of every shard.
+        let _ = self.shard.len();
+        if let Some(slot) = self.shard.find(key.get(), hash) {
+            return self.shard.update(slot, key, value, weigher, now);
+        }
+        if hash != self.shard.hash_of(key.get()) || !self.shard.is_of(hash) {
+            return Err(InsertError::TicketsUsedUp);
+        }
+        self.shard.add(hash, key, value, weigher, now)
+    }
+
+    /// Takes out the entry of a key, found by its hash. The answer is its ticket.
+    pub fn invalidate(&mut self, key: &K, hash: u64) -> Option<Ticket>
+        ensures { hash ≡ (keys_by K.Hash S.BuildHasher S.Hasher.Hasher).hash_of self.old.hash_state key.now
+            → IsInvalidation (state_of self.old) (entry_at K.eq key.now (entries_in self.old.slots)) result (state_of self.new) }
+    {
+        let slot = self.shard.find(key, hash)?;
+        Some(self.shard.remove(slot))
+    }
+
+    /// The pairs that count at a moment, shared once more.
+    pub fn pairs(
+        &self,
+        alloc: A,
+        settings: &Settings<S, A>,
+        valid_after: Instant,
+        now: Instant,
+    ) -> Result<Vec<(Shared<K, A>, Shared<V, A>), A>, OutOfMemory>
+        ensures ruled { IfOk result (λ pairs. PairsMeet P.holds pairs.items) }
+        ensures once { IfOk result (λ pairs. IsDistinct K.eq (map (λ p. p.0) pairs.items)) }
+    {
+        // What holds of every shard.
+        let _ = self.shard.len();
+        self.shard.pairs(alloc, settings, valid_after, now)
+    }
+
+    /// A turn of the maintenance that needs the entry of a ticket.
+    pub fn turn(
+        &mut self,
+        maintenance: &mut Maintenance<A>,
+        ticket: Ticket,
+        settings: &Settings<S, A>,
+        valid_after: Instant,
+    )
+        requires { need_of (turn_at {K = K} {V = V} settings.now valid_after false maintenance.old.place maintenance.old) ≡ NeedsShard ticket }
+        ensures { IsTurn K V settings.now maintenance.old maintenance.new }
+    {
+        let slot = self.shard.find_ticket(ticket);
+        let found = self.shard.entry(slot);
+        let change = maintenance.turn_at_entry(settings, valid_after, found);
+        self.shard.change(slot, change);
+    }
+
+    /// The entry of a ticket, if it stands, was used at a moment. It is looked for in a slot first. The answer is where what is charged for it may be
+    /// found.
+    pub fn touch(&mut self, ticket: Ticket, slot: usize, moment: Instant) -> usize
+        ensures { state_of self.new ≡ record (state_of self.old) {
+          entries = after_change ticket (change_of (Touched moment)) (entries_in self.old.slots);
+        } }
+    {
+        self.shard.touch(ticket, slot, moment)
+    }
+
+    /// The turn that applies an upsert, which the maintenance has just taken from its log.
+    pub fn turn_with_upsert(
+        &mut self,
+        maintenance: &mut Maintenance<A>,
+        ticket: Ticket,
+        settings: &Settings<S, A>,
+        valid_after: Instant,
+    )
+        requires { TakesWrite maintenance.old }
+        ensures { IsTurn K V settings.now (having_taken_write (Upsert ticket) maintenance.old) maintenance.new }
+    {
+        let slot = self.shard.find_ticket(ticket);
+        let found = self.shard.entry(slot);
+        let change = maintenance.turn_with_upsert(settings, valid_after, ticket, found);
+        self.shard.change(slot, change);
+    }
+}

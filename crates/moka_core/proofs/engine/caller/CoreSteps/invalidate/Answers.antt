@@ -1,0 +1,17 @@
+use Rattle.std.proofs.Common.{◌∙◌, ap, sym}
+use Rattle.moka_base.specs.Keys.{Keys, keys_by}
+use Rattle.moka_steps.specs.Steps.{left_by_invalidate, pends}
+use Rattle.moka_core.proofs.CoreCallerLemmas.{taken}
+use Rattle.moka_core.proofs.engine.caller.CoreSteps.invalidate.Given.{Over}
+use Rattle.moka_core.proofs.engine.caller.CoreSteps.invalidate.Goals as goal
+
+-- the keys of the core
+abbrev keys : (g : Over) → Keys g.row.K.Denot g.row.S.Denot
+keys g = keys_by (record { eq = g.K.PartialEq.eq; hash_input = g.K.Hash.hash_input }) g.S.BuildHasher g.S.Hasher.Hasher
+
+pub returns-clause-caller : goal.returns-clause-caller
+returns-clause-caller g c =
+    let old = c.args.self.now in
+    (taken (keys g) (g.W.WeighShared.weighs old.weigher) old.state c.step_invalidate.new.self.state c.requires c.args.key.now c.args.now
+    c.step_invalidate.result c.step_invalidate.ensures.step).1
+    ∙ ap (λ b. pends (left_by_invalidate b)) (sym c.has_pending.ensures)

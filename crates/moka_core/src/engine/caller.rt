@@ -1,0 +1,117 @@
+// The steps of the core's caller of whole calls, which are exactly those of the definitions.
+use crate::engine::Core;
+use moka_base::error::{InsertError, OutOfMemory};
+use moka_base::shared::Shared;
+use moka_base::time::Instant;
+use moka_engine::event::Reply;
+use moka_engine::place::Place;
+use moka_engine::weigh::WeighShared;
+use moka_steps::steps::{ReadPush, Steps, WhichLog, WritePush};
+use std::alloc::Allocator;
+use std::hash::{BuildHasher, Hash};
+use std::sync::Wait;
+
+impl<
+    K: Eq + Hash + Drop,
+    V: Drop,
+    S: BuildHasher + Drop,
+    W: WeighShared<K, V>,
+    A: Allocator + Clone + Drop,
+> Steps<K, V, A> for Core<K, V, S, W, A> {
+    ghost use Rattle.moka_base.specs.Keys.{keys_by};
+    ghost use Rattle.moka_core.specs.CoreCaller.{core_allows, core_caller, core_decides};
+
+    ghost allowed = { core_allows (keys_by K.Hash S.BuildHasher S.Hasher.Hasher) W.weighs };
+
+    ghost decides = { core_decides };
+
+    ghost caller = { core_caller };
+
+    ghost accepts = { λ core _ _. W.ready core.weigher };
+
+    type Key = Shared<K, A>;
+
+    type Value = Shared<V, A>;
+
+    ghost key_of = { λ key. key };
+
+    ghost value_of = { λ value. value };
+
+    fn insert<R: Wait>(
+        &mut self,
+        _rt: &R,
+        key: Shared<K, A>,
+        value: Shared<V, A>,
+        now: Instant,
+    ) -> Result<(), InsertError> {
+        match self.step_insert(key, value, now) {
+            Reply::Done => Ok(()),
+            Reply::OutOfMemory => Err(InsertError::OutOfMemory),
+            _ => Err(InsertError::TicketsUsedUp),
+        }
+    }
+
+    fn get<R: Wait>(
+        &mut self,
+        _rt: &R,
+        key: &K,
+        now: Instant,
+    ) -> Result<Option<Shared<V, A>>, OutOfMemory> {
+        match self.step_get(key, now) {
+            Reply::Found(found) => Ok(found),
+            _ => Err(OutOfMemory),
+        }
+    }
+
+    fn contains_key<R: Wait>(&self, _rt: &R, key: &K, now: Instant) -> bool {
+        match self.step_contains_key(key, now) {
+            Reply::Bool(is_there) => is_there,
+            _ => false,
+        }
+    }
+
+    fn invalidate<R: Wait>(&mut self, _rt: &R, key: &K, now: Instant) -> bool {
+        let _ = self.step_invalidate(key, now);
+        self.has_pending()
+    }
+
+    fn invalidate_all(&mut self, now: Instant) {
+        let _ = self.step_invalidate_all(now);
+    }
+
+    fn push_read<R: Wait>(&mut self, _rt: &R) -> ReadPush {
+        match self.step_push() {
+            Reply::Done => ReadPush::Pushed,
+            _ => ReadPush::Discarded,
+        }
+    }
+
+    fn push_write<R: Wait>(&mut self, _rt: &R) -> WritePush {
+        match self.step_push() {
+            Reply::Done => WritePush::Pushed,
+            _ => WritePush::Full,
+        }
+    }
+
+    fn forget(&mut self) {
+        let _ = self.step_forget();
+    }
+
+    fn decide(&mut self, log: WhichLog, now: Instant) -> bool {
+        match log {
+            WhichLog::Reads => self.decide_for_reads(now),
+            WhichLog::Writes => self.decide_for_writes(now),
+        }
+    }
+
+    fn begin<R: Wait>(&mut self, _rt: &R, now: Instant) {
+        let _ = self.step_begin(now);
+    }
+
+    fn turn<R: Wait>(&mut self, _rt: &R) -> Place {
+        match self.step_turn() {
+            Reply::At(place) => place,
+            _ => Place::Idle,
+        }
+    }
+}
