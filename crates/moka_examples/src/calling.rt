@@ -1,5 +1,5 @@
 //! Callers of the public types, each proved to meet a contract of its own, whose words all come from `mini_moka`.
-ghost use Rattle.std.specs.Prelude.{◌≡◌, ◌+◌, List, Some, Ok, IfOk, IfSome, IsTrue, false, map, reverse, slice_get};
+ghost use Rattle.std.specs.Prelude.{◌≡◌, ◌+◌, List, Some, None, Ok, IfOk, IfSome, IsTrue, Bool, false, map, reverse, slice_get};
 ghost use Rattle.std.specs.Map.{values_of};
 ghost use Rattle.mini_moka.specs.Common.Keys.{keys_by};
 ghost use Rattle.mini_moka.specs.Common.Weight.{unit_weighs};
@@ -11,10 +11,18 @@ ghost use Rattle.mini_moka.specs.Unsync.Runs.{request_of};
 ghost use Rattle.mini_moka.specs.Unsync.Iterate.{pairs_at};
 ghost use Rattle.mini_moka.specs.Sync.Consistent.{IsTrimmed};
 ghost use Rattle.mini_moka.specs.Sync.CoreCall.{IsAtRest, IsCall, entries_evicted};
+ghost use Rattle.mini_moka.specs.Sync.CoreState.{CoreState};
+ghost use Rattle.mini_moka.specs.Sync.Entry.{entry_of};
 ghost use Rattle.mini_moka.specs.Sync.LastWritten.{last_written, value_at};
+ghost use Rattle.mini_moka.specs.Sync.Place.{Apply};
 ghost use Rattle.mini_moka.specs.Sync.Quiescent.{IsQuiescent};
 ghost use Rattle.mini_moka.specs.Sync.Run.{Happening};
+ghost use Rattle.mini_moka.specs.Sync.Turn.Plan.{writes_or_on};
+ghost use Rattle.mini_moka.specs.Sync.Turn.Turn.{after_turn};
 ghost use Rattle.mini_moka.specs.declared.sync.engine.Call.TheVariants.{Sync};
+ghost use Rattle.mini_moka.specs.declared.sync.engine.Ticket.{Ticket};
+ghost use Rattle.mini_moka.specs.declared.sync.engine.Work.{Work};
+ghost use Rattle.mini_moka.specs.declared.sync.engine.Write.TheVariants.{Upsert};
 ghost use Rattle.mini_moka.specs.Replay.{Replays};
 ghost use Rattle.mini_moka.specs.Grammar.{IsScript};
 ghost use Rattle.mini_moka.specs.Parsed.{script_of};
@@ -29,6 +37,7 @@ use mini_moka::sync::engine::{Call, Core, Event, Reply, WeighShared};
 use mini_moka::sync::housekeeper::Housekeeper;
 use mini_moka::sync::laws::{
     gets_answer_what_was_last_written, runs_are_happenings, syncs_empty_the_logs,
+    upserts_of_left_entries_are_dropped,
 };
 use mini_moka::sync::recorded::{Answer, NotRecorded, Record, SharedCall};
 use mini_moka::unsync::Cache;
@@ -203,6 +212,15 @@ pub fn found_between<K: Eq + Hash + Drop, V: Drop, S: BuildHasher + Drop, W: Wei
         Some(Reply::Found(found)) => Ok(found),
         _ => Ok(None),
     }
+}
+
+/// The turn that applies an upsert whose entry has left drops it: nothing changes but the place, whatever work is at hand there.
+pub fn late_upserts_are_dropped<K: Eq + Hash, V, S: BuildHasher>()
+    ensures { (core : CoreState K V S) (work : Work) (t : Ticket) (refused : Bool)
+        → core.maintenance.place ≡ Apply work (Upsert t) → entry_of t core.entries ≡ None
+        → after_turn refused core ≡ record core { maintenance = record core.maintenance { place = writes_or_on work } } }
+{
+    upserts_of_left_entries_are_dropped::<K, V, S>();
 }
 
 /// Runs what empties a log of this length, where it has ten operations or half a second has passed since that was last done, unless another caller's is
