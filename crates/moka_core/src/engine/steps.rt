@@ -24,14 +24,14 @@ impl<
     A: Allocator + Clone + Drop,
 > Core<K, V, S, W, A> {
     /// Whether the caller has anything pending.
-    pub(super) fn has_pending(&self) -> bool
+    pub fn has_pending(&self) -> bool
         ensures { result ≡ has_pending self.now.state }
     {
         self.machine.has_pending()
     }
 
     /// Puts a pair into the map.
-    pub(super) fn step_insert(
+    pub fn step_insert(
         &mut self,
         key: Shared<K, A>,
         value: Shared<V, A>,
@@ -46,7 +46,7 @@ impl<
     }
 
     /// Finds the value of a key.
-    pub(super) fn step_get(&mut self, key: &K, now: Instant) -> Reply<Shared<V, A>, Rows<K, V, A>>
+    pub fn step_get(&mut self, key: &K, now: Instant) -> Reply<Shared<V, A>, Rows<K, V, A>>
         ensures step { Happens (keys_by K.Hash S.BuildHasher S.Hasher.Hasher) (W.weighs self.old.weigher)
             self.old.state (Event.Get CALLER key.now now) result self.new.state }
         ensures weigher { self.new.weigher ≡ self.old.weigher }
@@ -55,11 +55,7 @@ impl<
     }
 
     /// Whether a key has an entry that counts.
-    pub(super) fn step_contains_key(
-        &self,
-        key: &K,
-        now: Instant,
-    ) -> Reply<Shared<V, A>, Rows<K, V, A>>
+    pub fn step_contains_key(&self, key: &K, now: Instant) -> Reply<Shared<V, A>, Rows<K, V, A>>
         ensures { Happens (keys_by K.Hash S.BuildHasher S.Hasher.Hasher) (W.weighs self.now.weigher)
             self.now.state (Event.Contains key.now now) result self.now.state }
     {
@@ -67,11 +63,7 @@ impl<
     }
 
     /// Takes the entry of a key out of the map.
-    pub(super) fn step_invalidate(
-        &mut self,
-        key: &K,
-        now: Instant,
-    ) -> Reply<Shared<V, A>, Rows<K, V, A>>
+    pub fn step_invalidate(&mut self, key: &K, now: Instant) -> Reply<Shared<V, A>, Rows<K, V, A>>
         ensures step { Happens (keys_by K.Hash S.BuildHasher S.Hasher.Hasher) (W.weighs self.old.weigher)
             self.old.state (Event.Invalidate CALLER key.now now) result self.new.state }
         ensures weigher { self.new.weigher ≡ self.old.weigher }
@@ -80,7 +72,7 @@ impl<
     }
 
     /// Hides all entries from before a moment.
-    pub(super) fn step_invalidate_all(&mut self, now: Instant) -> Reply<Shared<V, A>, Rows<K, V, A>>
+    pub fn step_invalidate_all(&mut self, now: Instant) -> Reply<Shared<V, A>, Rows<K, V, A>>
         ensures step { Happens (keys_by K.Hash S.BuildHasher S.Hasher.Hasher) (W.weighs self.old.weigher)
             self.old.state (Event.InvalidateAll now) result self.new.state }
         ensures weigher { self.new.weigher ≡ self.old.weigher }
@@ -89,7 +81,7 @@ impl<
     }
 
     /// Puts what is pending into its log.
-    pub(super) fn step_push(&mut self) -> Reply<Shared<V, A>, Rows<K, V, A>>
+    pub fn step_push(&mut self) -> Reply<Shared<V, A>, Rows<K, V, A>>
         ensures step { Happens (keys_by K.Hash S.BuildHasher S.Hasher.Hasher) (W.weighs self.old.weigher)
             self.old.state (Event.Push CALLER) result self.new.state }
         ensures weigher { self.new.weigher ≡ self.old.weigher }
@@ -101,7 +93,7 @@ impl<
     }
 
     /// Drops the read that is pending.
-    pub(super) fn step_forget(&mut self) -> Reply<Shared<V, A>, Rows<K, V, A>>
+    pub fn step_forget(&mut self) -> Reply<Shared<V, A>, Rows<K, V, A>>
         ensures step { Happens (keys_by K.Hash S.BuildHasher S.Hasher.Hasher) (W.weighs self.old.weigher)
             self.old.state (Event.Forget CALLER) result self.new.state }
         ensures weigher { self.new.weigher ≡ self.old.weigher }
@@ -113,7 +105,7 @@ impl<
     }
 
     /// Begins a maintenance.
-    pub(super) fn step_begin(&mut self, now: Instant) -> Reply<Shared<V, A>, Rows<K, V, A>>
+    pub fn step_begin(&mut self, now: Instant) -> Reply<Shared<V, A>, Rows<K, V, A>>
         ensures step { Happens (keys_by K.Hash S.BuildHasher S.Hasher.Hasher) (W.weighs self.old.weigher)
             self.old.state (Event.Begin now) result self.new.state }
         ensures weigher { self.new.weigher ≡ self.old.weigher }
@@ -122,7 +114,7 @@ impl<
     }
 
     /// Goes on with it by one turn.
-    pub(super) fn step_turn(&mut self) -> Reply<Shared<V, A>, Rows<K, V, A>>
+    pub fn step_turn(&mut self) -> Reply<Shared<V, A>, Rows<K, V, A>>
         ensures step { Happens (keys_by K.Hash S.BuildHasher S.Hasher.Hasher) (W.weighs self.old.weigher)
             self.old.state Event.Turn result self.new.state }
         ensures weigher { self.new.weigher ≡ self.old.weigher }
@@ -131,7 +123,7 @@ impl<
     }
 
     /// Whether a maintenance is due, as a get asks. Where it is, the next is due by time a while later.
-    pub(super) fn decide_for_reads(&mut self, now: Instant) -> bool
+    pub fn decide_for_reads(&mut self, now: Instant) -> bool
         ensures decision { Decides self.old.state OfReads now result self.new.state }
         ensures weigher { self.new.weigher ≡ self.old.weigher }
     {
@@ -139,7 +131,7 @@ impl<
     }
 
     /// The same, as an insert or an invalidation asks.
-    pub(super) fn decide_for_writes(&mut self, now: Instant) -> bool
+    pub fn decide_for_writes(&mut self, now: Instant) -> bool
         ensures decision { Decides self.old.state OfWrites now result self.new.state }
         ensures weigher { self.new.weigher ≡ self.old.weigher }
     {
