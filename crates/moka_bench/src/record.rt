@@ -93,19 +93,32 @@ fn empty_record(alloc: Global) -> Result<Record<u64, u64>, Fail> {
     Ok(Record::new(alloc, core))
 }
 
+/// What a call of this name is answered that is made on a record.
+fn answered(
+    alloc: Global,
+    record: &mut Record<u64, u64>,
+    name: Name,
+    number: u64,
+    moment: u64,
+) -> Result<(&'static str, u64), Fail> {
+    let call = call_of(alloc, name, number, Instant::from_nanos(moment))?;
+    let reply = record.apply(call)?;
+    Ok(told(&reply))
+}
+
 #[test]
 fn a_record_has_each_call_with_its_reply(rt: HostRuntime) -> Result<(), Fail> {
     let mut record = empty_record(rt.alloc())?;
     for (moment, (name, number, word, answer)) in CALLS.iter().enumerate() {
-        let now = Instant::from_nanos(moment as u64);
-        let call = call_of(rt.alloc(), *name, *number, now)?;
-        let reply = record.apply(call)?;
-        assert_eq!(rt; told(&reply), (*word, *answer));
+        let told = answered(rt.alloc(), &mut record, *name, *number, moment as u64)?;
+        assert_eq!(rt; told, (*word, *answer));
     }
     assert_eq!(rt; record.calls().len(), CALLS.len());
-    for (made, (name, _, word, answer)) in record.calls().iter().zip(CALLS.iter()) {
-        assert_eq!(rt; name_of(&made.call), *name);
-        assert_eq!(rt; told(&made.reply), (*word, *answer));
+    for (made, (name, _, word, answer)) in record.calls().iter().zip(&CALLS) {
+        assert_eq!(rt;
+            (name_of(&made.call), told(&made.reply)),
+            (*name, (*word, *answer))
+        );
     }
     Ok(())
 }
@@ -113,11 +126,8 @@ fn a_record_has_each_call_with_its_reply(rt: HostRuntime) -> Result<(), Fail> {
 #[test]
 fn a_core_is_new_until_a_call(rt: HostRuntime) -> Result<(), Fail> {
     let mut record = empty_record(rt.alloc())?;
-    assert!(rt; record.core().is_new());
-    assert_eq!(rt; record.first_ticket(), 0);
-    let call = call_of(rt.alloc(), Name::Insert, 7, Instant::from_nanos(0))?;
-    let reply = record.apply(call)?;
-    assert_eq!(rt; told(&reply), ("done", 0));
-    assert!(rt; !record.core().is_new());
+    assert_eq!(rt; (record.core().is_new(), record.first_ticket()), (true, 0));
+    let told = answered(rt.alloc(), &mut record, Name::Insert, 7, 0)?;
+    assert_eq!(rt; (told, record.core().is_new()), (("done", 0), false));
     Ok(())
 }

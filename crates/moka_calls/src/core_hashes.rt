@@ -24,32 +24,56 @@ fn start() -> Instant {
     Instant::from_nanos(0)
 }
 
+/// The key of all calls.
+fn key(alloc: Global) -> Result<Shared<u64>, AllocError> {
+    Ok(Shared::new(alloc, 7)?)
+}
+
+fn insert(alloc: Global) -> Result<SharedCall, AllocError> {
+    let key = key(alloc)?;
+    let value = Shared::new(alloc, 1)?;
+    Ok(Call::Insert {
+        key,
+        value,
+        now: start(),
+    })
+}
+
 fn call_of(alloc: Global, kind: Kind) -> Result<SharedCall, AllocError> {
     let now = start();
-    let key = Shared::new(alloc, 7)?;
-    Ok(match kind {
-        Kind::Insert => Call::Insert {
-            key,
-            value: Shared::new(alloc, 1)?,
+    match kind {
+        Kind::Insert => insert(alloc),
+        Kind::Contains => Ok(Call::Contains {
+            key: key(alloc)?,
             now,
-        },
-        Kind::Contains => Call::Contains { key, now },
-        Kind::Invalidate => Call::Invalidate { key, now },
-        Kind::Sync => Call::Sync { now },
-    })
+        }),
+        Kind::Invalidate => Ok(Call::Invalidate {
+            key: key(alloc)?,
+            now,
+        }),
+        Kind::Sync => Ok(Call::Sync { now }),
+    }
+}
+
+/// Makes a whole call on a core at rest.
+fn make(core: &mut Core<u64, u32, CountingState>, call: SharedCall) -> Result<(), Fail> {
+    if !core.is_at_rest() {
+        return Err("a core at rest".into());
+    }
+    core.call(call);
+    Ok(())
 }
 
 /// How many hashers a whole call asks for.
 fn asked_by(
+    alloc: Global,
     core: &mut Core<u64, u32, CountingState>,
     asked: &Cell<u64>,
-    call: SharedCall,
+    kind: Kind,
 ) -> Result<u64, Fail> {
-    if !core.is_at_rest() {
-        return Err("a core at rest".into());
-    }
+    let call = call_of(alloc, kind)?;
     let before = asked.get();
-    core.call(call);
+    make(core, call)?;
     Ok(asked.get().wrapping_sub(before))
 }
 
@@ -63,21 +87,23 @@ fn asked_by_get(core: &mut Core<u64, u32, CountingState>, asked: &Cell<u64>) -> 
     Ok(asked.get().wrapping_sub(before))
 }
 
-// A new key, an update, and then the key that is there; and a miss. A maintenance hashes none, though it applies all of these.
+/// A new key, an update, and then the key that is there; and a miss. A maintenance hashes none, though it applies all of these.
+const HASHES: [(Kind, u64); 6] = [
+    (Kind::Insert, 1),
+    (Kind::Insert, 1),
+    (Kind::Contains, 1),
+    (Kind::Invalidate, 1),
+    (Kind::Contains, 1),
+    (Kind::Sync, 0),
+];
+
 #[test]
 fn a_call_hashes_its_key_once(rt: HostRuntime) -> Result<(), Fail> {
     let asked = Cell::new(0);
     let mut core = Core::new(rt.alloc(), CountingState { asked: &asked })?;
-    for (kind, hashes) in [
-        (Kind::Insert, 1),
-        (Kind::Insert, 1),
-        (Kind::Contains, 1),
-        (Kind::Invalidate, 1),
-        (Kind::Contains, 1),
-        (Kind::Sync, 0),
-    ] {
-        let call = call_of(rt.alloc(), kind)?;
-        assert_eq!(rt; asked_by(&mut core, &asked, call)?, hashes, "by {kind:?}");
+    for (kind, hashes) in &HASHES {
+        let hashers = asked_by(rt.alloc(), &mut core, &asked, *kind)?;
+        assert_eq!(rt; hashers, *hashes, "by {kind:?}");
     }
     Ok(())
 }
@@ -86,8 +112,8 @@ fn a_call_hashes_its_key_once(rt: HostRuntime) -> Result<(), Fail> {
 fn a_get_hashes_its_key_once(rt: HostRuntime) -> Result<(), Fail> {
     let asked = Cell::new(0);
     let mut core = Core::new(rt.alloc(), CountingState { asked: &asked })?;
-    assert_eq!(rt; asked_by_get(&mut core, &asked)?, 1);
-    asked_by(&mut core, &asked, call_of(rt.alloc(), Kind::Insert)?)?;
-    assert_eq!(rt; asked_by_get(&mut core, &asked)?, 1);
+    let absent = asked_by_get(&mut core, &asked)?;
+    asked_by(rt.alloc(), &mut core, &asked, Kind::Insert)?;
+    assert_eq!(rt; [absent, asked_by_get(&mut core, &asked)?], [1, 1]);
     Ok(())
 }

@@ -96,15 +96,38 @@ fn charged(core: &mut HeapCore) -> Result<usize, Fail> {
     }
 }
 
+/// The same once the keys from the first one on and below the second one were inserted with this value.
+fn charged_with<'a>(
+    core: &mut HeapCore<'a>,
+    heap: &'a LocalHeap,
+    keys: (u64, u64),
+    value: u32,
+) -> Result<usize, Fail> {
+    for key in keys.0..keys.1 {
+        insert(core, heap, key, value)?;
+    }
+    charged(core)
+}
+
+/// The same once such keys were invalidated.
+fn charged_without<'a>(
+    core: &mut HeapCore<'a>,
+    heap: &'a LocalHeap,
+    keys: (u64, u64),
+) -> Result<usize, Fail> {
+    for key in keys.0..keys.1 {
+        let key = Shared::new(heap, key)?;
+        call(core, Call::Invalidate { key, now: start() })?;
+    }
+    charged(core)
+}
+
 /// A core without a limit, with four entries that are charged and room for no more nodes, and a fifth entry whose upsert is in the log.
 fn with_a_fifth(heap: &LocalHeap) -> Result<HeapCore<'_>, Fail> {
     let mut core = CacheBuilder::default(heap)
         .weigher(OwnWeight)
         .build_core(FixedState::new())?;
-    for key in 0..4 {
-        insert(&mut core, heap, key, 1)?;
-    }
-    charged(&mut core)?;
+    charged_with(&mut core, heap, (0, 4), 1)?;
     insert(&mut core, heap, 4, 1)?;
     Ok(core)
 }
@@ -135,18 +158,27 @@ fn counts_without_memory<'a>(
     counts(core)
 }
 
+/// How many of the keys 0 to 4 are found, those counts without memory, and the counts once the fifth entry has come again.
+fn found_and_counts<'a>(
+    alloc: Global,
+    heap: &'a LocalHeap,
+    core: &mut HeapCore<'a>,
+) -> Result<(usize, (usize, usize), (usize, usize)), Fail> {
+    let found = found_of_five(core)?;
+    let without_memory = counts_without_memory(alloc, heap, core)?;
+    insert(core, heap, 4, 1)?;
+    Ok((found, without_memory, counts(core)?))
+}
+
 // Room for nodes is made for 1, 2, 4 and 8, so the fifth needs memory.
 #[test]
 fn an_entry_whose_node_is_refused_leaves_and_may_come_again(rt: HostRuntime) -> Result<(), Fail> {
     let heap = LocalHeap::new(rt.alloc(), 65_536)?;
     let mut core = with_a_fifth(&heap)?;
-    assert_eq!(rt; found_of_five(&mut core)?, 5);
     assert_eq!(rt;
-        counts_without_memory(rt.alloc(), &heap, &mut core)?,
-        (4, 4)
+        found_and_counts(rt.alloc(), &heap, &mut core)?,
+        (5, (4, 4), (5, 5))
     );
-    insert(&mut core, &heap, 4, 1)?;
-    assert_eq!(rt; counts(&mut core)?, (5, 5));
     Ok(())
 }
 
@@ -159,27 +191,25 @@ fn with_room_for_nodes<'a>(
         .initial_capacity(16)
         .weigher(OwnWeight)
         .build_core(FixedState::new())?;
-    for key in 10..15 {
-        insert(&mut core, others, key, 0)?;
-    }
-    charged(&mut core)?;
-    for key in 10..15 {
-        let key = Shared::new(others, key)?;
-        call(&mut core, Call::Invalidate { key, now: start() })?;
-    }
-    charged(&mut core)?;
+    charged_with(&mut core, others, (10, 15), 0)?;
+    charged_without(&mut core, others, (10, 15))?;
     Ok(core)
 }
 
-/// Whether a key that was got three times enters a full core. A maintenance comes before the gets, and one that applies them.
-fn enters_often_wanted<'a>(core: &mut HeapCore<'a>, others: &'a LocalHeap) -> Result<bool, Fail> {
+/// Gets key 7 three times. A maintenance comes before the gets, and one that applies them.
+fn get_often(core: &mut HeapCore) -> Result<(), Fail> {
     charged(core)?;
     for _ in 0..3 {
         found(core, 7)?;
     }
     charged(core)?;
-    insert(core, others, 7, 1)?;
-    charged(core)?;
+    Ok(())
+}
+
+/// Whether a key that was got so enters a full core.
+fn enters_often_wanted<'a>(core: &mut HeapCore<'a>, others: &'a LocalHeap) -> Result<bool, Fail> {
+    get_often(core)?;
+    charged_with(core, others, (7, 8), 1)?;
     Ok(found(core, 7)?.is_some())
 }
 
@@ -191,10 +221,7 @@ fn enters_without_memory<'a>(
     core: &mut HeapCore<'a>,
 ) -> Result<bool, Fail> {
     let _blocks = blocks_of(alloc, heap)?;
-    for key in 0..4 {
-        insert(core, others, key, 1)?;
-    }
-    if charged(core)? != 4 {
+    if charged_with(core, others, (0, 4), 1)? != 4 {
         return Err("four entries".into());
     }
     enters_often_wanted(core, others)
@@ -206,9 +233,12 @@ fn a_core_asks_again_for_a_refused_table(rt: HostRuntime) -> Result<(), Fail> {
     let heap = LocalHeap::new(rt.alloc(), 98_304)?;
     let others = LocalHeap::new(rt.alloc(), 8192)?;
     let mut core = with_room_for_nodes(&heap, &others)?;
-    assert!(rt; !enters_without_memory(rt.alloc(), &heap, &others, &mut core)?);
-    assert!(rt; enters_often_wanted(&mut core, &others)?);
-    assert_eq!(rt; charged(&mut core)?, 4);
+    let is_without = enters_without_memory(rt.alloc(), &heap, &others, &mut core)?;
+    let is_with = enters_often_wanted(&mut core, &others)?;
+    assert_eq!(rt;
+        (is_without, is_with, charged(&mut core)?),
+        (false, true, 4)
+    );
     Ok(())
 }
 

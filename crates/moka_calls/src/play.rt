@@ -29,7 +29,7 @@ const EARLY_LINES: [&str; 4] = ["nanos", "play sync", "play counted", "play unsy
 
 #[test]
 fn a_line_that_is_no_request_is_bad(rt: HostRuntime) {
-    for line in BAD_LINES {
+    for line in &BAD_LINES {
         let mut player = Player::new(rt.alloc());
         let refused = player.take(rt, line);
         assert_eq!(rt; refused, Err(PlayError::BadLine(1)), "{line:?}");
@@ -38,12 +38,16 @@ fn a_line_that_is_no_request_is_bad(rt: HostRuntime) {
 
 #[test]
 fn a_line_that_comes_too_early_is_bad(rt: HostRuntime) {
-    for line in EARLY_LINES {
+    for line in &EARLY_LINES {
         let mut player = Player::new(rt.alloc());
-        assert_eq!(rt; player.take(rt, "capacity 10"), Ok(None));
-        assert_eq!(rt; player.take(rt, "insert 1"), Ok(None));
+        let set = player.take(rt, "capacity 10");
+        let inserted = player.take(rt, "insert 1");
         let refused = player.take(rt, line);
-        assert_eq!(rt; refused, Err(PlayError::BadLine(3)), "{line}");
+        assert_eq!(rt;
+            [set, inserted, refused],
+            [Ok(None), Ok(None), Err(PlayError::BadLine(3))],
+            "{line}"
+        );
     }
 }
 
@@ -55,26 +59,28 @@ fn a_line_without_a_thread_is_bad_after_a_clear_too(rt: HostRuntime) {
     assert_eq!(rt; player.take(rt, "play sync"), Err(PlayError::BadLine(3)));
 }
 
+/// Lines, and the requests that they are.
+const READ: [(&str, Request); 11] = [
+    ("capacity 0", Request::Capacity(0)),
+    ("thread", Request::Thread),
+    ("clear", Request::Clear),
+    (
+        "get 18446744073709551615",
+        Request::Call(Call::Get(u64::MAX)),
+    ),
+    ("insert 7", Request::Call(Call::Insert(7))),
+    ("play sync", Request::Play(Kind::Sync)),
+    ("play counted", Request::Play(Kind::Counted)),
+    ("play unsync", Request::Play(Kind::Unsync)),
+    ("count", Request::Call(Call::Count)),
+    ("sync", Request::Call(Call::Sync)),
+    ("nanos", Request::Nanos),
+];
+
 #[test]
 fn each_request_is_read(rt: HostRuntime) {
-    let read = [
-        ("capacity 0", Request::Capacity(0)),
-        ("thread", Request::Thread),
-        ("clear", Request::Clear),
-        (
-            "get 18446744073709551615",
-            Request::Call(Call::Get(u64::MAX)),
-        ),
-        ("insert 7", Request::Call(Call::Insert(7))),
-        ("play sync", Request::Play(Kind::Sync)),
-        ("play counted", Request::Play(Kind::Counted)),
-        ("play unsync", Request::Play(Kind::Unsync)),
-        ("count", Request::Call(Call::Count)),
-        ("sync", Request::Call(Call::Sync)),
-        ("nanos", Request::Nanos),
-    ];
-    for (line, request) in read {
-        assert_eq!(rt; Request::parse(line), Some(request), "{line}");
+    for (line, request) in &READ {
+        assert_eq!(rt; Request::parse(line), Some(*request), "{line}");
     }
 }
 

@@ -4,3 +4,15 @@ mod one_thread;
 mod published;
 mod recorded;
 mod threads;
+
+use std::sync::Wait;
+use std::thread::{JoinHandle, Threads};
+
+/// Whether each of these threads answers that all was well. All are waited for.
+fn all_are_well<R: Wait + Threads>(rt: &R, threads: Vec<JoinHandle<bool>>) -> bool {
+    let mut is_well = true;
+    for thread in threads {
+        is_well &= thread.join(rt);
+    }
+    is_well
+}

@@ -38,8 +38,10 @@ fn assert_past_a_removal(rt: &impl Abort, list: &mut Deque<char>, c: NodeId) {
 /// Takes all three out from the front, at the cursor and before it.
 fn assert_past_the_front(rt: &impl Abort, list: &mut Deque<char>) {
     assert_steps(rt, list, &[Some('a')]);
-    assert_eq!(rt; list.pop_front(), Some('a'));
-    assert_eq!(rt; list.pop_front(), Some('b'));
+    assert_eq!(rt;
+        [list.pop_front(), list.pop_front()],
+        [Some('a'), Some('b')]
+    );
     assert_steps(rt, list, &[Some('c'), None]);
     assert_eq!(rt; list.pop_front(), Some('c'));
     assert_steps(rt, list, &[None, None]);
@@ -65,25 +67,31 @@ fn the_cursor_steps_past_moves_and_removals(rt: HostRuntime) -> Result<(), Fail>
 fn room_that_is_reserved_takes_pushes(rt: HostRuntime) -> Result<(), Fail> {
     let mut list = list(rt.alloc());
     assert_eq!(rt; list.reserve(3), Ok(()));
-    for element in ['a', 'b', 'c'] {
-        assert!(rt; list.push_back(element).is_ok());
+    for element in &['a', 'b', 'c'] {
+        assert!(rt; list.push_back(*element).is_ok());
     }
     assert_eq!(rt; list.len(), 3);
-    assert!(rt; list.iter().copied().eq(['a', 'b', 'c']));
+    assert!(rt; list.iter().eq(&['a', 'b', 'c']));
     Ok(())
+}
+
+/// The length of a list to which the numbers below this one were added, and its two ends.
+fn length_and_ends(alloc: Global, end: u32) -> Result<(usize, [Option<u32>; 2]), Fail> {
+    let mut list = Deque::new(alloc, CacheRegion::Window);
+    for number in 0..end {
+        if list.push_back(number).is_err() {
+            return Err("no memory".into());
+        }
+    }
+    let ends = [list.peek_front().copied(), list.peek_back().copied()];
+    Ok((list.len(), ends))
 }
 
 #[test]
 fn a_list_takes_a_hundred_thousand_nodes(rt: HostRuntime) -> Result<(), Fail> {
-    let mut list = Deque::new(rt.alloc(), CacheRegion::Window);
-    for number in 0..100_000u32 {
-        list.push_back(number).map_err(|_| Fail::from("no memory"))?;
-    }
-    assert_eq!(rt; list.len(), 100_000);
-    assert_eq!(rt;
-        (list.peek_front(), list.peek_back()),
-        (Some(&0), Some(&99_999))
-    );
+    let (length, ends) = length_and_ends(rt.alloc(), 100_000)?;
+    assert_eq!(rt; length, 100_000);
+    assert_eq!(rt; ends, [Some(0), Some(99_999)]);
     Ok(())
 }
 
@@ -117,8 +125,8 @@ fn note<'a>(
 
 /// Adds four elements, takes the first one out, and moves the next one to the back. The last one takes the place that the first had in the slab.
 fn fill<'a>(list: &mut NotedList<'a>, notes: &'a RefCell<Vec<u32>>) -> Result<(), Fail> {
-    for number in [3, 1, 4, 2] {
-        note(list, notes, number)?;
+    for number in &[3, 1, 4, 2] {
+        note(list, notes, *number)?;
     }
     drop(list.pop_front());
     note(list, notes, 5)?;
@@ -126,12 +134,16 @@ fn fill<'a>(list: &mut NotedList<'a>, notes: &'a RefCell<Vec<u32>>) -> Result<()
     Ok(())
 }
 
+/// Fills a list and drops it.
+fn fill_and_drop(alloc: Global, notes: &RefCell<Vec<u32>>) -> Result<(), Fail> {
+    let mut list = Deque::new(alloc, CacheRegion::Window);
+    fill(&mut list, notes)
+}
+
 #[test]
 fn elements_are_dropped_from_front_to_back(rt: HostRuntime) -> Result<(), Fail> {
     let notes = RefCell::new(Vec::new(rt.alloc()));
-    let mut list = Deque::new(rt.alloc(), CacheRegion::Window);
-    fill(&mut list, &notes)?;
-    drop(list);
+    fill_and_drop(rt.alloc(), &notes)?;
     assert_eq!(rt; notes.into_inner().as_slice(), [3, 4, 2, 5, 1].as_slice());
     Ok(())
 }

@@ -11,11 +11,13 @@ fn count<A: Allocator + Clone + Drop>(sketch: &mut FrequencySketch<A>, hash: u64
     }
 }
 
+/// Numbers of entries, and the capacity that a sketch has for them.
+const CAPACITIES: [(u64, u32); 4] = [(0, 128), (128, 128), (65537, 65537), (u64::MAX, 4294967295)];
+
 #[test]
 fn a_sketch_capacity_lies_between_its_bounds(rt: HostRuntime) {
-    let cases = [(0, 128), (128, 128), (65537, 65537), (u64::MAX, 4294967295)];
-    for (entries, want) in cases {
-        assert_eq!(rt; sketch_capacity(entries), want, "at {entries}");
+    for (entries, want) in &CAPACITIES {
+        assert_eq!(rt; sketch_capacity(*entries), *want, "at {entries}");
     }
 }
 
@@ -36,14 +38,28 @@ fn grown<A: Allocator + Clone + Drop>(
     (is_given, sketch.table_len(), sketch.frequency(0))
 }
 
+/// The same of three capacities, where the hash 0 is counted three times after the first.
+fn grown_thrice<A: Allocator + Clone + Drop>(
+    sketch: &mut FrequencySketch<A>,
+    capacities: [u32; 3],
+) -> [(bool, usize, u8); 3] {
+    let first = grown(sketch, capacities[0]);
+    count(sketch, 0, 3);
+    [
+        first,
+        grown(sketch, capacities[1]),
+        grown(sketch, capacities[2]),
+    ]
+}
+
 #[test]
 fn a_refused_table_leaves_the_counters(rt: HostRuntime) -> Result<(), Fail> {
     let heap = LocalHeap::new(rt.alloc(), 4096)?;
     let mut sketch = FrequencySketch::default(&heap);
-    assert_eq!(rt; grown(&mut sketch, 4), (true, 4, 0));
-    count(&mut sketch, 0, 3);
-    assert_eq!(rt; grown(&mut sketch, 1024), (false, 4, 3));
-    assert_eq!(rt; grown(&mut sketch, 32), (true, 32, 0));
+    assert_eq!(rt;
+        grown_thrice(&mut sketch, [4, 1024, 32]),
+        [(true, 4, 0), (false, 4, 3), (true, 32, 0)]
+    );
     Ok(())
 }
 

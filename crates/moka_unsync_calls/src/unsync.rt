@@ -53,8 +53,8 @@ fn the_weigher_is_asked_once_for_each_insert(rt: HostRuntime) -> Result<(), Fail
         .weigher(Counting { asked: &asked })
         .build()?;
     // A new key, an update, and one that is rejected.
-    for (key, value) in [(0, 5), (0, 6), (1, 11)] {
-        assert!(rt; cache.insert(key, value, start()).is_ok());
+    for (key, value) in &[(0, 5), (0, 6), (1, 11)] {
+        assert!(rt; cache.insert(*key, *value, start()).is_ok());
     }
     assert_eq!(rt; (cache.weighted_size(), asked.get()), (6, 3));
     Ok(())
@@ -90,6 +90,16 @@ fn has_keys_below(cache: &mut Counted, end: u64) -> bool {
     !cache.contains_key(&end, start())
 }
 
+/// Whether a full cache refuses a new key and an update at the end of its entries' time, and has the entries still.
+fn refuses_two_and_has(cache: &mut Counted, entries: u64) -> [bool; 3] {
+    let expired = Instant::from_nanos(10);
+    [
+        refuses(cache, entries, expired, entries),
+        refuses(cache, 0, expired, entries),
+        has_keys_below(cache, entries),
+    ]
+}
+
 // A new key is refused, and so is an update of an old one; neither removes what is expired.
 #[test]
 fn a_refused_insert_asks_no_weigher_and_leaves_the_entries(rt: HostRuntime) -> Result<(), Fail> {
@@ -101,10 +111,10 @@ fn a_refused_insert_asks_no_weigher_and_leaves_the_entries(rt: HostRuntime) -> R
         .build()?;
     let accepted = accepted_by(&mut cache);
     assert!(rt; 1 < accepted && accepted < MANY);
-    let expired = Instant::from_nanos(10);
-    assert!(rt; refuses(&mut cache, accepted, expired, accepted));
-    assert!(rt; refuses(&mut cache, 0, expired, accepted));
-    assert!(rt; has_keys_below(&mut cache, accepted));
+    assert_eq!(rt;
+        refuses_two_and_has(&mut cache, accepted),
+        [true, true, true]
+    );
     assert_eq!(rt; asked.get(), accepted);
     Ok(())
 }
@@ -123,23 +133,32 @@ fn refusal_of_hashed(alloc: Global, live: Duration, idle: Duration) -> Option<Bu
     built.err()
 }
 
+/// Both, of durations of so many seconds.
+fn refusals(alloc: Global, live: u64, idle: u64) -> [Option<BuildError>; 2] {
+    let (live, idle) = (Duration::from_secs(live), Duration::from_secs(idle));
+    [
+        refusal(alloc, live, idle),
+        refusal_of_hashed(alloc, live, idle),
+    ]
+}
+
+/// A thousand years of 365 days, in seconds, and a second more.
+const LONGEST: u64 = 31_536_000_000;
+
+const LONGER: u64 = 31_536_000_001;
+
+/// A time to live and a time to idle, and why no cache is built with them.
+const TIMES: [(u64, u64, Option<BuildError>); 4] = [
+    (LONGEST, LONGEST, None),
+    (LONGER, LONGEST, Some(BuildError::TimeToLiveTooLong)),
+    (LONGEST, LONGER, Some(BuildError::TimeToIdleTooLong)),
+    (LONGER, LONGER, Some(BuildError::TimeToLiveTooLong)),
+];
+
 #[test]
 fn a_duration_of_more_than_a_thousand_years_is_refused(rt: HostRuntime) -> Result<(), Fail> {
-    let longest = Duration::from_secs(31_536_000_000);
-    let longer = Duration::from_secs(31_536_000_001);
-    let live = BuildError::TimeToLiveTooLong;
-    let idle = BuildError::TimeToIdleTooLong;
-    for (time_to_live, time_to_idle, error) in [
-        (longest, longest, None),
-        (longer, longest, Some(live)),
-        (longest, longer, Some(idle)),
-        (longer, longer, Some(live)),
-    ] {
-        assert_eq!(rt; refusal(rt.alloc(), time_to_live, time_to_idle), error);
-        assert_eq!(rt;
-            refusal_of_hashed(rt.alloc(), time_to_live, time_to_idle),
-            error
-        );
+    for (live, idle, error) in &TIMES {
+        assert_eq!(rt; refusals(rt.alloc(), *live, *idle), [*error, *error]);
     }
     Ok(())
 }
@@ -153,11 +172,22 @@ fn refusals_of_room(heap: &LocalHeap, room: usize) -> [Option<BuildError>; 2] {
     [built.err(), hashed.err()]
 }
 
+/// Room for so many entries, and why no cache with it is built on a small heap.
+const ROOMS: [(usize, Option<BuildError>); 3] = [
+    (0, None),
+    (4, None),
+    (1000, Some(BuildError::OutOfMemory)),
+];
+
 #[test]
 fn room_from_the_start_is_refused_where_memory_is(rt: HostRuntime) -> Result<(), Fail> {
     let heap = LocalHeap::new(rt.alloc(), 4096)?;
-    for (room, error) in [(0, None), (4, None), (1000, Some(BuildError::OutOfMemory))] {
-        assert_eq!(rt; refusals_of_room(&heap, room), [error, error], "of {room}");
+    for (room, error) in &ROOMS {
+        assert_eq!(rt;
+            refusals_of_room(&heap, *room),
+            [*error, *error],
+            "of {room}"
+        );
     }
     Ok(())
 }
@@ -167,16 +197,15 @@ fn room_from_the_start_is_refused_where_memory_is(rt: HostRuntime) -> Result<(),
 fn without_room_from_the_start_no_memory_is_taken(rt: HostRuntime) -> Result<(), Fail> {
     let heap = LocalHeap::new(rt.alloc(), 4096)?;
     let cache: Cache<u64, u32, _, _, _> = Cache::new(&heap, 3)?;
-    assert_eq!(rt; heap.used(), 0);
-    assert_eq!(rt; cache.policy().max_capacity(), Some(3));
+    assert_eq!(rt; (heap.used(), cache.policy().max_capacity()), (0, Some(3)));
     Ok(())
 }
 
 #[test]
 fn want_of_memory_has_its_texts(rt: HostRuntime) -> Result<(), Fail> {
-    let errors = (BuildError::OutOfMemory, InsertError::OutOfMemory);
-    assert_eq!(rt; errors.0.to_string(rt.alloc())?.as_str(), "out of memory");
-    assert_eq!(rt; errors.1.to_string(rt.alloc())?.as_str(), "out of memory");
+    let build = BuildError::OutOfMemory.to_string(rt.alloc())?;
+    let insert = InsertError::OutOfMemory.to_string(rt.alloc())?;
+    assert_eq!(rt; [build.as_str(), insert.as_str()], ["out of memory"; 2]);
     Ok(())
 }
 
@@ -192,8 +221,8 @@ fn stored<S: BuildHasher + Drop>(
 #[test]
 fn a_cache_takes_entries_where_there_is_memory(rt: HostRuntime) -> Result<(), Fail> {
     let mut limited: Cache<u64, u32> = Cache::new(rt.alloc(), 1)?;
-    assert_eq!(rt; limited.policy().max_capacity(), Some(1));
-    assert_eq!(rt; stored(&mut limited, 1), Ok(Some(1)));
+    let limit = limited.policy().max_capacity();
+    assert_eq!(rt; (limit, stored(&mut limited, 1)?), (Some(1), Some(1)));
     Ok(())
 }
 
@@ -215,8 +244,8 @@ fn a_cache_is_built_with_a_hasher_where_there_is_memory(rt: HostRuntime) -> Resu
 /// The values of the keys 0 to 3 in a cache whose keys all have one hash, where 0 to 2 were inserted and 1 was invalidated.
 fn values_of_one_hash(alloc: Global) -> Result<[Option<u32>; 4], Fail> {
     let mut cache: Cache<u64, u32, Zero> = Cache::builder(alloc).build_with_hasher(Zero)?;
-    for (key, value) in [(0, 10), (1, 11), (2, 12)] {
-        cache.insert(key, value, start())?;
+    for (key, value) in &[(0, 10), (1, 11), (2, 12)] {
+        cache.insert(*key, *value, start())?;
     }
     cache.invalidate(&1, start());
     let mut values = [None; 4];
@@ -289,10 +318,11 @@ fn without_memory_for_a_sketch_the_cache_stays_as_it_is(rt: HostRuntime) -> Resu
     Ok(())
 }
 
+/// A cache on a heap.
+type OnHeap<'a> = Cache<u64, u32, FixedState, UnitWeight, &'a LocalHeap>;
+
 /// How many inserts are taken, of more than there is room for.
-fn taken_by<A: Allocator + Clone + Drop>(
-    cache: &mut Cache<u64, u32, FixedState, UnitWeight, A>,
-) -> u64 {
+fn taken_by(cache: &mut OnHeap) -> u64 {
     for key in 0..MANY {
         if cache.insert(key, 1, start()).is_err() {
             return key;
@@ -301,14 +331,22 @@ fn taken_by<A: Allocator + Clone + Drop>(
     MANY
 }
 
+/// The same while nothing is left of the cache's heap.
+fn taken_without_memory<'a>(
+    alloc: Global,
+    heap: &'a LocalHeap,
+    cache: &mut OnHeap<'a>,
+) -> Result<u64, Fail> {
+    let _blocks = blocks_of(alloc, heap)?;
+    Ok(taken_by(cache))
+}
+
 // The rest of the heap is taken, so that there is room for these entries and for no more.
 #[test]
 fn room_from_the_start_is_for_as_many_entries(rt: HostRuntime) -> Result<(), Fail> {
     let heap = LocalHeap::new(rt.alloc(), 8192)?;
     let mut cache = Cache::builder(&heap).initial_capacity(20).build()?;
-    let blocks = blocks_of(rt.alloc(), &heap)?;
-    assert_eq!(rt; taken_by(&mut cache), 20);
-    drop(blocks);
+    assert_eq!(rt; taken_without_memory(rt.alloc(), &heap, &mut cache)?, 20);
     Ok(())
 }
 
@@ -317,28 +355,23 @@ fn room_from_the_start_is_for_as_many_entries(rt: HostRuntime) -> Result<(), Fai
 fn with_room_above_the_limit_inserts_go_on(rt: HostRuntime) -> Result<(), Fail> {
     let heap = LocalHeap::new(rt.alloc(), 8192)?;
     let mut cache = CacheBuilder::new(&heap, 10).initial_capacity(11).build()?;
-    let blocks = blocks_of(rt.alloc(), &heap)?;
-    assert_eq!(rt; taken_by(&mut cache), MANY);
-    drop(blocks);
+    assert_eq!(rt; taken_without_memory(rt.alloc(), &heap, &mut cache)?, MANY);
     Ok(())
 }
 
-/// A cache of four places, half of them taken, whose table was refused.
-fn without_table<'a>(
+/// Takes two entries while nothing is left of the cache's heap, so that its table is refused.
+fn fill_without_memory<'a>(
     alloc: Global,
     heap: &'a LocalHeap,
-) -> Result<Cache<u64, u32, FixedState, UnitWeight, &'a LocalHeap>, Fail> {
-    let mut cache = CacheBuilder::new(heap, 4).initial_capacity(4).build()?;
-    let blocks = blocks_of(alloc, heap)?;
+    cache: &mut OnHeap<'a>,
+) -> Result<(), Fail> {
+    let _blocks = blocks_of(alloc, heap)?;
     cache.insert(0, 1, start())?;
-    cache.insert(1, 1, start())?;
-    drop(blocks);
-    Ok(cache)
+    Ok(cache.insert(1, 1, start())?)
 }
 
-/// Whether such a cache asks for the table again: a key that was got once is then admitted.
-fn asks_again(alloc: Global, heap: &LocalHeap) -> Result<bool, Fail> {
-    let mut cache = without_table(alloc, heap)?;
+/// Whether such a cache of four places asks for the table again: a key that was got once is then admitted.
+fn asks_again(cache: &mut OnHeap) -> Result<bool, InsertError> {
     cache.insert(2, 1, start())?;
     cache.get(&7, start());
     cache.insert(3, 1, start())?;
@@ -349,6 +382,8 @@ fn asks_again(alloc: Global, heap: &LocalHeap) -> Result<bool, Fail> {
 #[test]
 fn a_refused_table_is_asked_for_again(rt: HostRuntime) -> Result<(), Fail> {
     let heap = LocalHeap::new(rt.alloc(), 8192)?;
-    assert!(rt; asks_again(rt.alloc(), &heap)?);
+    let mut cache = CacheBuilder::new(&heap, 4).initial_capacity(4).build()?;
+    fill_without_memory(rt.alloc(), &heap, &mut cache)?;
+    assert_eq!(rt; asks_again(&mut cache), Ok(true));
     Ok(())
 }

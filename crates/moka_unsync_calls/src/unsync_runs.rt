@@ -3,6 +3,7 @@ ghost use Rattle.std.specs.Prelude.{◌≡◌, ⊤};
 
 use crate::heap::blocks_of;
 use linked_list_allocator::LocalHeap;
+use moka_common::error::InsertError;
 use moka_common::hash::FixedState;
 use moka_common::time::Instant;
 use moka_common::weigh::{UnitWeight, Weigh};
@@ -36,8 +37,8 @@ impl Weigh<u64, u32> for ByValue {
 fn debug_texts(alloc: Global) -> Result<String, Fail> {
     let mut cache: Cache<u64, &str> = Cache::new(alloc, 10)?;
     let mut texts = debug_text(alloc, &cache)?;
-    for (key, value) in [(0, "a"), (1, "b")] {
-        cache.insert(key, value, start())?;
+    for (key, value) in &[(0, "a"), (1, "b")] {
+        cache.insert(*key, *value, start())?;
         texts.push_str(&debug_text(alloc, &cache)?)?;
     }
     Ok(texts)
@@ -53,10 +54,15 @@ fn what_is_set_is_shown(rt: HostRuntime) -> Result<(), Fail> {
     Ok(())
 }
 
+/// The text of an iterator over a cache of three places.
+fn iterator_text(alloc: Global) -> Result<String, Fail> {
+    let cache: Cache<u64, u32> = Cache::new(alloc, 3)?;
+    Ok(format!(in alloc; "{:?}", cache.iter(start()))?)
+}
+
 #[test]
 fn an_iterator_shows_its_moment(rt: HostRuntime) -> Result<(), Fail> {
-    let cache: Cache<u64, u32> = Cache::new(rt.alloc(), 3)?;
-    let text = format!(in rt.alloc(); "{:?}", cache.iter(start()))?;
+    let text = iterator_text(rt.alloc())?;
     let limits = "Policy { max_capacity: Some(3), time_to_live: None, time_to_idle: None }";
     assert!(rt; text.as_str().contains(limits));
     assert!(rt; text.as_str().ends_with("now: Instant { nanos: 0 }, .. }"));
@@ -96,21 +102,25 @@ fn pairs_of(alloc: Global, cache: &Cache<u64, u32>) -> Result<Vec<(u64, u32)>, A
     Ok(pairs)
 }
 
-/// Four keys, of which 1 is asked for and 0 written again.
-fn used_in_turn(alloc: Global) -> Result<Cache<u64, u32>, Fail> {
-    let mut cache: Cache<u64, u32> = Cache::new(alloc, 10)?;
+/// Inserts four keys, of which 1 is asked for and 0 written again.
+fn use_in_turn(cache: &mut Cache<u64, u32>) -> Result<(), InsertError> {
     for key in 0..4 {
         cache.insert(key, 10, start())?;
     }
     let _ = cache.get(&1, start());
-    cache.insert(0, 11, start())?;
-    Ok(cache)
+    cache.insert(0, 11, start())
+}
+
+/// The pairs of a cache that was used so.
+fn pairs_used_in_turn(alloc: Global) -> Result<Vec<(u64, u32)>, Fail> {
+    let mut cache: Cache<u64, u32> = Cache::new(alloc, 10)?;
+    use_in_turn(&mut cache)?;
+    Ok(pairs_of(alloc, &cache)?)
 }
 
 #[test]
 fn the_iterator_goes_from_the_least_recently_used_on(rt: HostRuntime) -> Result<(), Fail> {
-    let cache = used_in_turn(rt.alloc())?;
-    let pairs = pairs_of(rt.alloc(), &cache)?;
+    let pairs = pairs_used_in_turn(rt.alloc())?;
     assert_eq!(rt;
         pairs.as_slice(),
         [(2, 10), (3, 10), (1, 10), (0, 11)].as_slice()
@@ -123,9 +133,8 @@ fn an_iterator_stays_at_its_end(rt: HostRuntime) -> Result<(), Fail> {
     let mut cache: Cache<u64, u32> = Cache::new(rt.alloc(), 10)?;
     cache.insert(7, 10, start())?;
     let mut pairs = cache.iter(start());
-    assert_eq!(rt; pairs.next(), Some((&7, &10)));
-    assert_eq!(rt; pairs.next(), None);
-    assert_eq!(rt; pairs.next(), None);
+    let steps = [pairs.next(), pairs.next(), pairs.next()];
+    assert_eq!(rt; steps, [Some((&7, &10)), None, None]);
     Ok(())
 }
 
@@ -149,18 +158,22 @@ fn keys_left(cache: &mut Cache<u64, u32>) -> u64 {
     digits
 }
 
-#[test]
-fn a_predicate_is_asked_once_of_each_entry_in_order_of_use(rt: HostRuntime) -> Result<(), Fail> {
-    let mut cache = four_keys(rt.alloc())?;
-    // Each answer's digit is the key that it was asked of; the keys 1 and 3 leave.
+/// Invalidates the keys 1 and 3. Each digit of the answer is a key that the predicate was asked of.
+fn invalidate_odd_keys(cache: &mut Cache<u64, u32>) -> u64 {
     let mut asked = 0u64;
     cache.invalidate_entries_if(|key: &u64, _value: &u32| {
         asked = asked.wrapping_mul(10).wrapping_add(*key);
         *key % 2 == 1
     });
-    assert_eq!(rt; asked, 1230);
-    assert_eq!(rt; (cache.entry_count(), cache.weighted_size()), (2, 2));
-    assert_eq!(rt; keys_left(&mut cache), 1010);
+    asked
+}
+
+#[test]
+fn a_predicate_is_asked_once_of_each_entry_in_order_of_use(rt: HostRuntime) -> Result<(), Fail> {
+    let mut cache = four_keys(rt.alloc())?;
+    assert_eq!(rt; invalidate_odd_keys(&mut cache), 1230);
+    let counts = (cache.entry_count(), cache.weighted_size());
+    assert_eq!(rt; (counts, keys_left(&mut cache)), ((2, 2), 1010));
     Ok(())
 }
 
@@ -177,15 +190,23 @@ fn emptied(alloc: Global) -> Result<Cache<u64, u32, FixedState, ByValue>, Fail> 
     Ok(cache)
 }
 
+/// The value of a key that is written then, and how many entries there are.
+fn written(
+    cache: &mut Cache<u64, u32, FixedState, ByValue>,
+    now: Instant,
+) -> Result<(Option<u32>, u64), InsertError> {
+    cache.insert(1, 7, now)?;
+    let value = cache.get(&1, now).copied();
+    Ok((value, cache.entry_count()))
+}
+
 #[test]
 fn all_are_invalidated_with_their_writes(rt: HostRuntime) -> Result<(), Fail> {
     let mut cache = emptied(rt.alloc())?;
     assert_eq!(rt; (cache.entry_count(), cache.weighted_size()), (0, 0));
     // The old writes are gone too: nothing of them expires now.
     let later = Instant::from_nanos(20);
-    cache.insert(1, 7, later)?;
-    assert_eq!(rt; cache.get(&1, later).copied(), Some(7));
-    assert_eq!(rt; cache.entry_count(), 1);
+    assert_eq!(rt; written(&mut cache, later), Ok((Some(7), 1)));
     Ok(())
 }
 
@@ -244,24 +265,26 @@ fn is_told(replies: &[Reply<u32>], number: usize, expected: (&str, u64)) -> bool
         .is_some_and(|reply| told(reply) == expected)
 }
 
+/// The replies to the calls of each kind.
+const MEANT: [(&str, u64); 11] = [
+    ("done", 0),
+    ("done", 0),
+    ("done", 0),
+    ("found", 11),
+    ("number", 1),
+    ("number", 1),
+    ("false", 0),
+    ("true", 0),
+    ("none", 0),
+    ("done", 0),
+    ("number", 0),
+];
+
 #[test]
 fn a_run_replies_to_each_call(rt: HostRuntime) -> Result<(), Fail> {
     let replies = replies_of_each_kind(rt.alloc())?;
-    let meant = [
-        ("done", 0),
-        ("done", 0),
-        ("done", 0),
-        ("found", 11),
-        ("number", 1),
-        ("number", 1),
-        ("false", 0),
-        ("true", 0),
-        ("none", 0),
-        ("done", 0),
-        ("number", 0),
-    ];
-    assert_eq!(rt; replies.len(), meant.len());
-    for (number, expected) in meant.iter().enumerate() {
+    assert_eq!(rt; replies.len(), MEANT.len());
+    for (number, expected) in MEANT.iter().enumerate() {
         assert!(rt; is_told(&replies, number, *expected), "reply {number}");
     }
     Ok(())
@@ -282,10 +305,10 @@ fn counts<'a>(
 /// A cache of one entry on a heap.
 type HeapCache<'a> = Cache<u64, Rc<u32, &'a LocalHeap>, FixedState, UnitWeight, &'a LocalHeap>;
 
-fn one_entry(heap: &LocalHeap) -> Result<HeapCache<'_>, Fail> {
-    let mut cache: HeapCache = Cache::new(heap, 10)?;
-    cache.insert(0, Rc::new(heap, 10)?, start())?;
-    Ok(cache)
+/// Inserts its entry.
+fn insert_one<'a>(heap: &'a LocalHeap, cache: &mut HeapCache<'a>) -> Result<(), Fail> {
+    let value = Rc::new(heap, 10)?;
+    Ok(cache.insert(0, value, start())?)
 }
 
 /// Whether a run of eight calls is refused once nothing is left of the heap.
@@ -302,7 +325,8 @@ fn is_refused<'a>(
 #[test]
 fn a_run_without_room_for_its_replies_makes_no_call(rt: HostRuntime) -> Result<(), Fail> {
     let heap = LocalHeap::new(rt.alloc(), 4096)?;
-    let mut cache = one_entry(&heap)?;
+    let mut cache: HeapCache = Cache::new(&heap, 10)?;
+    insert_one(&heap, &mut cache)?;
     assert!(rt; is_refused(rt.alloc(), &heap, &mut cache)?);
     assert_eq!(rt; cache.entry_count(), 1);
     Ok(())
@@ -317,10 +341,16 @@ fn gets(alloc: Global, number: u64) -> Result<Vec<Call<u64, u32>>, AllocError> {
     Ok(calls)
 }
 
+/// The replies to so many of them, of an empty cache.
+fn replies_to_gets(alloc: Global, number: u64) -> Result<Vec<Reply<u32>>, Fail> {
+    let mut cache: Cache<u64, Rc<u32>> = Cache::new(alloc, 10)?;
+    let calls = gets(alloc, number)?;
+    Ok(run(alloc, &mut cache, calls)?)
+}
+
 #[test]
 fn a_run_makes_two_thousand_calls(rt: HostRuntime) -> Result<(), Fail> {
-    let mut cache: Cache<u64, Rc<u32>> = Cache::new(rt.alloc(), 10)?;
-    let replies = run(rt.alloc(), &mut cache, gets(rt.alloc(), 2000)?)?;
+    let replies = replies_to_gets(rt.alloc(), 2000)?;
     assert_eq!(rt; replies.len(), 2000);
     assert!(rt; is_told(&replies, 1999, ("none", 0)));
     Ok(())

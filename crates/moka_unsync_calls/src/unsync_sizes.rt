@@ -7,7 +7,7 @@ use moka_common::time::Instant;
 use moka_common::weigh::UnitWeight;
 use moka_unsync::builder::CacheBuilder;
 use moka_unsync::cache::Cache;
-use std::alloc::{Allocator, Global};
+use std::alloc::Global;
 use std::test::Fail;
 
 fn start() -> Instant {
@@ -27,8 +27,8 @@ fn filled(alloc: Global, number: u64) -> Result<Cache<u64, u64>, Fail> {
 fn a_hundred_thousand_keys_are_kept(rt: HostRuntime) -> Result<(), Fail> {
     let mut cache = filled(rt.alloc(), 100_000)?;
     assert_eq!(rt; cache.entry_count(), 100_000);
-    for key in [0, 65_535, 65_536, 99_999] {
-        assert_eq!(rt; cache.get(&key, start()).copied(), Some(key));
+    for key in &[0, 65_535, 65_536, 99_999] {
+        assert_eq!(rt; cache.get(key, start()), Some(key));
     }
     Ok(())
 }
@@ -58,10 +58,21 @@ fn a_thousand_keys_of_one_hash_are_told_apart(rt: HostRuntime) -> Result<(), Fai
     Ok(())
 }
 
+/// A cache on a heap.
+type OnHeap<'a> = Cache<u64, u64, FixedState, UnitWeight, &'a LocalHeap>;
+
+/// Writes the keys below this one. Says whether none was refused.
+fn takes_keys_below(cache: &mut OnHeap, end: u64) -> bool {
+    for key in 0..end {
+        if cache.insert(key, key, start()).is_err() {
+            return false;
+        }
+    }
+    true
+}
+
 /// Writes new keys, and invalidates the one before each. Says whether none was refused.
-fn takes_new_keys<A: Allocator + Clone + Drop>(
-    cache: &mut Cache<u64, u64, FixedState, UnitWeight, A>,
-) -> bool {
+fn takes_new_keys(cache: &mut OnHeap) -> bool {
     for key in 0..5000u64 {
         if cache.insert(key, key, start()).is_err() {
             return false;
@@ -71,15 +82,20 @@ fn takes_new_keys<A: Allocator + Clone + Drop>(
     true
 }
 
+/// Whether a cache takes its first ten keys and then new ones, while nothing is left of its heap.
+fn takes_without_memory<'a>(
+    alloc: Global,
+    heap: &'a LocalHeap,
+    cache: &mut OnHeap<'a>,
+) -> Result<bool, Fail> {
+    let _blocks = blocks_of(alloc, heap)?;
+    Ok(takes_keys_below(cache, 10) && takes_new_keys(cache))
+}
+
 #[test]
 fn within_its_room_a_cache_asks_for_no_memory(rt: HostRuntime) -> Result<(), Fail> {
     let heap = LocalHeap::new(rt.alloc(), 8192)?;
     let mut cache = CacheBuilder::new(&heap, 10).initial_capacity(11).build()?;
-    let blocks = blocks_of(rt.alloc(), &heap)?;
-    for key in 0..10 {
-        cache.insert(key, key, start())?;
-    }
-    assert!(rt; takes_new_keys(&mut cache));
-    drop(blocks);
+    assert!(rt; takes_without_memory(rt.alloc(), &heap, &mut cache)?);
     Ok(())
 }

@@ -40,9 +40,14 @@ fn a_shared_text_weighs_its_bytes(rt: HostRuntime) -> Result<(), Fail> {
 fn a_square_is_found_again(rt: HostRuntime) -> Result<(), Fail> {
     let squares = Cache::builder(rt.alloc()).pair_rule::<IsSquare>().build()?;
     let now = Instant::from_secs(0);
-    assert_eq!(rt; square(&rt, &squares, 7, now)?, 49);
-    assert_eq!(rt; square(&rt, &squares, 7, now)?, 49);
-    assert!(rt; squares.contains_key(&rt, &7, now));
+    let both = [
+        square(&rt, &squares, 7, now)?,
+        square(&rt, &squares, 7, now)?,
+    ];
+    assert_eq!(rt;
+        (both, squares.contains_key(&rt, &7, now)),
+        ([49, 49], true)
+    );
     Ok(())
 }
 
@@ -50,9 +55,10 @@ fn a_square_is_found_again(rt: HostRuntime) -> Result<(), Fail> {
 fn a_snapshot_gives_a_square_of_the_cache(rt: HostRuntime) -> Result<(), Fail> {
     let squares = Cache::builder(rt.alloc()).pair_rule::<IsSquare>().build()?;
     let now = Instant::from_secs(0);
-    assert_eq!(rt; some_square(&rt, &squares, now)?, None);
-    assert_eq!(rt; square(&rt, &squares, 7, now)?, 49);
-    assert_eq!(rt; some_square(&rt, &squares, now)?, Some((7, 49)));
+    let none = some_square(&rt, &squares, now)?;
+    let made = square(&rt, &squares, 7, now)?;
+    let some = some_square(&rt, &squares, now)?;
+    assert_eq!(rt; (none, made, some), (None, 49, Some((7, 49))));
     Ok(())
 }
 
@@ -76,21 +82,26 @@ fn an_entry_reads_as_its_text(rt: HostRuntime) -> Result<(), Fail> {
     Ok(())
 }
 
+/// Whether a log is emptied at this second, and its length then.
+fn emptied_at(keeper: &Housekeeper, log: &mut Vec<u32>, second: u64) -> (bool, usize) {
+    let now = Instant::from_secs(second);
+    let is_emptied = empty_if_due(keeper, log.len(), now, || log.clear());
+    (is_emptied, log.len())
+}
+
 #[test]
 fn a_log_is_emptied_at_its_length_or_after_half_a_second(rt: HostRuntime) -> Result<(), Fail> {
     let keeper = Housekeeper::default();
-    let at_nine = Instant::from_secs(9);
     let mut log = vec![in rt.alloc(); 7; 9]?;
-    assert!(rt; !empty_if_due(&keeper, log.len(), at_nine, || log.clear()));
-    assert_eq!(rt; log.len(), 9);
+    assert_eq!(rt; emptied_at(&keeper, &mut log, 9), (false, 9));
     log.push(7)?;
-    assert!(rt; empty_if_due(&keeper, log.len(), at_nine, || log.clear()));
-    assert!(rt; log.is_empty());
+    assert_eq!(rt; emptied_at(&keeper, &mut log, 9), (true, 0));
     log.push(8)?;
-    assert!(rt; !empty_if_due(&keeper, log.len(), at_nine, || log.clear()));
-    assert_eq!(rt; log.len(), 1);
-    assert!(rt; empty_if_due(&keeper, log.len(), Instant::from_secs(10), || log.clear()));
-    assert!(rt; log.is_empty());
+    let emptied = [
+        emptied_at(&keeper, &mut log, 9),
+        emptied_at(&keeper, &mut log, 10),
+    ];
+    assert_eq!(rt; emptied, [(false, 1), (true, 0)]);
     Ok(())
 }
 

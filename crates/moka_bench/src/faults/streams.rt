@@ -90,17 +90,24 @@ fn run_of_writes(
     (end, sink.into_inner().taken)
 }
 
+/// Whether the source refuses after so many calls, and then nothing is written. Otherwise all replies are. Anything else is nothing.
+fn is_read_refused(alloc: Global, calls: usize) -> Option<bool> {
+    let (end, text) = run_of_reads(alloc, calls);
+    match end {
+        Err(ScriptError::Read) if text.is_empty() => Some(true),
+        Ok(End::Done) if text.as_slice() == REPLIES.as_bytes() => Some(false),
+        _ => None,
+    }
+}
+
 #[test]
 fn nothing_is_written_where_the_nth_read_fails(rt: HostRuntime) -> Result<(), Fail> {
     let mut refusals = 0usize;
     for calls in 0..MANY {
-        let (end, text) = run_of_reads(rt.alloc(), calls);
-        if let Err(ScriptError::Read) = end {
-            assert!(rt; text.is_empty(), "after {calls} reads");
+        let is_refused = is_read_refused(rt.alloc(), calls);
+        assert!(rt; is_refused.is_some(), "after {calls} reads");
+        if is_refused == Some(true) {
             refusals = calls + 1;
-        } else {
-            assert!(rt; matches!(end, Ok(End::Done)), "after {calls} reads");
-            assert_eq!(rt; text.as_slice(), REPLIES.as_bytes(), "after {calls} reads");
         }
     }
     // 42 bytes by threes, and the read that finds the end.
@@ -108,21 +115,32 @@ fn nothing_is_written_where_the_nth_read_fails(rt: HostRuntime) -> Result<(), Fa
     Ok(())
 }
 
+/// Whether the sink refuses after so many calls, and has the first replies then, two bytes by each call. Otherwise it has all. Anything else is nothing.
+fn is_write_refused(alloc: Global, calls: usize) -> Option<bool> {
+    let (end, text) = run_of_writes(alloc, SCRIPT.as_bytes(), calls);
+    let replies = REPLIES.as_bytes();
+    match end {
+        Err(ScriptError::Write) if is_beginning(&text, replies, calls.wrapping_mul(2)) => {
+            Some(true)
+        }
+        Ok(End::Done) if text.as_slice() == replies => Some(false),
+        _ => None,
+    }
+}
+
+/// Whether a text is the first so many bytes of another.
+fn is_beginning(text: &[u8], whole: &[u8], length: usize) -> bool {
+    text.len() == length && whole.starts_with(text)
+}
+
 #[test]
 fn a_beginning_is_written_where_the_nth_write_fails(rt: HostRuntime) -> Result<(), Fail> {
     let mut refusals = 0usize;
     for calls in 0..MANY {
-        let (end, text) = run_of_writes(rt.alloc(), SCRIPT.as_bytes(), calls);
-        if let Err(ScriptError::Write) = end {
-            assert_eq!(rt; text.len(), calls.wrapping_mul(2), "after {calls} writes");
-            assert!(rt;
-                REPLIES.as_bytes().starts_with(text.as_slice()),
-                "after {calls} writes"
-            );
+        let is_refused = is_write_refused(rt.alloc(), calls);
+        assert!(rt; is_refused.is_some(), "after {calls} writes");
+        if is_refused == Some(true) {
             refusals = calls + 1;
-        } else {
-            assert!(rt; matches!(end, Ok(End::Done)), "after {calls} writes");
-            assert_eq!(rt; text.as_slice(), REPLIES.as_bytes(), "after {calls} writes");
         }
     }
     // 25 bytes by twos.
@@ -138,46 +156,56 @@ fn a_bad_line_is_told_as_far_as_the_writer_takes_it(rt: HostRuntime) -> Result<(
     Ok(())
 }
 
+/// Whether all is read that a source gives in so many calls.
+fn reads(alloc: Global, left: &[u8], calls: usize) -> Result<bool, ReadError> {
+    let bytes = read_all(alloc, &mut FromRead::new(Dripping { left, calls }))?;
+    Ok(bytes.as_slice() == left)
+}
+
+/// Writes all to a sink that takes so many calls.
+fn write(alloc: Global, left: &[u8], calls: usize) -> Result<(), Fault> {
+    let mut sink = FromWrite::new(Narrow::new(alloc, calls));
+    write_all(&mut sink, left)
+}
+
 #[test]
 fn all_is_read_and_written_in_any_pieces(rt: HostRuntime) -> Result<(), Fail> {
     let left = b"get 1".as_slice();
-    for (calls, read) in [(3, true), (2, false)] {
-        match read_all(rt.alloc(), &mut FromRead::new(Dripping { left, calls })) {
-            Ok(bytes) => assert!(rt; read && bytes.as_slice() == left, "at {calls}"),
-            Err(error) => assert!(rt; !read && error == ReadError::Read, "at {calls}"),
-        }
-    }
-    for (calls, written) in [(3, Ok(())), (2, Err(Fault))] {
-        let mut sink = FromWrite::new(Narrow::new(rt.alloc(), calls));
-        assert_eq!(rt; write_all(&mut sink, left), written, "at {calls}");
-    }
+    let read = [reads(rt.alloc(), left, 3), reads(rt.alloc(), left, 2)];
+    assert_eq!(rt; read, [Ok(true), Err(ReadError::Read)]);
+    let written = [write(rt.alloc(), left, 3), write(rt.alloc(), left, 2)];
+    assert_eq!(rt; written, [Ok(()), Err(Fault)]);
     let source = FromRead::new(left);
     assert_eq!(rt; source.into_inner(), left);
     Ok(())
 }
 
+const FAULTS: [(ScriptError, &str); 3] = [
+    (ScriptError::Read, "read fault"),
+    (ScriptError::Write, "write fault"),
+    (ScriptError::OutOfMemory, "out of memory"),
+];
+
 #[test]
 fn faults_have_their_texts(rt: HostRuntime) -> Result<(), Fail> {
-    for (error, text) in [
-        (ScriptError::Read, "read fault"),
-        (ScriptError::Write, "write fault"),
-        (ScriptError::OutOfMemory, "out of memory"),
-    ] {
-        assert_eq!(rt; error.text(), text);
-        assert_eq!(rt; error.to_string(rt.alloc())?.as_str(), text);
+    for (error, text) in &FAULTS {
+        let shown = error.to_string(rt.alloc())?;
+        assert_eq!(rt; [error.text(), shown.as_str()], [*text, *text]);
     }
     Ok(())
 }
+
+const READ_ERRORS: [(ReadError, &str); 2] = [
+    (ReadError::Read, "the source refused to be read"),
+    (ReadError::OutOfMemory, "out of memory"),
+];
 
 #[test]
 fn errors_of_streams_have_their_texts(rt: HostRuntime) -> Result<(), Fail> {
     let fault = Fault.to_string(rt.alloc())?;
     assert_eq!(rt; fault.as_str(), "the stream refused a call");
-    for (error, text) in [
-        (ReadError::Read, "the source refused to be read"),
-        (ReadError::OutOfMemory, "out of memory"),
-    ] {
-        assert_eq!(rt; error.to_string(rt.alloc())?.as_str(), text);
+    for (error, text) in &READ_ERRORS {
+        assert_eq!(rt; error.to_string(rt.alloc())?.as_str(), *text);
     }
     Ok(())
 }
@@ -186,11 +214,7 @@ fn errors_of_streams_have_their_texts(rt: HostRuntime) -> Result<(), Fail> {
 fn a_run_has_its_status(rt: HostRuntime) {
     assert_eq!(rt; status_of::<Global>(Ok(End::Done)), 0);
     assert_eq!(rt; status_of::<Global>(Ok(End::BadLine(1))), 2);
-    for error in [
-        ScriptError::Read,
-        ScriptError::Write,
-        ScriptError::OutOfMemory,
-    ] {
-        assert_eq!(rt; status_of::<Global>(Err(error)), 1, "of {error:?}");
+    for (error, _) in &FAULTS {
+        assert_eq!(rt; status_of::<Global>(Err(*error)), 1, "of {error:?}");
     }
 }

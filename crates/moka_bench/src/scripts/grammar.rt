@@ -1,8 +1,8 @@
 // What is a script, and which line is the first bad one.
 use crate::scripts::table::output_of;
 use mini_moka::script::{
-    CoreRequest, End, LONGEST_TEXT, Mode, ParseError, Request, Script, SketchLine, Text, is_text,
-    parse,
+    CacheHeader, CacheOptions, CoreLine, CoreRequest, End, LONGEST_TEXT, Line, Mode, ParseError,
+    Request, Script, SketchLine, Text, is_text, parse,
 };
 use std::alloc::Global;
 use std::process::Abort;
@@ -203,21 +203,21 @@ const LINES_OF_A_CORE: [(&str, Option<u64>); 6] = [
     ("sketch 1\nturn\n", Some(2)),
 ];
 
+/// Whether a script runs to its end, or has this first bad line and that is written.
+fn is_answered(alloc: Global, script: &str, bad: Option<u64>) -> Result<bool, Fail> {
+    let (end, text) = output_of(alloc, script)?;
+    let Some(bad) = bad else {
+        return Ok(matches!(end, End::Done));
+    };
+    let line = format!(in alloc; "bad line {bad}\n")?;
+    let is_named = matches!(end, End::BadLine(number) if number == bad);
+    Ok(is_named && text.as_slice() == line.as_bytes())
+}
+
 /// Runs each script, and names the one whose first bad line is another.
 fn check_edges(rt: &impl Abort, alloc: Global, edges: &[(&str, Option<u64>)]) -> Result<(), Fail> {
     for (script, bad) in edges {
-        let (end, text) = output_of(alloc, script)?;
-        match bad {
-            None => assert!(rt; matches!(end, End::Done), "of {script:?}"),
-            Some(number) => {
-                let line = format!(in alloc; "bad line {number}\n")?;
-                assert!(rt;
-                    matches!(end, End::BadLine(bad) if bad == *number),
-                    "of {script:?}"
-                );
-                assert_eq!(rt; text.as_slice(), line.as_bytes(), "of {script:?}");
-            }
-        }
+        assert!(rt; is_answered(alloc, script, *bad)?, "of {script:?}");
     }
     Ok(())
 }
@@ -262,31 +262,95 @@ fn a_line_of_a_core_is_none_of_another_mode(rt: HostRuntime) -> Result<(), Fail>
     check_edges(&rt, rt.alloc(), &LINES_OF_A_CORE)
 }
 
+/// What a line holds: its moment, a word for its request, its key or 0, and its weight.
+pub type Held = (u64, &'static str, u64, Option<u32>);
+
+/// What this line holds.
+fn held(line: &Line) -> Held {
+    let (word, key, weight) = match &line.request {
+        Request::Insert { key, weight, .. } => ("insert", *key, *weight),
+        Request::Get { key } => ("get", *key, None),
+        Request::ContainsKey { key } => ("has", *key, None),
+        Request::Invalidate { key } => ("invalidate", *key, None),
+        Request::InvalidateAll => ("clear", 0, None),
+        Request::InvalidateIf { .. } => ("drop-if", 0, None),
+        Request::Sync => ("sync", 0, None),
+        Request::Iter => ("iter", 0, None),
+        Request::EntryCount => ("count", 0, None),
+        Request::WeightedSize => ("weight", 0, None),
+        Request::Policy => ("policy", 0, None),
+    };
+    (line.now, word, key, weight)
+}
+
+/// Whether a line has this text, or none.
+fn has_text(line: &Line, bytes: &[u8]) -> bool {
+    match &line.request {
+        Request::Insert { text, .. } | Request::InvalidateIf { text } => text.as_bytes() == bytes,
+        _ => bytes.is_empty(),
+    }
+}
+
+/// The header and the lines of a script of calls to a cache.
+pub fn cache_script(alloc: Global, script: &[u8]) -> Result<(CacheHeader, Vec<Line>), Fail> {
+    match parse(alloc, script)? {
+        Script::Cache { header, lines } => Ok((header, lines)),
+        _ => Err("a script of calls to a cache".into()),
+    }
+}
+
+/// Compares what lines hold with what they spell, a line with its text at a time.
+pub fn check_held(rt: &impl Abort, lines: &[Line], spelled: &[(Held, &str)]) {
+    assert_eq!(rt; lines.len(), spelled.len());
+    for (line, (want, text)) in lines.iter().zip(spelled) {
+        assert_eq!(rt; held(line), *want);
+        assert!(rt; has_text(line, text.as_bytes()), "the text of {want:?}");
+    }
+}
+
+const SPELLED: [(Held, &str); 3] = [
+    ((5, "insert", 7, None), "a-Z9"),
+    ((6, "get", 8, None), ""),
+    ((u64::MAX, "has", 0, None), ""),
+];
+
 #[test]
 fn lines_hold_what_they_spell(rt: HostRuntime) -> Result<(), Fail> {
     let text = b"recorded\n5 insert 7 a-Z9\n6 get 8\n18446744073709551615 has 0\n".as_slice();
-    let Script::Cache { header, lines } = parse(rt.alloc(), text)? else {
-        return Err("a script of calls to a cache".into());
-    };
+    let (header, lines) = cache_script(rt.alloc(), text)?;
     assert_eq!(rt; header.mode, Mode::Recorded);
-    let [insert, get, has] = lines.as_slice() else {
-        return Err("three lines".into());
-    };
-    assert_eq!(rt; (insert.now, get.now, has.now), (5, 6, u64::MAX));
-    assert!(rt;
-        matches!(&insert.request, Request::Insert { key: 7, text, weight: None } if text.as_bytes() == b"a-Z9".as_slice())
-    );
-    assert!(rt; matches!(&get.request, Request::Get { key: 8 }));
-    assert!(rt; matches!(&has.request, Request::ContainsKey { key: 0 }));
+    check_held(&rt, &lines, &SPELLED);
     Ok(())
+}
+
+/// The options and the lines of a core script.
+fn core_script(alloc: Global, script: &[u8]) -> Result<(CacheOptions, Vec<CoreLine>), Fail> {
+    match parse(alloc, script)? {
+        Script::Core { options, lines } => Ok((options, lines)),
+        _ => Err("a core script".into()),
+    }
+}
+
+/// Whether a line inserts this text at 5 with all that is spelled.
+fn is_insert(line: &CoreLine, bytes: &[u8]) -> bool {
+    match &line.request {
+        CoreRequest::Insert {
+            caller,
+            key,
+            text,
+            weight,
+        } => {
+            (line.now, *caller, *key, *weight) == (5, u32::MAX, 7, Some(3))
+                && text.as_bytes() == bytes
+        }
+        _ => false,
+    }
 }
 
 #[test]
 fn core_lines_hold_what_they_spell(rt: HostRuntime) -> Result<(), Fail> {
     let text = b"core weighed tickets 9\n5 insert 4294967295 7 a-Z9 3\n6 push 1\n".as_slice();
-    let Script::Core { options, lines } = parse(rt.alloc(), text)? else {
-        return Err("a core script".into());
-    };
+    let (options, lines) = core_script(rt.alloc(), text)?;
     assert_eq!(rt;
         (options.weighed, options.tickets, options.max),
         (true, Some(9), None)
@@ -294,33 +358,37 @@ fn core_lines_hold_what_they_spell(rt: HostRuntime) -> Result<(), Fail> {
     let [insert, push] = lines.as_slice() else {
         return Err("two lines".into());
     };
-    assert_eq!(rt; (insert.now, push.now), (5, 6));
-    assert!(rt;
-        matches!(&insert.request, CoreRequest::Insert { caller: u32::MAX, key: 7, text, weight: Some(3) } if text.as_bytes() == b"a-Z9".as_slice())
-    );
-    assert!(rt; matches!(&push.request, CoreRequest::Push { caller: 1 }));
+    assert!(rt; is_insert(insert, b"a-Z9"));
+    assert!(rt; push.now == 6 && matches!(&push.request, CoreRequest::Push { caller: 1 }));
     Ok(())
 }
+
+/// The capacity and the lines of a sketch script.
+fn sketch_script(alloc: Global, script: &[u8]) -> Result<(u32, Vec<SketchLine>), Fail> {
+    match parse(alloc, script)? {
+        Script::Sketch { cap, lines } => Ok((cap, lines)),
+        _ => Err("a sketch script".into()),
+    }
+}
+
+const SKETCH: [SketchLine; 5] = [
+    SketchLine::Inc {
+        hash: u64::MAX,
+        times: u16::MAX,
+    },
+    SketchLine::Freq { hash: 0 },
+    SketchLine::Index { hash: 7, depth: 3 },
+    SketchLine::Len,
+    SketchLine::Ensure { cap: u32::MAX },
+];
 
 #[test]
 fn sketch_lines_hold_what_they_spell(rt: HostRuntime) -> Result<(), Fail> {
     let text =
         b"sketch 4294967295\ninc 18446744073709551615 65535\nfreq 0\nindex 7 3\nlen\nensure 4294967295\n".as_slice();
-    let Script::Sketch { cap, lines } = parse(rt.alloc(), text)? else {
-        return Err("a sketch script".into());
-    };
+    let (cap, lines) = sketch_script(rt.alloc(), text)?;
     assert_eq!(rt; cap, u32::MAX);
-    let want = [
-        SketchLine::Inc {
-            hash: u64::MAX,
-            times: u16::MAX,
-        },
-        SketchLine::Freq { hash: 0 },
-        SketchLine::Index { hash: 7, depth: 3 },
-        SketchLine::Len,
-        SketchLine::Ensure { cap: u32::MAX },
-    ];
-    assert_eq!(rt; lines.as_slice(), want.as_slice());
+    assert_eq!(rt; lines.as_slice(), SKETCH.as_slice());
     Ok(())
 }
 
@@ -334,9 +402,12 @@ fn a_bad_line_is_an_error_of_the_parser(rt: HostRuntime) {
 
 #[test]
 fn errors_of_the_parser_have_their_texts(rt: HostRuntime) -> Result<(), Fail> {
-    let (bad, memory) = (ParseError::BadLine(7), ParseError::OutOfMemory);
-    assert_eq!(rt; bad.to_string(rt.alloc())?.as_str(), "bad line 7");
-    assert_eq!(rt; memory.to_string(rt.alloc())?.as_str(), "out of memory");
+    let bad = ParseError::BadLine(7).to_string(rt.alloc())?;
+    let memory = ParseError::OutOfMemory.to_string(rt.alloc())?;
+    assert_eq!(rt;
+        [bad.as_str(), memory.as_str()],
+        ["bad line 7", "out of memory"]
+    );
     Ok(())
 }
 

@@ -64,24 +64,38 @@ fn recorded_rows_have_their_replies(rt: HostRuntime) -> Result<(), Fail> {
     check_rows(&rt, rt.alloc(), &ROWS)
 }
 
-#[test]
-fn a_hundred_keys_are_read_back_as_last_inserted(rt: HostRuntime) -> Result<(), Fail> {
-    let mut script = String::from_str(rt.alloc(), "recorded\n")?;
-    let mut replies = String::from_str(rt.alloc(), "ready\n")?;
+/// Adds inserts of a hundred keys at a moment, whose values begin with this word.
+fn add_inserts(
+    script: &mut String,
+    replies: &mut String,
+    moment: u64,
+    word: &str,
+) -> Result<(), Fail> {
     for key in 0..100u64 {
-        writeln!(script, "0 insert {key} first-{key}")?;
+        writeln!(script, "{moment} insert {key} {word}-{key}")?;
         writeln!(replies, "ok")?;
     }
-    for key in 0..100u64 {
-        writeln!(script, "1 insert {key} second-{key}")?;
-        writeln!(replies, "ok")?;
-    }
+    Ok(())
+}
+
+/// Adds reads of these keys, and of one that is absent.
+fn add_reads(script: &mut String, replies: &mut String) -> Result<(), Fail> {
     for key in 0..100u64 {
         writeln!(script, "2 get {key}\n2 has {key}")?;
         writeln!(replies, "some second-{key}\ntrue")?;
     }
     writeln!(script, "2 get 100")?;
     writeln!(replies, "none")?;
+    Ok(())
+}
+
+#[test]
+fn a_hundred_keys_are_read_back_as_last_inserted(rt: HostRuntime) -> Result<(), Fail> {
+    let mut script = String::from_str(rt.alloc(), "recorded\n")?;
+    let mut replies = String::from_str(rt.alloc(), "ready\n")?;
+    add_inserts(&mut script, &mut replies, 0, "first")?;
+    add_inserts(&mut script, &mut replies, 1, "second")?;
+    add_reads(&mut script, &mut replies)?;
     check_script(&rt, rt.alloc(), "a hundred keys", &script, &replies)
 }
 

@@ -1,7 +1,6 @@
 // What is a script of the mode `unsync`, which line is the first bad one, and what its lines hold.
-use mini_moka::script::{
-    CacheHeader, CacheOptions, Mode, ParseError, Request, Script, Span, parse,
-};
+use crate::scripts::grammar::{Held, cache_script, check_held};
+use mini_moka::script::{CacheHeader, CacheOptions, Mode, ParseError, Span, parse};
 use std::alloc::Global;
 use std::process::Abort;
 use std::test::Fail;
@@ -114,15 +113,19 @@ const LINES: [(&str, Option<u64>); 45] = [
     ),
 ];
 
+/// The first bad line of a script, if it has one.
+fn first_bad(alloc: Global, script: &str) -> Result<Option<u64>, Fail> {
+    match parse(alloc, script.as_bytes()) {
+        Ok(_) => Ok(None),
+        Err(ParseError::BadLine(number)) => Ok(Some(number)),
+        Err(ParseError::OutOfMemory) => Err("ample memory".into()),
+    }
+}
+
 /// Parses each script, and names the one whose first bad line is another.
 fn check_parsed(rt: &impl Abort, alloc: Global, edges: &[(&str, Option<u64>)]) -> Result<(), Fail> {
     for (script, bad) in edges {
-        let found = match parse(alloc, script.as_bytes()) {
-            Ok(_) => None,
-            Err(ParseError::BadLine(number)) => Some(number),
-            Err(ParseError::OutOfMemory) => return Err("ample memory".into()),
-        };
-        assert_eq!(rt; found, *bad, "of {script:?}");
+        assert_eq!(rt; first_bad(alloc, script)?, *bad, "of {script:?}");
     }
     Ok(())
 }
@@ -140,9 +143,7 @@ fn a_bad_line_of_a_cache_is_named(rt: HostRuntime) -> Result<(), Fail> {
 #[test]
 fn a_header_holds_the_settings_that_it_spells(rt: HostRuntime) -> Result<(), Fail> {
     let text = b"unsync max 3 live 10s idle 10000000000ns weighed\n".as_slice();
-    let Script::Cache { header, lines } = parse(rt.alloc(), text)? else {
-        return Err("a script of a cache".into());
-    };
+    let (header, lines) = cache_script(rt.alloc(), text)?;
     let options = CacheOptions {
         max: Some(3),
         live: Some(Span::Seconds(10)),
@@ -153,57 +154,47 @@ fn a_header_holds_the_settings_that_it_spells(rt: HostRuntime) -> Result<(), Fai
     let mode = Mode::Unsync;
     assert_eq!(rt; header, CacheHeader { mode, options });
     assert!(rt; lines.is_empty());
+    let seconds = Span::Seconds(10).to_duration();
+    let nanos = Span::Nanos(1_500_000_000).to_duration();
     assert_eq!(rt;
-        Span::Seconds(10).to_duration(),
-        Duration::from_nanos(10_000_000_000)
-    );
-    assert_eq!(rt;
-        Span::Nanos(1_500_000_000).to_duration(),
-        Duration::from_millis(1500)
+        [seconds, nanos],
+        [
+            Duration::from_nanos(10_000_000_000),
+            Duration::from_millis(1500)
+        ]
     );
     Ok(())
 }
+
+const SPELLED: [(Held, &str); 6] = [
+    ((5, "insert", 7, Some(8)), "a-Z9"),
+    ((6, "get", 8, None), ""),
+    ((7, "has", 9, None), ""),
+    ((8, "count", 0, None), ""),
+    ((9, "weight", 0, None), ""),
+    ((10, "policy", 0, None), ""),
+];
 
 #[test]
 fn lines_of_a_cache_hold_what_they_spell(rt: HostRuntime) -> Result<(), Fail> {
     let text =
         b"unsync weighed\n5 insert 7 a-Z9 8\n6 get 8\n7 has 9\n8 count\n9 weight\n10 policy\n".as_slice();
-    let Script::Cache { header: _, lines } = parse(rt.alloc(), text)? else {
-        return Err("a script of a cache".into());
-    };
-    let [insert, get, has, count, weight, policy] = lines.as_slice() else {
-        return Err("six lines".into());
-    };
-    assert_eq!(rt; (insert.now, get.now, policy.now), (5, 6, 10));
-    assert!(rt;
-        matches!(&insert.request, Request::Insert { key: 7, text, weight: Some(8) } if text.as_bytes() == b"a-Z9".as_slice())
-    );
-    assert!(rt; matches!(&get.request, Request::Get { key: 8 }));
-    assert!(rt; matches!(&has.request, Request::ContainsKey { key: 9 }));
-    assert!(rt; matches!(&count.request, Request::EntryCount));
-    assert!(rt; matches!(&weight.request, Request::WeightedSize));
-    assert!(rt; matches!(&policy.request, Request::Policy));
+    let (_, lines) = cache_script(rt.alloc(), text)?;
+    check_held(&rt, &lines, &SPELLED);
     Ok(())
 }
+
+const REMOVALS: [(Held, &str); 4] = [
+    ((5, "invalidate", 7, None), ""),
+    ((6, "clear", 0, None), ""),
+    ((7, "drop-if", 0, None), "a-Z9"),
+    ((8, "iter", 0, None), ""),
+];
 
 #[test]
 fn lines_that_remove_hold_what_they_spell(rt: HostRuntime) -> Result<(), Fail> {
     let text = b"unsync\n5 invalidate 7\n6 clear\n7 drop-if a-Z9\n8 iter\n".as_slice();
-    let Script::Cache { header: _, lines } = parse(rt.alloc(), text)? else {
-        return Err("a script of a cache".into());
-    };
-    let [invalidate, clear, drop_if, iter] = lines.as_slice() else {
-        return Err("four lines".into());
-    };
-    assert_eq!(rt;
-        (invalidate.now, clear.now, drop_if.now, iter.now),
-        (5, 6, 7, 8)
-    );
-    assert!(rt; matches!(&invalidate.request, Request::Invalidate { key: 7 }));
-    assert!(rt; matches!(&clear.request, Request::InvalidateAll));
-    assert!(rt;
-        matches!(&drop_if.request, Request::InvalidateIf { text } if text.as_bytes() == b"a-Z9".as_slice())
-    );
-    assert!(rt; matches!(&iter.request, Request::Iter));
+    let (_, lines) = cache_script(rt.alloc(), text)?;
+    check_held(&rt, &lines, &REMOVALS);
     Ok(())
 }

@@ -2,6 +2,7 @@
 ghost use Rattle.std.specs.Prelude.{⊤};
 
 use crate::hashers::OwnState;
+use crate::shared::all_are_well;
 use moka_common::time::Instant;
 use moka_sync::builder::CacheBuilder;
 use moka_sync::cache::{Cache, ConcurrentCacheExt};
@@ -68,11 +69,7 @@ fn are_inserted_together<R: Wait + Threads + Copy + Send + 'static>(
             insert_together(&rt, &shared, &together, key)
         })?)?;
     }
-    let mut is_well = true;
-    for thread in threads {
-        is_well &= thread.join(&rt);
-    }
-    Ok(is_well)
+    Ok(all_are_well(&rt, threads))
 }
 
 #[test]

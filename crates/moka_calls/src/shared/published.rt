@@ -1,4 +1,5 @@
 // The counts that maintenances publish, as callers load them.
+use crate::shared::all_are_well;
 use moka_common::hash::FixedState;
 use moka_common::time::Instant;
 use moka_sync::builder::CacheBuilder;
@@ -64,12 +65,20 @@ fn published(number: u64, count: u64) -> Published {
 #[test]
 fn each_maintenance_publishes_its_counts(rt: HostRuntime) -> Result<(), Fail> {
     let mut watched = Watched::new(rt.alloc(), 10)?;
-    assert!(rt; watched.look(&rt) == published(0, 0));
+    let first = watched.look(&rt);
     assert!(rt; insert_all(&rt, &watched.cache, 3));
-    assert!(rt; watched.look(&rt) == published(1, 3));
+    let second = watched.look(&rt);
     watched.cache.sync(&rt, start());
-    assert!(rt; watched.look(&rt) == published(2, 3));
-    assert!(rt; watched.split()?.look(&rt) == published(2, 3));
+    let looks = [first, second, watched.look(&rt), watched.split()?.look(&rt)];
+    assert_eq!(rt;
+        looks,
+        [
+            published(0, 0),
+            published(1, 3),
+            published(2, 3),
+            published(2, 3)
+        ]
+    );
     Ok(())
 }
 
@@ -109,11 +118,8 @@ fn are_whole_meanwhile<R: Wait + Threads + Copy + Send + 'static>(
         let shared = watched.cache.clone()?;
         threads.push(Builder::new().spawn(&rt, move || insert_all(&rt, &shared, 5000))?)?;
     }
-    let mut is_well = are_whole(&rt, watched, 10_000);
-    for thread in threads {
-        is_well &= thread.join(&rt);
-    }
-    Ok(is_well)
+    let is_well = are_whole(&rt, watched, 10_000);
+    Ok(all_are_well(&rt, threads) && is_well)
 }
 
 #[test]

@@ -1,4 +1,5 @@
 // Calls of one cache from several threads at a time.
+use crate::shared::all_are_well;
 use moka_common::time::Instant;
 use moka_sync::cache::Cache;
 use std::alloc::Global;
@@ -56,14 +57,13 @@ fn is_whole<R: Wait>(rt: &R, cache: &Cache<u64, u64>, keys: u64) -> bool {
     let Ok(pairs) = cache.iter(rt, start()) else {
         return false;
     };
+    let mut are_own = true;
     let mut count = 0u64;
     for pair in pairs {
-        if *pair.value() != *pair.key() || *pair.key() >= keys {
-            return false;
-        }
+        are_own &= *pair.value() == *pair.key() && *pair.key() < keys;
         count = count.saturating_add(1);
     }
-    count == keys
+    are_own && count == keys
 }
 
 /// Reads back 64 writes, and takes out every fourth of them.
@@ -115,11 +115,7 @@ fn are_well_done<R: Wait + Threads + Copy + Send + 'static>(
         let first = (number as u64).wrapping_mul(64);
         threads.push(Builder::new().spawn(&rt, move || task.is_well_done(&rt, &shared, first))?)?;
     }
-    let mut is_well = true;
-    for thread in threads {
-        is_well &= thread.join(&rt);
-    }
-    Ok(is_well)
+    Ok(all_are_well(&rt, threads))
 }
 
 #[test]
@@ -138,17 +134,31 @@ fn what_all_threads_invalidate_is_gone(rt: HostRuntime) -> Result<(), Fail> {
     Ok(())
 }
 
+/// Eight threads that insert, and eight that look.
+const INSERTS_AND_LOOKS: [Task; 16] = [
+    Task::InsertAll,
+    Task::Look,
+    Task::InsertAll,
+    Task::Look,
+    Task::InsertAll,
+    Task::Look,
+    Task::InsertAll,
+    Task::Look,
+    Task::InsertAll,
+    Task::Look,
+    Task::InsertAll,
+    Task::Look,
+    Task::InsertAll,
+    Task::Look,
+    Task::InsertAll,
+    Task::Look,
+];
+
 #[test]
 fn a_snapshot_is_whole_while_threads_insert_the_same_pairs(rt: HostRuntime) -> Result<(), Fail> {
     let cache: Cache<u64, u64> = Cache::new(rt.alloc(), 2048)?;
     assert!(rt; insert_all(&rt, &cache, 1024));
-    let mut tasks = [Task::InsertAll; 16];
-    for (number, task) in tasks.iter_mut().enumerate() {
-        if number % 2 == 1 {
-            *task = Task::Look;
-        }
-    }
-    assert!(rt; are_well_done(rt, rt.alloc(), &cache, &tasks)?);
+    assert!(rt; are_well_done(rt, rt.alloc(), &cache, &INSERTS_AND_LOOKS)?);
     Ok(())
 }
 
