@@ -3,6 +3,7 @@ mod meeting;
 mod one_thread;
 mod published;
 mod recorded;
+mod room;
 mod threads;
 
 use std::sync::Wait;
