@@ -1,4 +1,4 @@
-//! The cache that threads share beside others, all in one run: `threads PROGRAM [REPEATS]`, where PROGRAM is the built `moka_play_run`.
+//! The cache that threads share beside others, all in one run: `threads PROGRAM [REPEATS]`, where PROGRAM is the built `moka_load`.
 use moka_trace_bench::machine::{describe, Watch};
 use moka_trace_bench::play_program::{Kind, PlayProgram};
 use moka_trace_bench::rust_sides::{original, shared_original};

@@ -1,2 +1,3 @@
-// What is refused: streams, one call after another.
+// What is refused: streams, one call after another, and memory.
+mod memory;
 mod streams;

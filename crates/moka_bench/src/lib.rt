@@ -1,4 +1,5 @@
-//! The tests of scripts with their replies, of what `mini_moka` alone has, and of the docs' examples.
+//! The tests of what `mini_moka` alone has: parsed scripts, streams that fail, memory that is refused, records, and the docs' examples. Scripts with their
+//! replies are rows of `moka_rows`.
 #![tactic(auto)]
 
 #[cfg(test)]
@@ -6,8 +7,6 @@ mod examples;
 #[cfg(test)]
 mod faults;
 #[cfg(test)]
+mod parsed;
+#[cfg(test)]
 mod record;
-#[cfg(test)]
-mod scripts;
-#[cfg(test)]
-mod soak;

@@ -1,4 +1,4 @@
-//! The tests of the calls of the cache that threads share, of its core and of plays that no script makes.
+//! The tests of the calls of the cache that threads share, and of its core, that no script makes.
 #![tactic(auto)]
 
 #[cfg(test)]
@@ -10,8 +10,6 @@ mod engine;
 mod hashers;
 #[cfg(test)]
 mod housekeeper;
-#[cfg(test)]
-mod play;
 #[cfg(test)]
 mod shared;
 #[cfg(test)]

@@ -22,11 +22,6 @@ fn insert_all<R: Wait>(rt: &R, cache: &Numbers, keys: &[u64], now: Instant) -> R
     Ok(())
 }
 
-/// What a get finds.
-fn found<R: Wait>(rt: &R, cache: &Numbers, key: u64, now: Instant) -> Option<u64> {
-    cache.get(rt, &key, now).unwrap_or(None)
-}
-
 /// How many entries are counted, and their weight.
 fn counts(cache: &Numbers) -> (u64, u64) {
     (cache.entry_count(), cache.weighted_size())
@@ -43,19 +38,6 @@ fn the_counts_are_those_of_the_last_maintenance(rt: HostRuntime) -> Result<(), F
         let present = cache.get_if_present(&rt, &key, at(0));
         assert!(rt; present == Ok(Some(key * 10)));
     }
-    Ok(())
-}
-
-#[test]
-fn an_invalidation_of_all_hides_what_is_from_before_it(rt: HostRuntime) -> Result<(), Fail> {
-    let cache: Numbers = Cache::builder(rt.alloc()).build()?;
-    insert_all(&rt, &cache, &[1], at(5))?;
-    cache.invalidate_all(at(5));
-    assert_eq!(rt; found(&rt, &cache, 1, at(6)), Some(10));
-    cache.invalidate_all(at(6));
-    cache.invalidate_all(at(3));
-    assert_eq!(rt; found(&rt, &cache, 1, at(6)), None);
-    assert!(rt; !cache.contains_key(&rt, &1, at(6)));
     Ok(())
 }
 
@@ -105,62 +87,5 @@ fn a_pair_of_a_snapshot_reads_as_its_value(rt: HostRuntime) -> Result<(), Fail> 
     };
     assert!(rt; pair.pair() == (&3, &30));
     assert!(rt; *pair.key() == 3 && *pair == 30);
-    Ok(())
-}
-
-/// A call at the moment 0. An insert stores ten times the key.
-#[derive(Clone, Copy)]
-enum Step {
-    Insert(u64),
-    Get(u64),
-    Sync,
-}
-
-/// Makes the calls in turn. The answer has a decimal digit for each get, the first one in front: 1 where it found its key's value.
-fn found_by<R: Wait>(rt: &R, cache: &Numbers, steps: &[Step]) -> Result<u64, Fail> {
-    let mut digits = 0u64;
-    for step in steps {
-        match *step {
-            Step::Insert(key) => insert_all(rt, cache, &[key], at(0))?,
-            Step::Get(key) => {
-                let is_found = found(rt, cache, key, at(0)) == Some(key.wrapping_mul(10));
-                digits = digits.wrapping_mul(10).wrapping_add(u64::from(is_found));
-            }
-            Step::Sync => cache.sync(rt, at(0)),
-        }
-    }
-    Ok(digits)
-}
-
-#[test]
-fn a_key_is_admitted_once_it_is_asked_for_more_often_than_another(
-    rt: HostRuntime,
-) -> Result<(), Fail> {
-    let cache: Numbers = Cache::new(rt.alloc(), 3)?;
-    let steps = [
-        Step::Insert(0),
-        Step::Sync,
-        Step::Insert(1),
-        Step::Get(0),
-        Step::Get(1),
-        Step::Sync,
-        Step::Insert(2),
-        Step::Get(2),
-        Step::Sync,
-        Step::Get(0),
-        Step::Get(1),
-        Step::Sync,
-        Step::Insert(3),
-        Step::Sync,
-        Step::Get(3),
-        Step::Insert(3),
-        Step::Sync,
-        Step::Get(3),
-        Step::Insert(3),
-        Step::Sync,
-        Step::Get(2),
-        Step::Get(3),
-    ];
-    assert_eq!(rt; found_by(&rt, &cache, &steps)?, 111_110_001);
     Ok(())
 }

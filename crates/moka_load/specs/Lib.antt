@@ -1,0 +1,2 @@
+pub mod Hasher
+pub mod Sound

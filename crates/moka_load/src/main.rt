@@ -1,0 +1,88 @@
+//! Loads the cache that threads share, line by line of standard input, and writes the replies to standard output: plays, which are timed, and soaks, whose
+//! answers are compared with what they may be. `bench/run threads` and `bench/soak` send it their lines; the README says what each line does.
+//!
+//! The status is 0 at the end of the input, 2 at a line that is no request or comes too early, and 1 where a soak wasn't sound or memory or the system
+//! refused a call. What it was is written to standard error.
+#![tactic(auto)]
+
+mod play;
+mod soak;
+
+use crate::play::error::PlayError;
+use crate::play::player::Player;
+use crate::soak::report::Report;
+use crate::soak::soak;
+use std::alloc::Global;
+use std::io::{BufRead, BufReader};
+use std::process::ExitCode;
+use std::sync::Wait;
+use std::thread::Threads;
+use std::time::Clock;
+
+/// A soak that a line asks for.
+#[derive(Clone, Copy)]
+struct Asked {
+    calls: u64,
+    seed: u64,
+    /// Whether its verdict is enough where it was served.
+    is_short: bool,
+}
+
+impl Asked {
+    /// The soak of a line `soak CALLS SEED`, or in short `check CALLS SEED`, if the line is one.
+    fn parse(line: &str) -> Option<Asked> {
+        let (word, numbers) = line.split_once(' ')?;
+        let is_short = word == "check";
+        if !is_short && word != "soak" {
+            return None;
+        }
+        let (calls, seed) = numbers.split_once(' ')?;
+        Some(Asked {
+            calls: calls.parse::<u64>().ok()?,
+            seed: seed.parse::<u64>().ok()?,
+            is_short,
+        })
+    }
+}
+
+/// Writes a report, or its verdict where that is enough.
+fn tell(rt: &impl Print, report: &Report, is_short: bool) -> Result<(), PlayError> {
+    if is_short && report.is_served() {
+        println!(rt; "{}", report.verdict())?;
+    } else {
+        println!(rt; "{report}")?;
+    }
+    if report.is_sound() {
+        return Ok(());
+    }
+    Err(PlayError::NotSound)
+}
+
+/// Takes the lines of standard input in turn, and writes the replies.
+fn load_lines<R: Input + Print + Wait + Threads + Clock + Copy + Send + 'static>(
+    rt: R,
+    alloc: Global,
+) -> Result<(), PlayError> {
+    let mut player = Player::new(alloc);
+    for line in BufReader::new(alloc, rt.reader())?.lines(alloc) {
+        let line = line?;
+        if let Some(asked) = Asked::parse(&line) {
+            let report = soak(rt, alloc, asked.calls, asked.seed)?;
+            tell(&rt, &report, asked.is_short)?;
+        } else if let Some(reply) = player.take(rt, &line)? {
+            println!(rt; "{reply}")?;
+        }
+    }
+    Ok(())
+}
+
+fn main(rt: HostRuntime) -> ExitCode {
+    match load_lines(rt, rt.alloc()) {
+        Ok(()) => ExitCode::SUCCESS,
+        Err(error) => {
+            // Nobody is left to hear of a fault in telling of the fault.
+            let _ = eprintln!(rt; "{error}");
+            ExitCode::from(error.status())
+        }
+    }
+}

@@ -1,0 +1,56 @@
+//! The calls of a soak.
+use crate::soak::constants::OUT_OF;
+use moka_common::time::Instant;
+
+/// Which call is made.
+#[derive(Clone, Copy, Debug, PartialEq, Eq)]
+pub enum Kind {
+    Get,
+    GetIfPresent,
+    ContainsKey,
+    Insert,
+    Invalidate,
+    InvalidateAll,
+    Iter,
+    Sync,
+    Counts,
+    Policy,
+    Clone,
+}
+
+/// A call, with what any kind of call takes.
+#[derive(Clone, Copy, Debug, PartialEq, Eq)]
+pub struct Call {
+    pub kind: Kind,
+    pub key: u64,
+    /// That of the value which an insert puts in.
+    pub number: u32,
+    pub now: Instant,
+}
+
+/// How many of the calls are of each kind, out of `OUT_OF`; what is left are look-ups. An invalidation of all is seldom, or entries would neither expire nor be
+/// too much.
+const SHARES: [(Kind, u64); 10] = [
+    (Kind::Insert, OUT_OF / 20 * 6),
+    (Kind::GetIfPresent, OUT_OF / 10),
+    (Kind::ContainsKey, OUT_OF / 10),
+    (Kind::Invalidate, OUT_OF / 20),
+    (Kind::Counts, OUT_OF / 25),
+    (Kind::Policy, OUT_OF / 50),
+    (Kind::Clone, OUT_OF / 50),
+    (Kind::Sync, OUT_OF / 200),
+    (Kind::Iter, OUT_OF / 200),
+    (Kind::InvalidateAll, 1),
+];
+
+/// The kind that a number below `OUT_OF` draws.
+pub(crate) fn kind_of(drawn: u64) -> Kind {
+    let mut rest = drawn;
+    for (kind, share) in SHARES {
+        if rest < share {
+            return kind;
+        }
+        rest -= share;
+    }
+    Kind::Get
+}

@@ -1,0 +1,49 @@
+//! The values of a soak: each names its key.
+ghost use Rattle.std.specs.Prelude.{◌≡◌, ◌+◌, ◌%◌, ⊤};
+ghost use Rattle.std.proofs.Common.{subst};
+ghost use Rattle.std.proofs.lemmas.Bool.{eqb-true};
+ghost use Rattle.moka_load.specs.declared.soak.constants.TheConstants.{HEAVIEST};
+
+use crate::soak::constants::HEAVIEST;
+use moka_sync::engine::WeighShared;
+use moka_sync::rule::PairRule;
+
+/// A value that names the key that it was inserted at. Its number says what it weighs.
+#[derive(Clone, Copy, Debug, PartialEq, Eq)]
+pub struct Stamp {
+    pub key: u64,
+    pub number: u32,
+}
+
+impl Stamp {
+    /// From 0 to `HEAVIEST`.
+    pub fn weight(&self) -> u32
+        ensures { result ≡ self.now.number % (HEAVIEST + 1) }
+    {
+        self.number % (HEAVIEST + 1)
+    }
+}
+
+/// The rule of the pairs of a soak: a value names its key.
+#[derive(Drop)]
+pub struct NamesItsKey;
+
+impl PairRule<u64, Stamp> for NamesItsKey {
+    ghost holds = { λ key stamp. stamp.key ≡ key };
+
+    ghost agrees = { λ key other stamp same is. subst (λ k. stamp.key ≡ k) (eqb-true key other same) is };
+}
+
+/// Weighs a value by its number, so that an insert at a known key changes the weight as a rule.
+#[derive(Drop)]
+pub struct ByNumber;
+
+impl WeighShared<u64, Stamp> for ByNumber {
+    ghost ready = { λ _. ⊤ };
+
+    ghost weighs = { λ _ _ stamp weight. weight ≡ stamp.number % (HEAVIEST + 1) };
+
+    fn weigh(&self, _key: &u64, stamp: &Stamp) -> u32 {
+        stamp.weight()
+    }
+}

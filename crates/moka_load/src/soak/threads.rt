@@ -1,0 +1,67 @@
+// A soak from its first call to its report.
+ghost use Rattle.std.specs.Prelude.{◌≡◌, IfOk};
+
+use crate::soak::caller::Caller;
+use crate::soak::constants::CALLERS;
+use crate::soak::draws::Draws;
+use crate::soak::errors::SoakError;
+use crate::soak::looks::final_looks;
+use crate::soak::moments::Clock;
+use crate::soak::report::Report;
+use crate::soak::soaked::{SoakedCache, new_cache};
+use crate::soak::tally::Tally;
+use std::alloc::Global;
+use std::sync::Wait;
+use std::thread::{Builder, Threads};
+
+/// Makes so many calls from eight threads on one cache, and looks at it afterwards. Which calls are made is up to the seed, and what they give
+/// also to the order in which the threads come.
+pub fn soak<R: Wait + Threads + Copy + Send + 'static>(
+    rt: R,
+    alloc: Global,
+    calls: u64,
+    seed: u64,
+) -> Result<Report, SoakError>
+    ensures calls { IfOk result (λ report. report.calls ≡ calls) }
+    ensures seed { IfOk result (λ report. report.seed ≡ seed) }
+{
+    let cache = new_cache(alloc)?;
+    let clock = Clock::new(alloc)?;
+    let tally = soak_by_threads(rt, alloc, &cache, &clock, calls, seed)?;
+    let mut draws = Draws::new(seed, CALLERS);
+    let looks = final_looks(&rt, &cache, &mut draws, clock.millis())?;
+    Ok(Report {
+        calls,
+        seed,
+        tally,
+        looks,
+    })
+}
+
+/// What the callers met with together.
+fn soak_by_threads<R: Wait + Threads + Copy + Send + 'static>(
+    rt: R,
+    alloc: Global,
+    cache: &SoakedCache,
+    clock: &Clock,
+    calls: u64,
+    seed: u64,
+) -> Result<Tally, SoakError> {
+    let mut threads = Vec::new(alloc);
+    for number in 0..CALLERS {
+        let mut caller = Caller::new(alloc, cache.clone()?, clock.try_clone()?, seed, number)?;
+        let share = share_of(calls, number);
+        let thread = Builder::new().spawn(&rt, move || caller.run(&rt, share))?;
+        threads.push(thread)?;
+    }
+    let mut tally = Tally::NOTHING;
+    for thread in threads {
+        tally = tally.and(&thread.join(&rt));
+    }
+    Ok(tally)
+}
+
+/// How many of the calls are those of the caller with this number: every eighth, from its own on.
+fn share_of(calls: u64, number: u64) -> u64 {
+    calls.saturating_sub(number).div_ceil(CALLERS)
+}

@@ -1,0 +1,34 @@
+// The text of a file of rows: blocks of lines with an empty line between them, each a row or comments alone.
+
+/// What stands in front of each line of a row but its name.
+const INDENT: &str = "    ";
+
+/// What a line of a block is.
+#[derive(Clone, Copy, Debug, PartialEq, Eq)]
+pub enum RowLine<'a> {
+    /// A comment, or nothing.
+    Skipped,
+    /// The name of the row.
+    Name(&'a str),
+    /// A line of the row.
+    Text(&'a str),
+}
+
+/// The blocks of a file.
+pub fn blocks_of(text: &str) -> std::str::Split<'_, &'static str> {
+    text.split("\n\n")
+}
+
+/// What this line is.
+pub fn line_of(line: &str) -> RowLine<'_> {
+    let Some(text) = line.strip_prefix(INDENT) else {
+        if line.is_empty() || line.starts_with("#") {
+            return RowLine::Skipped;
+        }
+        return RowLine::Name(line);
+    };
+    if text.starts_with("#") {
+        return RowLine::Skipped;
+    }
+    RowLine::Text(text)
+}
