@@ -6,7 +6,7 @@ ghost use Rattle.moka_engine.specs.declared.constants.TheConstants.{SHARDS};
 ghost use Rattle.moka_base.specs.Keys.{keys_by};
 ghost use Rattle.moka_locks.specs.Cache.{new_cache};
 ghost use Rattle.moka_locks.specs.Charged.{counts_of};
-ghost use Rattle.moka_published.specs.Log.{IsSuffix, opening};
+ghost use Rattle.moka_published.specs.Log.{IsChain, IsSuffix, opening};
 ghost use Rattle.moka_behind.specs.Rule.{PairsMeet};
 ghost use Rattle.moka_locks.specs.Snapshot.{IsSnapshot, own_pairs};
 ghost use Rattle.moka_engine.specs.CoreState.{Maintenance as MaintenanceState, new_maintenance};
@@ -276,6 +276,7 @@ impl<
         ensures counts { pass.new.counts ≡ pass.old.counts }
         ensures newest { (older : List _) × (pass.new.seen ≡ result ∷ older) }
         ensures seen { IsSuffix pass.old.seen pass.new.seen }
+        ensures chain { IsChain pass.new.seen }
     {
         match &self.counts {
             Some(counts) => counts.load(rt, pass),

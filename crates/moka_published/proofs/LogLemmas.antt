@@ -1,6 +1,7 @@
 -- What each step on published counts keeps of their list.
-use Rattle.std.proofs.Common.{◌≡◌, ℕ, true, false, List, [], ◌∷◌, ◌++◌, refl, sym, ap, ◌∙◌, subst, inl, inr, set}
+use Rattle.std.proofs.Common.{◌≡◌, ◌≤◌, ◌+◌, ◌-◌, ◌^◌, arith, min, length, ℕ, true, false, List, [], ◌∷◌, ◌++◌, refl, sym, ap, ◌∙◌, subst, inl, inr, set}
 use Rattle.std.proofs.lemmas.Bool.{false≢true}
+use Rattle.std.proofs.lemmas.List.{length-append}
 use mathlib.Core.Option.{some}
 use lib.ListN.{get_elem?}
 use Rattle.crossbeam_utils.specs.Register.{Turns, Forks}
@@ -60,7 +61,7 @@ module _ (pass : ℕ) (v : Known) where
 
   -- a pass that looks has seen all
   pub sees : Turns IsLog pass v (λ x. x)
-      (λ v x y w. (w.publishes ≡ v.publishes) × ((older : List Published) × (w.seen ≡ x ∷ older)) × IsSuffix v.seen w.seen)
+      (λ v x y w. (w.publishes ≡ v.publishes) × ((older : List Published) × (w.seen ≡ x ∷ older)) × IsSuffix v.seen w.seen × IsChain w.seen)
   sees value views h at =
       let w : Known = record { publishes = v.publishes; seen = h.log } in (
         w,
@@ -81,7 +82,7 @@ module _ (pass : ℕ) (v : Known) where
               ];
           alone = alone value views h at w refl;
         },
-        (refl, (h.older, h.newest), h.seen pass v at),
+        (refl, (h.older, h.newest), h.seen pass v at, h.chain),
       )
 
   -- who publishes puts one more on the list
@@ -137,3 +138,28 @@ module _ (pass : ℕ) (v : Known) where
           | inr new ↦ absurd (false≢true (ap (λ z. z.publishes) new ∙ p))
         ];
   })
+
+-- one more than the lesser of a number and the last, if that is no more than the last
+next_place : (n longer m : ℕ) → longer ≡ n + 1 → min (min n m + 1) m ≡ min longer m
+next_place n longer m is = omega arith
+
+-- the number is the place in the chain, as far as 64 bits tell
+pub number_is_place : (p : Published) (older : List Published) → IsChain (p ∷ older) → p.number ≡ min (length older) (2 ^ 64 - 1)
+number_is_place p [] first = ap (λ q. q.number) first
+number_is_place p (o ∷ older) chain =
+    chain.0 ∙ ap (λ k. min (k + 1) (2 ^ 64 - 1)) (number_is_place o older chain.1) ∙ next_place (length older) (length (o ∷ older)) (2 ^ 64 - 1) (omega arith)
+
+-- what comes behind a list is counted beside it
+later_length : {T : Type 0} (newer older : List T) (n s : T) (all : List T) → n ∷ all ≡ newer ++ s ∷ older → length all ≡ length newer + length older
+later_length newer older n s all same = let both : length (n ∷ all) ≡ length newer + length (s ∷ older) = ap length same ∙ length-append newer (s ∷ older) in omega arith
+
+lesser : (a b n m : ℕ) → a ≡ n + b → min a m ≤ min b m + n
+lesser a b n m is = omega arith
+
+-- a number is greater by no more than what came between
+pub number_is_later : (newest seen : Published) (newer older all : List Published) → newest ∷ all ≡ newer ++ seen ∷ older → IsChain (newest ∷ all)
+    → IsChain (seen ∷ older) → newest.number ≤ seen.number + length newer
+number_is_later newest seen newer older all same chain of_seen =
+    subst (λ k. k ≤ seen.number + length newer) (sym (number_is_place newest all chain))
+    (subst (λ k. min (length all) (2 ^ 64 - 1) ≤ k + length newer) (sym (number_is_place seen older of_seen))
+    (lesser (length all) (length older) (length newer) (2 ^ 64 - 1) (later_length newer older newest seen all same)))

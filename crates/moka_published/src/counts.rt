@@ -1,7 +1,7 @@
 //! The cell of published counts, who publishes them, and the passes of those who load them.
 ghost use Rattle.std.specs.Prelude.{◌≡◌, [], ◌∷◌, List, IfOk};
 ghost use Rattle.moka_published.specs.Counts.{CountPass as PassValue, Publisher as PublisherValue};
-ghost use Rattle.moka_published.specs.Log.{IsSuffix, number_after, opening};
+ghost use Rattle.moka_published.specs.Log.{IsChain, IsSuffix, number_after, opening};
 
 use crate::rule::{Growing, Known, Published, Publishes, Sees, Tells};
 use crossbeam_utils::atomic::seq_cell::{Pass, RuledSeqCell};
@@ -125,6 +125,9 @@ impl Counts {
         ensures counts { pass.new.counts ≡ pass.old.counts }
         ensures newest { (older : List _) × (pass.new.seen ≡ result ∷ older) }
         ensures seen { IsSuffix pass.old.seen pass.new.seen }
+
+        // It is numbered, from the opening counts on.
+        ensures chain { IsChain pass.new.seen }
     {
         self.cell.load_as::<Sees, R>(rt, &mut pass.pass)
     }

@@ -2,4 +2,5 @@
 #![tactic(auto)]
 
 pub mod counts;
+pub mod laws;
 pub mod rule;

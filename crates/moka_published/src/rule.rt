@@ -1,6 +1,6 @@
 //! The rule of published counts: there is one list of them, which only grows, and the cell has the newest.
 ghost use Rattle.std.specs.Prelude.{◌≡◌, true, false, [], ◌∷◌, List};
-ghost use Rattle.moka_published.specs.Log.{IsLog, IsSuffix, opening};
+ghost use Rattle.moka_published.specs.Log.{IsChain, IsLog, IsSuffix, opening};
 ghost use Rattle.moka_published.specs.Log.{Known as KnownValue};
 
 use atomic_table::Split;
@@ -65,7 +65,8 @@ impl Outcome<Published, Known> for Publishes {
 pub(crate) struct Sees;
 
 impl Outcome<Published, Known> for Sees {
-    ghost then = { λ v x y w. (w.publishes ≡ v.publishes) × ((older : List _) × (w.seen ≡ x ∷ older)) × IsSuffix v.seen w.seen };
+    ghost then = { λ v x y w. (w.publishes ≡ v.publishes) × ((older : List _) × (w.seen ≡ x ∷ older)) × IsSuffix v.seen w.seen
+        × IsChain w.seen };
 }
 
 /// A pass gives what it has seen to another.

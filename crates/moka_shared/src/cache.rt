@@ -8,7 +8,7 @@ ghost use Rattle.moka_engine.specs.declared.event.Reply.TheVariants as reply;
 ghost use Rattle.moka_shared.specs.Builder.{new_builder};
 ghost use Rattle.moka_locks.specs.Cache.{new_cache};
 ghost use Rattle.moka_locks.specs.Charged.{counts_of};
-ghost use Rattle.moka_published.specs.Log.{IsSuffix, opening};
+ghost use Rattle.moka_published.specs.Log.{IsChain, IsSuffix, opening};
 ghost use Rattle.moka_locks.specs.Locked.{Locked as LockedValue, locked_allows, locked_caller, locked_decides, resting_at};
 ghost use Rattle.moka_steps.specs.Steps.{AnswersGet, insert_reply, pends_by};
 
@@ -211,6 +211,9 @@ impl<
         ensures counts { pass.new.counts ≡ pass.old.counts }
         ensures newest { (older : List _) × (pass.new.seen ≡ result ∷ older) }
         ensures seen { IsSuffix pass.old.seen pass.new.seen }
+
+        // They are numbered from the opening three zeros on, so a greater number says how many maintenances lay between at least.
+        ensures chain { IsChain pass.new.seen }
     {
         self.inner.get().published(rt, pass)
     }
