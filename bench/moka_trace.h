@@ -68,6 +68,17 @@ uint32_t moka_trace_play_core(const struct moka_trace_settings *settings, const 
 uint32_t moka_trace_sketch(uint32_t capacity, const uint64_t *hashes, size_t hash_count, size_t counts, size_t reads,
                            uint64_t *sum);
 
+enum moka_trace_aging_load {
+    MOKA_TRACE_IN_LANES = 0, /* as a sketch ages its table */
+    MOKA_TRACE_WORD_BY_WORD = 1,
+};
+
+/*
+ * Makes a table of at most 2^30 words (more are answered as an unknown kind), and ages it so many times over. `sum` is that of
+ * the sizes that follow, the first from 2^32 - 1, by their order.
+ */
+uint32_t moka_trace_aging(uint32_t load, const uint64_t *words, size_t word_count, size_t agings, uint64_t *sum);
+
 enum moka_trace_list_load {
     MOKA_TRACE_MOVE = 0, /* the picked nodes, by number, are looked for and move to the back */
     MOKA_TRACE_FILL_AND_EMPTY = 1,

@@ -1,4 +1,5 @@
-//! Two lists in a slab as one writes them by hand, in safe Rust, and the loads that are played on them.
+//! Lists as one writes them by hand, two in a slab, in safe Rust, and one of boxed nodes with raw pointers, and the loads that are played on them.
+use std::ptr;
 
 /// No node.
 const NONE: usize = usize::MAX;
@@ -253,6 +254,147 @@ impl List for Tagged {
         match &self.slots[id] {
             TaggedSlot::Node(node) => (node.element, node.next),
             TaggedSlot::Vacant { .. } => unreachable!("a link leads to a free slot"),
+        }
+    }
+}
+
+/// A node in a block of its own.
+struct BoxedNode {
+    next: *mut BoxedNode,
+    prev: *mut BoxedNode,
+    id: usize,
+    element: Option<u64>,
+}
+
+/// A list of boxed nodes that are linked by raw pointers, with a table from ids to nodes. A node that leaves is kept for the next element.
+pub struct Boxed {
+    nodes: Vec<*mut BoxedNode>,
+    head: *mut BoxedNode,
+    tail: *mut BoxedNode,
+    spare: *mut BoxedNode,
+}
+
+impl Boxed {
+    fn make_spare(&mut self) {
+        let node = Box::into_raw(Box::new(BoxedNode {
+            next: self.spare,
+            prev: ptr::null_mut(),
+            id: self.nodes.len(),
+            element: None,
+        }));
+        self.nodes.push(node);
+        self.spare = node;
+    }
+
+    #[inline]
+    fn link_last(&mut self, node: *mut BoxedNode) {
+        // Each pointer in the table, in a link and at an end is of a node that lives as long as the list.
+        unsafe {
+            (*node).next = ptr::null_mut();
+            (*node).prev = self.tail;
+            if self.tail.is_null() {
+                self.head = node;
+            } else {
+                (*self.tail).next = node;
+            }
+        }
+        self.tail = node;
+    }
+
+    #[inline]
+    fn unlink(&mut self, node: *mut BoxedNode) {
+        unsafe {
+            let (next, prev) = ((*node).next, (*node).prev);
+            if prev.is_null() {
+                self.head = next;
+            } else {
+                (*prev).next = next;
+            }
+            if next.is_null() {
+                self.tail = prev;
+            } else {
+                (*next).prev = prev;
+            }
+        }
+    }
+}
+
+impl List for Boxed {
+    fn with_room(nodes: usize) -> Boxed {
+        let mut list = Boxed {
+            nodes: Vec::with_capacity(nodes),
+            head: ptr::null_mut(),
+            tail: ptr::null_mut(),
+            spare: ptr::null_mut(),
+        };
+        for _ in 0..nodes {
+            list.make_spare();
+        }
+        list
+    }
+
+    #[inline]
+    fn push_back(&mut self, element: u64) -> usize {
+        if self.spare.is_null() {
+            self.make_spare();
+        }
+        let node = self.spare;
+        unsafe {
+            self.spare = (*node).next;
+            (*node).element = Some(element);
+        }
+        self.link_last(node);
+        unsafe { (*node).id }
+    }
+
+    #[inline]
+    fn pop_front(&mut self) -> Option<u64> {
+        let node = self.head;
+        if node.is_null() {
+            return None;
+        }
+        self.unlink(node);
+        unsafe {
+            (*node).next = self.spare;
+            self.spare = node;
+            (*node).element.take()
+        }
+    }
+
+    #[inline]
+    fn contains(&self, id: usize) -> bool {
+        self.nodes
+            .get(id)
+            .is_some_and(|node| unsafe { (**node).element.is_some() })
+    }
+
+    #[inline]
+    fn move_to_back(&mut self, id: usize) {
+        let node = self.nodes[id];
+        if node != self.tail {
+            self.unlink(node);
+            self.link_last(node);
+        }
+    }
+
+    fn first(&self) -> usize {
+        match unsafe { self.head.as_ref() } {
+            Some(node) => node.id,
+            None => NONE,
+        }
+    }
+
+    fn get(&self, id: usize) -> (u64, usize) {
+        let node = unsafe { &*self.nodes[id] };
+        let next = unsafe { node.next.as_ref() }.map_or(NONE, |next| next.id);
+        (node.element.unwrap_or(0), next)
+    }
+}
+
+impl Drop for Boxed {
+    fn drop(&mut self) {
+        for node in self.nodes.drain(..) {
+            drop(unsafe { Box::from_raw(node) });
         }
     }
 }

@@ -1,7 +1,7 @@
 //! Loads of the parts of a cache, each with the sides that play it: the port's first, and what it is compared with.
-use crate::hand_lists::{self, ListLoad, Plain, Tagged};
+use crate::hand_lists::{self, Boxed, ListLoad, Plain, Tagged};
 use crate::original_sketch;
-use crate::port::{self, IndexLoad};
+use crate::port::{self, AgingLoad, IndexLoad};
 use crate::traces::{spread, Random, Zipf};
 use std::rc::Rc;
 
@@ -29,7 +29,7 @@ fn side(name: &'static str, play: impl Fn(usize) -> u64 + 'static) -> Side {
 /// The loads of a part, if there is a part of this name.
 pub fn loads_of(part: &str) -> Option<Vec<Load>> {
     match part {
-        "sketch" => Some(sketch_loads()),
+        "sketch" => Some(sketch_loads().into_iter().chain(aging_loads()).collect()),
         "list" => Some(list_loads()),
         "index" => Some(index_loads()),
         _ => None,
@@ -75,6 +75,36 @@ fn sketch_loads() -> Vec<Load> {
     loads
 }
 
+/// So many words age in a round, however many a table has.
+const WORDS: usize = 1 << 22;
+
+/// Agings of tables of three lengths: an operation is that of a whole table.
+fn aging_loads() -> Vec<Load> {
+    let mut loads = Vec::new();
+    for words in [128, 16_384, 1_048_576] {
+        let table: Vec<u64> = (0..words as u64).map(spread).collect();
+        let table = Rc::new(table);
+        let agings = WORDS / words;
+        let (mine, plain, theirs) = (table.clone(), table.clone(), table.clone());
+        loads.push(Load {
+            name: format!("aging, {words} words"),
+            operations: agings,
+            sides: vec![
+                side("port", move |rounds| {
+                    port::age(AgingLoad::InLanes, &mine, agings * rounds)
+                }),
+                side("plain loop", move |rounds| {
+                    port::age(AgingLoad::WordByWord, &plain, agings * rounds)
+                }),
+                side("original", move |rounds| {
+                    original_sketch::age(&theirs, agings * rounds)
+                }),
+            ],
+        });
+    }
+    loads
+}
+
 /// So many operations a round, however many nodes a list has.
 const TURNS: usize = 1_000_000;
 
@@ -91,6 +121,8 @@ fn list_loads() -> Vec<Load> {
         let picks: Vec<usize> = (0..TURNS)
             .map(|_| random.below(nodes as u64) as usize)
             .collect();
+        // The boxed list takes the last of the reserved nodes first, so there the first element has the greatest id.
+        let mirrored: Rc<Vec<usize>> = Rc::new(picks.iter().map(|pick| nodes - 1 - pick).collect());
         let picks = Rc::new(picks);
         for (name, load) in named {
             // A round of moves has as many as there are picks, the others one for each node.
@@ -99,12 +131,16 @@ fn list_loads() -> Vec<Load> {
                 _ => TURNS / nodes,
             };
             let (mine, plain, tagged) = (picks.clone(), picks.clone(), picks.clone());
+            let boxed = mirrored.clone();
             loads.push(Load {
                 name: format!("{name}, {nodes}"),
                 operations: TURNS,
                 sides: vec![
                     side("port", move |rounds| {
                         port::list(load, nodes, &mine, times * rounds)
+                    }),
+                    side("boxed by hand", move |rounds| {
+                        hand_lists::play::<Boxed>(load, nodes, &boxed, times * rounds)
                     }),
                     side("by hand", move |rounds| {
                         hand_lists::play::<Plain>(load, nodes, &plain, times * rounds)

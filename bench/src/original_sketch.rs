@@ -20,3 +20,18 @@ pub fn play(capacity: u32, hashes: &[u64], counts: usize, reads: usize) -> u64 {
     }
     sum
 }
+
+/// As the port's `moka_trace_aging`.
+pub fn age(words: &[u64], agings: usize) -> u64 {
+    let mut sketch = FrequencySketch {
+        table: words.into(),
+        size: u32::MAX,
+        ..FrequencySketch::default()
+    };
+    let mut sum = 0u64;
+    for _ in 0..agings {
+        sketch.reset();
+        sum = sum.wrapping_mul(31).wrapping_add(u64::from(sketch.size));
+    }
+    sum
+}

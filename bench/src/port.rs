@@ -33,6 +33,13 @@ extern "C" {
         reads: usize,
         sum: *mut u64,
     ) -> u32;
+    fn moka_trace_aging(
+        load: u32,
+        words: *const u64,
+        word_count: usize,
+        agings: usize,
+        sum: *mut u64,
+    ) -> u32;
     fn moka_trace_list(
         load: u32,
         nodes: usize,
@@ -99,6 +106,18 @@ pub fn sketch(capacity: u32, hashes: &[u64], counts: usize, reads: usize) -> u64
     answer(|sum| unsafe {
         moka_trace_sketch(capacity, hashes.as_ptr(), hashes.len(), counts, reads, sum)
     })
+}
+
+/// By which body a table ages, by the number by which the static library knows it.
+#[derive(Clone, Copy)]
+pub enum AgingLoad {
+    InLanes = 0,
+    WordByWord = 1,
+}
+
+/// Ages a new table of these words so many times over, and sums up the sizes that follow from `u32::MAX`, by their order.
+pub fn age(load: AgingLoad, words: &[u64], agings: usize) -> u64 {
+    answer(|sum| unsafe { moka_trace_aging(load as u32, words.as_ptr(), words.len(), agings, sum) })
 }
 
 /// Plays a load on a new list with room for so many nodes.

@@ -57,8 +57,27 @@ fn print_part(part: &str, loads: &[Load], repeats: usize) -> ExitCode {
     println!(
         "Nanoseconds an operation, the least and the greatest of {repeats} repeats; ratios of the least; instructions by callgrind."
     );
-    println!();
-    let names: Vec<&str> = loads[0].sides.iter().map(|side| side.name).collect();
+    let mut all_same = true;
+    for (at, load) in loads.iter().enumerate() {
+        if at == 0 || names_of(load) != names_of(&loads[at - 1]) {
+            println!();
+            print_head_of(&names_of(load));
+        }
+        all_same &= print_load(part, at, load, repeats);
+    }
+    if all_same {
+        ExitCode::SUCCESS
+    } else {
+        ExitCode::FAILURE
+    }
+}
+
+fn names_of(load: &Load) -> Vec<&'static str> {
+    load.sides.iter().map(|side| side.name).collect()
+}
+
+/// Prints the head of a table of loads that these sides play.
+fn print_head_of(names: &[&str]) {
     let mut head = vec!["Load".to_string()];
     head.extend(names.iter().map(|name| name.to_string()));
     head.extend(
@@ -69,15 +88,6 @@ fn print_part(part: &str, loads: &[Load], repeats: usize) -> ExitCode {
     head.extend(names.iter().map(|name| format!("{name}, instructions")));
     head.push("sums".into());
     table::print_head(&head.iter().map(String::as_str).collect::<Vec<_>>());
-    let mut all_same = true;
-    for (at, load) in loads.iter().enumerate() {
-        all_same &= print_load(part, at, load, repeats);
-    }
-    if all_same {
-        ExitCode::SUCCESS
-    } else {
-        ExitCode::FAILURE
-    }
 }
 
 /// Prints the row of a load. Says whether all sides had the same sum.

@@ -10,7 +10,7 @@ use Rattle.std.proofs.lemmas.List.Sums.{count_by-le-length, sum_by-cons, sum_by-
 use Rattle.std.proofs.lemmas.List.Elements.{All-cons, All-append}
 use Rattle.std.specs.Int.Bits.{and_zero_r}
 use lib.Count.{ones, ones_in}
-use Rattle.moka_sketch.specs.Cells.{digits, counters_of_word, counters_of}
+use Rattle.moka_sketch.specs.Cells.{digits, counters_of_word, counters_of, halved_word}
 use Rattle.moka_sketch.specs.Sketch.{grown_at, odd_count}
 
 -- ---- the digits of a word
@@ -31,11 +31,11 @@ get_or-digits (suc k) (suc j) n h =
     rw next (get_or-digits k j (n / 16) below ∙ ap (λ m. m % 16) (shr-shr n 4 (4 * j)))
 
 -- two lists of equal parts
-cons_same : (a b : ℕ) (xs ys : List ℕ) → a ≡ b → xs ≡ ys → a ∷ xs ≡ b ∷ ys
+pub cons_same : (a b : ℕ) (xs ys : List ℕ) → a ≡ b → xs ≡ ys → a ∷ xs ≡ b ∷ ys
 cons_same a b xs ys e f = cc
 
 -- a digit further on stands for sixteen times as much
-place_next : (j : ℕ) → 2 ^ (4 * suc j) ≡ 16 * 2 ^ (4 * j)
+pub place_next : (j : ℕ) → 2 ^ (4 * suc j) ≡ 16 * 2 ^ (4 * j)
 place_next j = let next : 4 * suc j ≡ 4 + 4 * j = omega arith in rw next (pow-add 2 4 (4 * j))
 
 -- the digits above are those of the number without its lowest
@@ -98,7 +98,7 @@ three_bits zero = 0
 three_bits (suc k) = three_bits k * 16 + 7
 
 -- a mask works on the lowest digit and on the others apart
-and_digit : (m a : ℕ) (mask low : ℕ) → low < 16 → bit_and m (mask * 16 + low) ≡ bit_and (m / 16) mask * 16 + bit_and (m % 16) low
+pub and_digit : (m a : ℕ) (mask low : ℕ) → low < 16 → bit_and m (mask * 16 + low) ≡ bit_and (m / 16) mask * 16 + bit_and (m % 16) low
 and_digit m a mask low small =
     let split : m ≡ m / 16 * 16 + m % 16 = omega arith in
     let lhs : bit_and m (mask * 16 + low) ≡ bit_and (m / 16 * 16 + m % 16) (mask * 16 + low) =
@@ -123,7 +123,7 @@ digits-halved (suc k) n =
 -- ---- counting odd digits
 
 -- the lowest bit of each of k digits
-pub low_bits : ℕ → ℕ
+unfoldable pub low_bits : ℕ → ℕ
 low_bits zero = 0
 low_bits (suc k) = low_bits k * 16 + 1
 
@@ -255,17 +255,13 @@ counter_room word j below fits room =
 
 -- ---- halving and counting a table
 
--- a word whose counters are halved
-abbrev pub halved_word : ℕ → ℕ
-halved_word word = bit_and (word / 2) 0x7777_7777_7777_7777
-
 -- the mask of the code is that of sixteen digits
 three_bits_of_16 : three_bits 16 ≡ 0x7777_7777_7777_7777
 unfolding three_bits
 three_bits_of_16 = refl
 
 -- and so is the other
-low_bits_of_16 : low_bits 16 ≡ 0x1111_1111_1111_1111
+pub low_bits_of_16 : low_bits 16 ≡ 0x1111_1111_1111_1111
 unfolding low_bits
 low_bits_of_16 = refl
 

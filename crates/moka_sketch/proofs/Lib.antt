@@ -1,4 +1,6 @@
 pub mod CellLemmas
+pub mod CounterSumLemmas
+pub mod LaneLemmas
 pub mod LawLemmas
 pub mod SketchLemmas
 pub mod UnpackedLemmas

@@ -1,5 +1,5 @@
--- How a table of counters is laid out in words. No public clause cites this module.
-use Rattle.std.specs.Prelude.{ℕ, zero, suc, ◌/◌, ◌%◌, ◌<◌, ◌≤◌, List, [], ◌∷◌, ◌++◌, length, Option, Some, None}
+-- How a table of counters is laid out in words. No clause of a sketch cites this module, but those of the functions that age words do.
+use Rattle.std.specs.Prelude.{ℕ, zero, suc, ◌/◌, ◌%◌, ◌<◌, ◌≤◌, List, [], ◌∷◌, ◌++◌, length, Option, Some, None, bit_and}
 use Rattle.std.specs.Int.{IsPowerOfTwo}
 use Rattle.moka_sketch.specs.Sketch.{Table}
 use Rattle.moka_sketch.specs.declared.constants.TheConstants.{MAX_TABLE_LEN}
@@ -17,6 +17,10 @@ counters_of_word word = digits 16 word
 unfoldable pub counters_of : List ℕ → List ℕ
 counters_of [] = []
 counters_of (word ∷ words) = counters_of_word word ++ counters_of words
+
+-- a word with each counter halved, rounded down: a shift by one, without the bits that come from the next counter
+abbrev pub halved_word : ℕ → ℕ
+halved_word word = bit_and (word / 2) 0x7777_7777_7777_7777
 
 -- the table of these words
 abbrev pub table_of : List ℕ → ℕ → ℕ → Table

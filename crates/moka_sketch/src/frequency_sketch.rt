@@ -9,7 +9,7 @@ use moka_base::error::OutOfMemory;
 use std::alloc::{Allocator, Global};
 use std::marker::Model;
 
-mod aging;
+pub(crate) mod aging;
 mod cells;
 
 /// Counters for hashes. It has no table, and counts nothing, until `ensure_capacity` makes one.

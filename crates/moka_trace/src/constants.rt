@@ -19,6 +19,11 @@ pub const FILL_AND_EMPTY: u32 = 1;
 /// A load of a full list: its first element leaves, and one enters at the back.
 pub const TAKE_TURNS: u32 = 2;
 
+/// A load of agings of a sketch's table: as a sketch ages it.
+pub const IN_LANES: u32 = 0;
+/// A load of agings of a sketch's table: by the plain loop.
+pub const WORD_BY_WORD: u32 = 1;
+
 /// A load of an index: ids are found by their hashes.
 pub const FIND: u32 = 0;
 /// A load of an index: ids are found by their hashes, taken out, and added again.
@@ -28,7 +33,7 @@ pub const FIND_AND_REPLACE: u32 = 1;
 pub const DONE: u32 = 0;
 /// Memory was refused.
 pub const OUT_OF_MEMORY: u32 = 1;
-/// An operation is of no kind that there is, or a load. What came before it was made.
+/// An operation is of no kind that there is, or a load, or a table is too long. What came before it was made.
 pub const UNKNOWN_KIND: u32 = 2;
 
 /// What the hasher multiplies by: an odd number of 64 bits, so that no two words of a key have one hash.
@@ -37,5 +42,5 @@ pub(crate) const MULTIPLIER: u64 = 0x517C_C1B7_2722_0A95;
 /// How far the hasher rotates before it mixes a word in, so that the order of words counts.
 pub(crate) const ROTATION: u32 = 5;
 
-/// What the sum of a list is multiplied by before its next element is added, so that the order counts.
+/// What the sum of a list, or of sizes, is multiplied by before its next element is added, so that the order counts.
 pub(crate) const ORDER: u64 = 31;

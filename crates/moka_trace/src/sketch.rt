@@ -1,8 +1,10 @@
-// A batch of counts and of look-ups of the sketch, as a whole call.
+// A batch of counts and of look-ups of the sketch, or of agings of a table, as a whole call.
 ghost use Rattle.std.specs.Prelude.{◌≡◌, ◌≤◌, ◌≢◌};
 
-use crate::constants::{DONE, OUT_OF_MEMORY};
+use crate::constants::{DONE, IN_LANES, ORDER, OUT_OF_MEMORY, UNKNOWN_KIND, WORD_BY_WORD};
+use moka_common::constants::MAX_TABLE_LEN;
 use moka_common::frequency_sketch::FrequencySketch;
+use moka_sketch::{age, age_plain, aged_size};
 use std::alloc::Global;
 
 /// Makes a sketch for so many entries, counts all hashes `counts` times over, and then reads their frequencies `reads` times over. The sum of what
@@ -48,4 +50,38 @@ fn sum_of(sketch: &FrequencySketch, hashes: &[u64]) -> u64 {
         sum = sum.wrapping_add(u64::from(sketch.frequency(*hash)));
     }
     sum
+}
+
+/// Makes a table of these words, and ages it so many times over. The sizes that follow from how many counters were odd, the first from `u32::MAX`, are
+/// summed up by their order in `sum`, modulo 2^64, where the answer is `DONE`.
+#[unsafe(no_mangle)]
+pub extern "C" fn moka_trace_aging(
+    alloc: Global,
+    load: u32,
+    words: &[u64],
+    agings: usize,
+    sum: &mut u64,
+) -> u32
+    ensures known { result ≤ UNKNOWN_KIND }
+    ensures refused { result ≢ DONE → sum.new ≡ sum.old }
+{
+    if load > WORD_BY_WORD || words.len() > MAX_TABLE_LEN as usize {
+        return UNKNOWN_KIND;
+    }
+    let Ok(mut table) = words.to_vec(alloc) else {
+        return OUT_OF_MEMORY;
+    };
+    let table = table.as_mut_slice();
+    let mut size = u32::MAX;
+    let mut total = 0u64;
+    for _ in 0..agings {
+        let odd = match load {
+            IN_LANES => age(table),
+            _ => age_plain(table),
+        };
+        size = aged_size(size, odd);
+        total = total.wrapping_mul(ORDER).wrapping_add(u64::from(size));
+    }
+    *sum = total;
+    DONE
 }

@@ -1,14 +1,14 @@
 // Traces, played as a caller in C plays them. Outcomes are worked by hand.
 use crate::constants::{
-    DONE, FILL_AND_EMPTY, FIND, FIND_AND_REPLACE, GET, GET_AND_INSERT, INSERT, MOVE, READ_THROUGH,
-    TAKE_TURNS, UNKNOWN_KIND, UNLIMITED,
+    DONE, FILL_AND_EMPTY, FIND, FIND_AND_REPLACE, GET, GET_AND_INSERT, IN_LANES, INSERT, MOVE,
+    READ_THROUGH, TAKE_TURNS, UNKNOWN_KIND, UNLIMITED, WORD_BY_WORD,
 };
 use crate::core_player::moka_trace_play_core;
 use crate::index::{moka_trace_index, moka_trace_index_by_map};
 use crate::list::moka_trace_list;
 use crate::operation::Operation;
 use crate::player::Outcome;
-use crate::sketch::moka_trace_sketch;
+use crate::sketch::{moka_trace_aging, moka_trace_sketch};
 use crate::{Settings, moka_trace_play};
 use std::alloc::Global;
 
@@ -154,6 +154,22 @@ fn hashes_are_counted_and_read(rt: HostRuntime) {
     let mut sum = 9;
     let status = moka_trace_sketch(rt.alloc(), 128, &[1, 1, 2], 2, 1, &mut sum);
     assert_eq!(rt; (status, sum), (DONE, 10));
+}
+
+/// The status of two agings of nine words of 15 in each counter, and the sum, which is 9 before the call.
+fn told_of_agings(alloc: Global, load: u32) -> (u32, u64) {
+    let mut sum = 9;
+    let status = moka_trace_aging(alloc, load, &[u64::MAX; 9], 2, &mut sum);
+    (status, sum)
+}
+
+#[test]
+fn a_table_ages(rt: HostRuntime) {
+    // Each time all 144 counters are odd, so the half of the size is less by 36: 2147483611, and then 1073741769.
+    let sum = 31 * 2_147_483_611 + 1_073_741_769;
+    assert_eq!(rt; told_of_agings(rt.alloc(), IN_LANES), (DONE, sum));
+    assert_eq!(rt; told_of_agings(rt.alloc(), WORD_BY_WORD), (DONE, sum));
+    assert_eq!(rt; told_of_agings(rt.alloc(), 2), (UNKNOWN_KIND, 9));
 }
 
 #[test]

@@ -1,6 +1,7 @@
 // What no script can show of the frequency sketch. `scripts/sketch.rt` has the rest.
 use linked_list_allocator::LocalHeap;
 use moka_common::frequency_sketch::{FrequencySketch, sketch_capacity};
+use moka_sketch::{age, age_plain};
 use std::alloc::Allocator;
 use std::test::Fail;
 
@@ -69,5 +70,34 @@ fn a_table_of_a_million_words_is_made(rt: HostRuntime) -> Result<(), Fail> {
     sketch.ensure_capacity(1 << 20)?;
     count(&mut sketch, 7, 3);
     assert_eq!(rt; (sketch.table_len(), sketch.frequency(7)), (1 << 20, 3));
+    Ok(())
+}
+
+/// Fills a table with numbers that are random enough: Knuth's linear ones, whose high bits are added to the low ones.
+fn fill(words: &mut [u64]) {
+    let mut number = 1u64;
+    for word in words.iter_mut() {
+        number = number
+            .wrapping_mul(6_364_136_223_846_793_005)
+            .wrapping_add(1_442_695_040_888_963_407);
+        *word = number ^ (number >> 32);
+    }
+}
+
+// A table's size follows from how many counters were odd.
+#[test]
+fn lanes_age_a_table_of_any_length_as_the_plain_loop_does(rt: HostRuntime) -> Result<(), Fail> {
+    for len in 0..=1024 {
+        let mut in_lanes = vec![in rt.alloc(); 0u64; len]?;
+        let mut plain = vec![in rt.alloc(); 0u64; len]?;
+        fill(in_lanes.as_mut_slice());
+        fill(plain.as_mut_slice());
+        assert_eq!(rt;
+            age(in_lanes.as_mut_slice()),
+            age_plain(plain.as_mut_slice()),
+            "odd of {len}"
+        );
+        assert_eq!(rt; in_lanes.as_slice(), plain.as_slice(), "words of {len}");
+    }
     Ok(())
 }

@@ -1,50 +1,53 @@
-use Rattle.std.proofs.Common.{◌≡◌, [], ◌++◌, ◌≤◌, ◌+◌, ◌*◌, ◌<◌, ◌∙◌, ap, refl, arith, rules, map, take, drop, length, get_or, ℕ, bit_and}
-use Rattle.std.proofs.Common.{count_ones}
-use Rattle.std.proofs.lemmas.List.{take_all, drop_all, append-nil, get_or_default}
-use Rattle.std.proofs.lemmas.List.Edits.{map_over_more}
-use Rattle.moka_sketch.specs.Cells.{counters_of}
+use Rattle.std.proofs.Common.{rules, arith, refl, ap, ◌∙◌, ◌≡◌, ◌-◌, ◌/◌, ◌≤◌, length, ℕ, ◌+◌, ◌*◌, ◌<◌, List, take}
 use Rattle.moka_sketch.specs.Sketch.{odd_count}
-use Rattle.moka_sketch.proofs.CellLemmas.{halved_word, counters_of-halved, odd_count_more, odd_count_within, word_ahead}
+use Rattle.moka_sketch.specs.Cells.{counters_of}
+use Rattle.moka_sketch.proofs.CellLemmas.{counters_of-halved, odd_count_within}
+use Rattle.moka_sketch.proofs.LaneLemmas.{aged_to, part_aged, rest_aged, part_counted, rest_counted, odd_count_le}
 use Rattle.moka_sketch.proofs.frequency_sketch.aging.age.Goals as goal
 
-pub loop-word-init : goal.loop-word-init
+pub loop-block-init : goal.loop-block-init
 unfolding counters_of
-loop-word-init c = (refl, refl)
+loop-block-init c = (refl, refl)
+
+pub loop-block-preserved : goal.loop-block-preserved
+loop-block-preserved c =
+    let old : List ℕ = c.args.words.now in
+    let done : ℕ = 96 * c.loop-block.block in
+    let here : c.loop-block.block < length old / 96 = c.loop-block-test.true in
+    let next : done + (done + 96 - done) ≡ 96 * (c.loop-block.block + 1) = omega arith in
+    let room : done + (done + 96 - done) ≤ length old = omega arith in (
+      part_aged done (done + 96 - done) old c.loop-block.words c.age_block-odd.new.words room c.loop-block.invariant.0 c.age_block-odd.ensures.halved
+          ∙ ap (λ n. aged_to n old) next,
+      part_counted done (done + 96 - done) c.loop-block.odd c.age_block-odd.result old c.loop-block.words room c.loop-block.invariant.0
+          c.loop-block.invariant.1 c.age_block-odd.ensures.odd ∙ ap (λ n. odd_count (counters_of (take n old))) next,
+    )
 
 pub overflow_add-odd : goal.overflow_add-odd
 overflow_add-odd c =
-    let bound : odd_count (counters_of (take c.loop-word.word-index c.args.words.now)) ≤ 16 * length c.args.words.now =
-    odd_count_within c.args.words.now c.loop-word.word-index in
-    search (rules, arith, bound)
+    search (rules, arith, (loop-block-preserved c).1, odd_count_within c.args.words.now (96 * (c.loop-block.block + 1)), c.requires)
 
-pub loop-word-preserved : goal.loop-word-preserved
-loop-word-preserved c =
-    let i : ℕ = c.loop-word.word-index in
-    let here : i < length c.args.words.now = c.loop-word-test.true in
-    let within : i < length c.loop-word.words = omega arith in
-    let words : c.loop-word.words ≡ map halved_word (take i c.args.words.now) ++ drop i c.args.words.now = c.loop-word.invariant.1 in
-    let word : get_or c.loop-word.words i 0 ≡ get_or c.args.words.now i 0 =
-    ap (λ ws. get_or ws i 0) words ∙ word_ahead c.args.words.now i here in
-    let more : odd_count (counters_of (take (i + 1) c.args.words.now)) ≡ odd_count (counters_of (take i c.args.words.now)) + count_ones
-    (bit_and (get_or c.args.words.now i 0) 0x1111_1111_1111_1111) =
-    odd_count_more c.args.words.now i here in
-    let ones : c.from-odd.result ≡ count_ones (bit_and (get_or c.args.words.now i 0) 0x1111_1111_1111_1111) =
-    c.from-odd.ensures ∙ ap (λ w. count_ones (bit_and w 0x1111_1111_1111_1111)) word in
-    let odd : c.loop-word.odd ≡ odd_count (counters_of (take i c.args.words.now)) = c.loop-word.invariant.0 in (
-      omega arith,
-      map_over_more halved_word c.args.words.now c.loop-word.words i (get_or c.loop-word.words i 0) here words
-          (get_or_default c.loop-word.words i 0 (get_or c.loop-word.words i 0) within),
-    )
+-- every whole block is aged
+all_blocks : (len blocks : ℕ) → blocks ≤ len / 96 → len / 96 ≤ blocks → 96 * blocks ≡ 96 * (len / 96)
+all_blocks len blocks below above = omega arith
 
-pub returns : goal.returns
-returns c =
-    let i : ℕ = c.loop-word.word-index in
-    let over : length c.args.words.now ≤ i = c.loop-word-test.false in
-    let front : take i c.args.words.now ≡ c.args.words.now = take_all i c.args.words.now over in
-    let rest : drop i c.args.words.now ≡ [] = drop_all i c.args.words.now over in
-    let words : c.loop-word.words ≡ map halved_word c.args.words.now =
-    c.loop-word.invariant.1 ∙ ap (λ xs. map halved_word (take i c.args.words.now) ++ xs) rest ∙ append-nil _ ∙ ap (map halved_word) front in
-    record {
-      halved = ap counters_of words ∙ counters_of-halved c.args.words.now;
-      odd = c.loop-word.invariant.0 ∙ ap (λ xs. odd_count (counters_of xs)) front;
-    }
+pub returns-clause-halved : goal.returns-clause-halved
+returns-clause-halved c =
+    let old : List ℕ = c.args.words.now in
+    let whole : ℕ = 96 * (length old / 96) in
+    let at = all_blocks (length old) c.loop-block.block c.loop-block.auto.block-end c.loop-block-test.false in
+    ap counters_of
+    (rest_aged whole (length c.loop-block.words - whole) old c.loop-block.words c.age_block.new.words (omega (arith, c.loop-block.auto.words))
+    (c.loop-block.invariant.0 ∙ ap (λ n. aged_to n old) at) c.age_block.ensures.halved)
+    ∙ counters_of-halved old
+
+pub returns-clause-odd : goal.returns-clause-odd
+returns-clause-odd c =
+    let old : List ℕ = c.args.words.now in
+    let whole : ℕ = 96 * (length old / 96) in
+    let at = all_blocks (length old) c.loop-block.block c.loop-block.auto.block-end c.loop-block-test.false in
+    rest_counted whole (length c.loop-block.words - whole) c.loop-block.odd c.age_block.result old c.loop-block.words
+    (omega (arith, c.loop-block.auto.words)) (c.loop-block.invariant.0 ∙ ap (λ n. aged_to n old) at)
+    (c.loop-block.invariant.1 ∙ ap (λ n. odd_count (counters_of (take n old))) at) c.age_block.ensures.odd
+
+pub overflow_add-result : goal.overflow_add-result
+overflow_add-result c = search (rules, arith, returns-clause-odd c, odd_count_le c.args.words.now)

@@ -1,10 +1,9 @@
-use Rattle.std.proofs.Common.{◌≡◌, ◌++◌, map, take, drop}
+use Rattle.std.proofs.Common.{◌≡◌, ◌*◌, take}
 use Rattle.moka_sketch.specs.Cells.{counters_of}
 use Rattle.moka_sketch.specs.Sketch.{odd_count}
-use Rattle.moka_sketch.proofs.CellLemmas.{halved_word}
+use Rattle.moka_sketch.proofs.LaneLemmas.{aged_to}
 use Rattle.moka_sketch.proofs.frequency_sketch.aging.age.Given as goal
 
-abbrev pub invariant-loop-word : goal.invariant-loop-word
-invariant-loop-word l =
-    (l.odd ≡ odd_count (counters_of (take l.word-index l.initial.words)))
-    × (l.words ≡ map halved_word (take l.word-index l.initial.words) ++ drop l.word-index l.initial.words)
+abbrev pub invariant-loop-block : goal.invariant-loop-block
+invariant-loop-block l =
+    (l.words ≡ aged_to (96 * l.block) l.initial.words) × (l.odd ≡ odd_count (counters_of (take (96 * l.block) l.initial.words)))
