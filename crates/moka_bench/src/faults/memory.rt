@@ -28,9 +28,13 @@ const CASES: [(usize, &str, &str, &str); 3] = [
     (6000, "sketch 1024\nlen\n", "out of memory", ""),
     (
         8000,
-        "unsync\n0 insert 0 v\n0 insert 1 v\n0 insert 2 v\n0 insert 3 v\n0 insert 4 v\n0 insert 5 v\n0 insert 6 v\n0 insert 7 v\n0 insert 8 v\n0 insert 9 v\n0 insert 10 v\n0 insert 11 v\n0 insert 12 v\n0 insert 13 v\n0 insert 14 v\n0 insert 15 v\n0 insert 16 v\n0 insert 17 v\n0 count\n0 get 0\n0 has 17\n",
+        "unsync\n0 insert 0 v\n0 insert 1 v\n0 insert 2 v\n0 insert 3 v\n0 insert 4 v\n0 insert 5 v\n\
+         0 insert 6 v\n0 insert 7 v\n0 insert 8 v\n0 insert 9 v\n0 insert 10 v\n0 insert 11 v\n0 insert 12 v\n\
+         0 insert 13 v\n0 insert 14 v\n0 insert 15 v\n0 insert 16 v\n0 insert 17 v\n0 count\n0 get 0\n\
+         0 has 17\n",
         "done",
-        "ready\nok\nok\nok\nok\nok\nok\nok\nok\nok\nok\nok\nok\nok\nok\nok\nok\nrefused memory\nrefused memory\n16\nsome v\nfalse\n",
+        "ready\nok\nok\nok\nok\nok\nok\nok\nok\nok\nok\nok\nok\nok\nok\nok\nok\n\
+         refused memory\nrefused memory\n16\nsome v\nfalse\n",
     ),
 ];
 
