@@ -1,2 +1,4 @@
 pub mod RuleLemmas
 pub mod TurnLemmas
+pub mod FindLemmas
+pub mod PermittedLemmas

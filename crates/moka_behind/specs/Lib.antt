@@ -1,4 +1,6 @@
 pub mod Rule
+pub mod Permitted
+pub mod RuledInsert
 pub mod LockedTurn
 -- inside
 pub mod WriteQueue

@@ -1,5 +1,6 @@
 //! What lies behind the lock of a shard: its entries, whose pairs meet the rule.
-ghost use Rattle.std.specs.Prelude.{◌≡◌, [], false, is_some, map, IfOk, IfSome};
+ghost use Rattle.std.specs.Prelude.{◌≡◌, ◌≢◌, [], Bool, Some, false, is_some, map, option_map, IfOk, IfSome};
+ghost use Rattle.std.specs.Prelude.{IsErr, IsNone, IsSome, IsTrue};
 ghost use Rattle.std.specs.List.{IsDistinct};
 ghost use Rattle.moka_base.specs.Keys.{keys_by};
 ghost use Rattle.moka_engine.specs.declared.entry.EntryChange.TheVariants.{Touched};
@@ -9,11 +10,13 @@ ghost use Rattle.moka_engine.specs.EntryChange.{change_of};
 ghost use Rattle.moka_engine.specs.Parts.{NeedsShard, need_of};
 ghost use Rattle.moka_engine.specs.Turn.Plan.{after_change};
 ghost use Rattle.moka_engine.specs.Turn.Turn.{turn_at};
-ghost use Rattle.moka_behind.specs.LockedTurn.{IsTurn};
+ghost use Rattle.moka_behind.specs.LockedTurn.{IsTurn, TurnsOnShard};
+ghost use Rattle.moka_behind.specs.Permitted.{IsPermitted};
 ghost use Rattle.moka_behind.specs.Rule.{PairsMeet};
+ghost use Rattle.moka_behind.specs.RuledInsert.{IsInsertBy, told_ticket};
 ghost use Rattle.moka_maintenance.specs.Taken.{TakesWrite, having_taken_write};
 ghost use Rattle.moka_shard.specs.Shard.{entries_in, state_of, unexpired};
-ghost use Rattle.moka_shard.specs.ShardStep.{IsInvalidation};
+ghost use Rattle.moka_shard.specs.ShardStep.{IsInvalidation, pairs_at};
 
 use crate::rule::PairRule;
 use moka_base::error::{InsertError, OutOfMemory};
@@ -87,8 +90,22 @@ impl<
         valid_after: Instant,
         now: Instant,
     ) -> Result<(Option<(Shared<V, A>, Ticket)>, usize), OutOfMemory>
+        ensures permitted { IsPermitted (keys_by K.Hash S.BuildHasher S.Hasher.Hasher) P.holds (state_of self.now) }
         ensures ruled { IfOk result (λ found. IfSome found.0 (λ f. P.holds key.now f.0)) }
+        ensures value { hash ≡ (keys_by K.Hash S.BuildHasher S.Hasher.Hasher).hash_of self.now.hash_state key.now
+            → IfOk result (λ found. found.0 ≡ option_map (λ e. (e.value, e.ticket))
+            (unexpired settings.now valid_after now (entry_at K.eq key.now (entries_in self.now.slots)))) }
+
+        // What is found is the key's, whatever the hash is.
+        ensures found { IfOk result (λ found. IsSome found.0 → found.0 ≡ option_map (λ e. (e.value, e.ticket))
+            (unexpired settings.now valid_after now (entry_at K.eq key.now (entries_in self.now.slots)))) }
+
+        // Only a copy can be refused.
+        ensures refused { IsErr result →
+            IsSome (unexpired settings.now valid_after now (entry_at K.eq key.now (entries_in self.now.slots))) }
     {
+        // What holds of every shard.
+        let _ = self.shard.len();
         let slot = self.shard.find(key, hash);
         let found = self.shard.value(slot, settings, valid_after, now)?;
         Ok((found, slot.unwrap_or(0)))
@@ -103,15 +120,22 @@ impl<
         valid_after: Instant,
         now: Instant,
     ) -> bool
-        ensures { hash ≡ (keys_by K.Hash S.BuildHasher S.Hasher.Hasher).hash_of self.now.hash_state key.now
+        ensures permitted { IsPermitted (keys_by K.Hash S.BuildHasher S.Hasher.Hasher) P.holds (state_of self.now) }
+        ensures value { hash ≡ (keys_by K.Hash S.BuildHasher S.Hasher.Hasher).hash_of self.now.hash_state key.now
             → result ≡ is_some (unexpired settings.now valid_after now (entry_at K.eq key.now (entries_in self.now.slots))) }
+
+        // What is found is the key's, whatever the hash is.
+        ensures found { IsTrue result
+            → IsTrue (is_some (unexpired settings.now valid_after now (entry_at K.eq key.now (entries_in self.now.slots)))) }
     {
+        // What holds of every shard.
+        let _ = self.shard.len();
         let slot = self.shard.find(key, hash);
         self.shard.counts(slot, settings, valid_after, now)
     }
 
-    /// Puts the value at the key, whose hash it is. The answer is the entry's ticket. An entry is added once the key is hashed again, since nothing
-    /// that a lock keeps says whose hash this is.
+    /// Puts the value at the key. The answer is the entry's ticket; or nothing, where the hash isn't the key's or belongs to another shard, and then nothing
+    /// is done. An entry is added once the key is hashed again, since nothing that a lock keeps says whose hash this is.
     pub fn insert<W: WeighShared<K, V>>(
         &mut self,
         hash: u64,
@@ -119,26 +143,37 @@ impl<
         value: Shared<V, A>,
         weigher: &W,
         now: Instant,
-    ) -> Result<Ticket, InsertError>
+    ) -> Result<Option<Ticket>, InsertError>
         requires ruled { P.holds key value }
         requires ready { W.ready weigher.now }
+        ensures permitted { IsPermitted (keys_by K.Hash S.BuildHasher S.Hasher.Hasher) P.holds (state_of self.old) }
+        ensures step { IsInsertBy (keys_by K.Hash S.BuildHasher S.Hasher.Hasher) (W.weighs weigher.now) (state_of self.old) hash key value now result
+            (state_of self.new) }
     {
         // What holds of every shard.
         let _ = self.shard.len();
         if let Some(slot) = self.shard.find(key.get(), hash) {
-            return self.shard.update(slot, key, value, weigher, now);
+            return told_ticket(self.shard.update(slot, key, value, weigher, now));
         }
         if hash != self.shard.hash_of(key.get()) || !self.shard.is_of(hash) {
-            return Err(InsertError::TicketsUsedUp);
+            return Ok(None);
         }
-        self.shard.add(hash, key, value, weigher, now)
+        told_ticket(self.shard.add(hash, key, value, weigher, now))
     }
 
     /// Takes out the entry of a key, found by its hash. The answer is its ticket.
     pub fn invalidate(&mut self, key: &K, hash: u64) -> Option<Ticket>
-        ensures { hash ≡ (keys_by K.Hash S.BuildHasher S.Hasher.Hasher).hash_of self.old.hash_state key.now
+        ensures permitted { IsPermitted (keys_by K.Hash S.BuildHasher S.Hasher.Hasher) P.holds (state_of self.old) }
+        ensures step { hash ≡ (keys_by K.Hash S.BuildHasher S.Hasher.Hasher).hash_of self.old.hash_state key.now
             → IsInvalidation (state_of self.old) (entry_at K.eq key.now (entries_in self.old.slots)) result (state_of self.new) }
+
+        // What is found is the key's, whatever the hash is.
+        ensures found { IfSome result (λ t.
+            IsInvalidation (state_of self.old) (entry_at K.eq key.now (entries_in self.old.slots)) (Some t) (state_of self.new)) }
+        ensures none { IsNone result → self.new ≡ self.old }
     {
+        // What holds of every shard.
+        let _ = self.shard.len();
         let slot = self.shard.find(key, hash)?;
         Some(self.shard.remove(slot))
     }
@@ -151,8 +186,13 @@ impl<
         valid_after: Instant,
         now: Instant,
     ) -> Result<Vec<(Shared<K, A>, Shared<V, A>), A>, OutOfMemory>
+        ensures permitted { IsPermitted (keys_by K.Hash S.BuildHasher S.Hasher.Hasher) P.holds (state_of self.now) }
         ensures ruled { IfOk result (λ pairs. PairsMeet P.holds pairs.items) }
         ensures once { IfOk result (λ pairs. IsDistinct K.eq (map (λ p. p.0) pairs.items)) }
+        ensures value { IfOk result (λ pairs. pairs.items ≡ pairs_at settings.now valid_after now (state_of self.now)) }
+
+        // Only where there are any can it be refused.
+        ensures refused { IsErr result → pairs_at settings.now valid_after now (state_of self.now) ≢ [] }
     {
         // What holds of every shard.
         let _ = self.shard.len();
@@ -168,7 +208,9 @@ impl<
         valid_after: Instant,
     )
         requires { need_of (turn_at {K = K} {V = V} settings.now valid_after false maintenance.old.place maintenance.old) ≡ NeedsShard ticket }
-        ensures { IsTurn K V settings.now maintenance.old maintenance.new }
+        ensures turn { IsTurn K V settings.now maintenance.old maintenance.new }
+        ensures shard { (refused : Bool) × TurnsOnShard settings.now valid_after refused ticket maintenance.old maintenance.new
+            (state_of self.old) (state_of self.new) }
     {
         let slot = self.shard.find_ticket(ticket);
         let found = self.shard.entry(slot);
@@ -195,11 +237,23 @@ impl<
         valid_after: Instant,
     )
         requires { TakesWrite maintenance.old }
-        ensures { IsTurn K V settings.now (having_taken_write (Upsert ticket) maintenance.old) maintenance.new }
+        ensures turn { IsTurn K V settings.now (having_taken_write (Upsert ticket) maintenance.old) maintenance.new }
+        ensures shard { (refused : Bool) × TurnsOnShard settings.now valid_after refused ticket
+            (having_taken_write (Upsert ticket) maintenance.old) maintenance.new (state_of self.old) (state_of self.new) }
     {
         let slot = self.shard.find_ticket(ticket);
         let found = self.shard.entry(slot);
         let change = maintenance.turn_with_upsert(settings, valid_after, ticket, found);
         self.shard.change(slot, change);
+    }
+}
+
+/// The answer of an insert that was done.
+fn told_ticket(answer: Result<Ticket, InsertError>) -> Result<Option<Ticket>, InsertError>
+    ensures { result ≡ told_ticket answer }
+{
+    match answer {
+        Ok(ticket) => Ok(Some(ticket)),
+        Err(error) => Err(error),
     }
 }

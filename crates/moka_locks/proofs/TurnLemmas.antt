@@ -1,6 +1,7 @@
 -- A turn behind the lock of the maintenance.
 use Rattle.std.proofs.Common.{◌≡◌, ◌∙◌, ◌<◌, ◌≤◌, ◌-◌, ℕ, Bool, false, List, [], ◌∷◌, length}
 use Rattle.std.proofs.Common.{Option, Some, None, drop, slice_get, if◌then◌else◌, ap, refl, sym, subst, arith}
+use Rattle.moka_base.specs.Keys.{Keys}
 use Rattle.moka_base.specs.Settings.{Settings}
 use Rattle.moka_engine.specs.declared.operation.Read.{Read}
 use Rattle.moka_engine.specs.declared.operation.Read.TheVariants.{Hit, Miss}
@@ -228,10 +229,10 @@ module _ (K V : Type 0) {S : Type 0} (settings : Settings S) (m : Maintenance) (
 
 -- ---- turns of a locked cache
 
-module _ {K V S W : Type 0} (holds : K → V → Type 0) where
+module _ {K V S W : Type 0} (keys : Keys K S) (holds : K → V → Type 0) (weighs : W → K → V → ℕ → Type 0) where
   allowed : (settings : Settings S) (w next : Working) → AreTurns K V settings w next → (old : Locked S W)
       → old.cache.settings ≡ settings → old.working ≡ Some w → (place : PlaceName) → place ≡ name_of next.maintenance.place
-      → (new : Locked S W) → new ≡ running (kept_running next) old → TakesTurns (locked_allows holds) place old new
+      → (new : Locked S W) → new ≡ running (kept_running next) old → TakesTurns (locked_allows keys holds weighs) place old new
   allowed settings w next (OneTurn _ _ turn) old same had place at new is =
       steps.OneTurn place old new (w, next, had, subst (λ s. IsWorkingTurn K V s w next) (sym same) turn, at, is)
   allowed settings w next (MoreTurns _ mid _ more first others) old same had place at new is =
@@ -244,5 +245,5 @@ module _ {K V S W : Type 0} (holds : K → V → Type 0) where
   -- what the maintenance does is allowed
   pub turns_allowed : (old : Locked S W) (w next : Working) → old.working ≡ Some w → (place : PlaceName)
       → place ≡ name_of next.maintenance.place → (new : Locked S W) → new ≡ running (kept_running next) old
-      → AreTurns K V old.cache.settings w next → TakesTurns (locked_allows holds) place old new
+      → AreTurns K V old.cache.settings w next → TakesTurns (locked_allows keys holds weighs) place old new
   turns_allowed old w next had place at new is turns = allowed old.cache.settings w next turns old refl had place at new is

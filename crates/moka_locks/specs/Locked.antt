@@ -1,5 +1,9 @@
 -- A cache behind locks as one caller has it, and what the types of the locks keep of each step of that caller.
-use Rattle.std.specs.Prelude.{◌≡◌, ◌⊎◌, ℕ, Bool, Option, None, Some, is_some, if◌then◌else◌}
+use Rattle.std.specs.Prelude.{◌≡◌, ◌⊎◌, ℕ, Bool, Option, None, Some, Ok, Err, is_some, if◌then◌else◌}
+use Rattle.moka_base.specs.Keys.{Keys}
+use Rattle.moka_base.specs.declared.error.InsertError.TheVariants as refused
+use Rattle.moka_base.specs.declared.error.OutOfMemory.{OutOfMemory as MemoryError}
+use Rattle.moka_behind.specs.Permitted.{ContainsIn, FindsIn, InsertsIn, InvalidatesIn}
 use Rattle.moka_engine.specs.declared.event.Event.{Event}
 use Rattle.moka_engine.specs.declared.event.Event.TheVariants.{Insert, Get, Contains, Invalidate, InvalidateAll, Push, Forget, Begin, Turn}
 use Rattle.moka_engine.specs.declared.event.Reply.TheVariants.{Done, Found, Bool as Truth, Discarded, At}
@@ -58,20 +62,32 @@ locked_decides old log now runs new = new ≡ old
 abbrev pub kept_running : Working → Option Working
 kept_running w = if is_idle w.maintenance.place then None else Some w
 
-module _ {K V S W : Type 0} (holds : K → V → Type 0) where
+module _ {K V S W : Type 0} (keys : Keys K S) (holds : K → V → Type 0) (weighs : W → K → V → ℕ → Type 0) where
   -- what a step may reply and leave, whatever other callers do meanwhile: what the caller has under way is exact,
-  -- each value found meets the pair rule, and the maintenance takes the turns of the definitions
+  -- a step on a shard is that of the definitions for this key, value and moment, on some shard that its type permits,
+  -- and the maintenance takes the turns of the definitions
   abbrev pub locked_allows : Locked S W → Event K V → Reply K V → Locked S W → Type 0
-  locked_allows old (Insert caller key value now) Done new = (t : Ticket) × (new ≡ leaving (Some (Writing (Upsert t))) old)
-  locked_allows old (Insert caller key value now) OutOfMemory new = new ≡ old
-  locked_allows old (Insert caller key value now) TicketsUsedUp new = new ≡ old
-  locked_allows old (Get caller key now) (Found None) new = (hash : ℕ) × (new ≡ leaving (Some (Reading (Miss hash))) old)
+  locked_allows old (Insert caller key value now) Done new =
+      (t : Ticket) × InsertsIn keys holds (weighs old.cache.weigher) old.cache.settings.hash_state key value now (Ok t)
+      × (new ≡ leaving (Some (Writing (Upsert t))) old)
+  locked_allows old (Insert caller key value now) OutOfMemory new =
+      InsertsIn keys holds (weighs old.cache.weigher) old.cache.settings.hash_state key value now (Err refused.OutOfMemory) × (new ≡ old)
+  locked_allows old (Insert caller key value now) TicketsUsedUp new =
+      InsertsIn keys holds (weighs old.cache.weigher) old.cache.settings.hash_state key value now (Err refused.TicketsUsedUp)
+      × (new ≡ old)
+  locked_allows old (Get caller key now) (Found None) new =
+      FindsIn keys holds old.cache.settings key now (Ok None)
+      × (new ≡ leaving (Some (Reading (Miss (keys.hash_of old.cache.settings.hash_state key)))) old)
   locked_allows old (Get caller key now) (Found (Some value)) new =
-      holds key value × ((t : Ticket) × (new ≡ leaving (Some (Reading (Hit t now))) old))
-  locked_allows old (Get caller key now) OutOfMemory new = new ≡ old
-  locked_allows old (Contains key now) (Truth is_there) new = new ≡ old
+      holds key value
+      × ((t : Ticket) × FindsIn keys holds old.cache.settings key now (Ok (Some (value, t)))
+      × (new ≡ leaving (Some (Reading (Hit t now))) old))
+  locked_allows old (Get caller key now) OutOfMemory new =
+      ((error : MemoryError) × FindsIn keys holds old.cache.settings key now (Err error)) × (new ≡ old)
+  locked_allows old (Contains key now) (Truth is_there) new = ContainsIn keys holds old.cache.settings key now is_there × (new ≡ old)
   locked_allows old (Invalidate caller key now) Done new =
-      (new ≡ old) ⊎ ((t : Ticket) × (new ≡ leaving (Some (Writing (Remove t))) old))
+      (InvalidatesIn keys holds key None × (new ≡ old))
+      ⊎ ((t : Ticket) × InvalidatesIn keys holds key (Some t) × (new ≡ leaving (Some (Writing (Remove t))) old))
   locked_allows old (InvalidateAll now) Done new = new ≡ old
   locked_allows old (Push caller) Done new = new ≡ leaving None old
   locked_allows old (Push caller) Discarded new = ((read : Read) × (old.pending ≡ Some (Reading read))) × (new ≡ leaving None old)

@@ -7,6 +7,7 @@ ghost use Rattle.moka_base.specs.Keys.{keys_by};
 ghost use Rattle.moka_locks.specs.Cache.{new_cache};
 ghost use Rattle.moka_locks.specs.Charged.{counts_of};
 ghost use Rattle.moka_published.specs.Log.{IsChain, IsSuffix, opening};
+ghost use Rattle.moka_behind.specs.Permitted.{ContainsIn, CopiesIn, FindsIn, InsertsIn, InvalidatesIn, first_of_ok};
 ghost use Rattle.moka_behind.specs.Rule.{PairsMeet};
 ghost use Rattle.moka_locks.specs.Snapshot.{IsSnapshot, own_pairs};
 ghost use Rattle.moka_engine.specs.CoreState.{Maintenance as MaintenanceState, new_maintenance};
@@ -184,20 +185,25 @@ impl<
         now: Instant,
     ) -> Result<(Option<(Shared<V, A>, Ticket)>, usize), OutOfMemory>
         ensures ruled { IfOk result (λ found. IfSome found.0 (λ f. P.holds key.now f.0)) }
+        ensures finds { FindsIn (keys_by K.Hash S.BuildHasher S.Hasher.Hasher) P.holds self.now.settings key.now now (first_of_ok result) }
     {
         let shard = lock(rt, self.shard(hash));
         shard.get(key, hash, &self.settings, self.valid_after(), now)
     }
 
     /// Whether a key has an entry that counts at a moment.
-    pub(crate) fn contains_key<R: Wait>(&self, rt: &R, key: &K, now: Instant) -> bool {
+    pub(crate) fn contains_key<R: Wait>(&self, rt: &R, key: &K, now: Instant) -> bool
+        ensures { ContainsIn (keys_by K.Hash S.BuildHasher S.Hasher.Hasher) P.holds self.now.settings key.now now result }
+    {
         let hash = self.hash_of(key);
         let shard = lock(rt, self.shard(hash));
         shard.contains_key(key, hash, &self.settings, self.valid_after(), now)
     }
 
     /// Takes out the entry of a key. The answer is its ticket.
-    pub(crate) fn invalidate<R: Wait>(&self, rt: &R, key: &K) -> Option<Ticket> {
+    pub(crate) fn invalidate<R: Wait>(&self, rt: &R, key: &K) -> Option<Ticket>
+        ensures { InvalidatesIn (keys_by K.Hash S.BuildHasher S.Hasher.Hasher) P.holds key.now result }
+    {
         let hash = self.hash_of(key);
         let mut shard = lock(rt, self.shard(hash));
         shard.invalidate(key, hash)
@@ -213,6 +219,8 @@ impl<
         requires { number < SHARDS }
         ensures ruled { IfOk result (λ pairs. PairsMeet P.holds pairs.items) }
         ensures once { IfOk result (λ pairs. IsDistinct K.eq (map (λ p. p.0) pairs.items)) }
+        ensures copies { IfOk result (λ pairs.
+            CopiesIn (keys_by K.Hash S.BuildHasher S.Hasher.Hasher) P.holds self.now.settings now pairs.items) }
     {
         let alloc = self.alloc.clone()?;
         let shard = lock(rt, &self.shards[number]);
@@ -250,6 +258,10 @@ impl<
             number pairs.old.items }
         ensures snapshot { OnOk result (IsSnapshot P.holds K.eq ((keys_by K.Hash S.BuildHasher S.Hasher.Hasher).hash_of
             self.now.settings.hash_state) (number + 1) pairs.new.items) }
+        ensures added { OnOk result ((copied : List _)
+            × CopiesIn (keys_by K.Hash S.BuildHasher S.Hasher.Hasher) P.holds self.now.settings now copied
+            × (pairs.new.items ≡ pairs.old.items ++ own_pairs
+            ((keys_by K.Hash S.BuildHasher S.Hasher.Hasher).hash_of self.now.settings.hash_state) number copied)) }
     {
         let copied = self.pairs(rt, number, now)?;
         self.add_own(number, copied, pairs)
@@ -358,10 +370,17 @@ impl<
     ) -> Result<Ticket, InsertError>
         requires ruled { P.holds key value }
         requires ready { W.ready self.now.weigher }
+        ensures { InsertsIn (keys_by K.Hash S.BuildHasher S.Hasher.Hasher) P.holds (W.weighs self.now.weigher) self.now.settings.hash_state
+            key value now result }
     {
         let hash = self.hash_of(key.get());
         let mut shard = lock(rt, self.shard(hash));
-        shard.insert(hash, key, value, &self.weigher, now)
+        match shard.insert(hash, key, value, &self.weigher, now) {
+            Ok(Some(ticket)) => Ok(ticket),
+            // Not proved: read in the code. It never comes here: all shards share the cache's hash state, and a key's shard is chosen by its hash.
+            Ok(None) => Err(InsertError::TicketsUsedUp),
+            Err(error) => Err(error),
+        }
     }
 }
 

@@ -128,9 +128,10 @@ impl<
     W: WeighShared<K, V>,
     A: Allocator + Clone + Drop,
 > Steps<K, V, A> for Locked<'a, K, V, S, P, W, A> {
+    ghost use Rattle.moka_base.specs.Keys.{keys_by};
     ghost use Rattle.moka_locks.specs.Locked.{locked_allows, locked_caller, locked_decides};
 
-    ghost allowed = { locked_allows P.holds };
+    ghost allowed = { locked_allows (keys_by (record { eq = K.eq; hash_input = K.hash_input }) S.BuildHasher S.Hasher.Hasher) P.holds W.weighs };
 
     ghost decides = { locked_decides };
 

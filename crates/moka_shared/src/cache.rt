@@ -1,6 +1,7 @@
 //! The cache that threads share.
 ghost use Rattle.std.specs.Prelude.{◌≡◌, ◌∷◌, [], ℕ, List, None, Some, map, IfErr, IfOk, IfSome};
 ghost use Rattle.std.specs.List.{IsDistinct};
+ghost use Rattle.moka_base.specs.Keys.{keys_by};
 ghost use Rattle.moka_behind.specs.Rule.{PairsMeet};
 ghost use Rattle.moka_engine.specs.declared.constants.TheConstants.{CALLER};
 ghost use Rattle.moka_engine.specs.WholeCall.{CallsContains, CallsInsert, CallsInvalidate, CallsInvalidateAll, CallsSync};
@@ -251,8 +252,8 @@ impl<
 > Cache<K, V, S, P, W, A> {
     /// Whether a key has an unexpired value. That counts as no read.
     pub fn contains_key<R: Wait>(&self, rt: &R, key: &K, now: Instant) -> bool
-        ensures call { CallsContains (locked_allows P.holds) locked_decides (pends_by locked_caller) CALLER key.now now (reply.Bool result)
-            (resting_at self.now) (resting_at self.now) }
+        ensures call { CallsContains (locked_allows (keys_by K.Hash S.BuildHasher S.Hasher.Hasher) P.holds W.weighs) locked_decides
+            (pends_by locked_caller) CALLER key.now now (reply.Bool result) (resting_at self.now) (resting_at self.now) }
     {
         steps::contains_key(rt, &Locked::new(self.inner.get()), key, now)
     }
@@ -262,8 +263,8 @@ impl<
     pub fn insert<R: Wait>(&self, rt: &R, key: K, value: V, now: Instant) -> Result<(), InsertError>
         requires ruled { P.holds key value }
         requires ready { W.ready self.now.weigher }
-        ensures call { (new : LockedValue S W) × CallsInsert (locked_allows P.holds) locked_decides (pends_by locked_caller) CALLER
-            key value now (insert_reply result) (resting_at self.now) new }
+        ensures call { (new : LockedValue S W) × CallsInsert (locked_allows (keys_by K.Hash S.BuildHasher S.Hasher.Hasher) P.holds W.weighs) locked_decides
+            (pends_by locked_caller) CALLER key value now (insert_reply result) (resting_at self.now) new }
     {
         let Some((key, value)) = shared(self.inner.get().alloc(), key, value) else {
             return Err(InsertError::OutOfMemory);
@@ -273,16 +274,16 @@ impl<
 
     /// Takes the entry of a key out.
     pub fn invalidate<R: Wait>(&self, rt: &R, key: &K, now: Instant)
-        ensures call { (new : LockedValue S W) × CallsInvalidate (locked_allows P.holds) locked_decides (pends_by locked_caller) CALLER
-            key.now now reply.Done (resting_at self.now) new }
+        ensures call { (new : LockedValue S W) × CallsInvalidate (locked_allows (keys_by K.Hash S.BuildHasher S.Hasher.Hasher) P.holds W.weighs) locked_decides
+            (pends_by locked_caller) CALLER key.now now reply.Done (resting_at self.now) new }
     {
         steps::invalidate(rt, &mut Locked::new(self.inner.get()), key, now);
     }
 
     /// Hides all entries that were inserted or read last before this moment. Those of the moment itself stay. It takes no lock.
     pub fn invalidate_all(&self, now: Instant)
-        ensures call { (new : LockedValue S W) × CallsInvalidateAll (locked_allows P.holds) locked_decides (pends_by locked_caller) CALLER
-            now reply.Done (resting_at self.now) new }
+        ensures call { (new : LockedValue S W) × CallsInvalidateAll (locked_allows (keys_by K.Hash S.BuildHasher S.Hasher.Hasher) P.holds W.weighs) locked_decides
+            (pends_by locked_caller) CALLER now reply.Done (resting_at self.now) new }
     {
         steps::invalidate_all(&mut Locked::new(self.inner.get()), now);
     }
@@ -298,8 +299,8 @@ impl<
 > Cache<K, V, S, P, W, A> {
     /// A clone of the unexpired value of a key, made when no lock is held.
     pub fn get<R: Wait>(&self, rt: &R, key: &K, now: Instant) -> Result<Option<V>, OutOfMemory>
-        ensures call { (new : LockedValue S W) × AnswersGet (locked_allows P.holds) locked_decides locked_caller V.is_clone V.is_infallible
-            key.now now result (resting_at self.now) new }
+        ensures call { (new : LockedValue S W) × AnswersGet (locked_allows (keys_by K.Hash S.BuildHasher S.Hasher.Hasher) P.holds W.weighs) locked_decides
+            locked_caller V.is_clone V.is_infallible key.now now result (resting_at self.now) new }
 
         // It is a clone of a value that meets the rule with the key.
         ensures ruled { IfOk result (λ found. IfSome found (λ copy. (value : V) × P.holds key.now value × V.is_clone value copy)) }
@@ -314,8 +315,8 @@ impl<
         key: &K,
         now: Instant,
     ) -> Result<Option<V>, OutOfMemory>
-        ensures call { (new : LockedValue S W) × AnswersGet (locked_allows P.holds) locked_decides locked_caller V.is_clone V.is_infallible
-            key.now now result (resting_at self.now) new }
+        ensures call { (new : LockedValue S W) × AnswersGet (locked_allows (keys_by K.Hash S.BuildHasher S.Hasher.Hasher) P.holds W.weighs) locked_decides
+            locked_caller V.is_clone V.is_infallible key.now now result (resting_at self.now) new }
         ensures ruled { IfOk result (λ found. IfSome found (λ copy. (value : V) × P.holds key.now value × V.is_clone value copy)) }
     {
         self.get(rt, key, now)
@@ -353,8 +354,9 @@ impl<
     W: WeighShared<K, V>,
     A: Allocator + Clone + Drop,
 > ConcurrentCacheExt for Cache<K, V, S, P, W, A> {
-    ghost synced = { λ cache now. (new : LockedValue S W) × CallsSync (locked_allows P.holds) locked_decides (pends_by locked_caller) CALLER
-        now reply.Done (resting_at cache) new };
+    ghost synced = { λ cache now. (new : LockedValue S W) × CallsSync
+        (locked_allows (keys_by (record { eq = K.eq; hash_input = K.hash_input }) S.BuildHasher S.Hasher.Hasher) P.holds W.weighs)
+        locked_decides (pends_by locked_caller) CALLER now reply.Done (resting_at cache) new };
 
     fn sync<R: Wait>(&self, rt: &R, now: Instant) {
         steps::sync(rt, &mut Locked::new(self.inner.get()), now);

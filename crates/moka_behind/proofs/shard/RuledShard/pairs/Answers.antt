@@ -16,3 +16,9 @@ returns-clause-once g c =
     (λ pairs. pairs.items) _ c.pairs.result c.pairs.ensures.value
     (pairs_once g.K.PartialEq.eq c.args.settings.now c.args.valid_after c.args.now (state_of c.self.inside.shard)
     c.len.ensures.valid.keys_apart)
+
+pub returns-clause-value : goal.returns-clause-value
+returns-clause-value g c = rw (← c.self.view_is) c.pairs.ensures.value
+
+pub returns-clause-refused : goal.returns-clause-refused
+returns-clause-refused g c = rw (← c.self.view_is) c.pairs.ensures.refused

@@ -1,11 +1,11 @@
-use Rattle.std.proofs.Common.{ap, subst, sym}
+use Rattle.std.proofs.Common.{◌∙◌, ap, subst, sym}
 use Rattle.moka_engine.specs.Parts.{ShardState}
 use Rattle.moka_engine.specs.declared.operation.Write.TheVariants.{Upsert}
 use Rattle.moka_maintenance.specs.Taken.{having_taken_write}
-use Rattle.moka_shard.specs.Shard.{entries_in}
+use Rattle.moka_shard.specs.Shard.{entries_in, state_of}
 use Rattle.moka_behind.specs.Rule.{AllMeet}
 use Rattle.moka_behind.proofs.RuleLemmas.{after_change_meet}
-use Rattle.moka_behind.proofs.TurnLemmas.{at_entry}
+use Rattle.moka_behind.proofs.TurnLemmas.{at_entry, turns_on_shard, upsert_needs}
 use Rattle.moka_behind.proofs.shard.RuledShard.turn_with_upsert.Goals as goal
 
 pub invariant_of-self : goal.invariant_of-self
@@ -15,8 +15,21 @@ invariant_of-self g c =
     (after_change_meet g.P.PairRule.holds c.args.ticket c.turn_with_upsert-change.result (entries_in c.self.inside.shard.slots)
     c.self.invariant)
 
-pub returns : goal.returns
-returns g c =
+pub returns-clause-turn : goal.returns-clause-turn
+returns-clause-turn g c =
     let turn = c.turn_with_upsert-change.ensures in
     at_entry c.args.settings.now c.args.valid_after turn.0 (having_taken_write (Upsert c.args.ticket) c.args.maintenance.now)
     c.turn_with_upsert-change.new.self _ _ turn.1
+
+pub returns-clause-shard : goal.returns-clause-shard
+returns-clause-shard g c =
+    let (refused, turn) = c.turn_with_upsert-change.ensures in
+    let here = c.find_ticket-slot.ensures.value in (
+      refused,
+      rw (← c.self.view_is)
+          (turns_on_shard c.args.settings.now c.args.valid_after refused (having_taken_write (Upsert c.args.ticket) c.args.maintenance.now)
+          c.turn_with_upsert-change.new.self c.args.ticket
+          (upsert_needs g.row.K.Denot g.row.V.Denot c.args.settings.now c.args.valid_after c.args.ticket c.args.maintenance.now c.requires)
+          _ c.turn_with_upsert-change.result turn (state_of c.self.inside.shard) _ (c.entry-found.ensures ∙ here)
+          (c.change.ensures.step c.args.ticket here)),
+    )

@@ -25,4 +25,5 @@ returns g c =
           subst (IsSnapshot g.P.PairRule.holds g.K.PartialEq.eq (hash_in g c.args.self.now) (c.args.number + 1)) (sym is)
           (with_shard g.P.PairRule.holds g.K.PartialEq.eq g.met.K.Eq.laws (hash_in g c.args.self.now) respects c.args.number
           c.args.pairs.now.items c.in_ok-copied.copied.items c.requires.snapshot copied.ruled copied.once));
+      added = on_ok c.add_own.result c.add_own.ensures (λ is. (c.in_ok-copied.copied.items, copied.copies, is));
     }

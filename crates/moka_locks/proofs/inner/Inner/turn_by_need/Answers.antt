@@ -20,4 +20,4 @@ returns-in-Writes g c =
     (with_writes c.self.inside.settings _ turn.0 c.args.maintenance.now c.turn_with_writes.new.maintenance _ _ turn.1)
 
 pub returns-in-Entry : goal.returns-in-Entry
-returns-in-Entry g c = rw (← c.self.view_is) c.turn.ensures
+returns-in-Entry g c = rw (← c.self.view_is) c.turn.ensures.turn

@@ -1,4 +1,5 @@
 use Rattle.std.proofs.Common.{◌≡◌, ◌∙◌, Some, None, true, ap}
+use Rattle.moka_base.specs.Keys.{Keys, keys_by}
 use Rattle.moka_locks.specs.Locked.{Locked, locked_caller, running}
 use Rattle.moka_steps.specs.Steps.{maintaining}
 use Rattle.moka_steps.proofs.StepsLemmas.{goes_on_elsewhere}
@@ -7,6 +8,10 @@ use Rattle.moka_locks.proofs.locked.LockedSteps.turn.Goals.{In_default-place}
 use Rattle.moka_locks.proofs.locked.LockedSteps.turn.Given.{Over}
 use Rattle.moka_locks.proofs.locked.LockedSteps.turn.Goals as goal
 
+-- how the keys are told apart and hashed
+abbrev keys_of : (g : Over) → Keys g.row.K.Denot g.row.S.Denot
+keys_of g = keys_by (record { eq = g.K.PartialEq.eq; hash_input = g.K.Hash.hash_input }) g.S.BuildHasher g.S.Hasher.Hasher
+
 -- the caller had a maintenance under way
 had : (g : Over) (c : In_default-place g) → c.args.self.now.working ≡ Some c.in-Some.running
 had g c = rw (← c.self.view_is) c.in-Some.is
@@ -14,7 +19,7 @@ had g c = rw (← c.self.view_is) c.in-Some.is
 pub returns-in_default-place : goal.returns-in_default-place
 returns-in_default-place g c = record {
   turns =
-      turns_allowed g.P.PairRule.holds c.args.self.now c.in-Some.running c.turn-place.new.self (had g c) c.turn-place.result
+      turns_allowed (keys_of g) g.P.PairRule.holds g.W.WeighShared.weighs c.args.self.now c.in-Some.running c.turn-place.new.self (had g c) c.turn-place.result
       c.turn-place.ensures.place _
       (rw (kept_elsewhere c.turn-place.new.self c.turn-place.result c.turn-place.ensures.place c.in_default-place.not-Idle)
       (ap (λ (l : Locked g.row.S.Denot g.row.W.Denot). record l { working = Some c.turn-place.new.self }) c.self.view_is))
@@ -27,7 +32,7 @@ pub returns-in-Idle-clause-turns : goal.returns-in-Idle-clause-turns
 returns-in-Idle-clause-turns g c =
     let next = c.turn-place.new.self in
     let place = c.turn-place.ensures.place in
-    turns_allowed g.P.PairRule.holds c.args.self.now c.in-Some.running next (rw (← c.self.view_is) c.in-Some.is) c.turn-place.result place _
+    turns_allowed (keys_of g) g.P.PairRule.holds g.W.WeighShared.weighs c.args.self.now c.in-Some.running next (rw (← c.self.view_is) c.in-Some.is) c.turn-place.result place _
     (rw (given_back next c.turn-place.result place c.in-Idle.is)
     (c.end.ensures ∙ ap (λ (l : Locked g.row.S.Denot g.row.W.Denot). running None l) c.self.view_is))
     (rw (← c.self.view_is) c.turn-place.ensures.turns)
