@@ -1,3 +1,4 @@
 pub mod TurnLemmas
 pub mod SnapshotLemmas
 pub mod WritesLeftLemmas
+pub mod SameTicketsLemmas

@@ -3,6 +3,7 @@
 
 pub mod housekeeper;
 pub mod inner;
+pub mod laws;
 pub mod locked;
 mod resting;
 mod running;

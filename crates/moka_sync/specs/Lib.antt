@@ -25,6 +25,7 @@ pub use Rattle.moka_engine_laws.specs.CallLaws
 pub use Rattle.moka_core.specs.Core
 pub use Rattle.moka_shared.specs.Builder
 pub use Rattle.moka_behind.specs.Rule
+pub use Rattle.moka_behind.specs.Permitted
 pub use Rattle.moka_locks.specs.Cache
 pub use Rattle.moka_locks.specs.Locked
 pub use Rattle.moka_locks.specs.Snapshot
