@@ -4,4 +4,3 @@
 pub mod chain;
 pub mod deque;
 pub mod link;
-mod raw;
