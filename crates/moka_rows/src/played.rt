@@ -111,7 +111,21 @@ fn difference(rt: &impl Wait, alloc: Global, wanted: &Wanted) -> Result<Option<S
     Ok(first_difference(alloc, &wanted.script, &written, &text)?)
 }
 
-/// The first line of a script whose reply is not the wanted one, with both.
+/// The first line of a script whose reply is another, with both replies.
+fn first_other<'a>(
+    script: &'a str,
+    written: &'a str,
+    wanted: &'a str,
+) -> Option<(&'a str, &'a str, &'a str)> {
+    for ((line, reply), want) in script.lines().zip(written.lines()).zip(wanted.lines()) {
+        if reply != want {
+            return Some((line, reply, want));
+        }
+    }
+    None
+}
+
+/// In words, the first line of a script whose reply is not the wanted one.
 fn first_difference(
     alloc: Global,
     script: &str,
@@ -121,15 +135,12 @@ fn first_difference(
     if written == wanted {
         return Ok(None);
     }
-    for ((line, reply), want) in script.lines().zip(written.lines()).zip(wanted.lines()) {
-        if reply != want {
-            return Ok(Some(format!(in alloc; "{line}: {reply}, not {want}")?));
+    let text = match first_other(script, written, wanted) {
+        Some((line, reply, want)) => format!(in alloc; "{line}: {reply}, not {want}")?,
+        None => {
+            let (found, expected) = (written.lines().count(), wanted.lines().count());
+            format!(in alloc; "{found} replies, not {expected}")?
         }
-    }
-    let text = format!(in alloc;
-        "{} replies, not {}",
-        written.lines().count(),
-        wanted.lines().count()
-    )?;
+    };
     Ok(Some(text))
 }
