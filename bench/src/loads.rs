@@ -121,7 +121,7 @@ fn list_loads() -> Vec<Load> {
         let picks: Vec<usize> = (0..TURNS)
             .map(|_| random.below(nodes as u64) as usize)
             .collect();
-        // The boxed list takes the last of the reserved nodes first, so there the first element has the greatest id.
+        // The port and the boxed list take the last of the reserved nodes first, so there the first element has the greatest id.
         let mirrored: Rc<Vec<usize>> = Rc::new(picks.iter().map(|pick| nodes - 1 - pick).collect());
         let picks = Rc::new(picks);
         for (name, load) in named {
@@ -130,8 +130,8 @@ fn list_loads() -> Vec<Load> {
                 ListLoad::Move => 1,
                 _ => TURNS / nodes,
             };
-            let (mine, plain, tagged) = (picks.clone(), picks.clone(), picks.clone());
-            let boxed = mirrored.clone();
+            let (mine, boxed) = (mirrored.clone(), mirrored.clone());
+            let (plain, tagged) = (picks.clone(), picks.clone());
             loads.push(Load {
                 name: format!("{name}, {nodes}"),
                 operations: TURNS,

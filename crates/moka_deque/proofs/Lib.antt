@@ -3,3 +3,14 @@ pub mod NodesLemmas
 pub mod ChainLemmas
 pub mod IdLemmas
 pub mod WalkLemmas
+pub mod CutLemmas
+pub mod EndLemmas
+pub mod SlotLemmas
+pub mod RawApart
+pub mod RawMemory
+pub mod RawFrame
+pub mod RawFields
+pub mod RawLinks
+pub mod RawBlocks
+pub mod RawSharing
+pub mod RawCrosses

@@ -7,7 +7,9 @@ use Rattle.std.proofs.lemmas.Cmp.{nat_eq_equiv}
 use Rattle.std.specs.List.{IsDistinct, AllByRecursion}
 use Rattle.std.specs.Map.{lookup, remove_entry, keys_of}
 use Rattle.moka_deque.specs.Deque.{IsIn, first_id, next_id}
-use Rattle.moka_deque.proofs.DequeLemmas.{nat_eq-same}
+use Rattle.moka_deque.specs.Linked.{items_from}
+use Rattle.moka_deque.specs.Nodes.{AreApart}
+use Rattle.moka_deque.proofs.DequeLemmas.{distinct_from_apart, nat_eq-same}
 
 module _ {X : Type 0} where
   -- the nodes from one on
@@ -141,3 +143,21 @@ module _ {X : Type 0} where
       apart-removed (f ∷ fs) a =
           cond_both (nat_eq id f.0) fs (f ∷ remove_entry (nat_eq id) fs) (λ l. AllByRecursion (λ k. nat_eq e.0 k ≡ false) (keys_of l))
           (λ _. a.1) (λ _. (a.0, apart-removed fs a.1))
+
+module _ {X : Type 0} where
+  as_from : (o : Option ℕ) (items : List (ℕ × X)) → items_from o items ≡ from_node o items
+  unfolding from_node
+  as_from None items = refl
+  as_from (Some id) [] = refl
+  as_from (Some id) (e ∷ es) = ap (cond (nat_eq id e.0) (e ∷ es)) (as_from (Some id) es)
+
+  -- the same of the nodes that an iterator has left: at first all of them
+  pub left_first : (items : List (ℕ × X)) → items_from (first_id items) items ≡ items
+  left_first items = as_from (first_id items) items ∙ from_first items
+
+  -- and then one less
+  pub left_next : (id : ℕ) (x : X) (items : List (ℕ × X)) → AreApart items → lookup (nat_eq id) items ≡ Some x
+      → items_from (Some id) items ≡ (id, x) ∷ items_from (next_id id items) items
+  left_next id x items apart found =
+      as_from (Some id) items ∙ from_next id x items (distinct_from_apart items apart) found
+      ∙ ap (λ l. (id, x) ∷ l) (sym (as_from (next_id id items) items))

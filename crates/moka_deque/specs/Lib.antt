@@ -5,8 +5,11 @@ pub mod ChainLends
 -- inside
 pub mod Linked
 pub mod Lends
+pub mod Slots
+pub mod RawNodes
+pub mod RawOwnership
+pub mod RawLends
 pub mod Nodes
-pub mod NodesChanges
 pub mod Links
 pub mod Chained
 pub mod Link

@@ -1,11 +1,8 @@
--- What a contract sees of a `Linked`, and how nodes show it. No public clause cites this module.
-use Rattle.std.specs.Prelude.{◌≡◌, ℕ, zero, suc, ◌+◌, ◌-◌, ◌<◌, nat_eq, List, [], ◌∷◌, ◌++◌, length, Option, Some, None, slice_get}
+-- What a contract sees of a `Linked`. No public clause cites this module.
+use Rattle.std.specs.Prelude.{◌≡◌, ℕ, ◌+◌, ◌-◌, ◌<◌, nat_eq, if◌then◌else◌, List, [], ◌∷◌, ◌++◌, length, Option, Some, None, slice_get}
 use Rattle.std.specs.Map.{lookup, remove_entry, values_of}
-use Rattle.slab.specs.Slab.{get, slab_len, with_value}
 use Rattle.moka_deque.specs.Deque.{IsIn}
 use Rattle.moka_deque.specs.Nodes.{AreApart}
-use Rattle.moka_deque.specs.declared.deque.nodes.Node.{Node}
-use Rattle.moka_deque.specs.declared.deque.nodes.Nodes.{Nodes}
 
 -- the nodes from front to back, each with its element, and how many more surely fit
 pub record Linked (T : Type 0) : Type 0 where
@@ -33,27 +30,8 @@ module _ {T : Type 0} where
     pub room : new.room ≡ old.room + 1
     pub apart : AreApart old.items
 
-  -- a node with those that follow it, if there is one
-  abbrev pub before_rest : ℕ → (ℕ → List (ℕ × T)) → Option (Node T) → List (ℕ × T)
-  before_rest id rest None = []
-  before_rest id rest (Some node) = (id, node.element) ∷ rest node.next
-
-module _ {T A : Type 0} where
-  -- the nodes that follow from this one on, at most so many
-  abbrev pub walk : Nodes T A → ℕ → ℕ → List (ℕ × T)
-  walk ns zero id = []
-  walk ns (suc left) id = before_rest id (λ next. walk ns left next) (get ns.slab id)
-
-  -- the nodes from the head on
-  abbrev pub items_of : Nodes T A → List (ℕ × T)
-  items_of ns = walk ns (slab_len ns.slab) ns.head
-
-  -- the nodes with another element at the one of this id, which is here, if it is one
-  abbrev pub with_node : Nodes T A → ℕ → T → Option (Node T) → Nodes T A
-  with_node ns id element None = ns
-  with_node ns id element (Some node) =
-      record ns { slab = with_value ns.slab id (record node { element = element }) }
-
-  -- the nodes with another element at this one
-  abbrev pub with_element : Nodes T A → ℕ → T → Nodes T A
-  with_element ns id element = with_node ns id element (get ns.slab id)
+  -- the nodes from this one on, if there is one
+  abbrev pub items_from : Option ℕ → List (ℕ × T) → List (ℕ × T)
+  items_from None items = []
+  items_from (Some id) [] = []
+  items_from (Some id) (e ∷ es) = if nat_eq id e.0 then e ∷ es else items_from (Some id) es

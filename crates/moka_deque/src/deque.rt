@@ -1,4 +1,4 @@
-//! Lists whose nodes are named by small ids, with a cursor that steps through them. They stand on a slab.
+//! Lists whose nodes are named by small ids, with a cursor that steps through them. Each node is a block of its own.
 ghost use Rattle.std.specs.Prelude.{◌≡◌, ℕ, ◌+◌, ◌-◌, ◌<◌, ◌≤◌, ◌==◌, [], ◌∷◌, ◌++◌, ◌↔◌, nat_eq, length, slice_get, IsTrue};
 ghost use Rattle.std.specs.Prelude.{IsOk, IfOk, OnOk, IfErr, OnErr, IfSome, IsNone, None, Some, option_copied};
 ghost use Rattle.std.specs.Borrow.{sem};
@@ -87,7 +87,8 @@ impl NodeId {
 /// A list of elements with a cursor.
 ///
 /// Every call takes constant time, but for the memory that a `push_back` without reserved room or a `reserve` asks for. Dropping the list drops
-/// its elements from front to back. A node takes at most 24 bytes beside its element.
+/// its elements from front to back. An element stays where it is until its node leaves. A node takes at most 48 bytes beside its element, and what the
+/// allocator keeps of a block.
 pub struct Deque<T, A: Allocator = Global> {
     list: Linked<T, A>,
     cursor: Cursor,
@@ -151,8 +152,10 @@ impl<T, A: Allocator> Deque<T, A> {
         self.len() == 0
     }
 
-    /// Makes room for `additional` more elements, so that as many calls of `push_back` need no memory. It may move the elements.
+    /// Makes room for `additional` more elements, so that as many calls of `push_back` need no memory. It moves no element.
     pub fn reserve(&mut self, additional: usize) -> Result<(), OutOfMemory>
+    where
+        A: Clone,
         ensures ok { OnOk result (additional ≤ self.new.room) }
         ensures succeeds { additional ≤ self.old.room → IsOk result }
         ensures had_room { additional ≤ self.old.room → self.new ≡ self.old }
@@ -165,8 +168,10 @@ impl<T, A: Allocator> Deque<T, A> {
         }
     }
 
-    /// Makes room for `additional` more elements and no more than that, where `reserve` may make more so that room seldom has to be made.
+    /// Makes room for `additional` more elements and no more than that, where `reserve` may make the table of the nodes' slots larger, so that it seldom grows.
     pub fn reserve_exact(&mut self, additional: usize) -> Result<(), OutOfMemory>
+    where
+        A: Clone,
         ensures ok { OnOk result (additional ≤ self.new.room) }
         ensures succeeds { additional ≤ self.old.room → IsOk result }
         ensures had_room { additional ≤ self.old.room → self.new ≡ self.old }
@@ -190,6 +195,8 @@ impl<T, A: Allocator> Deque<T, A> {
     /// Puts the element at the back, or hands it back where there is no memory. It allocates only where no room is reserved.
     #[inline]
     pub fn push_back(&mut self, element: T) -> Result<NodeId, T>
+    where
+        A: Clone,
         ensures ok { IfOk result (λ id. self.new.items ≡ self.old.items ++ (id, element) ∷ []) }
         ensures new_id { IfOk result (λ id. lookup (nat_eq id) self.old.items ≡ None) }
         ensures unchanged { self.new ≡ record self.old { items = self.new.items; room = self.new.room } }
@@ -288,7 +295,7 @@ impl<T, A: Allocator> Deque<T, A> {
     {
         let first = self.list.first()?;
         pass(&mut self.cursor, &self.list, first);
-        Some(self.list.unlink_first(first))
+        Some(self.list.unlink(first))
     }
 
     /// Moves the node to the back, where a cursor at it doesn't follow. The node must be in the list, which `contains` tells.
@@ -362,10 +369,7 @@ impl<T, A: Allocator> Deque<T, A> {
 }
 
 impl<T: Drop, A: Allocator> Drop for Deque<T, A> {
-    fn drop(mut self) {
-        while let Some(element) = self.pop_front() {
-            drop(element);
-        }
+    fn drop(self) {
         let Deque {
             list: _,
             cursor: _,

@@ -4,3 +4,4 @@
 pub mod chain;
 pub mod deque;
 pub mod link;
+mod raw;

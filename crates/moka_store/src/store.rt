@@ -23,7 +23,7 @@ use moka_machine::entry::Entry;
 use std::alloc::{AllocError, Allocator, Global};
 use std::marker::Model;
 
-/// The entries of a cache. One is found by its hash in constant time in the mean.
+/// The entries of a cache. One is found by its hash in constant time on average.
 #[derive(Drop)]
 pub struct Store<K: Eq + Drop, V: Drop, A: Allocator + Clone + Drop = Global> {
     deques: Deques<K, V, A>,

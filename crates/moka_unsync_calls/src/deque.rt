@@ -1,7 +1,10 @@
-// What no clause says: the order of drops, and that calls succeed where there is memory. The orders of steps are worked by hand.
+// What no clause says: the order of drops, that calls succeed where there is memory, and that a list gives its memory back. The orders of steps are worked
+// by hand.
+use linked_list_allocator::LocalHeap;
 use moka_common::deque::{CacheRegion, Deque, NodeId};
 use std::alloc::Global;
 use std::cell::RefCell;
+use std::marker::Send;
 use std::process::Abort;
 use std::test::Fail;
 
@@ -123,7 +126,7 @@ fn note<'a>(
     added.map(|_| ()).map_err(|_| Fail::from("no memory"))
 }
 
-/// Adds four elements, takes the first one out, and moves the next one to the back. The last one takes the place that the first had in the slab.
+/// Adds four elements, takes the first one out, and moves the next one to the back. The last one takes the place of the first.
 fn fill<'a>(list: &mut NotedList<'a>, notes: &'a RefCell<Vec<u32>>) -> Result<(), Fail> {
     for number in &[3, 1, 4, 2] {
         note(list, notes, *number)?;
@@ -145,5 +148,89 @@ fn elements_are_dropped_from_front_to_back(rt: HostRuntime) -> Result<(), Fail> 
     let notes = RefCell::new(Vec::new(rt.alloc()));
     fill_and_drop(rt.alloc(), &notes)?;
     assert_eq!(rt; notes.into_inner().as_slice(), [3, 4, 2, 5, 1].as_slice());
+    Ok(())
+}
+
+/// A list on a heap.
+type OnHeap<'a> = Deque<u64, &'a LocalHeap>;
+
+/// A list with one element.
+fn list_of_one(heap: &LocalHeap) -> Result<OnHeap<'_>, Fail> {
+    let mut list = Deque::new(heap, CacheRegion::Other);
+    match list.push_back(7) {
+        Ok(_) => Ok(list),
+        Err(_) => Err("no memory".into()),
+    }
+}
+
+/// How much of the heap a list takes that has room for twenty elements, and of four nodes two that are spare again.
+fn taken(heap: &LocalHeap) -> Result<usize, Fail> {
+    let mut list = list_of_one(heap)?;
+    if list.reserve_exact(20).is_err() {
+        return Err("no memory".into());
+    }
+    for number in 0..3 {
+        let _ = list.push_back(number);
+    }
+    let _ = (list.pop_front(), list.pop_front());
+    Ok(heap.used())
+}
+
+// A node takes at least its two links, its id and its element, of eight bytes each.
+#[test]
+fn a_dropped_list_frees_its_nodes_and_the_spare_ones(rt: HostRuntime) -> Result<(), Fail> {
+    let heap = LocalHeap::new(rt.alloc(), 8192)?;
+    assert!(rt; taken(&heap)? >= 21 * 32);
+    assert_eq!(rt; heap.used(), 0);
+    Ok(())
+}
+
+/// Makes room for a hundred elements, where there is memory for the table of their nodes and not for all of these. Tells whether it is refused, and how many
+/// nodes there are then.
+fn nodes_of_a_refusal(list: &mut OnHeap) -> (bool, usize) {
+    let refused = list.reserve_exact(100).is_err();
+    (refused, list.capacity())
+}
+
+/// The element at the front after the room is filled, and what filling it took of the heap.
+fn filled(list: &mut OnHeap, heap: &LocalHeap) -> (Option<u64>, usize) {
+    let before = heap.used();
+    for _ in list.len()..list.capacity() {
+        let _ = list.push_back(0);
+    }
+    (
+        list.peek_front().copied(),
+        heap.used().saturating_sub(before),
+    )
+}
+
+#[test]
+fn a_refused_reserve_keeps_the_nodes_that_it_got(rt: HostRuntime) -> Result<(), Fail> {
+    let heap = LocalHeap::new(rt.alloc(), 5120)?;
+    let mut list = list_of_one(&heap)?;
+    let (refused, nodes) = nodes_of_a_refusal(&mut list);
+    assert!(rt; refused && nodes > 10 && nodes < 100);
+    assert_eq!(rt; filled(&mut list, &heap), (Some(7), 0));
+    assert_eq!(rt; list.len(), nodes);
+    drop(list);
+    assert_eq!(rt; heap.used(), 0);
+    Ok(())
+}
+
+/// Asks that the value may go to another thread.
+fn sent<X: Send>(value: X) -> X {
+    value
+}
+
+/// A list may where its elements may.
+fn sent_list<T: Send>(list: Deque<T>) -> Deque<T> {
+    sent(list)
+}
+
+#[test]
+fn a_list_may_be_sent_to_another_thread(rt: HostRuntime) -> Result<(), Fail> {
+    let mut list = list(rt.alloc());
+    pushed(&mut list, 'a')?;
+    assert_eq!(rt; sent_list(list).len(), 1);
     Ok(())
 }

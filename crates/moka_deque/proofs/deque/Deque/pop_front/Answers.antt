@@ -3,5 +3,5 @@ use Rattle.moka_deque.proofs.deque.Deque.pop_front.Goals as goal
 
 pub invariant_of-self : goal.invariant_of-self
 invariant_of-self g c =
-    rw (c.unlink_first.ensures.step.items, c.pass.ensures)
-    (CursorIsIn-passed _ c.self.inside.list.items c.self.inside.cursor c.unlink_first.ensures.step.apart c.self.invariant)
+    rw (c.unlink.ensures.step.items, c.pass.ensures)
+    (CursorIsIn-passed _ c.self.inside.list.items c.self.inside.cursor c.unlink.ensures.step.apart c.self.invariant)
