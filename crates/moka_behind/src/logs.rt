@@ -69,7 +69,7 @@ impl<A: Allocator + Clone + Drop> Logs<A> {
         lock(rt, &self.writes.queue)
     }
 
-    /// Tells how many reads there are. A store would take the line from all who look at it, so there is one only where what is told changes.
+    /// Publishes how many reads there are. It stores only a value that differs, since a store takes the cache line from all who read it.
     pub fn tell_reads(&self, len: usize) {
         let told = told_reads(len);
         if self.reads() != told {
@@ -77,7 +77,7 @@ impl<A: Allocator + Clone + Drop> Logs<A> {
         }
     }
 
-    /// Tells how many writes are on their way. A store is an exchange here, so there is one only where what is told changes.
+    /// Publishes how many writes are on their way. It stores only a value that differs, since a store is an exchange here.
     pub fn tell_writes(&self, len: usize) {
         let told = told_writes(len);
         if self.writes() != told {
@@ -138,7 +138,7 @@ impl<A: Allocator + Clone + Drop> Logs<A> {
     }
 }
 
-/// What is told of the length of the read log: callers ask whether it is full, and whether it has come to the flush point.
+/// The published length of the read log: callers ask whether it is full, and whether it has reached the flush point.
 fn told_reads(len: usize) -> usize {
     if len >= READ_LOG_SIZE {
         READ_LOG_SIZE
@@ -149,7 +149,7 @@ fn told_reads(len: usize) -> usize {
     }
 }
 
-/// What is told of the length of the write log: callers ask whether it is full, whether it has come to the flush point, and whether it has room for
+/// The published length of the write log: callers ask whether it is full, whether it has reached the flush point, and whether it has room for
 /// `ROOM_AWAITED` operations, and all these lengths are multiples of that.
 fn told_writes(len: usize) -> usize {
     len - len % ROOM_AWAITED

@@ -1,7 +1,6 @@
 pub mod ShardsLemmas
 pub mod MapLemmas
 pub mod MapTurnLemmas
-pub mod ShardTurnLemmas
 pub mod FindLemmas
 pub mod PendingLemmas
 pub mod RoomLemmas

@@ -20,7 +20,8 @@ use Rattle.moka_engine.proofs.PartsLemmas.{entry_of-shards, fate-shards, next_nu
 use Rattle.moka_shard.specs.ShardStep.{IsInsert, IsInvalidation, fresh_entry}
 use Rattle.moka_map.specs.Shards.{IsOwnShard, AreOwn, map_in}
 use Rattle.moka_map.specs.MapState.{MapState, IsInserted, IsInvalidated, fresh_entry as fresh_in_map}
-use Rattle.moka_map.specs.MapTurn.{TurnsOnMap, TurnsOnShard}
+use Rattle.moka_shard.specs.ShardTurn.{TurnsOnShard}
+use Rattle.moka_map.specs.MapTurn.{TurnsOnMap}
 use Rattle.moka_map.proofs.ShardsLemmas.{are_numbered, found_has}
 
 -- a field of the element at a place

@@ -9,7 +9,8 @@ use Rattle.moka_engine.specs.CoreState.{Maintenance}
 use Rattle.moka_engine.specs.Parts.{IsValidShard, entries_of}
 use Rattle.moka_engine.specs.Turn.Plan.{Change, after_change}
 use Rattle.moka_shard.specs.Shard.{Shard, entries_in, state_of}
-use Rattle.moka_map.specs.MapTurn.{TurnsOnMap, TurnsOnShard}
+use Rattle.moka_shard.specs.ShardTurn.{TurnsOnShard}
+use Rattle.moka_map.specs.MapTurn.{TurnsOnMap}
 use Rattle.moka_map.specs.Shards.{AreOwn, map_in, states_of}
 use Rattle.moka_map.proofs.MapLemmas.{changed_map, changed_still, own_turned, turned}
 use Rattle.moka_map.proofs.ShardsLemmas.{AreOwn-set, here_below, here_own, here_state}

@@ -1,4 +1,4 @@
--- A turn that needs an entry, on its shard and on the map, and what a hit does to its entry. No public clause cites this module.
+-- A turn that needs an entry, on the map, and what a hit does to its entry. No public clause cites this module.
 use Rattle.std.specs.Prelude.{◌≡◌, ℕ, Bool, List, Option}
 use Rattle.moka_base.specs.Settings.{Settings}
 use Rattle.moka_engine.specs.declared.operation.Read.{Read}
@@ -6,7 +6,6 @@ use Rattle.moka_engine.specs.declared.operation.Read.TheVariants.{Hit, Miss}
 use Rattle.moka_engine.specs.declared.ticket.Ticket.{Ticket}
 use Rattle.moka_engine.specs.CoreState.{Maintenance}
 use Rattle.moka_engine.specs.Entry.{Entry, entry_of, touched}
-use Rattle.moka_engine.specs.Parts.{ShardState, shard_after}
 use Rattle.moka_engine.specs.Turn.Plan.{Outcome, AtEntry, Becomes, after_change}
 use Rattle.moka_engine.specs.Turn.Turn.{turn_at}
 use Rattle.moka_map.specs.MapState.{MapState}
@@ -17,15 +16,7 @@ touched_by entries (Hit t moment) = after_change t (Becomes (touched moment)) en
 touched_by entries (Miss hash) = entries
 
 module _ {K V S : Type 0} where
-  -- the turn looks at the ticket's entry in a shard, and leaves the shard and the maintenance so
-  pub record TurnsOnShard (settings : Settings S) (valid_after : ℕ) (refused : Bool) (ticket : Ticket) (old new : Maintenance)
-      (old_shard new_shard : ShardState K V S) : Type 0 where
-    pub looks : Option (Entry K V) → Outcome K V
-    pub is : turn_at settings valid_after refused old.place old ≡ AtEntry ticket looks
-    pub maintenance : new ≡ (looks (entry_of ticket old_shard.entries)).maintenance
-    pub shard : new_shard ≡ shard_after ticket (looks (entry_of ticket old_shard.entries)) old_shard
-
-  -- the same on the map
+  -- the turn looks at a ticket's entry on the map, and leaves the map and the maintenance so
   pub record TurnsOnMap (old_map new_map : MapState K V S) (valid_after : ℕ) (refused : Bool) (old new : Maintenance) : Type 0 where
     pub ticket : Ticket
     pub looks : Option (Entry K V) → Outcome K V

@@ -12,7 +12,8 @@ ghost use Rattle.moka_engine.specs.declared.operation.Write.TheVariants.{Upsert}
 ghost use Rattle.moka_logs.specs.LoggedReads.{reads_of};
 ghost use Rattle.moka_maintenance.specs.Taken.{IsScan, TakesWrite, having_taken_write};
 ghost use Rattle.moka_map.specs.MapTurn.{touched_by};
-ghost use Rattle.moka_map.specs.MapTurn.{TurnsOnMap, TurnsOnShard};
+ghost use Rattle.moka_map.specs.MapTurn.{TurnsOnMap};
+ghost use Rattle.moka_shard.specs.ShardTurn.{TurnsOnShard};
 ghost use Rattle.std.specs.List.{All, fold};
 ghost use Rattle.moka_map.specs.MapState.{IsInserted, IsInvalidated, IsNewMap, pairs_in};
 ghost use Rattle.moka_map.specs.Shards.{AreOwn, IsAsBuilt, started, states_of};

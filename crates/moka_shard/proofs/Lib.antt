@@ -1,3 +1,4 @@
 pub mod SlotListLemmas
 pub mod SlotLemmas
 pub mod PairLemmas
+pub mod ShardTurnLemmas

@@ -1,4 +1,5 @@
 pub mod Shard
 pub mod ShardStep
+pub mod ShardTurn
 -- inside
 pub mod Slots

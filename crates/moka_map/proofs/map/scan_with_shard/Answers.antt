@@ -1,7 +1,7 @@
 use Rattle.std.proofs.Common.{◌∙◌, ap, false, option_map, refl, sym}
 use Rattle.moka_engine.specs.Entry.{entry_of}
 use Rattle.moka_shard.specs.Shard.{state_of}
-use Rattle.moka_map.proofs.ShardTurnLemmas.{turns_on_shard}
+use Rattle.moka_shard.proofs.ShardTurnLemmas.{turns_on_shard}
 use Rattle.moka_map.proofs.map.scan_with_shard.Goals as goal
 
 pub returns : goal.returns

@@ -3,7 +3,8 @@ use Rattle.moka_engine.specs.Parts.{ShardState}
 use Rattle.moka_shard.specs.Shard.{entries_in, state_of}
 use Rattle.moka_behind.specs.Rule.{AllMeet}
 use Rattle.moka_behind.proofs.RuleLemmas.{after_change_meet}
-use Rattle.moka_behind.proofs.TurnLemmas.{at_entry, turns_on_shard}
+use Rattle.moka_behind.proofs.TurnLemmas.{at_entry}
+use Rattle.moka_shard.proofs.ShardTurnLemmas.{turns_on_shard}
 use Rattle.moka_behind.proofs.shard.RuledShard.turn.Goals as goal
 
 pub invariant_of-self : goal.invariant_of-self

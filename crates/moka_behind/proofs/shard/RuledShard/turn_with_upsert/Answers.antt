@@ -5,7 +5,8 @@ use Rattle.moka_maintenance.specs.Taken.{having_taken_write}
 use Rattle.moka_shard.specs.Shard.{entries_in, state_of}
 use Rattle.moka_behind.specs.Rule.{AllMeet}
 use Rattle.moka_behind.proofs.RuleLemmas.{after_change_meet}
-use Rattle.moka_behind.proofs.TurnLemmas.{at_entry, turns_on_shard, upsert_needs}
+use Rattle.moka_behind.proofs.TurnLemmas.{at_entry, upsert_needs}
+use Rattle.moka_shard.proofs.ShardTurnLemmas.{turns_on_shard}
 use Rattle.moka_behind.proofs.shard.RuledShard.turn_with_upsert.Goals as goal
 
 pub invariant_of-self : goal.invariant_of-self
