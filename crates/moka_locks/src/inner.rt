@@ -10,9 +10,10 @@ ghost use Rattle.moka_published.specs.Log.{IsChain, IsSuffix, opening};
 ghost use Rattle.moka_behind.specs.Permitted.{ContainsIn, CopiesIn, FindsIn, InsertsIn, InvalidatesIn, first_of_ok};
 ghost use Rattle.moka_behind.specs.Rule.{PairsMeet};
 ghost use Rattle.moka_locks.specs.Snapshot.{IsSnapshot, own_pairs};
-ghost use Rattle.moka_engine.specs.CoreState.{Maintenance as MaintenanceState, new_maintenance};
-ghost use Rattle.moka_engine.specs.Place.{Idle, ReadCount};
-ghost use Rattle.moka_locks.specs.MaintenanceTurn.{empty_handed};
+ghost use Rattle.moka_base.specs.Settings.{keeps_writes};
+ghost use Rattle.moka_engine.specs.CoreState.{new_maintenance};
+ghost use Rattle.moka_engine.specs.Place.{Idle};
+ghost use Rattle.moka_locks.specs.SameTickets.{AtWork, IsOrdered, just_begun};
 
 mod turns;
 
@@ -121,7 +122,8 @@ impl<
             parts.is_weighed,
             parts.capacity,
         )?;
-        let (logs, working) = logs_and_maintenance(&alloc)?;
+        let keeps_writes = settings.limits().has_time_to_live();
+        let (logs, working) = logs_and_maintenance(&alloc, keeps_writes)?;
         let maintenance = Resting::new(working, publisher);
         Ok(Inner {
             settings,
@@ -337,9 +339,12 @@ impl<
 
     /// Begins a maintenance, once nobody else runs one.
     pub(crate) fn begin<R: Wait>(&self, rt: &R, now: Instant) -> Running<'_, A>
-        ensures { (m : MaintenanceState) × (m.place ≡ Idle) × (result ≡ empty_handed (record m { place = ReadCount 1; moment = now })) }
+        ensures begun { (w : AtWork) × (w.keeps_writes ≡ keeps_writes self.now.settings.policy) × (w.working.maintenance.place ≡ Idle)
+            × (result ≡ just_begun now w) }
+        ensures ordered { IsOrdered result }
     {
-        Running::begin(rt, &self.maintenance, now)
+        let keeps_writes = self.settings.limits().has_time_to_live();
+        Running::begin(rt, &self.maintenance, keeps_writes, now)
     }
 
     /// Publishes what a maintenance that has ended has left.
@@ -397,11 +402,12 @@ fn counts_of(publisher: &Option<Publisher>) -> Result<Option<Counts>, OutOfMemor
 /// Empty logs, and a maintenance that has done nothing.
 fn logs_and_maintenance<A: Allocator + Clone + Drop>(
     alloc: &A,
+    keeps_writes: bool,
 ) -> Result<(Logs<A>, Box<Working<A>, A>), OutOfMemory>
-    ensures { IfOk result (λ made. made.1.value.maintenance ≡ new_maintenance) }
+    ensures { IfOk result (λ made. made.1.value.working.maintenance ≡ new_maintenance) }
 {
     let maintenance = Maintenance::new(alloc.clone()?)?;
-    let working = Box::new(alloc.clone()?, Working::new(maintenance))?;
+    let working = Box::new(alloc.clone()?, Working::new(maintenance, keeps_writes))?;
     Ok((Logs::new(alloc)?, working))
 }
 

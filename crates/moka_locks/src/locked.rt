@@ -1,7 +1,9 @@
 //! The steps of one caller on a cache behind locks.
 ghost use Rattle.std.specs.Prelude.{◌≡◌, None, IfSome};
+ghost use Rattle.moka_base.specs.Settings.{keeps_writes};
 ghost use Rattle.moka_engine.specs.Place.{Idle};
 ghost use Rattle.moka_locks.specs.Locked.{resting_at, running};
+ghost use Rattle.moka_locks.specs.SameTickets.{HasBothOrders};
 
 use crate::inner::Inner;
 use crate::running::Running;
@@ -74,11 +76,16 @@ impl<
     W: Drop,
     A: Allocator + Clone + Drop,
 > Model for Locked<'a, K, V, S, P, W, A> {
+    ghost use Rattle.std.specs.Prelude.{◌≡◌, IfSome, option_map};
+    ghost use Rattle.moka_base.specs.Settings.{keeps_writes};
     ghost use Rattle.moka_locks.specs.Locked.{Locked as LockedValue, operation_of};
+    ghost use Rattle.moka_locks.specs.SameTickets.{IsOrdered};
 
     ghost Value = { LockedValue S W };
 
-    ghost view = { λ l. record { cache = l.inner.now; pending = operation_of l.pending; working = l.running } };
+    ghost view = { λ l. record { cache = l.inner.now; pending = operation_of l.pending; working = option_map (λ r. r.working) l.running } };
+
+    ghost invariant = { λ l. IfSome l.running (λ r. (r.keeps_writes ≡ keeps_writes l.inner.now.settings.policy) × IsOrdered r) };
 }
 
 impl<
@@ -100,6 +107,13 @@ impl<
             running: None,
             has_won: false,
         }
+    }
+
+    /// Where a time to live is set, the maintenance that the caller runs has the same tickets in both orders. A law: the call does nothing.
+    pub fn has_both_orders(&self)
+        ensures { IfSome self.now.working (λ w. HasBothOrders (keeps_writes self.now.cache.settings.policy) w.maintenance.orders) }
+    {
+        let _ = &self.running;
     }
 
     /// Gives back the maintenance, which has ended, and publishes what it has left.

@@ -19,24 +19,24 @@ pub(crate) struct Resting<A: Allocator + Clone + Drop = Global> {
 
 impl<A: Allocator + Clone + Drop> Model for Resting<A> {
     ghost use Rattle.std.specs.Prelude.{◌≡◌, IfSome};
-    ghost use Rattle.moka_engine.specs.CoreState.{Maintenance as MaintenanceState};
     ghost use Rattle.moka_engine.specs.Place.{Idle};
     ghost use Rattle.moka_locks.specs.Charged.{IsCharged};
+    ghost use Rattle.moka_locks.specs.SameTickets.{AtWork};
 
-    ghost Value = { MaintenanceState };
+    ghost Value = { AtWork };
 
-    ghost view = { λ r. r.working.value.maintenance };
+    ghost view = { λ r. r.working.value };
 
-    ghost invariant = { λ r. (r.working.value.maintenance.place ≡ Idle)
-        × IfSome r.publisher (λ p. IsCharged r.working.value.maintenance p.published) };
+    ghost invariant = { λ r. (r.working.value.working.maintenance.place ≡ Idle)
+        × IfSome r.publisher (λ p. IsCharged r.working.value.working.maintenance p.published) };
 }
 
 impl<A: Allocator + Clone + Drop> Resting<A> {
     /// This maintenance, with which nothing has been done.
     pub(crate) fn new(working: Box<Working<A>, A>, publisher: Option<Publisher>) -> Self
-        requires idle { working.value.maintenance.place ≡ Idle }
-        requires charged { IfSome publisher (λ p. IsCharged working.value.maintenance p.published) }
-        ensures { result ≡ working.value.maintenance }
+        requires idle { working.value.working.maintenance.place ≡ Idle }
+        requires charged { IfSome publisher (λ p. IsCharged working.value.working.maintenance p.published) }
+        ensures { result ≡ working.value }
     {
         Resting { working, publisher }
     }
@@ -47,8 +47,8 @@ impl<A: Allocator + Clone + Drop> Resting<A> {
         working: Box<Working<A>, A>,
         publisher: Option<Publisher>,
     ) -> Self
-        requires { working.value.maintenance.place ≡ Idle }
-        ensures { result ≡ working.value.maintenance }
+        requires { working.value.working.maintenance.place ≡ Idle }
+        ensures { result ≡ working.value }
     {
         let Some(mut publisher) = publisher else {
             return Resting::new(working, None);
@@ -59,10 +59,17 @@ impl<A: Allocator + Clone + Drop> Resting<A> {
         Resting::new(working, Some(publisher))
     }
 
+    /// Whether a time to live is set.
+    pub(crate) fn keeps_writes(&self) -> bool
+        ensures { result ≡ self.now.keeps_writes }
+    {
+        self.working.keeps_writes()
+    }
+
     /// The maintenance, for the one who has the lock to begin it.
     pub(crate) fn wake(self) -> (Box<Working<A>, A>, Option<Publisher>)
-        ensures value { result.0.value.maintenance ≡ self }
-        ensures idle { result.0.value.maintenance.place ≡ Idle }
+        ensures value { result.0.value ≡ self }
+        ensures idle { result.0.value.working.maintenance.place ≡ Idle }
     {
         (self.working, self.publisher)
     }

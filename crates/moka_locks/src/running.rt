@@ -1,8 +1,9 @@
 // A maintenance that is under way, with its lock.
 ghost use Rattle.std.specs.Prelude.{◌≡◌};
-ghost use Rattle.moka_engine.specs.CoreState.{Maintenance as MaintenanceState};
-ghost use Rattle.moka_engine.specs.Place.{Idle, ReadCount, name_of};
-ghost use Rattle.moka_locks.specs.MaintenanceTurn.{AreTurns, empty_handed};
+ghost use Rattle.moka_base.specs.Settings.{keeps_writes};
+ghost use Rattle.moka_engine.specs.Place.{Idle, name_of};
+ghost use Rattle.moka_locks.specs.MaintenanceTurn.{AreTurns};
+ghost use Rattle.moka_locks.specs.SameTickets.{AtWork, IsOrdered, just_begun};
 
 use crate::inner::Inner;
 use crate::resting::Resting;
@@ -27,40 +28,48 @@ pub(crate) struct Running<'a, A: Allocator + Clone + Drop> {
 }
 
 impl<'a, A: Allocator + Clone + Drop> Model for Running<'a, A> {
-    ghost use Rattle.moka_locks.specs.MaintenanceTurn.{Working as WorkingState};
+    ghost use Rattle.moka_locks.specs.SameTickets.{AtWork};
 
-    ghost Value = { WorkingState };
+    ghost Value = { AtWork };
 
     ghost view = { λ r. r.working.value };
 }
 
 impl<'a, A: Allocator + Clone + Drop> Running<'a, A> {
-    /// Takes the lock, and begins a maintenance.
+    /// Takes the lock, and begins a maintenance of a cache with a time to live, or of one without.
     pub(crate) fn begin<R: Wait>(
         rt: &R,
         maintenance: &'a Mutex<Option<Resting<A>>>,
+        keeps_writes: bool,
         now: Instant,
     ) -> Running<'a, A>
-        ensures { (m : MaintenanceState) × (m.place ≡ Idle) × (result ≡ empty_handed (record m { place = ReadCount 1; moment = now })) }
+        ensures begun { (w : AtWork) × (w.keeps_writes ≡ keeps_writes) × (w.working.maintenance.place ≡ Idle) × (result ≡ just_begun now w) }
+        ensures ordered { IsOrdered result }
     {
         for _ in rt.forever() {
             let mut guard = lock(rt, maintenance);
-            if let Some(resting) = guard.take() {
-                let (mut working, publisher) = resting.wake();
-                working.begin(now);
-                return Running {
-                    guard,
-                    working,
-                    publisher,
-                };
+            let Some(resting) = guard.take() else {
+                continue;
+            };
+            if resting.keeps_writes() != keeps_writes {
+                // Not proved: read in the code. It never comes here: a cache's maintenance was made by its settings.
+                *guard = Some(resting);
+                continue;
             }
+            let (mut working, publisher) = resting.wake();
+            working.begin(now);
+            return Running {
+                guard,
+                working,
+                publisher,
+            };
         }
         unreachable!()
     }
 
     /// The maintenance.
     pub(crate) fn maintenance(&self) -> &Maintenance<A>
-        ensures { result.now ≡ self.now.maintenance }
+        ensures { result.now ≡ self.now.working.maintenance }
     {
         self.working.maintenance()
     }
@@ -75,15 +84,18 @@ impl<'a, A: Allocator + Clone + Drop> Running<'a, A> {
         P: PairRule<K, V>,
         W: Drop,
     >(&mut self, rt: &R, inner: &Inner<K, V, S, P, W, A>) -> Place
-        ensures turns { AreTurns K V inner.now.settings self.old self.new }
-        ensures place { result ≡ name_of self.new.maintenance.place }
+        requires { self.old.keeps_writes ≡ keeps_writes inner.now.settings.policy }
+        ensures turns { AreTurns K V inner.now.settings self.old.working self.new.working }
+        ensures place { result ≡ name_of self.new.working.maintenance.place }
+        ensures keeps { self.new.keeps_writes ≡ self.old.keeps_writes }
+        ensures ordered { IsOrdered self.new }
     {
         self.working.turn(rt, inner)
     }
 
     /// Publishes the counts of the maintenance, which has ended, gives it back, and frees its lock.
     pub(crate) fn end<R: Wait>(self, rt: &R)
-        requires { self.maintenance.place ≡ Idle }
+        requires { self.working.maintenance.place ≡ Idle }
     {
         let Running {
             mut guard,

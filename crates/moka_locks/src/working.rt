@@ -1,7 +1,10 @@
-// A maintenance, with the writes that it has at hand.
+// A maintenance, with the writes that have left their log.
 ghost use Rattle.std.specs.Prelude.{◌≡◌};
-ghost use Rattle.moka_engine.specs.Place.{Idle, ReadCount, name_of};
+ghost use Rattle.moka_base.specs.Settings.{keeps_writes};
+ghost use Rattle.moka_engine.specs.CoreState.{new_maintenance};
+ghost use Rattle.moka_engine.specs.Place.{Idle, name_of};
 ghost use Rattle.moka_locks.specs.MaintenanceTurn.{AreTurns, empty_handed};
+ghost use Rattle.moka_locks.specs.SameTickets.{IsOrdered, just_begun};
 
 use crate::inner::Inner;
 use moka_base::time::Instant;
@@ -14,47 +17,60 @@ use std::hash::{BuildHasher, Hash};
 use std::marker::Model;
 use std::sync::Wait;
 
-/// A maintenance, and the writes that have left their log and are not taken yet: no more than its round is still to apply, so none where it rests.
+/// A maintenance, and the writes that have left their log and are not taken yet: no more than its round is still to apply, so none where it rests. Where
+/// a time to live is set, both of its orders have the same tickets.
 #[derive(Drop)]
 pub(crate) struct Working<A: Allocator + Clone + Drop> {
     maintenance: Maintenance<A>,
     taken: TakenWrites,
+    /// Whether a time to live is set, so that each entry has a place in the order of writing too.
+    keeps_writes: bool,
 }
 
 impl<A: Allocator + Clone + Drop> Model for Working<A> {
     ghost use Rattle.std.specs.Prelude.{◌≤◌, length};
-    ghost use Rattle.moka_locks.specs.MaintenanceTurn.{Working as WorkingState};
+    ghost use Rattle.moka_locks.specs.SameTickets.{AtWork, HasBothOrders};
     ghost use Rattle.moka_maintenance.specs.Taken.{writes_left};
 
-    ghost Value = { WorkingState };
+    ghost Value = { AtWork };
 
-    ghost view = { λ w. record { maintenance = w.maintenance; at_hand = w.taken } };
+    ghost view = { λ w. record { keeps_writes = w.keeps_writes; working = record { maintenance = w.maintenance; at_hand = w.taken } } };
 
-    ghost invariant = { λ w. length w.taken ≤ writes_left w.maintenance.place };
+    ghost invariant = { λ w. (length w.taken ≤ writes_left w.maintenance.place) × HasBothOrders w.keeps_writes w.maintenance.orders };
 }
 
 impl<A: Allocator + Clone + Drop> Working<A> {
-    /// This maintenance, which has taken nothing yet.
-    pub(crate) fn new(maintenance: Maintenance<A>) -> Working<A>
-        ensures { result ≡ empty_handed maintenance }
+    /// This maintenance, with which nothing has been done.
+    pub(crate) fn new(maintenance: Maintenance<A>, keeps_writes: bool) -> Working<A>
+        requires { maintenance ≡ new_maintenance }
+        ensures { result ≡ record { keeps_writes = keeps_writes; working = empty_handed maintenance } }
     {
         Working {
             maintenance,
             taken: TakenWrites::new(),
+            keeps_writes,
         }
+    }
+
+    /// Whether a time to live is set.
+    pub(crate) fn keeps_writes(&self) -> bool
+        ensures { result ≡ self.now.keeps_writes }
+    {
+        self.keeps_writes
     }
 
     /// The maintenance.
     pub(crate) fn maintenance(&self) -> &Maintenance<A>
-        ensures { result.now ≡ self.now.maintenance }
+        ensures { result.now ≡ self.now.working.maintenance }
     {
         &self.maintenance
     }
 
     /// Begins, where none is under way.
     pub(crate) fn begin(&mut self, now: Instant)
-        requires { self.old.maintenance.place ≡ Idle }
-        ensures { self.new ≡ empty_handed (record self.old.maintenance { place = ReadCount 1; moment = now }) }
+        requires { self.old.working.maintenance.place ≡ Idle }
+        ensures begun { self.new ≡ just_begun now self.old }
+        ensures ordered { IsOrdered self.new }
     {
         self.maintenance.begin(now);
     }
@@ -69,8 +85,11 @@ impl<A: Allocator + Clone + Drop> Working<A> {
         P: PairRule<K, V>,
         W: Drop,
     >(&mut self, rt: &R, inner: &Inner<K, V, S, P, W, A>) -> Place
-        ensures turns { AreTurns K V inner.now.settings self.old self.new }
-        ensures place { result ≡ name_of self.new.maintenance.place }
+        requires { self.old.keeps_writes ≡ keeps_writes inner.now.settings.policy }
+        ensures turns { AreTurns K V inner.now.settings self.old.working self.new.working }
+        ensures place { result ≡ name_of self.new.working.maintenance.place }
+        ensures keeps { self.new.keeps_writes ≡ self.old.keeps_writes }
+        ensures ordered { IsOrdered self.new }
     {
         inner.turn(rt, &mut self.maintenance, &mut self.taken);
         self.maintenance.place()

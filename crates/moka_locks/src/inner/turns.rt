@@ -44,7 +44,7 @@ impl<
             let is_last = maintenance.writes_left() <= 1;
             self.apply_next_write(rt, maintenance, taken);
             if is_last {
-                // The round has no more, so none is left at hand.
+                // The round has no more, so none is left.
                 self.logs.note_applied(rt);
             }
             return;

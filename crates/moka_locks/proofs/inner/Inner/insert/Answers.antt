@@ -12,7 +12,9 @@ pub returns-in-Ok-Some : goal.returns-in-Ok-Some
 returns-in-Ok-Some g c =
     rw (← c.self.view_is)
     (inserts_in (keys_of g) g.P.PairRule.holds (g.W.WeighShared.weighs c.self.inside.weigher) c.self.inside.settings.hash_state c.args.key
-    c.args.value c.args.now _ _ c.insert.ensures.permitted c.hash_of-hash.result ((rw (← c.self.view_is) at c.hash_of-hash.ensures) ∙ ap (λ k. (keys_of g).hash_of c.self.inside.settings.hash_state k) c.get.ensures) c.insert.result c.insert.ensures.step
+    c.args.value c.args.now _ _ c.insert.ensures.permitted c.hash_of-hash.result
+    ((rw (← c.self.view_is) at c.hash_of-hash.ensures)
+    ∙ ap (λ k. (keys_of g).hash_of c.self.inside.settings.hash_state k) c.get.ensures) c.insert.result c.insert.ensures.step
     c.in-Ok-Some.ticket (c.in-Ok-Some.is ∙ ap Ok c.in-Ok-Some.field-0-is))
 
 -- it never comes here
@@ -26,4 +28,5 @@ returns g c =
     rw (← c.self.view_is)
     (refuses_in (keys_of g) g.P.PairRule.holds (g.W.WeighShared.weighs c.self.inside.weigher) c.self.inside.settings.hash_state c.args.key
     c.args.value c.args.now _ _ c.insert.ensures.permitted c.hash_of-hash.result
-    ((rw (← c.self.view_is) at c.hash_of-hash.ensures) ∙ ap (λ k. (keys_of g).hash_of c.self.inside.settings.hash_state k) c.get.ensures) c.insert.result c.insert.ensures.step c.in-Err.error c.in-Err.is)
+    ((rw (← c.self.view_is) at c.hash_of-hash.ensures)
+    ∙ ap (λ k. (keys_of g).hash_of c.self.inside.settings.hash_state k) c.get.ensures) c.insert.result c.insert.ensures.step c.in-Err.error c.in-Err.is)
