@@ -1,3 +1,2 @@
-// What is refused: streams, one call after another, and memory.
-mod memory;
+// Streams that fail, one call after another.
 mod streams;

@@ -1,5 +1,5 @@
-//! The tests of what `mini_moka` alone has: parsed scripts, streams that fail, memory that is refused, records, and the docs' examples. Scripts with their
-//! replies are rows of `moka_rows`.
+//! The tests of what `mini_moka` alone has: parsed scripts, streams that fail, records, and the docs' examples. Scripts with their replies, also where
+//! memory is refused, are rows of `moka_rows`.
 #![tactic(auto)]
 
 #[cfg(test)]

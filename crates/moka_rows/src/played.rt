@@ -4,6 +4,7 @@ use crate::row::{RowLine, line_of};
 use crate::wanted::Wanted;
 use anyhow::{Context, Result, bail};
 use mini_moka::script::{End, FromRead, FromWrite, run, run_locked};
+use moka_refusals::RefusingHeap;
 use std::alloc::{AllocError, Global};
 use std::io::Eprint;
 use std::sync::Wait;
@@ -85,12 +86,17 @@ impl Played {
     }
 }
 
-/// How a run of the script ends, and what it writes.
-fn outcome_of(rt: &impl Wait, alloc: Global, script: &str) -> (Ending, Vec<u8>) {
+/// How a run of the script ends, and what it writes. The script's memory is that of the heap.
+fn outcome_of(
+    rt: &impl Wait,
+    alloc: Global,
+    heap: &RefusingHeap<Global>,
+    script: &str,
+) -> (Ending, Vec<u8>) {
     let mut source = FromRead::new(script.as_bytes());
     let mut sink = FromWrite::new(Vec::new(alloc));
-    let ended = match run(alloc, &mut source, &mut sink) {
-        Ok(End::Locked(script)) => run_locked(alloc, rt, script, &mut sink),
+    let ended = match run(heap, &mut source, &mut sink) {
+        Ok(End::Locked(script)) => run_locked(heap, rt, script, &mut sink),
         ended => ended,
     };
     (Ending::of(ended), sink.into_inner())
@@ -98,9 +104,14 @@ fn outcome_of(rt: &impl Wait, alloc: Global, script: &str) -> (Ending, Vec<u8>) 
 
 /// What differs where a script is run, in words.
 fn difference(rt: &impl Wait, alloc: Global, wanted: &Wanted) -> Result<Option<String>> {
-    let (ending, written) = outcome_of(rt, alloc, &wanted.script);
+    let heap = RefusingHeap::new(alloc, alloc, wanted.refusals)?;
+    let (ending, written) = outcome_of(rt, alloc, &heap, &wanted.script);
     if ending != wanted.ending {
         let text = format!(in alloc; "it ended with {ending}, not with {}", wanted.ending)?;
+        return Ok(Some(text));
+    }
+    if heap.held_blocks() > 0 {
+        let text = format!(in alloc; "it gave back all memory but {} blocks", heap.held_blocks())?;
         return Ok(Some(text));
     }
     if ending == Ending::Done && wanted.is_open {

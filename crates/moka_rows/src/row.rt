@@ -1,6 +1,6 @@
 // The text of a file of rows: blocks of lines with an empty line between them, each a row or comments alone.
 
-/// What stands in front of each line of a row but its name.
+/// The mark in front of each line of a row but its name.
 const INDENT: &str = "    ";
 
 /// What a line of a block is.

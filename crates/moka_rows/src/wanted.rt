@@ -1,19 +1,26 @@
-// What the lines of a row ask for: a script, its replies, and how it ends.
+// What the lines of a row ask for: a script, its replies, how it ends, and the requests for memory that are refused meanwhile.
 use crate::ending::Ending;
+use moka_refusals::Refusals;
 use std::alloc::{AllocError, Global};
 use std::fmt;
 
-/// What stands between a line of a script and its reply.
+/// Separates a line of a script from its reply.
 const ARROW: &str = " -> ";
 
-/// What stands between how often a line is meant, and the line.
+/// Separates how often a line is played from the line.
 const TIMES: &str = " times ";
 
-/// What stands between the lines of a script that are repeated together.
+/// Separates the lines of a script that are repeated together.
 const AND: &str = "; ";
 
 /// What a line begins with that says how the script ends.
 const ENDS: &str = "ends with ";
+
+/// What a line begins with that names the request for memory that is refused.
+const REFUSES: &str = "refuses request ";
+
+/// What a line begins with that names the first of the requests for memory that are refused, and what it ends with.
+const REFUSES_FROM: (&str, &str) = ("refuses requests from ", " on");
 
 /// Why a line of a row isn't read.
 #[derive(Clone, Copy, Debug, PartialEq, Eq)]
@@ -45,6 +52,8 @@ pub struct Wanted {
     pub script: String,
     pub replies: String,
     pub ending: Ending,
+    /// The requests for memory that are refused while the script runs.
+    pub refusals: Refusals,
     /// Whether any replies will do, as for a script in quotes.
     pub is_open: bool,
 }
@@ -56,6 +65,7 @@ impl Wanted {
             script: String::new(alloc),
             replies: String::new(alloc),
             ending: Ending::Done,
+            refusals: Refusals::Never,
             is_open: false,
         }
     }
@@ -84,10 +94,14 @@ impl Wanted {
         }
     }
 
-    /// Adds a line of the row: a line of the script with its reply, if it has one, so many of them, or how the script ends.
+    /// Adds a line of the row: lines of the script with their replies, how the script ends, or which requests for memory are refused.
     pub fn add(&mut self, alloc: Global, line: &str) -> Result<(), LineError> {
         if let Some(ending) = line.strip_prefix(ENDS) {
             self.ending = Ending::parse(ending)?;
+            return Ok(());
+        }
+        if let Some(refusals) = refusals_of(line)? {
+            self.refusals = refusals;
             return Ok(());
         }
         let (times, lines) = repeated(line);
@@ -106,6 +120,29 @@ impl Wanted {
         };
         push_numbered(alloc, &mut self.script, call, number)?;
         push_numbered(alloc, &mut self.replies, reply, number)
+    }
+}
+
+/// The refused requests that a line names, if it names some.
+fn refusals_of(line: &str) -> Result<Option<Refusals>, LineError> {
+    if let Some(number) = line.strip_prefix(REFUSES) {
+        return Ok(Some(Refusals::Once(number_of(number)?)));
+    }
+    let (before, behind) = REFUSES_FROM;
+    let Some(rest) = line.strip_prefix(before) else {
+        return Ok(None);
+    };
+    match rest.strip_suffix(behind) {
+        Some(number) => Ok(Some(Refusals::From(number_of(number)?))),
+        None => Err(LineError::NotRead),
+    }
+}
+
+/// A number of a request, from 1 on.
+fn number_of(text: &str) -> Result<u64, LineError> {
+    match text.parse() {
+        Ok(number) if number > 0 => Ok(number),
+        _ => Err(LineError::NotRead),
     }
 }
 
