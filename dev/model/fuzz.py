@@ -1341,10 +1341,10 @@ def mutate(r, lines):
     return data
 
 
-def make(mode, seed, i):
+def make(mode, seed, i, malformed):
     r = random.Random("%s/%d/%d" % (mode, seed, i))
     lines = GEN[mode](r)
-    if r.random() < 0.125:
+    if r.random() < 0.125 or malformed:
         return mutate(r, lines)
     return "".join(line + "\n" for line in lines).encode()
 
@@ -1365,8 +1365,8 @@ def answer(program, data):
 
 
 def one(job):
-    mode, seed, i = job
-    data = make(mode, seed, i)
+    mode, seed, i, malformed = job
+    data = make(mode, seed, i, malformed)
     model.SEEN.clear()
     try:
         want = model.reply_text(data)
@@ -1402,9 +1402,10 @@ def main():
     p.add_argument("--count", type=int, default=100)
     p.add_argument("--jobs", type=int, default=1)
     p.add_argument("--mode", default="all", choices=("all",) + MODES)
+    p.add_argument("--malformed", action="store_true", help="puts faults into all scripts, and not into one in eight")
     a = p.parse_args()
     modes = MODES if a.mode == "all" else (a.mode,)
-    jobs = [(m, a.seed, i) for i in range(a.count) for m in modes]
+    jobs = [(m, a.seed, i, a.malformed) for i in range(a.count) for m in modes]
     start = time.time()
     results, seen = Counter(), Counter()
     with multiprocessing.Pool(a.jobs, setup, (a.program and os.path.abspath(a.program),)) as pool:
