@@ -1,4 +1,4 @@
-//! What a maintenance has at hand at some of its places.
+//! What a maintenance keeps at some of its places.
 ghost use Rattle.std.specs.Prelude.{◌≡◌, ◌-◌};
 ghost use Rattle.moka_engine.specs.Turn.Admission.{is_admitted, is_decided};
 

@@ -39,7 +39,7 @@ pub fn accepted_inserts_stand<K: Eq + Hash, V, S: BuildHasher>()
     ensures { StandsOnceInserted V (keys_by K.Hash S.BuildHasher S.Hasher.Hasher) }
 {}
 
-/// What stands at a key is the value last written there.
+/// The entry at a key has the value last written there.
 pub fn values_are_last_written<K: Eq + Hash, V, S: BuildHasher>()
     ensures { KeepsLastWritten V (keys_by K.Hash S.BuildHasher S.Hasher.Hasher) }
 {}
@@ -54,7 +54,7 @@ pub fn gets_answer_what_was_last_written<K: Eq + Hash, V, S: BuildHasher>()
     ensures { GetsLastWritten V (keys_by K.Hash S.BuildHasher S.Hasher.Hasher) }
 {}
 
-/// With nothing outstanding, entries and nodes are paired, and what is charged is what stands.
+/// With nothing outstanding, entries and nodes are paired, and the charged entries are those of the map.
 pub fn charges_are_weights_at_rest<K: Eq + Hash, V, S: BuildHasher>()
     ensures { IsPairedAtRest V (keys_by K.Hash S.BuildHasher S.Hasher.Hasher) }
 {}
@@ -134,7 +134,7 @@ pub fn syncs_empty_the_logs<K: Eq + Hash, V, S: BuildHasher, W: WeighShared<K, V
     ensures { (weigher : _) → SyncsEmpty {V = V} (keys_by K.Hash S.BuildHasher S.Hasher.Hasher) (W.weighs weigher) }
 {}
 
-/// What stands at a key is the value that a whole call last wrote there.
+/// The entry at a key has the value that a whole call last wrote there.
 pub fn calls_keep_last_written<K: Eq + Hash, V, S: BuildHasher, W: WeighShared<K, V>>()
     ensures { (weigher : _) → CallsKeepLastWritten {V = V} (keys_by K.Hash S.BuildHasher S.Hasher.Hasher) (W.weighs weigher) }
 {}

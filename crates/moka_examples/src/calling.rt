@@ -123,7 +123,7 @@ pub fn is_found_after<
     Ok(found)
 }
 
-/// Counts a use, and estimates how often the hash was used of late.
+/// Counts a use, and estimates how often the hash was used recently.
 pub fn count_use(sketch: &mut FrequencySketch, hash: u64) -> u8
     ensures value { result ≡ estimate sketch.new hash }
     ensures step { sketch.new ≡ after_increment sketch.old hash }
@@ -214,7 +214,7 @@ pub fn found_between<K: Eq + Hash + Drop, V: Drop, S: BuildHasher + Drop, W: Wei
     }
 }
 
-/// The turn that applies an upsert whose entry has left drops it: nothing changes but the place, whatever work is at hand there.
+/// The turn that applies an upsert whose entry has left drops it: nothing changes but the place, whatever work it has there.
 pub fn late_upserts_are_dropped<K: Eq + Hash, V, S: BuildHasher>()
     ensures { (core : CoreState K V S) (work : Work) (t : Ticket) (refused : Bool)
         → core.maintenance.place ≡ Apply work (Upsert t) → entry_of t core.entries ≡ None

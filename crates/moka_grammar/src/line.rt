@@ -200,13 +200,13 @@ pub struct CoreLine<T = Text> {
 pub enum SketchLine {
     /// Counts the hash so many times.
     Inc { hash: u64, times: u16 },
-    /// How often the hash was counted of late.
+    /// Estimates how often the hash was counted recently.
     Freq { hash: u64 },
     /// Where the hash's counter lies at a depth.
     Index { hash: u64, depth: u8 },
     /// How long the table is.
     Len,
-    /// Sees to a table for so many entries.
+    /// Makes sure of a table for a cache of this capacity.
     Ensure { cap: u32 },
 }
 

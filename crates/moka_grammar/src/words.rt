@@ -26,7 +26,7 @@ impl From<AllocError> for LineError {
     }
 }
 
-/// The words of a line: what stands between its spaces.
+/// The words of a line, between its spaces.
 pub fn words_of<A: Allocator + Clone + Drop>(
     alloc: A,
     line: &[u8],

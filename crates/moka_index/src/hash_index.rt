@@ -89,7 +89,7 @@ impl<A: Allocator> HashIndex<A> {
         }
     }
 
-    /// Adds an id, which is a candidate of no hash, under its hash. Takes constant time in the mean.
+    /// Adds an id, which is a candidate of no hash, under its hash. Takes constant time on average.
     pub fn add(&mut self, id: usize, hash: u64)
         requires room { id < self.old.ids }
         requires absent { (other : ℕ) → is_candidate self.old other id ≡ false }
@@ -100,7 +100,7 @@ impl<A: Allocator> HashIndex<A> {
         self.slots[place] = Slot { tag, id: id as u32 };
     }
 
-    /// Takes an id out, which is a candidate of this hash. What stands behind it moves up, so that no slot is lost.
+    /// Takes an id out, which is a candidate of this hash. Ids behind it move up, so that no slot is lost.
     pub fn remove(&mut self, id: usize, hash: u64)
         requires { is_candidate self.old hash id ≡ true }
         ensures step { Removes self.old id self.new }

@@ -62,7 +62,7 @@ pub(crate) fn close<A: Allocator>(slots: &mut Vec<Slot, A>, ids: usize, place: u
     }
 }
 
-/// Moves what stands at a place into the hole, if a search for it would meet the hole, and says where the hole is then.
+/// Moves the id at a place into the hole, if a search for it would meet the hole, and answers where the hole is then.
 fn move_up<A: Allocator>(slots: &mut Vec<Slot, A>, ids: usize, hole: usize, at: usize) -> usize
     requires closing { IsClosing slots.old.items ids hole at }
     requires taken { is_free slots.old.items at ≡ false }

@@ -197,8 +197,7 @@ impl<A: Allocator + Clone + Drop> Maintenance<A> {
         }
     }
 
-    /// The turns that take the next reads and apply them, one after another. They are still in their log, and the entries of the hits have been touched,
-    /// or will be: both is for others to do.
+    /// The turns that take the next reads and apply them, one after another. The caller pops the log and touches the entries.
     pub fn apply_reads(&mut self, reads: &[LoggedRead])
         requires some { 0 < length reads.now }
         requires left { length reads.now ≤ reads_left self.old.place }

@@ -33,7 +33,7 @@ pub struct Node {
 }
 
 /// The nodes of the entries that are charged, least recently used first, and with a time to live their tickets in order of writing. A node is
-/// found by its ticket in constant time in the mean. The nodes lie in a chain, where a use moves a node by links alone.
+/// found by its ticket in constant time on average. The nodes lie in a chain, where a use moves a node by links alone.
 #[derive(Drop)]
 pub struct Orders<A: Allocator + Clone + Drop = Global> {
     access: Chain<Node, A>,

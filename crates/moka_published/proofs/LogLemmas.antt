@@ -151,7 +151,8 @@ number_is_place p (o ∷ older) chain =
 
 -- what comes behind a list is counted beside it
 later_length : {T : Type 0} (newer older : List T) (n s : T) (all : List T) → n ∷ all ≡ newer ++ s ∷ older → length all ≡ length newer + length older
-later_length newer older n s all same = let both : length (n ∷ all) ≡ length newer + length (s ∷ older) = ap length same ∙ length-append newer (s ∷ older) in omega arith
+later_length newer older n s all same = let both : length (n ∷ all) ≡ length newer + length (s ∷ older) = ap length same ∙ length-append newer (s ∷ older) in
+    omega arith
 
 lesser : (a b n m : ℕ) → a ≡ n + b → min a m ≤ min b m + n
 lesser a b n m is = omega arith

@@ -3,7 +3,7 @@ ghost use Rattle.std.specs.Prelude.{◌≡◌, ◌≤◌, ◌+◌, ◌-◌, ◌^
 ghost use Rattle.moka_published.specs.declared.rule.Published.{Published};
 ghost use Rattle.moka_published.specs.Log.{IsChain};
 
-/// The number of published counts is how many publications came before, as far as 64 bits tell.
+/// The number of published counts is how many publications there have been, theirs included, up to 2^64 - 1. The opening zeros have number 0.
 pub fn numbers_count_publications()
     ensures { (newest : Published) (older : List Published) → IsChain (newest ∷ older) → newest.number ≡ min (length older) (2 ^ 64 - 1) }
 {}

@@ -15,7 +15,7 @@ use moka_grammar::text::Text;
 use std::alloc::{AllocError, Allocator};
 use std::time::Duration;
 
-/// What is told on a line. Texts and pairs are lent by what has them.
+/// The reply on a line. Texts and pairs are borrowed.
 #[derive(Drop)]
 pub enum ReplyValue<'a> {
     /// The cache or sketch of a first line is there.

@@ -14,7 +14,7 @@ use moka_common::frequency_sketch::FrequencySketch;
 use moka_grammar::line::SketchLine;
 use std::alloc::Allocator;
 
-/// Makes the calls of the lines in turn on a sketch with a table for so many entries, and writes the replies.
+/// Makes the calls of the lines in turn on a sketch with a table for this capacity, and writes the replies.
 pub fn sketch_replies<A: Allocator + Clone + Drop>(
     alloc: A,
     cap: u32,

@@ -57,11 +57,10 @@ use std::sync::Wait;
 ///
 /// # Maintenance
 ///
-/// What stands in the logs is applied by a maintenance, which some caller runs in its call: once a log holds 64 operations, or half a second of the
-/// moments that are handed in has passed since the last one, and nobody else runs one; or at a caller's word, by `sync`. Only then is an entry charged,
-/// and admitted by the size-aware TinyLFU of Caffeine (Einziger, Friedman and Manes) or turned away, and only then do entries leave that are expired or
-/// too much, and one for whose place in the orders there is no memory. Until then the map may have more entries than its limit, by as many as the logs
-/// hold and threads are about to push, and the counts are those of the last maintenance. No read gives an expired entry, whether or not it has left.
+/// Some caller drains the logs within its call: when one reaches 64 operations, every 500 ms by the moments that are handed in, or on `sync`. This
+/// maintenance charges entries, and admits or rejects them by the size-aware TinyLFU of Caffeine (Einziger, Friedman and Manes). It evicts entries that
+/// are expired, over the limit, or have no memory for a node. Until then the map may exceed its limit, by as many entries as the logs hold and threads
+/// are about to push, and the counts are those of the last maintenance. No read gives an expired entry, evicted or not.
 ///
 /// # Pairs
 ///
@@ -74,8 +73,8 @@ use std::sync::Wait;
 ///
 /// # Cost
 ///
-/// A call takes constant time in the mean, beside waiting and but for the caller that runs a maintenance, which takes constant time for each operation
-/// that it applies and each entry that it looks at. Building and inserting take memory, and `iter` for its snapshot; a look-up takes none of its own.
+/// A call takes constant time on average, beside waiting; the caller that runs a maintenance takes constant time for each operation that it applies and
+/// each entry that it looks at. Building and inserting allocate, and `iter` for its snapshot; a look-up allocates nothing of its own.
 ///
 /// # What differs from mini-moka
 ///
@@ -282,7 +281,8 @@ impl<
 
     /// Hides all entries that were inserted or read last before this moment. Those of the moment itself stay. It takes no lock.
     pub fn invalidate_all(&self, now: Instant)
-        ensures call { (new : LockedValue S W) × CallsInvalidateAll (locked_allows (keys_by K.Hash S.BuildHasher S.Hasher.Hasher) P.holds W.weighs) locked_decides
+        ensures call { (new : LockedValue S W) × CallsInvalidateAll
+            (locked_allows (keys_by K.Hash S.BuildHasher S.Hasher.Hasher) P.holds W.weighs) locked_decides
             (pends_by locked_caller) CALLER now reply.Done (resting_at self.now) new }
     {
         steps::invalidate_all(&mut Locked::new(self.inner.get()), now);

@@ -1,4 +1,4 @@
-//! How often hashes were counted of late, in counters of four bits: what the admission of entries goes by.
+//! Estimates how often hashes were counted recently, in counters of four bits: admission goes by it.
 ghost use Rattle.std.specs.Prelude.{◌≡◌, ◌<◌, ◌≤◌, IsOk, OnOk, OnErr};
 ghost use Rattle.moka_sketch.specs.Sketch.{IsSketch, after_increment, estimate, index_of};
 ghost use Rattle.moka_sketch.specs.SketchCapacity.{after_ensure_capacity, sample_size_for, sketch_capacity, table_len, table_len_for};
@@ -71,7 +71,7 @@ impl<A: Allocator + Clone + Drop> FrequencySketch<A> {
         Ok(())
     }
 
-    /// How often the hash was counted of late, from 0 to 15. It reads four words, with a multiplication each.
+    /// Estimates how often the hash was counted recently, from 0 to 15. It reads four words, with a multiplication each.
     pub fn frequency(&self, hash: u64) -> u8
         ensures value { result ≡ estimate self.now hash }
         ensures within { result ≤ MAX_FREQUENCY }
@@ -119,14 +119,14 @@ impl<A: Allocator + Clone + Drop> FrequencySketch<A> {
     }
 }
 
-/// The length of a table for so many entries, in words.
+/// The length of the table for a cache of this capacity, in words.
 fn wanted_len(cap: u32) -> usize
     ensures { result ≡ table_len_for cap }
 {
     (cap.min(MAX_TABLE_LEN) as usize).next_power_of_two()
 }
 
-/// How many counts make a sample, for so many entries.
+/// How many counts make a sample, for a cache of this capacity.
 fn wanted_sample_size(cap: u32) -> u32
     ensures { result ≡ sample_size_for cap }
 {

@@ -174,9 +174,10 @@ fn a_table_ages(rt: HostRuntime) {
 
 #[test]
 fn a_load_of_a_list_is_played(rt: HostRuntime) {
-    // 0 and 1 move, and 7 isn't there: two moves, and the order is 2, 0, 1.
+    // A list takes the last of the nodes that were made ahead first, so 0 and 1 have the ids 2 and 1. They move, and 7 isn't there: two moves, and the order
+    // is 2, 0, 1.
     assert_eq!(rt;
-        told_of_list(rt.alloc(), MOVE, &[0, 7, 1], 1),
+        told_of_list(rt.alloc(), MOVE, &[2, 7, 1], 1),
         (DONE, 2 + 2 * 31 * 31 + 1)
     );
     // Nothing is left, and 0, 1 and 2 were met in each round.

@@ -65,9 +65,8 @@ pub(crate) struct Parts<S: Drop, W: Drop> {
 ///
 /// A cache with a `max_capacity` is bounded. Without a weigher an entry weighs 1, so the capacity is the most entries that it has at a call's end.
 /// With one it is a weight: the weigher answers a `u32` for key and value at each insert. An update may leave more, which later calls remove.
-/// Where there is no room, a new entry is admitted only if its key was looked for more often of late than those of all the least recently used
-/// entries together that would give way to it: the size-aware TinyLFU of Caffeine, by Einziger, Friedman and Manes. Weights don't say which
-/// entries are looked at to make room: the least recently used ones are.
+/// When the cache is full, a new entry is admitted only if its estimated frequency exceeds the sum of its victims', which are the least recently
+/// used entries: the size-aware TinyLFU of Caffeine, by Einziger, Friedman and Manes. Weights don't choose the victims.
 ///
 /// # Expiry
 ///
@@ -81,11 +80,11 @@ pub(crate) struct Parts<S: Drop, W: Drop> {
 ///
 /// # Cost
 ///
-/// A look-up takes constant time in the mean, by an index over the hashes of the keys, as long as these are spread; keys of one hash are looked
-/// through in turn. All else in a call takes constant time for each entry that it adds or removes. Nothing but building and inserting takes
-/// memory, and an insert that finds room takes it for the sketch's table alone, and can't be refused. Where there is none, room is made for twice as
-/// many entries, though without a weigher for no more than one above the limit, and all entries are added to the index anew. So a cache without a
-/// weigher whose `initial_capacity` is above its limit refuses no insert. A cache has at most 2^31 entries.
+/// A look-up takes constant time on average, by an index over the hashes of the keys, as long as these are spread; keys of one hash are compared
+/// one after another. All else in a call takes constant time for each entry that it adds or removes. Only building and inserting allocate. An insert
+/// within the cache's capacity allocates at most the sketch's table, and can't be refused. Beyond it the cache doubles its capacity, without a weigher
+/// up to one above the limit, and rebuilds the index. So a cache without a weigher whose `initial_capacity` is above its limit refuses no insert. A
+/// cache has at most 2^31 entries.
 ///
 /// # What differs from mini-moka
 ///
@@ -156,7 +155,7 @@ impl<K: Eq + Hash + Drop, V: Drop, A: Allocator + Clone + Drop> Cache<
     UnitWeight,
     A,
 > {
-    /// A cache with a limit of so many entries, and std's default hash state, whose key is fixed. It is refused only for want of memory.
+    /// A cache with a limit of `max_capacity` entries, and std's default hash state, whose key is fixed. It is refused only for want of memory.
     pub fn new(alloc: A, max_capacity: u64) -> Result<Self, BuildError>
         ensures ok { IfOk result (λ cache. cache ≡ new_cache (record {
           hash_state = cache.settings.hash_state;

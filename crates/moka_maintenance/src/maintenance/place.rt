@@ -1,4 +1,4 @@
-// Where a maintenance is, and what it has at hand there.
+// Where a maintenance is, and what it keeps there.
 ghost use Rattle.std.specs.Prelude.{◌≡◌, ℕ, List};
 ghost use Rattle.moka_engine.specs.Place.{name_of};
 ghost use Rattle.moka_orders.specs.declared.orders.Node.{Node};
@@ -30,7 +30,7 @@ pub(crate) struct Removal {
     pub(crate) next: Option<NodeId>,
 }
 
-/// The places of a maintenance, each with what it has at hand.
+/// The places of a maintenance, each with what it keeps there.
 #[derive(Clone, Copy)]
 pub(crate) enum Stage {
     Idle,

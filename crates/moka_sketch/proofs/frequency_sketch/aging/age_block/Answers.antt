@@ -1,10 +1,12 @@
-use Rattle.std.proofs.Common.{rules, arith, refl, sym, ap, ◌∙◌, ◌≡◌, ◌-◌, ◌/◌, ◌≤◌, length, map, sum, ℕ, ◌+◌, ◌*◌, ◌<◌, List, [], bit_and, take, drop, replicate, get_or}
+use Rattle.std.proofs.Common.{rules, arith, refl, sym, ap, ◌∙◌, ◌≡◌, ◌-◌, ◌/◌, ◌≤◌, length, map, sum, ℕ, ◌+◌, ◌*◌, ◌<◌, List, [], bit_and, take, drop}
+use Rattle.std.proofs.Common.{replicate, get_or}
 use lib.Lanes.{zip2, put_chunk}
 use Rattle.std.proofs.lemmas.List.{length-take-le, length-drop}
 use Rattle.moka_sketch.specs.Sketch.{odd_count}
 use Rattle.moka_sketch.specs.Cells.{counters_of, halved_word}
 use Rattle.moka_sketch.proofs.LaneLemmas.{aged_to, AreSmall-zero, AreSmall-more, sum-counters_of_added, halved_lanes, low_lanes, low_word, added}
-use Rattle.moka_sketch.proofs.LaneLemmas.{get_or-first_chunks, drop-aged_to, aged_by_chunk, rest_aged, rest_counted, odd_count_add, odd_count_le, sum-counters_of_zero}
+use Rattle.moka_sketch.proofs.LaneLemmas.{get_or-first_chunks, drop-aged_to, aged_by_chunk, rest_aged, rest_counted, odd_count_add, odd_count_le}
+use Rattle.moka_sketch.proofs.LaneLemmas.{sum-counters_of_zero}
 use Rattle.moka_sketch.proofs.frequency_sketch.aging.age_block.Goals as goal
 
 pub loop-chunk-init : goal.loop-chunk-init
