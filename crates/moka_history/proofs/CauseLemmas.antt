@@ -23,7 +23,7 @@ use Rattle.moka_machine.specs.Lookup.{after_use, after_look, unexpired_at}
 use Rattle.moka_machine.specs.Upkeep.{is_expired}
 use Rattle.moka_machine.specs.Insert.{after_put, after_verdict, new_entry, victims_of}
 use Rattle.moka_machine.specs.Invalidate.{chosen}
-use Rattle.moka_machine.specs.Step.{Answer, IsStep, Request, Get, ContainsKey, Insert, Invalidate}
+use Rattle.moka_machine.specs.Step.{Answer, IsStep, Request, Get, ContainsKey, Insert, Invalidate, Remove}
 use Rattle.moka_machine.specs.Step.{InvalidateAll, InvalidateEntriesIf, Iterate, EntryCount, WeightedSize}
 use Rattle.moka_history.specs.Removal.{RemovalCause, Invalidated, Expired, AboveLimit, GaveWay, entries_from, upkeep_moment}
 use Rattle.moka_history.proofs.HistoryLemmas.{any-key, entry_at-leaving, one_of, something}
@@ -421,6 +421,14 @@ module _ {K V S W : Type 0} (keys : Keys K S) (laws : IsEquivalence keys.eq) (ke
         something (sym (ap (λ c. entry_at keys.eq key c.contents.entries) same.same) ∙ none) found
     step-cause old new (Invalidate other now) answer step tied found none =
         upkept old new (Invalidate other now) now refl tied found
+        (λ stands. elim (cases_Bool (keys.eq other key)) [
+          | inl equal ↦ Invalidated (sym (same-key keys laws key e old.contents.entries found other) ∙ equal)
+          | inr differ ↦
+              something (sym (entry_at-other laws other key differ (after_look keys old now).contents.entries) ∙
+              (sym (ap (λ c. entry_at keys.eq key c.contents.entries) step.1) ∙ none)) stands
+        ])
+    step-cause old new (Remove other now) answer step tied found none =
+        upkept old new (Remove other now) now refl tied found
         (λ stands. elim (cases_Bool (keys.eq other key)) [
           | inl equal ↦ Invalidated (sym (same-key keys laws key e old.contents.entries found other) ∙ equal)
           | inr differ ↦

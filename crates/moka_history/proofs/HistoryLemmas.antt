@@ -15,15 +15,15 @@ use Rattle.moka_machine.specs.Contents.{Contents, after_leaving, entry_at, entri
 use Rattle.moka_machine.specs.CacheState.{CacheState, new_cache}
 use Rattle.moka_base.specs.Settings.{Settings}
 use Rattle.moka_machine.specs.Upkeep.{after_expiry, after_live_expiry, after_trim, after_upkeep, has_lived, is_idle, least_recent}
-use Rattle.moka_machine.specs.Lookup.{after_use, after_look, unexpired_at}
+use Rattle.moka_machine.specs.Lookup.{after_get, after_use, after_look, unexpired_at}
 use Rattle.moka_machine.specs.Upkeep.{is_expired, unexpired}
 use Rattle.moka_machine.specs.Insert.{after_put, after_verdict, new_entry, victims_of}
 use Rattle.moka_machine.specs.Invalidate.{chosen}
 use Rattle.moka_machine.specs.Iterate.{unexpired_pairs}
-use Rattle.moka_machine.specs.Step.{Answer, IsStep, Request, Get, ContainsKey, Insert, Invalidate, InvalidateAll}
+use Rattle.moka_machine.specs.Step.{Answer, IsStep, Request, Get, ContainsKey, Insert, Invalidate, Remove, InvalidateAll}
 use Rattle.moka_machine.specs.Step.{InvalidateEntriesIf, Iterate, EntryCount, WeightedSize, Done, Found, Pairs, Truth}
 use Rattle.moka_history.specs.History.{ContainsAsGet, Exchange, Transition, chosen_keys, exchanges, HitsAreCurrent, IsCurrent}
-use Rattle.moka_history.specs.History.{IsLastInsert, LastWrite, LastWritesAreInserts, Leads, PairsAreCurrent, RunsHaveAHistory}
+use Rattle.moka_history.specs.History.{IsLastInsert, LastWrite, LastWritesAreInserts, Leads, PairsAreCurrent, RemoveAsGet, RunsHaveAHistory}
 use Rattle.moka_history.specs.History.{is_invalidated, is_over, is_written, known_after, last_write, used_at}
 use Rattle.moka_history.specs.Removal.{last_write_of}
 use Rattle.moka_machine.proofs.ContentsLemmas.{found_key}
@@ -259,6 +259,12 @@ module _ {K V S W : Type 0} (keys : Keys K S) (laws : IsEquivalence keys.eq) whe
         left_of (keys.eq other key) (entry_at keys.eq key kept.entries) e
         (sym (entry_at-without laws other key kept.entries) ∙ (sym (ap (λ c. entry_at keys.eq key c.contents.entries) step.1) ∙ h)) in
         cond-false (keys.eq other key) None (known key) differ ∙ told-upkeep known old now told key e stands
+    told-step old new (Remove other now) answer known step told key e h =
+        let kept = (after_look keys old now).contents in
+        let (differ, stands) =
+        left_of (keys.eq other key) (entry_at keys.eq key kept.entries) e
+        (sym (entry_at-without laws other key kept.entries) ∙ (sym (ap (λ c. entry_at keys.eq key c.contents.entries) step.1) ∙ h)) in
+        cond-false (keys.eq other key) None (known key) differ ∙ told-upkeep known old now told key e stands
     told-step old new InvalidateAll answer known step told key e h =
         something {o = None} refl (sym (ap (λ c. entry_at keys.eq key c.contents.entries) step.1) ∙ h)
     told-step old new (InvalidateEntriesIf answers) answer known step told key e h =
@@ -392,6 +398,9 @@ module _ {K V S W : Type 0} (keys : Keys K S) (weighs : W → K → V → ℕ �
       same_told refl look.0 ∙
       (told_by_value (unexpired_at keys.eq cache.settings.policy now key (after_look keys cache now).contents) ∙ ap is_some
       (same_found get.0 refl))
+
+  pub remove_as_get : RemoveAsGet keys weighs
+  remove_as_get cache left key now answer removed = (after_get keys cache key now, (removed.0, refl))
 
 -- ---- last inserts
 

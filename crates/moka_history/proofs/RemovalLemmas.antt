@@ -12,7 +12,7 @@ use Rattle.moka_machine.specs.Lookup.{after_use, after_look, unexpired_at}
 use Rattle.moka_machine.specs.Upkeep.{is_expired, unexpired}
 use Rattle.moka_machine.specs.Insert.{after_put, after_verdict, new_entry, victims_of}
 use Rattle.moka_machine.specs.Invalidate.{chosen}
-use Rattle.moka_machine.specs.Step.{Answer, IsStep, Request, Get, ContainsKey, Insert, Invalidate, InvalidateAll}
+use Rattle.moka_machine.specs.Step.{Answer, IsStep, Request, Get, ContainsKey, Insert, Invalidate, Remove, InvalidateAll}
 use Rattle.moka_machine.specs.Step.{InvalidateEntriesIf, Iterate, EntryCount, WeightedSize, Found}
 use Rattle.moka_history.specs.History.{LastWrite, Leads, Transition, chosen_keys, exchanges, is_over, is_written, known_after, last_write}
 use Rattle.moka_history.specs.Removal.{EntriesLeaveForACause, InsertsEnterOrAreRejected, IsMissing}
@@ -82,6 +82,7 @@ module _ {K V S W : Type 0} (keys : Keys K S) (laws : IsEquivalence keys.eq) (we
   rejected key old new (Insert other value now) answer (inr (refused, same)) written none =
       absurd (false≢true (sym (ap (λ a. is_written keys (Insert other value now) a key) refused) ∙ written))
   rejected key old new (Invalidate other now) answer step written none = absurd (false≢true written)
+  rejected key old new (Remove other now) answer step written none = absurd (false≢true written)
   rejected key old new InvalidateAll answer step written none = absurd (false≢true written)
   rejected key old new (InvalidateEntriesIf answers) answer step written none = absurd (false≢true written)
   rejected key old new (Iterate now) answer step written none = absurd (false≢true written)
@@ -238,6 +239,9 @@ module _ {K V S W : Type 0} (keys : Keys K S) (laws : IsEquivalence keys.eq) (we
   absent-step key old new (Insert other value now) answer (inr (refused, same)) written none =
       ap (λ c. entry_at keys.eq key c.contents.entries) same.same ∙ none
   absent-step key old new (Invalidate other now) answer step written none =
+      ap (λ c. entry_at keys.eq key c.contents.entries) step.1 ∙ absent-leaving keys.eq key (other ∷ [])
+      (after_look keys old now).contents (absent-upkeep old now key none)
+  absent-step key old new (Remove other now) answer step written none =
       ap (λ c. entry_at keys.eq key c.contents.entries) step.1 ∙ absent-leaving keys.eq key (other ∷ [])
       (after_look keys old now).contents (absent-upkeep old now key none)
   absent-step key old new InvalidateAll answer step written none = ap (λ c. entry_at keys.eq key c.contents.entries) step.1

@@ -17,7 +17,7 @@ use Rattle.moka_machine.specs.Upkeep.{after_expiry, after_live_expiry, after_tri
 use Rattle.moka_machine.specs.Lookup.{after_use, after_look, unexpired_at}
 use Rattle.moka_machine.specs.Insert.{after_put, after_verdict, new_entry, victims_of, with_write}
 use Rattle.moka_machine.specs.Invalidate.{chosen}
-use Rattle.moka_machine.specs.Step.{Answer, IsStep, Request, Get, ContainsKey, Insert, Invalidate}
+use Rattle.moka_machine.specs.Step.{Answer, IsStep, Request, Get, ContainsKey, Insert, Invalidate, Remove}
 use Rattle.moka_machine.specs.Step.{InvalidateAll, InvalidateEntriesIf, Iterate, EntryCount, WeightedSize}
 use Rattle.moka_history.specs.History.{Leads, Transition}
 use Rattle.moka_machine.proofs.ContentsLemmas.{absent-leaving}
@@ -222,6 +222,10 @@ module _ {K V S W : Type 0} (keys : Keys K S) (laws : IsEquivalence keys.eq) (we
       (tied-upkeep keys.eq laws old.settings.policy now old.contents tied))
   tied-step old new (Insert key value now) answer (inr (refused, same)) tied = subst Tied (sym same.same) tied
   tied-step old new (Invalidate key now) answer step tied =
+      subst Tied (sym step.1)
+      (tied-leaving keys.eq laws (key ∷ []) (after_look keys old now).contents
+      (tied-upkeep keys.eq laws old.settings.policy now old.contents tied))
+  tied-step old new (Remove key now) answer step tied =
       subst Tied (sym step.1)
       (tied-leaving keys.eq laws (key ∷ []) (after_look keys old now).contents
       (tied-upkeep keys.eq laws old.settings.policy now old.contents tied))

@@ -27,7 +27,7 @@ ExpiredValuesAreNotCurrent {K = K} keys V =
     live_nanos policy ≡ Some nanos → written + nanos ≤ now →
     IsCurrent keys policy now (inserted key value written ∷ past) key value → ⊥
 
--- without a limit an entry that is neither invalidated nor expired has no cause to leave
+-- without a limit an entry that is neither invalidated nor removed nor expired has no cause to leave
 abbrev pub EntriesWithoutCauseStay : {K S : Type 0} → Keys K S → Type 0 → Type 0 → Type 0
 EntriesWithoutCauseStay {K = K} {S = S} keys V W =
     (old new : CacheState K V S W) (request : Request K V) (e : Entry K V) → old.settings.policy.max_capacity ≡ None →

@@ -10,7 +10,7 @@ use Rattle.moka_machine.specs.declared.entry.Entry.{Entry}
 use Rattle.moka_machine.specs.Contents.{entry_keys}
 use Rattle.moka_machine.specs.CacheState.{CacheState, new_cache}
 use Rattle.moka_machine.specs.Invalidate.{chosen}
-use Rattle.moka_machine.specs.Step.{Answer, IsStep, Request, Runs, Get, Insert, Invalidate, InvalidateAll}
+use Rattle.moka_machine.specs.Step.{Answer, IsStep, Request, Runs, Get, Insert, Invalidate, Remove, InvalidateAll}
 use Rattle.moka_machine.specs.Step.{InvalidateEntriesIf, Iterate, ContainsKey, Done, Found, Pairs, Truth}
 
 -- ---- what the calls tell
@@ -36,9 +36,10 @@ abbrev pub used_at : {V : Type 0} → ℕ → LastWrite V → LastWrite V
 used_at now write = record write { used = now }
 
 module _ {K V S : Type 0} (keys : Keys K S) where
-  -- whether a call invalidates a key, if its predicate chose these
+  -- whether a call invalidates or removes a key, if its predicate chose these
   abbrev pub is_invalidated : Request K V → List K → K → Bool
   is_invalidated (Invalidate other now) chosen key = keys.eq other key
+  is_invalidated (Remove other now) chosen key = keys.eq other key
   is_invalidated InvalidateAll chosen key = true
   is_invalidated (InvalidateEntriesIf answers) chosen key = list_any (λ other. keys.eq other key) chosen
   is_invalidated request chosen key = false
@@ -48,7 +49,7 @@ module _ {K V S : Type 0} (keys : Keys K S) where
   is_written (Insert other value now) Done key = keys.eq other key
   is_written request answer key = false
 
-  -- what is known of a key's last write after a call: an accepted insert writes, a hit uses, and an invalidation ends it
+  -- what is known of a key's last write after a call: an accepted insert writes, a hit uses, and an invalidation or a removal ends it
   abbrev pub known_after : Request K V → Answer K V → List K → K → Option (LastWrite V) → Option (LastWrite V)
   known_after (Insert other value now) Done chosen key known =
       if keys.eq other key then Some (record { value = value; written = now; used = now }) else known
@@ -56,7 +57,7 @@ module _ {K V S : Type 0} (keys : Keys K S) where
       if keys.eq other key then option_map (used_at now) known else known
   known_after request answer chosen key known = if is_invalidated request chosen key then None else known
 
-  -- the last write of a key that no invalidation has ended, by the calls that were made, the last one first
+  -- the last write of a key that no invalidation or removal has ended, by the calls that were made, the last one first
   abbrev pub last_write : K → List (Exchange K V) → Option (LastWrite V)
   last_write key [] = None
   last_write key (call ∷ earlier) = known_after call.request call.answer call.chosen key (last_write key earlier)
@@ -66,7 +67,7 @@ module _ {K V S : Type 0} (keys : Keys K S) where
   IsCurrent policy now past key value =
       (write : LastWrite V) × (last_write key past ≡ Some write) × (write.value ≡ value) × (is_over policy now write ≡ false)
 
-  -- the last call that concerns a key is this insert at an equal key: none since is an accepted insert at it or invalidates it
+  -- the last call that concerns a key is this insert at an equal key: none since is an accepted insert at it, or invalidates or removes it
   pub record IsLastInsert (past : List (Exchange K V)) (key : K) (value : V) (now : ℕ) : Type 0 where
     pub since : List (Exchange K V)
     pub insert : Exchange K V
@@ -145,3 +146,9 @@ module _ {K V S W : Type 0} (keys : Keys K S) (weighs : W → K → V → ℕ �
       (cache looked got : CacheState K V S W) (key : K) (now : ℕ) (there : Bool) (found : Option V) →
       IsStep keys weighs cache (ContainsKey key now) (Truth there) looked → IsStep keys weighs cache (Get key now) (Found found) got →
       there ≡ is_some found
+
+  -- a removal answers what a get in its place answers
+  abbrev pub RemoveAsGet : Type 0
+  RemoveAsGet =
+      (cache left : CacheState K V S W) (key : K) (now : ℕ) (answer : Answer K V) → IsStep keys weighs cache (Remove key now) answer left →
+      (got : CacheState K V S W) × IsStep keys weighs cache (Get key now) answer got

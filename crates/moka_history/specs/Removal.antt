@@ -7,7 +7,7 @@ use Rattle.moka_machine.specs.declared.entry.Entry.{Entry}
 use Rattle.moka_machine.specs.Contents.{entry_at, total_weight}
 use Rattle.moka_machine.specs.CacheState.{CacheState, new_cache}
 use Rattle.moka_machine.specs.Upkeep.{is_expired}
-use Rattle.moka_machine.specs.Step.{Request, Get, ContainsKey, Insert, Invalidate, Done, Found}
+use Rattle.moka_machine.specs.Step.{Request, Get, ContainsKey, Insert, Invalidate, Remove, Done, Found}
 use Rattle.moka_history.specs.History.{LastWrite, Leads, Transition, chosen_keys, exchanges}
 use Rattle.moka_history.specs.History.{is_invalidated, is_over, is_written, last_write}
 
@@ -17,6 +17,7 @@ upkeep_moment (Get key now) = Some now
 upkeep_moment (ContainsKey key now) = Some now
 upkeep_moment (Insert key value now) = Some now
 upkeep_moment (Invalidate key now) = Some now
+upkeep_moment (Remove key now) = Some now
 upkeep_moment request = None
 
 -- what is known of an entry's write
@@ -31,7 +32,7 @@ entries_from eq key (e ∷ entries) = if eq key e.key then e ∷ entries else en
 module _ {K V S W : Type 0} (keys : Keys K S) where
   -- why an entry of the old cache leaves with a call
   pub data RemovalCause (old : CacheState K V S W) (request : Request K V) (new : CacheState K V S W) (e : Entry K V) : Type 0 where
-    -- it is invalidated
+    -- it is invalidated or removed
     Invalidated : is_invalidated keys request (chosen_keys request old.contents.entries) e.key ≡ true
         → RemovalCause old request new e
     -- one of its durations has passed

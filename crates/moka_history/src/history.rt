@@ -1,13 +1,14 @@
 //! What the calls of a cache tell of its entries, a law a function. A law is its function's clause: there is no code to call.
 ghost use Rattle.moka_base.specs.Keys.{keys_by};
 ghost use Rattle.moka_history.specs.Excluded.{EntriesWithoutCauseStay, ExpiredValuesAreNotCurrent, ReplacedValuesAreNotCurrent};
-ghost use Rattle.moka_history.specs.History.{ContainsAsGet, HitsAreCurrent, LastWritesAreInserts, PairsAreCurrent, RunsHaveAHistory};
+ghost use Rattle.moka_history.specs.History.{ContainsAsGet, HitsAreCurrent, LastWritesAreInserts, PairsAreCurrent, RemoveAsGet, RunsHaveAHistory};
 ghost use Rattle.moka_history.specs.Removal.{EntriesLeaveForACause, InsertsEnterOrAreRejected, MissesHaveAReason};
 
 use moka_base::weigh::Weigh;
 use std::hash::{BuildHasher, Hash};
 
-/// A hit is the last written value, and fresh: no invalidation has ended it, and neither of its durations has passed at the call's moment.
+/// A hit is the last written value, and fresh: no invalidation or removal has ended it, and neither of its durations has passed at the call's
+/// moment. A value that a removal answers is one too, by `remove_as_get`.
 pub fn hits_are_current<K: Eq + Hash, V, S: BuildHasher, W: Weigh<K, V>>()
     ensures { HitsAreCurrent (keys_by K.Hash S.BuildHasher S.Hasher.Hasher) W.weighs }
 {}
@@ -18,7 +19,7 @@ pub fn pairs_are_current<K: Eq + Hash, V, S: BuildHasher, W: Weigh<K, V>>()
 {}
 
 /// A get finds nothing exactly where the key was never written, its entry left for a cause since, its insert was rejected for want of room, or
-/// its last write is over.
+/// its last write is over. So does a removal, by `remove_as_get`.
 pub fn misses_have_a_reason<K: Eq + Hash, V, S: BuildHasher, W: Weigh<K, V>>()
     ensures { MissesHaveAReason (keys_by K.Hash S.BuildHasher S.Hasher.Hasher) W.weighs }
 {}
@@ -38,7 +39,13 @@ pub fn contains_as_get<K: Eq + Hash, V, S: BuildHasher, W: Weigh<K, V>>()
     ensures { ContainsAsGet (keys_by K.Hash S.BuildHasher S.Hasher.Hasher) W.weighs }
 {}
 
-/// An entry leaves only when it is invalidated or expired, or to make room.
+/// `remove` answers what a `get` in its place would, which is a step of the same cache with the same answer: so the laws of hits and misses speak of
+/// it too.
+pub fn remove_as_get<K: Eq + Hash, V, S: BuildHasher, W: Weigh<K, V>>()
+    ensures { RemoveAsGet (keys_by K.Hash S.BuildHasher S.Hasher.Hasher) W.weighs }
+{}
+
+/// An entry leaves only when it is invalidated, removed or expired, or to make room.
 pub fn entries_leave_for_a_cause<K: Eq + Hash, V, S: BuildHasher, W: Weigh<K, V>>()
     ensures { EntriesLeaveForACause (keys_by K.Hash S.BuildHasher S.Hasher.Hasher) W.weighs }
 {}
@@ -58,7 +65,7 @@ pub fn expired_values_are_not_current<K: Eq + Hash, V, S: BuildHasher>()
     ensures { ExpiredValuesAreNotCurrent (keys_by K.Hash S.BuildHasher S.Hasher.Hasher) V }
 {}
 
-/// And what the law of misses excludes: without a limit an entry that is neither invalidated nor expired has no cause to leave.
+/// And what the law of misses excludes: without a limit an entry that is neither invalidated nor removed nor expired has no cause to leave.
 pub fn entries_without_cause_stay<K: Eq + Hash, V, S: BuildHasher, W>()
     ensures { EntriesWithoutCauseStay (keys_by K.Hash S.BuildHasher S.Hasher.Hasher) V W }
 {}

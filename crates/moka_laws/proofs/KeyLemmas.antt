@@ -15,7 +15,7 @@ use Rattle.moka_machine.specs.Insert.{after_put, after_verdict, new_entry, victi
 use Rattle.moka_laws.specs.Laws.{KeysStandOnce, Remains}
 use Rattle.moka_machine.specs.Lookup.{after_look, after_use, unexpired_at}
 use Rattle.moka_machine.specs.Iterate.{pairs_of}
-use Rattle.moka_machine.specs.Step.{Answer, IsStep, Request, Runs, Get, ContainsKey, Insert, Invalidate}
+use Rattle.moka_machine.specs.Step.{Answer, IsStep, Request, Runs, Get, ContainsKey, Insert, Invalidate, Remove}
 use Rattle.moka_machine.specs.Step.{InvalidateAll, InvalidateEntriesIf, Iterate, EntryCount, WeightedSize}
 use Rattle.moka_machine.proofs.ContentsLemmas.{absent-leaving}
 use Rattle.moka_laws.proofs.RemainLemmas.{invalidations, looks, remains-leaving, remains-upkeep}
@@ -153,6 +153,8 @@ module _ {K V S W : Type 0} (keys : Keys K S) (laws : IsEquivalence keys.eq) (we
       subst (λ c. StandOnce keys.eq c.contents.entries) (sym same.same) once
   once-step old new (Invalidate key now) answer step once =
       once-remains keys.eq old.contents new.contents (invalidations keys weighs old new (Invalidate key now) answer tt step).1 once
+  once-step old new (Remove key now) answer step once =
+      once-remains keys.eq old.contents new.contents (invalidations keys weighs old new (Remove key now) answer tt step).1 once
   once-step old new InvalidateAll answer step once =
       once-remains keys.eq old.contents new.contents (invalidations keys weighs old new InvalidateAll answer tt step).1 once
   once-step old new (InvalidateEntriesIf answers) answer step once =

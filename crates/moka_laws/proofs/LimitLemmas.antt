@@ -23,7 +23,7 @@ use Rattle.moka_machine.specs.Insert.{IsInserted, after_admission, after_put, af
 use Rattle.moka_machine.specs.Invalidate.{chosen}
 use Rattle.moka_laws.specs.Laws.{IsUpdate, OnlyUpdatesOutgrowLimit, StaysWithinLimit}
 use Rattle.moka_machine.specs.Lookup.{after_search, after_use, unexpired_at}
-use Rattle.moka_machine.specs.Step.{Answer, IsStep, Request, Runs, Get, ContainsKey, Insert, Invalidate}
+use Rattle.moka_machine.specs.Step.{Answer, IsStep, Request, Runs, Get, ContainsKey, Insert, Invalidate, Remove}
 use Rattle.moka_machine.specs.Step.{InvalidateAll, InvalidateEntriesIf, Iterate, EntryCount, WeightedSize}
 use Rattle.moka_machine.proofs.ContentsLemmas.{All-leaving, All-upkeep}
 use Rattle.moka_laws.proofs.RemainLemmas.{filter-all, filter-both}
@@ -312,6 +312,10 @@ module _ {K V S W : Type 0} (keys : Keys K S) (laws : IsEquivalence keys.eq) (we
       let kept = after_upkeep keys.eq old.settings.policy now old.contents in
       less limit old new _ (Invalidate key now) step.1
       (grind (arith, total-filter (λ e. not (keys.eq key e.key)) kept.entries, total-upkeep keys.eq old.settings.policy now old.contents))
+  bounded_step old new limit (Remove key now) answer has step =
+      let kept = after_upkeep keys.eq old.settings.policy now old.contents in
+      less limit old new _ (Remove key now) step.1
+      (grind (arith, total-filter (λ e. not (keys.eq key e.key)) kept.entries, total-upkeep keys.eq old.settings.policy now old.contents))
   bounded_step old new limit InvalidateAll answer has step = less limit old new _ InvalidateAll step.1 (grind (arith))
   bounded_step old new limit (InvalidateEntriesIf answers) answer has step =
       less limit old new _ (InvalidateEntriesIf answers) step.1
@@ -450,6 +454,12 @@ module _ {K V S W : Type 0} (keys : Keys K S) (laws : IsEquivalence keys.eq) (we
   within_step limit old new (Insert key value now) answer within (inr refused) =
       subst (IsWithin limit) (sym refused.1.same) (record { has = within.has; ones = within.ones; fits = within.fits })
   within_step limit old new (Invalidate key now) answer within step =
+      let policy = old.settings.policy in
+      let kept = after_upkeep keys.eq policy now old.contents in
+      within_less limit old new _ within step.1 refl
+      (All-leaving keys.eq (λ e. e.weight ≡ 1) (key ∷ []) kept (All-upkeep keys.eq (λ e. e.weight ≡ 1) policy now old.contents within.ones))
+      (grind (arith, total-filter (λ e. not (keys.eq key e.key)) kept.entries, total-upkeep keys.eq policy now old.contents))
+  within_step limit old new (Remove key now) answer within step =
       let policy = old.settings.policy in
       let kept = after_upkeep keys.eq policy now old.contents in
       within_less limit old new _ within step.1 refl

@@ -19,12 +19,12 @@ use Rattle.moka_machine.specs.Contents.{Contents, after_leaving, entry_at, entri
 use Rattle.moka_machine.specs.CacheState.{CacheState}
 use Rattle.moka_base.specs.Settings.{idle_nanos, live_nanos}
 use Rattle.moka_machine.specs.Upkeep.{after_expiry, after_idle_expiry, after_trim, after_upkeep, has_lived, is_idle, is_expired, unexpired}
-use Rattle.moka_machine.specs.Lookup.{after_look, after_search, after_use, unexpired_at}
+use Rattle.moka_machine.specs.Lookup.{after_look, after_search, after_use, found_by_get, unexpired_at}
 use Rattle.moka_machine.specs.Insert.{after_put, after_verdict, new_entry, victims_of}
 use Rattle.moka_machine.specs.Invalidate.{chosen}
 use Rattle.moka_machine.specs.Iterate.{unexpired_pairs, pairs_of}
-use Rattle.moka_machine.specs.Step.{Answer, IsStep, Request, Get, ContainsKey, Insert, Invalidate, InvalidateAll, InvalidateEntriesIf}
-use Rattle.moka_machine.specs.Step.{Iterate, EntryCount, WeightedSize, Found, Truth, OutOfMemory, Pairs, Number}
+use Rattle.moka_machine.specs.Step.{Answer, IsStep, Request, Get, ContainsKey, Insert, Invalidate, Remove, InvalidateAll}
+use Rattle.moka_machine.specs.Step.{InvalidateEntriesIf, Iterate, EntryCount, WeightedSize, Found, Truth, OutOfMemory, Pairs, Number}
 use Rattle.moka_laws.specs.PlainMap.{IsMapAnswer, IsUnbounded, RunsAsMap, StepsAsMap, value_after, value_at}
 use Rattle.moka_machine.proofs.ContentsLemmas.{found_key}
 use Rattle.moka_laws.proofs.KeyLemmas.{entry_at-gone, keys-pairs, once-step}
@@ -268,6 +268,14 @@ module _ {K V S W : Type 0} (keys : Keys K S) where
       → (after_look keys cache now).contents ≡ cache.contents
   look-same cache unbounded now = upkeep-same cache.settings.policy unbounded now keys.eq cache.contents
 
+  -- and a get or a removal what a plain map has
+  found_in_map : (cache : CacheState K V S W) → IsUnbounded cache.settings.policy → (key : K) (now : ℕ)
+      → found_by_get keys cache key now ≡ value_at keys key (pairs_of cache.contents.entries)
+  found_in_map cache unbounded key now =
+      ap (λ c. option_map (λ e. e.value) (unexpired_at keys.eq cache.settings.policy now key c)) (look-same cache unbounded now)
+      ∙ (ap (option_map (λ e. e.value)) (unexpired-same cache.settings.policy unbounded now (entry_at keys.eq key cache.contents.entries))
+      ∙ sym (value-pairs keys key cache.contents.entries))
+
 module _ {K V S W : Type 0} (keys : Keys K S) (weighs : W → K → V → ℕ → W → Type 0) where
   -- each call leaves the settings
   pub settings-step : (old new : CacheState K V S W) (request : Request K V) (answer : Answer K V)
@@ -284,6 +292,7 @@ module _ {K V S W : Type 0} (keys : Keys K S) (weighs : W → K → V → ℕ �
       inserted.refused
   settings-step old new (Insert other value now) answer (inr (refused, same)) = ap (λ c. c.settings) same.same
   settings-step old new (Invalidate other now) answer step = ap (λ c. c.settings) step.1
+  settings-step old new (Remove other now) answer step = ap (λ c. c.settings) step.1
   settings-step old new InvalidateAll answer step = ap (λ c. c.settings) step.1
   settings-step old new (InvalidateEntriesIf answers) answer step = ap (λ c. c.settings) step.1
   settings-step old new (Iterate now) answer step = ap (λ c. c.settings) step.1
@@ -295,12 +304,7 @@ module _ {K V S W : Type 0} (keys : Keys K S) (weighs : W → K → V → ℕ �
     answers_as_map : (old new : CacheState K V S W) (request : Request K V) (answer : Answer K V) → IsUnbounded old.settings.policy
         → answer ≢ OutOfMemory
         → IsStep keys weighs old request answer new → IsMapAnswer keys (pairs_of old.contents.entries) request answer
-    answers_as_map old new (Get other now) answer unbounded known step =
-        step.0
-        ∙ ap Found (ap (λ c. option_map (λ e. e.value) (unexpired_at keys.eq old.settings.policy now other c))
-        (look-same keys old unbounded now)
-        ∙ (ap (option_map (λ e. e.value)) (unexpired-same old.settings.policy unbounded now (entry_at keys.eq other old.contents.entries))
-        ∙ sym (value-pairs keys other old.contents.entries)))
+    answers_as_map old new (Get other now) answer unbounded known step = step.0 ∙ ap Found (found_in_map keys old unbounded other now)
     answers_as_map old new (ContainsKey other now) answer unbounded known step =
         step.0
         ∙ ap Truth (ap (λ c. is_some (unexpired_at keys.eq old.settings.policy now other c)) (look-same keys old unbounded now)
@@ -310,6 +314,7 @@ module _ {K V S W : Type 0} (keys : Keys K S) (weighs : W → K → V → ℕ �
     answers_as_map old new (Insert other value now) answer unbounded known (inl (done, inserted)) = done
     answers_as_map old new (Insert other value now) answer unbounded known (inr (refused, same)) = absurd (known refused)
     answers_as_map old new (Invalidate other now) answer unbounded known step = step.0
+    answers_as_map old new (Remove other now) answer unbounded known step = step.0 ∙ ap Found (found_in_map keys old unbounded other now)
     answers_as_map old new InvalidateAll answer unbounded known step = step.0
     answers_as_map old new (InvalidateEntriesIf answers) answer unbounded known step = step.0.0
     answers_as_map old new (Iterate now) answer unbounded known step =
@@ -361,6 +366,11 @@ module _ {K V S W : Type 0} (keys : Keys K S) (weighs : W → K → V → ℕ �
         (value-inserted laws key asked (entry_at keys.eq other old.contents.entries) entry inserted.refused unbounded.0 refl))
     values_as_map old new (Insert other value now) answer unbounded known (inr (refused, same)) key = absurd (known refused)
     values_as_map old new (Invalidate other now) answer unbounded known step key =
+        ap (cached_value key) step.1
+        ∙ (ap (λ c. value_at keys key (pairs_of (entries_without keys.eq other c.entries))) (look-same keys old unbounded now)
+        ∙ other_value key (keys.eq other key) None (entries_without keys.eq other old.contents.entries) old.contents.entries
+        (value-without laws key other old.contents.entries))
+    values_as_map old new (Remove other now) answer unbounded known step key =
         ap (cached_value key) step.1
         ∙ (ap (λ c. value_at keys key (pairs_of (entries_without keys.eq other c.entries))) (look-same keys old unbounded now)
         ∙ other_value key (keys.eq other key) None (entries_without keys.eq other old.contents.entries) old.contents.entries

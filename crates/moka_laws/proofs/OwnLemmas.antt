@@ -12,8 +12,8 @@ use Rattle.moka_machine.specs.Upkeep.{is_expired, unexpired}
 use Rattle.moka_machine.specs.Lookup.{after_look, after_use, unexpired_at}
 use Rattle.moka_machine.specs.Insert.{after_put, after_verdict, new_entry, victims_of}
 use Rattle.moka_machine.specs.Invalidate.{chosen}
-use Rattle.moka_machine.specs.Step.{Answer, IsStep, Request, Runs, Get, ContainsKey, Insert, Invalidate, InvalidateAll, InvalidateEntriesIf}
-use Rattle.moka_machine.specs.Step.{Iterate, EntryCount, WeightedSize}
+use Rattle.moka_machine.specs.Step.{Answer, IsStep, Request, Runs, Get, ContainsKey, Insert, Invalidate, Remove, InvalidateAll}
+use Rattle.moka_machine.specs.Step.{InvalidateEntriesIf, Iterate, EntryCount, WeightedSize}
 use Rattle.moka_machine.proofs.ContentsLemmas.{All-leaving, All-upkeep}
 use Rattle.moka_laws.specs.Laws.{EntriesAreOwn}
 use Rattle.moka_laws.proofs.MapLemmas.{settings-step}
@@ -98,6 +98,10 @@ module _ {K V S W : Type 0} (keys : Keys K S) (weighs : W → K → V → ℕ �
       (own-look old now a)))
   own-step old new (Insert key value now) answer (inr (refused, same)) a = subst AreOwn (sym same.same) a
   own-step old new (Invalidate key now) answer step a =
+      subst AreOwn (sym step.1)
+      (All-leaving keys.eq (IsOwn {V = V} keys old.settings.hash_state) (key ∷ []) (after_look keys old now).contents
+      (own-look old now a))
+  own-step old new (Remove key now) answer step a =
       subst AreOwn (sym step.1)
       (All-leaving keys.eq (IsOwn {V = V} keys old.settings.hash_state) (key ∷ []) (after_look keys old now).contents
       (own-look old now a))

@@ -10,7 +10,7 @@ use Rattle.moka_machine.specs.CacheState.{CacheState}
 use Rattle.moka_machine.specs.Upkeep.{after_expiry, after_live_expiry, after_trim, after_upkeep, has_lived, is_idle, least_recent}
 use Rattle.moka_machine.specs.Invalidate.{chosen}
 use Rattle.moka_laws.specs.Laws.{InvalidationsKeepCounts, LooksChangeNothing, Remains}
-use Rattle.moka_machine.specs.Step.{Get, ContainsKey, Insert, Invalidate, InvalidateAll}
+use Rattle.moka_machine.specs.Step.{Get, ContainsKey, Insert, Invalidate, Remove, InvalidateAll}
 use Rattle.moka_machine.specs.Step.{InvalidateEntriesIf, Iterate, EntryCount, WeightedSize}
 
 module _ {X : Type 0} where
@@ -89,6 +89,7 @@ module _ {K V S W : Type 0} (keys : Keys K S) (weighs : W → K → V → ℕ �
       kept old new _ step.1 refl (remains-upkeep keys.eq old.settings.policy now old.contents)
   looks old new (Insert key value now) answer call step = absurd call
   looks old new (Invalidate key now) answer call step = absurd call
+  looks old new (Remove key now) answer call step = absurd call
   looks old new InvalidateAll answer call step = absurd call
   looks old new (InvalidateEntriesIf answers) answer call step = absurd call
   looks old new (Iterate now) answer call step = kept old new old step.1 refl (remains-all old.contents)
@@ -100,6 +101,11 @@ module _ {K V S W : Type 0} (keys : Keys K S) (weighs : W → K → V → ℕ �
   invalidations old new (ContainsKey key now) answer call step = absurd call
   invalidations old new (Insert key value now) answer call step = absurd call
   invalidations old new (Invalidate key now) answer call step =
+      let upkept = after_upkeep keys.eq old.settings.policy now old.contents in
+      kept old new _ step.1 refl
+      (remains-both old.contents upkept (without keys.eq upkept key) (remains-upkeep keys.eq old.settings.policy now old.contents)
+      (remains-leaving keys.eq (key ∷ []) upkept))
+  invalidations old new (Remove key now) answer call step =
       let upkept = after_upkeep keys.eq old.settings.policy now old.contents in
       kept old new _ step.1 refl
       (remains-both old.contents upkept (without keys.eq upkept key) (remains-upkeep keys.eq old.settings.policy now old.contents)

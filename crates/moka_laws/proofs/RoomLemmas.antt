@@ -10,8 +10,8 @@ use Rattle.moka_machine.specs.CacheState.{CacheState, new_cache}
 use Rattle.moka_machine.specs.Contents.{entry_at}
 use Rattle.moka_machine.specs.Insert.{after_put, after_verdict, new_entry, victims_of}
 use Rattle.moka_machine.specs.Lookup.{after_look}
-use Rattle.moka_machine.specs.Step.{Answer, IsStep, Request, Runs, Get, ContainsKey, Insert, Invalidate, InvalidateAll, InvalidateEntriesIf}
-use Rattle.moka_machine.specs.Step.{Iterate, EntryCount, WeightedSize, Done, OutOfMemory}
+use Rattle.moka_machine.specs.Step.{Answer, IsStep, Request, Runs, Get, ContainsKey, Insert, Invalidate, Remove, InvalidateAll}
+use Rattle.moka_machine.specs.Step.{InvalidateEntriesIf, Iterate, EntryCount, WeightedSize, Done, OutOfMemory}
 use Rattle.moka_laws.specs.Laws.{NeverRefuses}
 use Rattle.moka_laws.proofs.LimitLemmas.{IsWithin, total-ones, within_step}
 
@@ -52,6 +52,7 @@ module _ {K V S W : Type 0} (keys : Keys K S) (weighs : W → K → V → ℕ �
   served_step old new (Insert key value now) answer room (inr step) =
       let full : old.capacity ≤ length old.contents.entries = step.1.full in absurd (omega arith)
   served_step old new (Invalidate key now) answer room step = served old new _ answer Done (λ e. (cc)) step.0 step.1 refl
+  served_step old new (Remove key now) answer room step = served old new _ answer _ (λ e. (cc)) step.0 step.1 refl
   served_step old new InvalidateAll answer room step = served old new _ answer Done (λ e. (cc)) step.0 step.1 refl
   served_step old new (InvalidateEntriesIf answers) answer room step = served old new _ answer Done (λ e. (cc)) step.0.0 step.1 refl
   served_step old new (Iterate now) answer room step = served old new old answer _ (λ e. (cc)) step.0 step.1 refl

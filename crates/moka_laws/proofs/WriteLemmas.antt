@@ -19,8 +19,8 @@ use Rattle.moka_machine.specs.Upkeep.{after_expiry, after_live_expiry, after_tri
 use Rattle.moka_machine.specs.Lookup.{after_look, after_use, unexpired_at}
 use Rattle.moka_machine.specs.Insert.{after_entry, after_put, after_update, after_verdict, new_entry, victims_of}
 use Rattle.moka_machine.specs.Invalidate.{chosen}
-use Rattle.moka_machine.specs.Step.{Answer, IsStep, Request, Runs, Get, ContainsKey, Insert, Invalidate, InvalidateAll, InvalidateEntriesIf}
-use Rattle.moka_machine.specs.Step.{Iterate, EntryCount, WeightedSize}
+use Rattle.moka_machine.specs.Step.{Answer, IsStep, Request, Runs, Get, ContainsKey, Insert, Invalidate, Remove, InvalidateAll}
+use Rattle.moka_machine.specs.Step.{InvalidateEntriesIf, Iterate, EntryCount, WeightedSize}
 use Rattle.moka_machine.proofs.ContentsLemmas.{absent-leaving, found_key}
 use Rattle.moka_laws.specs.Laws.{AreWritesOf, WritesFollowEntries}
 use Rattle.moka_laws.proofs.KeyLemmas.{StandOnce, entry_at-gone, once-push, once-put, once-remains}
@@ -243,6 +243,9 @@ module _ {K V S W : Type 0} (keys : Keys K S) (laws : IsEquivalence keys.eq) (we
       (new_entry keys old.settings.hash_state key value inserted.weight now) inserted.refused refl (follow-look old now f)))
   follow-step old new (Insert key value now) answer (inr (refused, same)) f = subst Follows (sym same.same) f
   follow-step old new (Invalidate key now) answer step f =
+      subst Follows (sym step.1)
+      (follow-leaving keys.eq laws (keeps_writes old.settings.policy) (key ∷ []) (after_look keys old now).contents (follow-look old now f))
+  follow-step old new (Remove key now) answer step f =
       subst Follows (sym step.1)
       (follow-leaving keys.eq laws (keeps_writes old.settings.policy) (key ∷ []) (after_look keys old now).contents (follow-look old now f))
   follow-step old new InvalidateAll answer step f =

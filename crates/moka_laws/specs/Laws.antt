@@ -6,7 +6,7 @@ use Rattle.moka_machine.specs.Contents.{Contents, entry_at, entry_keys, total_we
 use Rattle.moka_machine.specs.CacheState.{CacheState, new_cache}
 use Rattle.moka_base.specs.Settings.{Settings, keeps_writes}
 use Rattle.moka_machine.specs.Lookup.{after_look}
-use Rattle.moka_machine.specs.Step.{Answer, IsStep, OutOfMemory, Request, Runs, Get, ContainsKey, Insert, Invalidate}
+use Rattle.moka_machine.specs.Step.{Answer, IsStep, OutOfMemory, Request, Runs, Get, ContainsKey, Insert, Invalidate, Remove}
 use Rattle.moka_machine.specs.Step.{InvalidateAll, InvalidateEntriesIf, Iterate, EntryCount, WeightedSize}
 
 -- ---- limits and keys
@@ -87,18 +87,20 @@ module _ {K V : Type 0} where
   IsLook (ContainsKey key now) = Unit {0}
   IsLook (Insert key value now) = ⊥
   IsLook (Invalidate key now) = ⊥
+  IsLook (Remove key now) = ⊥
   IsLook InvalidateAll = ⊥
   IsLook (InvalidateEntriesIf answers) = ⊥
   IsLook (Iterate now) = Unit {0}
   IsLook EntryCount = Unit {0}
   IsLook WeightedSize = Unit {0}
 
-  -- the call is an invalidation
+  -- the call is an invalidation or a removal
   abbrev pub IsInvalidation : Request K V → Type 0
   IsInvalidation (Get key now) = ⊥
   IsInvalidation (ContainsKey key now) = ⊥
   IsInvalidation (Insert key value now) = ⊥
   IsInvalidation (Invalidate key now) = Unit {0}
+  IsInvalidation (Remove key now) = Unit {0}
   IsInvalidation InvalidateAll = Unit {0}
   IsInvalidation (InvalidateEntriesIf answers) = Unit {0}
   IsInvalidation (Iterate now) = ⊥
@@ -119,7 +121,7 @@ module _ {K V S W : Type 0} (keys : Keys K S) (weighs : W → K → V → ℕ �
       IsStep keys weighs old request answer new →
       (new.sketch ≡ old.sketch) × Remains old.contents new.contents
 
-  -- an invalidation keeps what was counted, and what remains of it is as it was
+  -- an invalidation or a removal keeps what was counted, and what remains of it is as it was
   abbrev pub InvalidationsKeepCounts : Type 0
   InvalidationsKeepCounts =
       (old new : CacheState K V S W) (request : Request K V) (answer : Answer K V) → IsInvalidation request →

@@ -7,8 +7,8 @@ use Rattle.moka_base.specs.Policy.{Policy}
 use Rattle.moka_machine.specs.CacheState.{CacheState}
 use Rattle.moka_machine.specs.Invalidate.{chosen}
 use Rattle.moka_machine.specs.Iterate.{pairs_of}
-use Rattle.moka_machine.specs.Step.{Answer, IsStep, Request, Runs, Get, ContainsKey, Insert, Invalidate, InvalidateAll, InvalidateEntriesIf}
-use Rattle.moka_machine.specs.Step.{Iterate, EntryCount, WeightedSize, Found, Truth, Done, OutOfMemory, Pairs, Number}
+use Rattle.moka_machine.specs.Step.{Answer, IsStep, Request, Runs, Get, ContainsKey, Insert, Invalidate, Remove, InvalidateAll}
+use Rattle.moka_machine.specs.Step.{InvalidateEntriesIf, Iterate, EntryCount, WeightedSize, Found, Truth, Done, OutOfMemory, Pairs, Number}
 
 -- there is no limit and no duration
 abbrev pub IsUnbounded : Policy → Type 0
@@ -25,6 +25,7 @@ module _ {K V S : Type 0} (keys : Keys K S) where
   IsMapAnswer pairs (ContainsKey key now) answer = answer ≡ Truth (is_some (value_at key pairs))
   IsMapAnswer pairs (Insert key value now) answer = answer ≡ Done
   IsMapAnswer pairs (Invalidate key now) answer = answer ≡ Done
+  IsMapAnswer pairs (Remove key now) answer = answer ≡ Found (value_at key pairs)
   IsMapAnswer pairs InvalidateAll answer = answer ≡ Done
   IsMapAnswer pairs (InvalidateEntriesIf answers) answer = answer ≡ Done
   IsMapAnswer pairs (Iterate now) answer = answer ≡ Pairs pairs
@@ -37,6 +38,7 @@ module _ {K V S : Type 0} (keys : Keys K S) where
   value_after pairs (ContainsKey other now) key = value_at key pairs
   value_after pairs (Insert other value now) key = if keys.eq other key then Some value else value_at key pairs
   value_after pairs (Invalidate other now) key = if keys.eq other key then None else value_at key pairs
+  value_after pairs (Remove other now) key = if keys.eq other key then None else value_at key pairs
   value_after pairs InvalidateAll key = None
   value_after pairs (InvalidateEntriesIf answers) key =
       if list_any (λ p. keys.eq p.0 key) (chosen answers pairs) then None else value_at key pairs

@@ -55,7 +55,7 @@ pub fn looks_change_nothing<K: Eq + Hash, V, S: BuildHasher, W: Weigh<K, V>>()
     ensures { LooksChangeNothing (keys_by K.Hash S.BuildHasher S.Hasher.Hasher) W.weighs }
 {}
 
-/// An invalidation keeps what was counted of all keys, and what remains is as it was.
+/// An invalidation keeps what was counted of all keys, and what remains is as it was. So does a removal.
 pub fn invalidations_keep_counts<K: Eq + Hash, V, S: BuildHasher, W: Weigh<K, V>>()
     ensures { InvalidationsKeepCounts (keys_by K.Hash S.BuildHasher S.Hasher.Hasher) W.weighs }
 {}

@@ -36,7 +36,7 @@ module _ {K V S W : Type 0} (keys : Keys K S) where
         sketch = after_increment cache.sketch (keys.hash_of cache.settings.hash_state key);
       }
 
-  -- what a get finds
+  -- what a get finds, or a removal
   abbrev pub found_by_get : CacheState K V S W → K → ℕ → Option V
   found_by_get cache key now =
       option_map (λ e. e.value) (unexpired_at keys.eq cache.settings.policy now key (after_look cache now).contents)

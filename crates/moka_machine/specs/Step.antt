@@ -14,6 +14,7 @@ pub data Request (K V : Type 0) : Type 0 where
   ContainsKey : K → ℕ → Request K V
   Insert : K → V → ℕ → Request K V
   Invalidate : K → ℕ → Request K V
+  Remove : K → ℕ → Request K V
   InvalidateAll : Request K V
   InvalidateEntriesIf : List Bool → Request K V
   Iterate : ℕ → Request K V
@@ -37,6 +38,7 @@ module _ {K V S W : Type 0} (keys : Keys K S) (weighs : W → K → V → ℕ �
   IsStep old (Insert key value now) answer new =
       ((answer ≡ Done) × IsInserted keys weighs old key value now new) ⊎ ((answer ≡ OutOfMemory) × IsRefused old new)
   IsStep old (Invalidate key now) answer new = (answer ≡ Done) × (new ≡ after_invalidate keys old key now)
+  IsStep old (Remove key now) answer new = (answer ≡ Found (found_by_get keys old key now)) × (new ≡ after_invalidate keys old key now)
   IsStep old InvalidateAll answer new = (answer ≡ Done) × (new ≡ after_invalidate_all old)
   IsStep old (InvalidateEntriesIf answers) answer new =
       ((answer ≡ Done) × (length answers ≡ length old.contents.entries)) × (new ≡ after_invalidate_if keys old answers)

@@ -202,14 +202,16 @@ impl<K: Eq + Drop, V: Drop, A: Allocator + Clone + Drop> Deques<K, V, A> {
         id
     }
 
-    /// The entry leaves.
-    pub(crate) fn remove(&mut self, id: NodeId)
+    /// The entry leaves, and comes out.
+    pub(crate) fn take(&mut self, id: NodeId) -> Entry<K, V>
         requires { IsSome (lookup (nat_eq id) self.old.nodes) }
-        ensures { Removes K.eq self.old id self.new }
+        ensures value { lookup (nat_eq id) self.old.nodes ≡ Some result }
+        ensures step { Removes K.eq self.old id self.new }
     {
         let node = self.order.unlink(id);
         self.total -= u128::from(node.entry.weight);
         unlink_write(&mut self.writes, node.write);
+        node.entry
     }
 }
 

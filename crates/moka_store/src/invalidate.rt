@@ -1,11 +1,12 @@
 //! Entries leave because their owner says so: that of a key, all of them, or those that a predicate chooses.
 ghost use Rattle.std.specs.Prelude.{◌≡◌, Bool, List};
-ghost use Rattle.moka_machine.specs.Contents.{after_leaving, entry_keys, no_contents, without};
+ghost use Rattle.moka_machine.specs.Contents.{after_leaving, entry_at, entry_keys, no_contents, without};
 ghost use Rattle.moka_machine.specs.Invalidate.{AnswersInTurn, chosen};
 ghost use Rattle.moka_store.specs.Store.{HasHash, entries_of};
 ghost use Rattle.moka_store.specs.Turns.{Continues, contents_of};
 
 use crate::store::Store;
+use moka_machine::entry::Entry;
 use std::alloc::Allocator;
 
 /// The entry of the key leaves, if there is one. The hash is the key's.
@@ -18,9 +19,22 @@ pub fn remove_key<K: Eq + Drop, V: Drop, A: Allocator + Clone + Drop>(
     ensures step { contents_of store.new ≡ without K.eq (contents_of store.old) key.now }
     ensures kept { Continues store.old store.new }
 {
-    if let Some(id) = store.find(key, hash) {
-        store.remove(id);
-    }
+    drop(take_key(store, key, hash));
+}
+
+/// The entry of the key leaves, and comes out, if there is one, expired or not. The hash is the key's.
+pub fn take_key<K: Eq + Drop, V: Drop, A: Allocator + Clone + Drop>(
+    store: &mut Store<K, V, A>,
+    key: &K,
+    hash: u64,
+) -> Option<Entry<K, V>>
+    requires { HasHash K.eq store.old key.now hash }
+    ensures value { result ≡ entry_at K.eq key.now (entries_of store.old) }
+    ensures step { contents_of store.new ≡ without K.eq (contents_of store.old) key.now }
+    ensures kept { Continues store.old store.new }
+{
+    let id = store.find(key, hash)?;
+    Some(store.take(id))
 }
 
 /// All entries leave.

@@ -185,11 +185,20 @@ impl<K: Eq + Drop, V: Drop, A: Allocator + Clone + Drop> Store<K, V, A> {
         requires { IsSome (lookup (nat_eq id) self.old.nodes) }
         ensures { Removes K.eq self.old id self.new }
     {
+        drop(self.take(id));
+    }
+
+    /// The entry leaves, and comes out.
+    pub fn take(&mut self, id: NodeId) -> Entry<K, V>
+        requires { IsSome (lookup (nat_eq id) self.old.nodes) }
+        ensures value { lookup (nat_eq id) self.old.nodes ≡ Some result }
+        ensures step { Removes K.eq self.old id self.new }
+    {
         // No id stands twice.
         let _ = self.deques.len();
         let hash = self.deques.get(id).hash;
         self.index.remove(id.number(), hash);
-        self.deques.remove(id);
+        self.deques.take(id)
     }
 }
 

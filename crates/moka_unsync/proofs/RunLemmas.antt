@@ -12,6 +12,10 @@ module _ {K V A S W : Type 0} (keys : Keys K S) (weighs : W → K → Rc V A →
     (told : Reply V A) where
   -- a call that is known makes its step
   pub stepped : (call known : Call K V A) (answer : Answer K (Rc V A)) → call ≡ known → IsStep keys weighs old (request_of known) answer new
-      → Tells answer told
-      → (answer : Answer K (Rc V A)) × IsStep keys weighs old (request_of call) answer new × Tells answer told
-  stepped call known answer is step tells = (answer, subst (λ c. IsStep keys weighs old (request_of c) answer new) (sym is) step, tells)
+      → Tells (request_of known) answer told
+      → (answer : Answer K (Rc V A)) × IsStep keys weighs old (request_of call) answer new × Tells (request_of call) answer told
+  stepped call known answer is step tells = (
+    answer,
+    subst (λ c. IsStep keys weighs old (request_of c) answer new) (sym is) step,
+    subst (λ c. Tells (request_of c) answer told) (sym is) tells,
+  )

@@ -27,7 +27,7 @@ use moka_machine::entry::Entry;
 use moka_sketch::frequency_sketch::{FrequencySketch, sketch_capacity};
 use moka_store::admit::admit;
 use moka_store::expire::{is_expired, upkeep};
-use moka_store::invalidate::{clear, remove_key, remove_where};
+use moka_store::invalidate::{clear, remove_key, remove_where, take_key};
 use moka_store::store::Store;
 use std::alloc::{Allocator, Global};
 use std::hash::{BuildHasher, Hash};
@@ -45,8 +45,8 @@ pub(crate) struct Parts<S: Drop, W: Drop> {
 
 /// A cache for one thread: a map that forgets, bounded by a number of entries or by their weight, with expiry by time to live and by time to idle.
 ///
-/// A look-up, an insert or an invalidation of a key first removes expired entries, and the least recently used ones while the weight is above the
-/// limit, each time a batch of `EVICTION_BATCH_SIZE` entries at most. No read gives an expired entry that remained.
+/// A look-up, an insert, an invalidation or a removal of a key first removes expired entries, and the least recently used ones while the weight is
+/// above the limit, each time a batch of `EVICTION_BATCH_SIZE` entries at most. No read gives an expired entry that remained.
 ///
 /// ```
 /// let now = Instant::from_secs(0);
@@ -90,7 +90,7 @@ pub(crate) struct Parts<S: Drop, W: Drop> {
 ///
 /// Moments are handed in. Building and inserting answer a `Result`: want of memory, and a duration of more than 1000 years, are named refusals in
 /// place of an abort or a panic. Counts and weights follow every removal. Keys are looked up by `&K`. `iter` and the predicate of
-/// `invalidate_entries_if` go in order of use, `iter` leaves expired entries out, and `Debug` shows every stored one.
+/// `invalidate_entries_if` go in order of use, `iter` leaves expired entries out, and `Debug` shows every stored one. `remove` is added.
 pub struct Cache<
     K: Eq + Hash + Drop,
     V: Drop,
@@ -266,6 +266,26 @@ impl<
         let store = &mut self.store;
         upkeep(store, &self.limits, now);
         remove_key(store, key, hash);
+    }
+
+    /// Removes the entry of the key, if there is one, and returns its value, unless it is expired. The value is moved out, so it needs no `Clone`.
+    ///
+    /// The answer is `None` where the key has no entry, and where its entry is expired and no call has removed it yet: that leaves too. The key is
+    /// not counted, and what was counted of it stays. It takes constant time on average, beside the batch that leaves first, and no memory, so it is
+    /// never refused.
+    pub fn remove(&mut self, key: &K, now: Instant) -> Option<V>
+        ensures value { result
+            ≡ found_by_get (keys_by K.Hash S.BuildHasher S.Hasher.Hasher) self.old key.now now }
+        ensures step { self.new
+            ≡ after_invalidate (keys_by K.Hash S.BuildHasher S.Hasher.Hasher) self.old key.now now }
+    {
+        upkeep(&mut self.store, &self.limits, now);
+        let hash = self.hash_state.hash_one(key);
+        let entry = take_key(&mut self.store, key, hash)?;
+        if is_expired(&self.limits, &entry, now) {
+            return None;
+        }
+        Some(entry.value)
     }
 
     /// Removes all entries. What was counted of their keys stays, and so does the room. It takes time linear in the number of entries.

@@ -32,6 +32,11 @@ pub enum Call<K: Drop, V: Drop, A: Allocator + Drop = Global> {
         key: K,
         now: Instant,
     },
+    /// The reply has the value as the cache had it: no owner is added.
+    Remove {
+        key: K,
+        now: Instant,
+    },
     InvalidateAll,
     EntryCount,
     WeightedSize,
@@ -76,7 +81,7 @@ pub fn run<
     requires ready { W.ready cache.old.weigher }
     ensures ok { IfOk result (λ replies. (answers : List (Answer K (Rc V A)))
         × Runs (keys_by K.Hash S.BuildHasher S.Hasher.Hasher) W.weighs cache.old (map request_of calls.items) answers cache.new
-        × AllTell answers replies.items) }
+        × AllTell (map request_of calls.items) answers replies.items) }
     ensures err { OnErr result (cache.new ≡ cache.old) }
     ensures ready { W.ready cache.new.weigher }
 {
@@ -98,7 +103,7 @@ fn reply_to<
     requires ready { W.ready cache.old.weigher }
     ensures step { (answer : Answer K (Rc V A))
         × IsStep (keys_by K.Hash S.BuildHasher S.Hasher.Hasher) W.weighs cache.old (request_of call) answer cache.new
-        × Tells answer result }
+        × Tells (request_of call) answer result }
     ensures ready { W.ready cache.new.weigher }
 {
     match call {
@@ -112,6 +117,7 @@ fn reply_to<
             cache.invalidate(&key, now);
             Reply::Done
         }
+        Call::Remove { key, now } => Reply::Found(cache.remove(&key, now)),
         Call::InvalidateAll => {
             cache.invalidate_all();
             Reply::Done

@@ -24,6 +24,11 @@ returns-in-Contains-clause-step g c =
     (call.Contains c.in-Contains.key c.in-Contains.now) (Truth c.contains_key.result) c.in-Contains.is
     (ap Truth c.contains_key.ensures.value, c.contains_key.ensures.step) refl
 
+pub returns-in-Remove-clause-step : goal.returns-in-Remove-clause-step
+returns-in-Remove-clause-step g c =
+    stepped (keys g) g.W.Weigh.weighs c.args.cache.now c.remove.new.self _ c.args.call (call.Remove c.in-Remove.key c.in-Remove.now)
+    (Found c.remove.result) c.in-Remove.is (ap Found c.remove.ensures.value, c.remove.ensures.step) refl
+
 pub returns-in-EntryCount-clause-step : goal.returns-in-EntryCount-clause-step
 returns-in-EntryCount-clause-step g c =
     stepped (keys g) g.W.Weigh.weighs c.args.cache.now c.args.cache.now _ c.args.call call.EntryCount (Number c.entry_count.result)

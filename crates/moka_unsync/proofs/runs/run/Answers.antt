@@ -3,7 +3,7 @@ use Rattle.std.proofs.lemmas.List.{append-nil, nil_from_length}
 use Rattle.std.specs.Vec.{vec_capacity, vec_len}
 use Rattle.std.specs.Vec.Iter.{into_iter_items}
 use Rattle.moka_base.specs.Keys.{Keys, keys_by}
-use Rattle.moka_unsync.specs.Runs.{request_of}
+use Rattle.moka_unsync.specs.Runs.{AllTell, request_of}
 use Rattle.moka_machine.specs.Step.{Runs}
 use Rattle.moka_unsync.proofs.runs.run.Goals as goal
 
@@ -23,7 +23,8 @@ loop-call-preserved g c =
           (c.loop-call.invariant.answered (answer ∷ answers) end (c.reply_to.result ∷ rest)
           (subst (λ calls. Runs keys g.W.Weigh.weighs c.loop-call.cache (map request_of calls) (answer ∷ answers) end) (sym items)
           (answer, answers, c.reply_to.new.cache, refl, step, runs))
-          (c.reply_to.result, rest, refl, tells, tell));
+          (subst (λ calls. AllTell (map request_of calls) (answer ∷ answers) (c.reply_to.result ∷ rest)) (sym items)
+          (c.reply_to.result, rest, refl, tells, tell)));
     }
 
 pub returns-clause-ok : goal.returns-clause-ok
@@ -35,4 +36,4 @@ returns-clause-ok g c =
     rw append-nil at
     (c.loop-call.invariant.answered [] c.loop-call.cache []
     (subst (λ calls. Runs keys g.W.Weigh.weighs c.loop-call.cache (map request_of calls) [] c.loop-call.cache) (sym none) (refl, refl))
-    refl)
+    (subst (λ calls. AllTell (map request_of calls) [] []) (sym none) refl))

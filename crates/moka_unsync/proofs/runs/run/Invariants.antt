@@ -14,9 +14,9 @@ invariant-loop-call g l = record {
   answered : (answers : List _) (end : _) (rest : List _)
       → Runs (keys_by (record { eq = g.K.PartialEq.eq; hash_input = g.K.Hash.hash_input }) g.S.BuildHasher g.S.Hasher.Hasher)
       g.W.Weigh.weighs l.cache (map request_of (into_iter_items l.call-iterator)) answers end
-      → AllTell answers rest
+      → AllTell (map request_of (into_iter_items l.call-iterator)) answers rest
       → (all : List _) × Runs
       (keys_by (record { eq = g.K.PartialEq.eq; hash_input = g.K.Hash.hash_input }) g.S.BuildHasher g.S.Hasher.Hasher) g.W.Weigh.weighs
       l.fn.cache (map request_of l.fn.calls.items) all end
-      × AllTell all (l.replies.items ++ rest);
+      × AllTell (map request_of l.fn.calls.items) all (l.replies.items ++ rest);
 }

@@ -1,8 +1,8 @@
-use Rattle.std.proofs.Common.{◌-◌, ◌∙◌, ap, is_some, IsSome, nat_eq, subst, sym}
+use Rattle.std.proofs.Common.{◌-◌, ◌∙◌, ap, is_some, IsSome, nat_eq, option_map, subst, sym}
 use Rattle.std.specs.Map.{lookup}
 use Rattle.moka_store.proofs.ChangeLemmas.{capacity_removed, remove_is, room_tied, remove_keeps, same_bounds, weight_in_total}
-use Rattle.moka_store.proofs.StoreLemmas.{is_node}
-use Rattle.moka_store.proofs.deques.Deques.remove.Goals as goal
+use Rattle.moka_store.proofs.StoreLemmas.{is_node, lookup-entries}
+use Rattle.moka_store.proofs.deques.Deques.take.Goals as goal
 
 pub unlink-node-requires : goal.unlink-node-requires
 unlink-node-requires g c =
@@ -19,8 +19,12 @@ invariant_of-self g c =
     c.unlink-node.new.self.items c.unlink-node.ensures.items c.unlink_write.new.writes.items c.unlink_write.ensures.items
     (c.self.inside.total - c.from.result) (ap (λ w. c.self.inside.total - w) c.from.ensures)
 
-pub returns : goal.returns
-returns g c =
+pub returns-clause-value : goal.returns-clause-value
+returns-clause-value g c =
+    rw (← c.self.view_is) (lookup-entries c.args.id c.self.inside.order.items ∙ ap (option_map (λ n. n.entry)) c.unlink-node.ensures.value)
+
+pub returns-clause-step : goal.returns-clause-step
+returns-clause-step g c =
     let bounds = same_bounds c.self.inside.order c.unlink-node.new.self c.unlink-node.new.self.items c.unlink-node.new.self.room
     c.unlink-node.ensures.unchanged in
     rw (← c.self.view_is)
