@@ -18,7 +18,9 @@ use Rattle.moka_engine.specs.Parts.{ShardState}
 use Rattle.moka_engine.specs.Ticket.{shard_of}
 use Rattle.moka_shard.specs.Shard.{unexpired}
 use Rattle.moka_shard.specs.ShardStep.{IsInvalidation}
-use Rattle.moka_behind.specs.Permitted.{ContainsIn, FindsIn, InsertsIn, InvalidatesIn, IsPermitted, first_of_ok}
+use Rattle.moka_behind.specs.Permitted.{ContainsIn, FindsIn, InsertsIn, InvalidatesIn, IsPermitted, TakesIn, first_of_ok}
+use Rattle.moka_behind.specs.RuledTake.{IsTakeBy, counted_value}
+use Rattle.moka_engine.specs.Reply.{IsHanded}
 use Rattle.moka_behind.specs.RuledInsert.{IsInsertBy, IsSomeInsert}
 
 module _ {K V S : Type 0} (keys : Keys K S) (holds : K → V → Type 0) where
@@ -127,6 +129,38 @@ module _ {K V S : Type 0} (keys : Keys K S) (holds : K → V → Type 0) where
               step = (refl, refl);
             }
       ]
+
+  pub takes_in : {T : Type 0} (is_taken : V → T → Type 0) (settings : Settings S) (valid_after hash : ℕ) (key : K) (now : ℕ)
+      (old new : ShardState K V S)
+      → IsPermitted keys holds old → (handed : Option T) (left : Option Ticket)
+      → IsTakeBy keys holds is_taken settings valid_after old hash key now handed left new
+      → (found : Option V) × IsHanded is_taken found handed × TakesIn keys holds settings key now found left
+  takes_in is_taken settings valid_after hash key now old new permitted handed (Some ticket) step = (
+    counted_value settings valid_after now (entry_at keys.eq key old.entries),
+    step.value,
+    record {
+      old = old;
+      new = new;
+      permitted = permitted;
+      valid_after = valid_after;
+      value = refl;
+      ruled = step.ruled;
+      step = step.step;
+    },
+  )
+  takes_in is_taken settings valid_after hash key now old new permitted handed None step = (
+    None,
+    subst (IsHanded is_taken None) (sym step.0) tt,
+    record {
+      old = no_entries old.number old.next_number old.hash_state;
+      new = no_entries old.number old.next_number old.hash_state;
+      permitted = none_permitted old.number old.next_number old.hash_state;
+      valid_after = valid_after;
+      value = refl;
+      ruled = tt;
+      step = (refl, refl);
+    },
+  )
 
   module _ (weighs : K → V → ℕ → Type 0) (state : S) (key : K) (value : V) (now : ℕ) where
     inserts : (old new : ShardState K V S) → IsPermitted keys holds old → (answer : Result Ticket InsertError)

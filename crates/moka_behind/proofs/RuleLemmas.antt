@@ -217,6 +217,24 @@ module _ {K V : Type 0} where
         found_meets eq laws agrees settings valid_after now key (entries_in slots) meet answer
         (subst (λ o. IfOk answer (λ found. found ≡ option_map (λ e. (e.value, e.ticket)) (unexpired settings valid_after now o))) own is)
 
+    -- so does the value that counts
+    pub value_meets : (eq : K → K → Bool) → IsEquivalence eq
+        → ((key other : K) (value : V) → eq key other ≡ true → holds key value → holds other value) → {S : Type 0} (settings : Settings S)
+        (valid_after now : ℕ) (key : K) (es : List (Entry K V)) → AllMeet holds es
+        → IfSome (option_map (λ e. e.value) (unexpired settings valid_after now (entry_at eq key es))) (λ value. holds key value)
+    value_meets eq laws agrees settings valid_after now key es meet = shows (entry_at eq key es) refl
+      where
+        shows : (o : Option (Entry K V)) → entry_at eq key es ≡ o
+            → IfSome (option_map (λ e. e.value) (unexpired settings valid_after now o)) (λ value. holds key value)
+        shows None there = tt
+        shows (Some e) there =
+            let same_key = found_passes (λ x. eq key x.key) es e there in
+            let good = agrees e.key key e.value (laws.symm e.key key ∙ same_key) (found_has Meets (λ x. eq key x.key) es e meet there) in
+            elim (cases_Bool (is_expired settings valid_after now e)) [
+              | inl old ↦ rw old tt
+              | inr counts ↦ rw counts good
+            ]
+
     -- the pairs that count meet it
     pub pairs_meet : {S : Type 0} (settings : Settings S) (valid_after now : ℕ) (shard : ShardState K V S) → AllMeet holds shard.entries
         → PairsMeet holds (pairs_at settings valid_after now shard)

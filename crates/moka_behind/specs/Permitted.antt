@@ -1,5 +1,5 @@
 -- What the type of a shard behind its lock permits, and what a call on some shard that it permits answers and leaves.
-use Rattle.std.specs.Prelude.{◌≡◌, ℕ, Bool, List, Option, Result, Ok, Err, IfOk, IsErr, IsSome, OnOk, is_some, option_map}
+use Rattle.std.specs.Prelude.{◌≡◌, ℕ, Bool, List, Option, Some, Result, Ok, Err, IfOk, IfSome, IsErr, IsSome, OnOk, is_some, option_map}
 use Rattle.moka_base.specs.Keys.{Keys}
 use Rattle.moka_base.specs.Settings.{Settings}
 use Rattle.moka_base.specs.declared.error.InsertError.{InsertError}
@@ -55,6 +55,24 @@ module _ {K V S : Type 0} (keys : Keys K S) (holds : K → V → Type 0) where
     pub new : ShardState K V S
     pub permitted : IsPermitted old
     pub step : IsInvalidation old (entry_at keys.eq key old.entries) answer new
+
+  -- a removal of this key in some permitted shard, with some moment of invalidation: the value of its entry, if it counts at this moment, and the entry's
+  -- ticket
+  pub record TakesIn (settings : Settings S) (key : K) (now : ℕ) (found : Option V) (left : Option Ticket) : Type 0 where
+    pub old : ShardState K V S
+    pub new : ShardState K V S
+    pub permitted : IsPermitted old
+    pub valid_after : ℕ
+    pub value : found ≡ option_map (λ e. e.value) (unexpired settings valid_after now (entry_at keys.eq key old.entries))
+    pub ruled : IfSome found (λ value. holds key value)
+    pub step : IsInvalidation old (entry_at keys.eq key old.entries) left new
+
+  -- in some permitted shard, with some moment of invalidation, this key has this value, which counts at this moment
+  pub record StandsIn (settings : Settings S) (key : K) (now : ℕ) (value : V) : Type 0 where
+    pub shard : ShardState K V S
+    pub permitted : IsPermitted shard
+    pub valid_after : ℕ
+    pub stands : option_map (λ e. e.value) (unexpired settings valid_after now (entry_at keys.eq key shard.entries)) ≡ Some value
 
   -- these pairs are all that count at this moment in some permitted shard, with some moment of invalidation
   pub record CopiesIn (settings : Settings S) (now : ℕ) (pairs : List (K × V)) : Type 0 where

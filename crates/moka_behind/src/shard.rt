@@ -1,6 +1,6 @@
 //! What lies behind the lock of a shard: its entries, whose pairs meet the rule.
 ghost use Rattle.std.specs.Prelude.{◌≡◌, ◌≢◌, [], Bool, Some, false, is_some, map, option_map, IfOk, IfSome};
-ghost use Rattle.std.specs.Prelude.{IsErr, IsNone, IsSome, IsTrue};
+ghost use Rattle.std.specs.Prelude.{IsErr, IsNone, IsSome, IsTrue, OnErr, option_copied};
 ghost use Rattle.std.specs.List.{IsDistinct};
 ghost use Rattle.moka_base.specs.Keys.{keys_by};
 ghost use Rattle.moka_engine.specs.declared.entry.EntryChange.TheVariants.{Touched};
@@ -15,8 +15,10 @@ ghost use Rattle.moka_shard.specs.ShardTurn.{TurnsOnShard};
 ghost use Rattle.moka_behind.specs.Permitted.{IsPermitted};
 ghost use Rattle.moka_behind.specs.Rule.{PairsMeet};
 ghost use Rattle.moka_behind.specs.RuledInsert.{IsInsertBy, told_ticket};
+ghost use Rattle.moka_behind.specs.RuledTake.{IsTakeBy, counted_value};
+ghost use Rattle.moka_engine.specs.Reply.{IsHanded};
 ghost use Rattle.moka_maintenance.specs.Taken.{TakesWrite, having_taken_write};
-ghost use Rattle.moka_shard.specs.Shard.{entries_in, state_of, unexpired};
+ghost use Rattle.moka_shard.specs.Shard.{entries_in, entry_in, state_of, unexpired};
 ghost use Rattle.moka_shard.specs.ShardStep.{IsInvalidation, pairs_at};
 
 use crate::rule::PairRule;
@@ -179,6 +181,22 @@ impl<
         Some(self.shard.remove(slot))
     }
 
+    /// The value of the entry in a slot, if it counts at a moment.
+    fn value(
+        &self,
+        slot: usize,
+        settings: &Settings<S, A>,
+        valid_after: Instant,
+        now: Instant,
+    ) -> Option<&V>
+        ensures { option_copied result ≡ counted_value settings.now valid_after now (entry_in self.now.slots slot) }
+    {
+        let entry = self
+            .shard
+            .unexpired(Some(slot), settings, valid_after, now)?;
+        Some(entry.value().get())
+    }
+
     /// The pairs that count at a moment, shared once more.
     pub fn pairs(
         &self,
@@ -246,6 +264,50 @@ impl<
         let found = self.shard.entry(slot);
         let change = maintenance.turn_with_upsert(settings, valid_after, ticket, found);
         self.shard.change(slot, change);
+    }
+}
+
+impl<
+    K: Eq + Hash + Drop,
+    V: Clone,
+    S: BuildHasher + Drop,
+    P: PairRule<K, V>,
+    A: Allocator + Clone + Drop,
+> RuledShard<K, V, S, P, A> {
+    /// Takes out the entry of a key, found by its hash. The answer is a clone of its value, if it counts at a moment, and its ticket. The clone is made
+    /// before the entry leaves: where it is refused, nothing is done.
+    pub fn take(
+        &mut self,
+        key: &K,
+        hash: u64,
+        settings: &Settings<S, A>,
+        valid_after: Instant,
+        now: Instant,
+    ) -> Result<(Option<V>, Option<Ticket>), OutOfMemory>
+        ensures permitted { IsPermitted (keys_by K.Hash S.BuildHasher S.Hasher.Hasher) P.holds (state_of self.old) }
+        ensures step { IfOk result (λ taken. IsTakeBy (keys_by K.Hash S.BuildHasher S.Hasher.Hasher) P.holds V.is_clone settings.now valid_after
+            (state_of self.old) hash key.now now taken.0 taken.1 (state_of self.new)) }
+        ensures refused { OnErr result ((self.new ≡ self.old) × ((value : V) × (¬ (V.is_infallible value))
+            × (counted_value settings.now valid_after now (entry_at K.eq key.now (entries_in self.old.slots)) ≡ Some value))) }
+    {
+        // What holds of every shard.
+        let _ = self.shard.len();
+        let Some(slot) = self.shard.find(key, hash) else {
+            return Ok((None, None));
+        };
+        let copy = try_clone_of(self.value(slot, settings, valid_after, now))?;
+        Ok((copy, Some(self.shard.remove(slot))))
+    }
+}
+
+/// A clone of a value, if there is one.
+fn try_clone_of<V: Clone>(value: Option<&V>) -> Result<Option<V>, OutOfMemory>
+    ensures ok { IfOk result (IsHanded V.is_clone (option_copied value.entry)) }
+    ensures refused { OnErr result ((it : V) × (¬ (V.is_infallible it)) × (option_copied value.entry ≡ Some it)) }
+{
+    match value {
+        Some(value) => Ok(Some(value.clone()?)),
+        None => Ok(None),
     }
 }
 

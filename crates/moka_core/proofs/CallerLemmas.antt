@@ -6,7 +6,7 @@ use Rattle.moka_base.specs.Keys.{Keys}
 use Rattle.moka_engine.specs.declared.call.Call.TheVariants as call
 use Rattle.moka_engine.specs.declared.constants.TheConstants.{CALLER}
 use Rattle.moka_engine.specs.declared.event.Event.{Event}
-use Rattle.moka_engine.specs.declared.event.Event.TheVariants.{Insert, Get, Invalidate, Push, Begin, Turn}
+use Rattle.moka_engine.specs.declared.event.Event.TheVariants.{Insert, Get, Invalidate, Take, Push, Begin, Turn}
 use Rattle.moka_engine.specs.declared.event.Reply.TheVariants.{Done, Found, Discarded, At, NotPossible, OutOfMemory, TicketsUsedUp}
 use Rattle.moka_engine.specs.declared.operation.Operation.{Operation}
 use Rattle.moka_engine.specs.declared.operation.Operation.TheVariants.{Reading, Writing}
@@ -18,8 +18,8 @@ use Rattle.moka_engine.specs.Reply.{Reply}
 use Rattle.moka_engine.specs.Run.{Happens}
 use Rattle.moka_engine.specs.WholeCall.{Log, OfReads, OfWrites, Turns, LastTurn, NextTurn}
 use Rattle.moka_engine.specs.WholeCall.{Maintains, MaintainsIf, MaintainsIfDue, PushesRead}
-use Rattle.moka_engine.specs.WholeCall.{PushesWrite, Pushed, WasFull, PushesIf, AfterGet, AfterInsert}
-use Rattle.moka_engine.specs.WholeCall.{CallsInsert, CallsGet, CallsInvalidate, CallsSync}
+use Rattle.moka_engine.specs.WholeCall.{PushesWrite, Pushed, WasFull, PushesIf, AfterGet, AfterInsert, AfterRemove}
+use Rattle.moka_engine.specs.WholeCall.{CallsInsert, CallsGet, CallsInvalidate, CallsRemove, CallsSync}
 use Rattle.moka_core.specs.Core.{Core as CoreValue}
 use Rattle.moka_core.specs.CoreCaller.{core_allows, core_caller, core_decides}
 use Rattle.moka_core.specs.StepLaws.{AreCalls}
@@ -128,30 +128,42 @@ module _ {K V S W : Type 0} (keys : Keys K S) (weighs : W → K → V → ℕ �
       by OutOfMemory kept p = (ap (λ c. c.state) p, ap (λ c. c.weigher) p ∙ kept)
       by other kept p = absurd p
 
+  -- what follows an invalidation, and a removal
+  out : (now : ℕ) (a b : Core) → Has a → PushesIf Allowed core_decides (pends_by core_caller) CALLER (pends_by core_caller a) now a b
+      → PushesIf Step Decides has_pending CALLER (has_pending a.state) now a.state b.state × Has b
+  out now a b has p =
+      let (others, end) = by (pends_by core_caller a) p in (
+        subst (λ is. PushesIf Step Decides has_pending CALLER is now a.state b.state) (pending_by_kind (pending_of CALLER a.state)) others,
+        end,
+      )
+    where
+      by : (pending : Bool) → PushesIf Allowed core_decides (pends_by core_caller) CALLER pending now a b
+          → PushesIf Step Decides has_pending CALLER pending now a.state b.state × Has b
+      by true p = write now a b has p
+      by false p = (ap (λ c. c.state) p, ap (λ c. c.weigher) p ∙ has)
+
   -- an invalidation
   pub invalidate_is_call : (old new : Core) → Has old → (key : K) (now : ℕ) (reply : Reply K V)
       → CallsInvalidate Allowed core_decides (pends_by core_caller) CALLER key now reply old new
       → IsCall keys (weighs weigher) old.state (call.Invalidate key now) reply new.state × Has new
   invalidate_is_call old new has key now reply (word, c) =
       let (taken, kept) = step old c.next (Invalidate CALLER key now) Done has c.first in
-      let (others, end) = by (pends_by core_caller c.next) kept c.follows in (
-        (
-          word,
-          record {
-            next = c.next.state;
-            first = taken;
-            follows =
-                subst (λ b. PushesIf Step Decides has_pending CALLER b now c.next.state new.state)
-                (pending_by_kind (pending_of CALLER c.next.state)) others;
-          },
-        ),
-        end,
-      )
+      let (others, end) = out now c.next new kept c.follows in
+      ((word, record { next = c.next.state; first = taken; follows = others }), end)
+
+  -- a removal
+  pub remove_is_call : (old new : Core) → Has old → (key : K) (now : ℕ) (reply : Reply K V)
+      → CallsRemove Allowed core_decides (pends_by core_caller) CALLER key now reply old new
+      → IsCall keys (weighs weigher) old.state (call.Remove key now) reply new.state × Has new
+  remove_is_call old new has key now reply c =
+      let (taken, kept) = step old c.next (Take CALLER key now) reply has c.first in
+      let (others, end) = by reply kept c.follows in (record { next = c.next.state; first = taken; follows = others }, end)
     where
-      by : (pending : Bool) → Has c.next → PushesIf Allowed core_decides (pends_by core_caller) CALLER pending now c.next new
-          → PushesIf Step Decides has_pending CALLER pending now c.next.state new.state × Has new
-      by true kept p = write now c.next new kept p
-      by false kept p = (ap (λ c. c.state) p, ap (λ c. c.weigher) p ∙ kept)
+      by : (reply : Reply K V) → Has c.next → AfterRemove Allowed core_decides (pends_by core_caller) CALLER now reply c.next new
+          → AfterRemove Step Decides has_pending CALLER now reply c.next.state new.state × Has new
+      by (Found found) kept p = out now c.next new kept p
+      by OutOfMemory kept p = (ap (λ c. c.state) p, ap (λ c. c.weigher) p ∙ kept)
+      by other kept p = absurd p
 
   -- a sync
   pub sync_is_call : (old new : Core) → Has old → (now : ℕ) (reply : Reply K V)
@@ -172,6 +184,7 @@ are_calls keys weighs = record {
   insert = λ old new. insert_is_call keys weighs old.weigher old new refl;
   get = λ old new. get_is_call keys weighs old.weigher old new refl;
   invalidate = λ old new. invalidate_is_call keys weighs old.weigher old new refl;
+  remove = λ old new. remove_is_call keys weighs old.weigher old new refl;
   sync = λ old new. sync_is_call keys weighs old.weigher old new refl;
   rest = rests;
 }

@@ -25,7 +25,7 @@ use Rattle.moka_engine.specs.CoreCall.{Decides, has_pending, scheduled}
 use Rattle.moka_engine.specs.CoreState.{CoreState, is_expired, pending_of, with_pending}
 use Rattle.moka_engine.specs.Event.{IsBeginning, IsForgetting, IsPush, IsTurn}
 use Rattle.moka_engine.specs.MapStep.{IsAddition, IsGet, IsHit, IsInsert, IsInvalidation}
-use Rattle.moka_engine.specs.MapStep.{IsMiss, IsUpdate, OnlyReplies, fresh_entry, is_fresh}
+use Rattle.moka_engine.specs.MapStep.{IsMiss, IsTaking, IsUpdate, OnlyReplies, fresh_entry, is_fresh, value_taken}
 use Rattle.moka_engine.specs.Reply.{Reply}
 use Rattle.moka_engine.specs.Run.{Happens}
 use Rattle.moka_engine.specs.WholeCall.{Log}
@@ -216,14 +216,14 @@ module _ {K V S : Type 0} (keys : Keys K S) (weighs : K → V → ℕ → Type 0
           | inr refusal ↦ (subst (λ r. Step (event.Get CALLER key now) r) refusal.0 step, refusal.1)
         ]
 
-    -- what an invalidation has left
-    pub taken : (key : K) (now : ℕ) (reply : Reply K V) → Step (event.Invalidate CALLER key now) reply
-        → (reply ≡ Done) × (caller_of new ≡ pends (left_by_invalidate (has_pending new)))
-    taken key now reply step = by (entry_at keys.eq key old.entries) (free reply _ step.step)
-      where
-        Left : Type 0
-        Left = caller_of new ≡ pends (left_by_invalidate (has_pending new))
+    -- what a step that takes an entry out has left
+    abbrev Left : Type 0
+    Left = caller_of new ≡ pends (left_by_invalidate (has_pending new))
 
+    taken_out : (present : Option (Entry K V)) (reply : Reply K V) → IsInvalidation keys old CALLER present reply new → Left
+    taken_out None reply h = same h.1 ∙ ap (λ o. pends (left_by_invalidate (is_some o))) (sym (ap (pending_of CALLER) h.1 ∙ none))
+    taken_out (Some e) reply h = removed (Remove e.ticket) (ap (λ c. c.pending) h.1) (ap (λ c. c.maintenance.place) h.1)
+      where
         removed : (write : Write) → new.pending ≡ with_pending CALLER (Writing write) old
             → new.maintenance.place ≡ old.maintenance.place → Left
         removed write pending place =
@@ -231,12 +231,22 @@ module _ {K V S : Type 0} (keys : Keys K S) (weighs : K → V → ℕ → Type 0
             ∙ ap (λ o. pends (left_by_invalidate (is_some o)))
             (sym (ap (lookup (nat_eq CALLER)) pending ∙ found_last (nat_eq CALLER) old.pending (CALLER, Writing write) none refl))
 
-        by : (present : Option (Entry K V)) → IsInvalidation keys old CALLER present reply new → (reply ≡ Done) × Left
-        by None h = (
-          h.0,
-          same h.1 ∙ ap (λ o. pends (left_by_invalidate (is_some o))) (sym (ap (pending_of CALLER) h.1 ∙ none)),
-        )
-        by (Some e) h = (h.0, removed (Remove e.ticket) (ap (λ c. c.pending) h.1) (ap (λ c. c.maintenance.place) h.1))
+    -- what an invalidation has left
+    pub taken : (key : K) (now : ℕ) (reply : Reply K V) → Step (event.Invalidate CALLER key now) reply → (reply ≡ Done) × Left
+    taken key now reply step =
+        let h = free reply (IsInvalidation keys old CALLER (entry_at keys.eq key old.entries) reply new) step.step in
+        (word (entry_at keys.eq key old.entries) h, taken_out (entry_at keys.eq key old.entries) reply h)
+      where
+        word : (present : Option (Entry K V)) → IsInvalidation keys old CALLER present reply new → reply ≡ Done
+        word None h = h.0
+        word (Some e) h = h.0
+
+    -- what a removal has found and left
+    pub removed : (key : K) (now : ℕ) (reply : Reply K V) → Step (event.Take CALLER key now) reply
+        → (reply ≡ Found (value_taken keys old now (entry_at keys.eq key old.entries))) × Left
+    removed key now reply step =
+        let h = free reply (IsTaking keys old CALLER now (entry_at keys.eq key old.entries) reply new) step.step in
+        (h.0, taken_out (entry_at keys.eq key old.entries) Done h.1)
 
   -- nothing is pending any more, and the place stays
   module _ (kind : Pending) (was : caller_of old ≡ pends kind) where

@@ -5,7 +5,7 @@ use Rattle.moka_engine.specs.declared.call.Call.TheVariants as call
 use Rattle.moka_engine.specs.declared.constants.TheConstants.{CALLER}
 use Rattle.moka_engine.specs.CoreCall.{IsAtRest, IsCall}
 use Rattle.moka_engine.specs.Reply.{Reply}
-use Rattle.moka_engine.specs.WholeCall.{CallsGet, CallsInsert, CallsInvalidate, CallsSync}
+use Rattle.moka_engine.specs.WholeCall.{CallsGet, CallsInsert, CallsInvalidate, CallsRemove, CallsSync}
 use Rattle.moka_core.specs.Core.{Core}
 use Rattle.moka_core.specs.CoreCaller.{core_allows, core_caller, core_decides}
 use Rattle.moka_steps.specs.Steps.{at_rest, pends_by}
@@ -21,6 +21,9 @@ pub record AreCalls {K V S W : Type 0} (keys : Keys K S) (weighs : W → K → V
   pub invalidate : (old new : Core K V S W) (key : K) (now : ℕ) (reply : Reply K V)
       → CallsInvalidate (core_allows keys weighs) core_decides (pends_by core_caller) CALLER key now reply old new
       → IsCall keys (weighs old.weigher) old.state (call.Invalidate key now) reply new.state × (new.weigher ≡ old.weigher)
+  pub remove : (old new : Core K V S W) (key : K) (now : ℕ) (reply : Reply K V)
+      → CallsRemove (core_allows keys weighs) core_decides (pends_by core_caller) CALLER key now reply old new
+      → IsCall keys (weighs old.weigher) old.state (call.Remove key now) reply new.state × (new.weigher ≡ old.weigher)
   pub sync : (old new : Core K V S W) (now : ℕ) (reply : Reply K V)
       → CallsSync (core_allows keys weighs) core_decides (pends_by core_caller) CALLER now reply old new
       → IsCall keys (weighs old.weigher) old.state (call.Sync now) reply new.state × (new.weigher ≡ old.weigher)

@@ -5,13 +5,13 @@ use Rattle.std.specs.Option.{option_map_or}
 use Rattle.moka_base.specs.Keys.{Keys}
 use Rattle.moka_engine.specs.declared.constants.TheConstants.{CALLER, FLUSH_POINT, SYNC_INTERVAL, SHARDS}
 use Rattle.moka_engine.specs.declared.call.Call.{Call}
-use Rattle.moka_engine.specs.declared.call.Call.TheVariants.{Insert, Get, Contains, Invalidate, InvalidateAll, Sync, Counts}
+use Rattle.moka_engine.specs.declared.call.Call.TheVariants.{Insert, Get, Contains, Invalidate, Remove, InvalidateAll, Sync, Counts}
 use Rattle.moka_engine.specs.CoreState.{CoreState, pending_of}
 use Rattle.moka_engine.specs.Place.{Place, Idle, Evict}
 use Rattle.moka_engine.specs.Reply.{Reply}
 use Rattle.moka_engine.specs.declared.event.Reply.TheVariants.{Counts as CountsReply}
 use Rattle.moka_engine.specs.Run.{Happens}
-use Rattle.moka_engine.specs.WholeCall.{Log, OfReads, OfWrites, Turns, LastTurn, NextTurn, CallsGet, CallsInsert, CallsInvalidate}
+use Rattle.moka_engine.specs.WholeCall.{Log, OfReads, OfWrites, Turns, LastTurn, NextTurn, CallsGet, CallsInsert, CallsInvalidate, CallsRemove}
 use Rattle.moka_engine.specs.WholeCall.{CallsContains, CallsInvalidateAll, CallsSync, CallsIter}
 
 -- whether a maintenance is due in a call that finds a log of this length: there is enough to do, or the time has come
@@ -78,6 +78,7 @@ module _ {K V S : Type 0} (keys : Keys K S) (weighs : K → V → ℕ → Type 0
   IsCall old (Get key now) reply new = CallsGet (Happens keys weighs) Decides has_pending CALLER key now true reply old new
   IsCall old (Contains key now) reply new = CallsContains (Happens keys weighs) Decides has_pending CALLER key now reply old new
   IsCall old (Invalidate key now) reply new = CallsInvalidate (Happens keys weighs) Decides has_pending CALLER key now reply old new
+  IsCall old (Remove key now) reply new = CallsRemove (Happens keys weighs) Decides has_pending CALLER key now reply old new
   IsCall old (InvalidateAll now) reply new = CallsInvalidateAll (Happens keys weighs) Decides has_pending CALLER now reply old new
   IsCall old (Sync now) reply new = CallsSync (Happens keys weighs) Decides has_pending CALLER now reply old new
   IsCall old Counts reply new = (reply ≡ CountsReply old.maintenance.published.count old.maintenance.published.weight) × (new ≡ old)

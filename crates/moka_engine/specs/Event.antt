@@ -5,7 +5,7 @@ use Rattle.std.specs.Prelude.{Option, None, Some, MatchOption, MatchBool, if◌t
 use Rattle.moka_base.specs.Keys.{Keys}
 use Rattle.moka_engine.specs.declared.constants.TheConstants.{READ_LOG_SIZE, WRITE_LOG_SIZE, SHARDS}
 use Rattle.moka_engine.specs.declared.event.Event.{Event}
-use Rattle.moka_engine.specs.declared.event.Event.TheVariants.{Insert, Get, Contains, Invalidate, InvalidateAll, Push, Forget, Copy}
+use Rattle.moka_engine.specs.declared.event.Event.TheVariants.{Insert, Get, Contains, Invalidate, Take, InvalidateAll, Push, Forget, Copy}
 use Rattle.moka_engine.specs.declared.event.Event.TheVariants.{Begin, Turn, Counts}
 use Rattle.moka_engine.specs.declared.event.Reply.TheVariants.{Done, Bool as BoolReply, Discarded, At, Counts as CountsReply}
 use Rattle.moka_engine.specs.declared.event.Reply.TheVariants.{NotPossible}
@@ -18,7 +18,7 @@ use Rattle.moka_engine.specs.Place.{is_idle, name_of}
 use Rattle.moka_engine.specs.CoreState.{CoreState, pending_of, without_pending}
 use Rattle.moka_engine.specs.Turn.Turn.{after_turn}
 use Rattle.moka_engine.specs.Reply.{Reply}
-use Rattle.moka_engine.specs.MapStep.{OnlyReplies, IsInsert, IsGet, IsInvalidation, is_fresh, pairs_of, IsCopy}
+use Rattle.moka_engine.specs.MapStep.{OnlyReplies, IsInsert, IsGet, IsInvalidation, IsTaking, is_fresh, pairs_of, IsCopy}
 
 module _ {K V S : Type 0} (keys : Keys K S) where
   -- a push, by what the caller has pending
@@ -65,6 +65,8 @@ module _ {K V S : Type 0} (keys : Keys K S) where
       OnlyReplies keys old (BoolReply (is_fresh keys old now (entry_at keys.eq key old.entries))) reply new
   IsStep old (Invalidate caller key now) weight refused reply new =
       IfFree old caller reply new (IsInvalidation keys old caller (entry_at keys.eq key old.entries) reply new)
+  IsStep old (Take caller key now) weight refused reply new =
+      IfFree old caller reply new (IsTaking keys old caller now (entry_at keys.eq key old.entries) reply new)
   IsStep old (InvalidateAll now) weight refused reply new =
       (reply ≡ Done) × (new ≡ record old { valid_after = if nat_lt old.valid_after now then now else old.valid_after })
   IsStep old (Push caller) weight refused reply new = IsPush old caller (pending_of caller old) reply new

@@ -1,6 +1,6 @@
 -- The atomic steps on the map: what each replies and what it leaves.
 use Rattle.std.specs.Prelude.{◌≡◌, ℕ, ◌+◌, ◌==◌, ◌&&◌, not, Bool, true, false, List, [], ◌∷◌, ◌++◌, filter, map}
-use Rattle.std.specs.Prelude.{slice_index, slice_set, Option, None, Some, MatchBool}
+use Rattle.std.specs.Prelude.{slice_index, slice_set, Option, None, Some, MatchBool, if◌then◌else◌}
 use Rattle.std.specs.Option.{option_map_or}
 use Rattle.moka_base.specs.Keys.{Keys}
 use Rattle.moka_engine.specs.declared.constants.TheConstants.{MAX_OUTSTANDING, NO_TICKET}
@@ -96,6 +96,16 @@ module _ {K V S : Type 0} (keys : Keys K S) where
         entries = without (λ x. x.ticket) e.ticket old.entries;
         pending = with_pending caller (Writing (Remove e.ticket)) old;
       })
+
+  -- the value of the entry that stands at a key, if it counts at a moment
+  abbrev pub value_taken : CoreState K V S → ℕ → Option (Entry K V) → Option V
+  value_taken core now None = None
+  value_taken core now (Some e) = if is_expired core.settings core.valid_after now e then None else Some e.value
+
+  -- a removal, by the entry that stands at the key: it leaves what an invalidation leaves, and replies the value if it counts
+  abbrev pub IsTaking : CoreState K V S → ℕ → ℕ → Option (Entry K V) → Reply K V → CoreState K V S → Type 0
+  IsTaking old caller now present reply new =
+      (reply ≡ Found (value_taken old now present)) × IsInvalidation old caller present Done new
 
   -- whether there is an entry that counts at a moment
   abbrev pub is_fresh : CoreState K V S → ℕ → Option (Entry K V) → Bool

@@ -4,7 +4,7 @@ use Rattle.moka_engine.specs.declared.place.Place.{Place as PlaceName}
 use Rattle.moka_engine.specs.declared.place.Place.TheVariants as name
 use Rattle.moka_engine.specs.declared.event.Event.{Event}
 use Rattle.moka_engine.specs.Reply.{Reply}
-use Rattle.moka_engine.specs.declared.event.Event.TheVariants.{Insert, Get, Contains, Invalidate, InvalidateAll, Push, Forget, Copy}
+use Rattle.moka_engine.specs.declared.event.Event.TheVariants.{Insert, Get, Contains, Invalidate, Take, InvalidateAll, Push, Forget, Copy}
 use Rattle.moka_engine.specs.declared.event.Event.TheVariants.{Begin, Turn}
 use Rattle.moka_engine.specs.declared.event.Reply.TheVariants.{Done, Found, Discarded, Rows, At, NotPossible, OutOfMemory, TicketsUsedUp}
 
@@ -62,6 +62,12 @@ module _ {W K V : Type 0} (allowed : W → Event K V → Reply K V → W → Typ
   PushesIf true now old new = PushesWrite now old new
   PushesIf false now old new = new ≡ old
 
+  -- what follows a removal, by its reply and by whether it is pending: of an expired entry it is, though nothing was found
+  abbrev pub AfterRemove : ℕ → Reply K V → W → W → Type 0
+  AfterRemove now (Found found) old new = PushesIf (is_pending old) now old new
+  AfterRemove now OutOfMemory old new = new ≡ old
+  AfterRemove now reply old new = ⊥
+
   -- what follows a get, by its reply and by whether the value was copied for the caller
   abbrev pub AfterGet : ℕ → Reply K V → Bool → W → W → Type 0
   AfterGet now (Found None) copied old new = PushesRead now old new
@@ -95,6 +101,10 @@ module _ {W K V : Type 0} (allowed : W → Event K V → Reply K V → W → Typ
   abbrev pub CallsInvalidate : K → ℕ → Reply K V → W → W → Type 0
   CallsInvalidate key now reply old new =
       (reply ≡ Done) × Calls (Invalidate caller key now) Done (λ next new. PushesIf (is_pending next) now next new) old new
+
+  -- that of remove
+  abbrev pub CallsRemove : K → ℕ → Reply K V → W → W → Type 0
+  CallsRemove key now reply old new = Calls (Take caller key now) reply (AfterRemove now reply) old new
 
   -- calls of one step
   abbrev pub CallsContains : K → ℕ → Reply K V → W → W → Type 0

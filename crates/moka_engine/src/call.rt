@@ -10,6 +10,8 @@ pub enum Call<K: Drop, V: Drop> {
     Get { key: K, now: Instant },
     Contains { key: K, now: Instant },
     Invalidate { key: K, now: Instant },
+    /// Takes the entry of a key out, and answers its value where it is unexpired.
+    Remove { key: K, now: Instant },
     InvalidateAll { now: Instant },
     /// Runs a maintenance to its end.
     Sync { now: Instant },
@@ -45,6 +47,10 @@ impl<K: Drop, V: Drop, A: Allocator + Drop> Call<Shared<K, A>, Shared<V, A>> {
             Call::Invalidate { key, now } => {
                 let key = key.try_clone()?;
                 Ok(Call::Invalidate { key, now: *now })
+            }
+            Call::Remove { key, now } => {
+                let key = key.try_clone()?;
+                Ok(Call::Remove { key, now: *now })
             }
             Call::InvalidateAll { now } => Ok(Call::InvalidateAll { now: *now }),
             Call::Sync { now } => Ok(Call::Sync { now: *now }),

@@ -99,6 +99,13 @@ impl<K: Drop, V: Drop, A: Allocator + Drop> Entry<K, V, A> {
         &self.value
     }
 
+    /// The stored value, as the entry ends.
+    pub fn into_value(self) -> Shared<V, A>
+        ensures { result ≡ self.value }
+    {
+        self.value
+    }
+
     #[inline]
     pub fn weight(&self) -> u32
         ensures value { result ≡ self.now.weight }

@@ -29,6 +29,12 @@ pub enum Event<K: Drop, V: Drop> {
         key: K,
         now: Instant,
     },
+    /// The same, and answers the entry's value where it is unexpired.
+    Take {
+        caller: u32,
+        key: K,
+        now: Instant,
+    },
     /// Hides all entries from before this moment.
     InvalidateAll {
         now: Instant,

@@ -25,15 +25,16 @@ use Rattle.moka_engine.specs.declared.event.Event.TheVariants as event
 use Rattle.moka_engine.specs.declared.event.Event.{Event}
 use Rattle.moka_engine.specs.Reply.{Reply}
 use Rattle.moka_engine.specs.MapStep.{fresh_entry, OnlyReplies, IsInsert, IsUpdate, IsAddition, IsGet, IsMiss, IsHit, IsInvalidation}
+use Rattle.moka_engine.specs.MapStep.{IsTaking}
 use Rattle.moka_engine.specs.Event.{IsPush, IsBeginning, IsTurn}
 use Rattle.moka_engine.specs.declared.event.Reply.TheVariants.{NotPossible, Done, Found, Discarded, At, OutOfMemory, TicketsUsedUp}
 use Rattle.moka_engine.specs.Consistent.{IsConsistent, IsTrimmed}
 use Rattle.moka_engine_laws.specs.Emptying.{evicting, Empties}
 use Rattle.moka_engine.specs.Run.{Happens}
 use Rattle.moka_engine.specs.WholeCall.{Log, LastTurn, NextTurn, Maintains, MaintainsIf, MaintainsIfDue, PushesRead, PushesWrite, Pushed}
-use Rattle.moka_engine.specs.WholeCall.{WasFull, PushesIf, AfterGet, AfterInsert, CallsGet, CallsInsert, CallsInvalidate}
+use Rattle.moka_engine.specs.WholeCall.{WasFull, PushesIf, AfterGet, AfterInsert, AfterRemove, CallsGet, CallsInsert, CallsInvalidate, CallsRemove}
 use Rattle.moka_engine.specs.declared.call.Call.{Call}
-use Rattle.moka_engine.specs.declared.call.Call.TheVariants.{Insert, Get, Contains, Invalidate, InvalidateAll, Sync, Counts}
+use Rattle.moka_engine.specs.declared.call.Call.TheVariants.{Insert, Get, Contains, Invalidate, Remove as RemoveCall, InvalidateAll, Sync, Counts}
 use Rattle.moka_engine.specs.CoreCall.{scheduled, Decides, has_pending, CoreTurns, evicted_at, entries_evicted, IsAtRest, IsCall}
 use Rattle.moka_engine_laws.proofs.ConsistentLemmas.{consistent_event}
 use Rattle.moka_engine_laws.proofs.StepForms.{by_Bool}
@@ -453,23 +454,33 @@ module _ {K V S : Type 0} (keys : Keys K S) (laws : IsEquivalence keys.eq) (weig
             (λ b a. done (Upsert (fresh_entry keys old key value call.first.weight now).ticket) a.2 (ap (λ c. c.pending) a.3)
             (ap (λ c. c.maintenance.place) a.3)) h
 
+    -- what follows an invalidation, and a removal
+    out_rests : (now : ℕ) (next new : Core) → IsConsistent keys next → (present : Option (Entry K V))
+        → IsInvalidation keys old CALLER present Done next
+        → PushesIf Step Decides has_pending CALLER (has_pending next) now next new → Rests new
+    out_rests now next new good None h follows =
+        let none : has_pending next ≡ false = ap has_pending h.1 ∙ ap is_some (none_pending old rests.rest.pending) in
+        still_rests new (subst (λ b. PushesIf Step Decides has_pending CALLER b now next new) none follows ∙ h.1)
+    out_rests now next new good (Some e) h follows =
+        let ready =
+        now_pends (Writing (Remove e.ticket)) next good (ap (λ c. c.pending) h.1) (ap (λ c. c.maintenance.place) h.1) in
+        let some : has_pending next ≡ true = ap is_some (pending_is (Writing (Remove e.ticket)) next ready.pending) in
+        write_rests (Remove e.ticket) now next new ready
+        (subst (λ b. PushesIf Step Decides has_pending CALLER b now next new) some follows)
+
     invalidate_rests : (key : K) (now : ℕ) (reply : Reply K V) (new : Core)
         → CallsInvalidate Step Decides has_pending CALLER key now reply old new → Rests new
-    invalidate_rests key now reply new (word, call) = by (entry_at keys.eq key old.entries) (free Done call.next _ call.first.step)
-      where
-        good : IsConsistent keys call.next
-        good = consistent_step old call.next (event.Invalidate CALLER key now) Done rests.good call.first
+    invalidate_rests key now reply new (word, call) =
+        out_rests now call.next new (consistent_step old call.next (event.Invalidate CALLER key now) Done rests.good call.first)
+        (entry_at keys.eq key old.entries) (free Done call.next _ call.first.step) call.follows
 
-        by : (present : Option (Entry K V)) → IsInvalidation keys old CALLER present Done call.next → Rests new
-        by None h =
-            let none : has_pending call.next ≡ false = ap has_pending h.1 ∙ ap is_some (none_pending old rests.rest.pending) in
-            still_rests new (subst (λ b. PushesIf Step Decides has_pending CALLER b now call.next new) none call.follows ∙ h.1)
-        by (Some e) h =
-            let ready =
-            now_pends (Writing (Remove e.ticket)) call.next good (ap (λ c. c.pending) h.1) (ap (λ c. c.maintenance.place) h.1) in
-            let some : has_pending call.next ≡ true = ap is_some (pending_is (Writing (Remove e.ticket)) call.next ready.pending) in
-            write_rests (Remove e.ticket) now call.next new ready
-            (subst (λ b. PushesIf Step Decides has_pending CALLER b now call.next new) some call.follows)
+    remove_rests : (key : K) (now : ℕ) (reply : Reply K V) (new : Core)
+        → CallsRemove Step Decides has_pending CALLER key now reply old new → Rests new
+    remove_rests key now reply new call =
+        let taken = free reply call.next (IsTaking keys old CALLER now (entry_at keys.eq key old.entries) reply call.next) call.first.step in
+        out_rests now call.next new (consistent_step old call.next (event.Take CALLER key now) reply rests.good call.first)
+        (entry_at keys.eq key old.entries) taken.1
+        (subst (λ r. AfterRemove Step Decides has_pending CALLER now r call.next new) taken.0 call.follows)
 
     -- a whole call leaves nothing under way
     pub call_rests : (call : Call K V) (reply : Reply K V) (new : Core) → IsCall keys weighs old call reply new → Rests new
@@ -477,6 +488,7 @@ module _ {K V S : Type 0} (keys : Keys K S) (laws : IsEquivalence keys.eq) (weig
     call_rests (Get key now) reply new h = get_rests key now reply new h
     call_rests (Contains key now) reply new h = still_rests new (h.step.1)
     call_rests (Invalidate key now) reply new h = invalidate_rests key now reply new h
+    call_rests (RemoveCall key now) reply new h = remove_rests key now reply new h
     call_rests (InvalidateAll now) reply new h =
         let is = h.step.1 in
         rests_by old new (consistent_step old new (event.InvalidateAll now) reply rests.good h)

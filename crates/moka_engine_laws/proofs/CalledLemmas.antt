@@ -17,19 +17,19 @@ use Rattle.moka_engine_laws.specs.LastWritten.{written_by, value_at}
 use Rattle.moka_engine.specs.Run.{Happens}
 use Rattle.moka_engine.specs.WholeCall.{Log}
 use Rattle.moka_engine.specs.declared.call.Call.{Call}
-use Rattle.moka_engine.specs.declared.call.Call.TheVariants.{Insert, Get, Contains, Invalidate, InvalidateAll, Sync, Counts}
+use Rattle.moka_engine.specs.declared.call.Call.TheVariants.{Insert, Get, Contains, Invalidate, Remove, InvalidateAll, Sync, Counts}
 use Rattle.moka_engine.specs.declared.constants.TheConstants.{CALLER}
 use Rattle.moka_engine.specs.CoreCall.{scheduled, Decides, has_pending, IsCall, Replays}
 use Rattle.moka_engine_laws.specs.Weights.{AcceptsWeighed}
-use Rattle.moka_engine_laws.specs.CallLaws.{called_by, last_called, CallsKeepLastWritten, CallsGetLive}
+use Rattle.moka_engine_laws.specs.CallLaws.{called_by, last_called, CallsKeepLastWritten, CallsGetLive, CallsRemoveLive}
 use Rattle.moka_engine.proofs.ListLemmas.{find-changed}
 use Rattle.moka_engine.proofs.TicketLemmas.{same_self}
 use Rattle.moka_engine_laws.proofs.AdditionLemmas.{find-added}
 use Rattle.moka_engine_laws.proofs.StepForms.{StepForm, Same, Queued, Updated, Added, Removed, WasAbsent, Invalidated, Begun, Turned}
-use Rattle.moka_engine_laws.proofs.StepForms.{step_forms}
-use Rattle.moka_engine_laws.proofs.WrittenLemmas.{step_written, gets_live_value}
+use Rattle.moka_engine_laws.proofs.StepForms.{AsInvalidated, AsTaken, step_forms}
+use Rattle.moka_engine_laws.proofs.WrittenLemmas.{step_written, gets_live_value, takes_live_value}
 use Rattle.moka_engine_laws.proofs.CallLemmas.{consistent_step, good_scheduled}
-use Rattle.moka_engine_laws.proofs.InnerLemmas.{IsInner, maintenance_keeps, pending_keeps, get_keeps, insert_keeps}
+use Rattle.moka_engine_laws.proofs.InnerLemmas.{IsInner, maintenance_keeps, pending_keeps, get_keeps, insert_keeps, remove_keeps}
 
 module _ {K V S : Type 0} (keys : Keys K S) (weighs : K → V → ℕ → Type 0) (laws : IsEquivalence keys.eq) where
   abbrev Core : Type 0
@@ -79,6 +79,9 @@ module _ {K V S : Type 0} (keys : Keys K S) (weighs : K → V → ℕ → Type 0
         pending_keeps (Happens keys weighs) Decides has_pending CALLER (IsLast last) (inner_last last) (decided_last last)
         (has_pending call.next) now call.next new
         (step_last old call.next (event.Invalidate CALLER k now) Done last h call.first) call.follows
+    call_last old new (Remove k now) reply last h call =
+        remove_keeps (Happens keys weighs) Decides has_pending CALLER (IsLast last) (inner_last last) (decided_last last) now reply
+        call.next new (step_last old call.next (event.Take CALLER k now) reply last h call.first) call.follows
     call_last old new (InvalidateAll now) reply last h step = step_last old new (event.InvalidateAll now) reply last h step
     call_last old new (Sync now) reply last h call =
         maintenance_keeps (Happens keys weighs) Decides has_pending CALLER (IsLast last) (inner_last last) (decided_last last) now old new
@@ -98,6 +101,10 @@ module _ {K V S : Type 0} (keys : Keys K S) (weighs : K → V → ℕ → Type 0
   pub calls_get_live : CallsGetLive keys weighs
   calls_get_live old new key now found call =
       gets_live_value keys laws old call.next CALLER key now call.first.weight call.first.refused found call.first.step
+
+  pub calls_remove_live : CallsRemoveLive keys weighs
+  calls_remove_live old new key now found call =
+      takes_live_value keys laws old call.next CALLER key now call.first.weight call.first.refused found call.first.step
 
   -- ---- what an accepted insert leaves
 
@@ -148,8 +155,10 @@ module _ {K V S : Type 0} (keys : Keys K S) (weighs : K → V → ℕ → Type 0
           (subst (λ es. AddsEntry old.entries (fresh_entry keys old key value h.weight now') es) (ap (λ c. c.entries) (sym a.3))
           (subst (λ v. AddsEntry old.entries (fresh_entry keys old key v h.weight now') a.0) two
           (subst (λ k. AddsEntry old.entries (fresh_entry keys old k value' h.weight now') a.0) one a.1)))
-      by (Removed caller' free key' now' e on word found is) = absurd (cc)
-      by (WasAbsent caller' key' now' on word none is) = absurd (cc)
+      by (Removed caller' free key' e (AsInvalidated now' on word) found is) = absurd (cc)
+      by (Removed caller' free key' e (AsTaken now' taken on word) found is) = absurd (cc)
+      by (WasAbsent caller' key' (AsInvalidated now' on word) none is) = absurd (cc)
+      by (WasAbsent caller' key' (AsTaken now' taken on word) none is) = absurd (cc)
       by (Invalidated now' on is) = absurd (cc)
       by (Begun now' quiet idle is) = absurd quiet
       by (Turned on busy is) = absurd (cc)

@@ -37,7 +37,7 @@ use Rattle.moka_engine.proofs.TicketLemmas.{cases_ticket, of_ticket-is}
 use Rattle.moka_engine_laws.proofs.PlanLemmas.{IsChange, entry_of-fate, entry_of-other_fate}
 use Rattle.moka_engine_laws.proofs.ApplyLemmas.{tied_at, fits_at}
 use Rattle.moka_engine_laws.proofs.StepForms.{StepForm, Same, Queued, Updated, Added, Removed, WasAbsent, Invalidated, Begun, Turned}
-use Rattle.moka_engine_laws.proofs.StepForms.{Queues, Made, Dropped, ReadPushed, WritePushed, step_forms}
+use Rattle.moka_engine_laws.proofs.StepForms.{AsInvalidated, AsTaken, TakesOut, Queues, Made, Dropped, ReadPushed, WritePushed, step_forms}
 use Rattle.moka_engine_laws.proofs.EventLemmas.{entry_of-found}
 
 -- the first of an order, where there is a turn
@@ -332,6 +332,12 @@ module _ {K V S : Type 0} (keys : Keys K S) where
     queue_takes (ReadPushed caller read room was is) = stands _ is (λ x. x)
     queue_takes (WritePushed caller write room was is) = stands _ is (λ x. x)
 
+    -- a key that is equal was its cause, in an invalidation and in a removal
+    taken_out : (caller : ℕ) (key : K) (event : Event K V) (refused : Bool) → TakesOut caller key event reply
+        → keys.eq key e.key ≡ true → RemovalCause keys old e event refused
+    taken_out caller key event refused (AsInvalidated now on word) own = subst (λ ev. RemovalCause keys old e ev refused) (sym on) own
+    taken_out caller key event refused (AsTaken now found on word) own = subst (λ ev. RemovalCause keys old e ev refused) (sym on) own
+
     cause : (event : Event K V) (weight : ℕ) (refused : Bool) → StepForm keys old event weight refused reply new
         → RemovalCause keys old e event refused
     cause event weight refused (Same quiet is) = stands old is (λ x. x)
@@ -345,14 +351,14 @@ module _ {K V S : Type 0} (keys : Keys K S) where
         stands _ a.3
         (λ gone. ap (entry_of t) a.1.was
         ∙ find-fewer (λ x. same_ticket t x.ticket) a.1.before a.1.behind _ (ap (entry_of t) (sym a.1.is) ∙ gone))
-    cause event weight refused (Removed caller free key now x on word found is) =
+    cause event weight refused (Removed caller free key x out found is) =
         let taken = left_by_fate x.ticket t Leaves old.entries e tt stood (ap (λ c. entry_of t c.entries) (sym is) ∙ gone) in
         let both : Some x ≡ Some e = sym (entry_of-found (λ y. keys.eq key y.key) old.entries x good.entries_apart found)
         ∙ ap (λ u. entry_of u old.entries) taken.0 ∙ stood in
         let one : x ≡ e = cc in
-        subst (λ ev. RemovalCause keys old e ev refused) (sym on)
+        taken_out caller key event refused out
         (ap (λ y. keys.eq key y.key) (sym one) ∙ find-passes (λ y. keys.eq key y.key) old.entries x found)
-    cause event weight refused (WasAbsent caller key now on word none is) = stands old is (λ x. x)
+    cause event weight refused (WasAbsent caller key out none is) = stands old is (λ x. x)
     cause event weight refused (Invalidated now on is) = stands _ is (λ x. x)
     cause event weight refused (Begun now quiet idle is) = stands _ is (λ x. x)
     cause event weight refused (Turned on busy is) =

@@ -162,9 +162,9 @@ module _ {K V S : Type 0} (keys : Keys K S) (laws : IsEquivalence keys.eq) where
     by_form event weight refused (Updated caller free key value now e on word found is) =
         made caller (Writing (Upsert e.ticket)) _ is free refl refl refl refl
     by_form event weight refused (Added caller free key value now on word none a) = made caller _ _ a.3 free refl refl refl refl
-    by_form event weight refused (Removed caller free key now e on word found is) =
+    by_form event weight refused (Removed caller free key e out found is) =
         made caller (Writing (Remove e.ticket)) _ is free refl refl refl refl
-    by_form event weight refused (WasAbsent caller key now on word none is) = from old is was
+    by_form event weight refused (WasAbsent caller key out none is) = from old is was
     by_form event weight refused (Invalidated now on is) =
         from _ is (record {
           callers_apart = good.queues.callers_apart;

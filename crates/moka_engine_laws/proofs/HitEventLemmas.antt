@@ -97,9 +97,9 @@ module _ {K V S : Type 0} (keys : Keys K S) (laws : IsEquivalence keys.eq) where
     by_form event weight refused (Added caller free k value now on word none a) =
         fewer _ a.3 (was_to_come keys laws old good caller k value weight now none a.0 a.1)
         (λ t. omega (arith, hits-with t old.pending caller (Writing (Upsert (fresh_entry keys old k value weight now).ticket))))
-    by_form event weight refused (Removed caller free k now e on word found is) =
+    by_form event weight refused (Removed caller free k e out found is) =
         same_numbers _ is refl (λ t. omega (arith, hits-with t old.pending caller (Writing (Remove e.ticket))))
-    by_form event weight refused (WasAbsent caller k now on word none is) = same_numbers old is refl (λ t. omega arith)
+    by_form event weight refused (WasAbsent caller k out none is) = same_numbers old is refl (λ t. omega arith)
     by_form event weight refused (Invalidated now on is) = same_numbers _ is refl (λ t. omega arith)
     by_form event weight refused (Begun now quiet idle is) =
         same_numbers _ is refl

@@ -6,7 +6,7 @@ use Rattle.moka_engine.specs.declared.event.Event.TheVariants.{Push, Forget, Beg
 use Rattle.moka_engine.specs.declared.event.Reply.TheVariants.{Done, Found, Discarded, At, NotPossible, OutOfMemory, TicketsUsedUp}
 use Rattle.moka_engine.specs.declared.place.Place.TheVariants as name
 use Rattle.moka_engine.specs.WholeCall.{Log, OfReads, OfWrites, Turns, LastTurn, NextTurn, Maintains, MaintainsIf, MaintainsIfDue}
-use Rattle.moka_engine.specs.WholeCall.{PushesRead, PushesWrite, Pushed, WasFull, PushesIf, AfterGet, AfterInsert}
+use Rattle.moka_engine.specs.WholeCall.{PushesRead, PushesWrite, Pushed, WasFull, PushesIf, AfterGet, AfterInsert, AfterRemove}
 
 -- the events that a call makes after its first
 abbrev pub IsInner : {K V : Type 0} → Event K V → Type 0
@@ -70,3 +70,9 @@ module _ {W K V : Type 0} (allowed : W → Event K V → Reply K V → W → Typ
   insert_keeps now OutOfMemory old new h is = subst Holds (sym is) h
   insert_keeps now TicketsUsedUp old new h is = subst Holds (sym is) h
   insert_keeps now other old new h p = absurd p
+
+  pub remove_keeps : (now : ℕ) (reply : Reply K V) (old new : W) → Holds old
+      → AfterRemove allowed decides is_pending caller now reply old new → Holds new
+  remove_keeps now (Found found) old new h p = pending_keeps (is_pending old) now old new h p
+  remove_keeps now OutOfMemory old new h is = subst Holds (sym is) h
+  remove_keeps now other old new h p = absurd p

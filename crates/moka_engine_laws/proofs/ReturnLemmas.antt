@@ -25,6 +25,7 @@ use Rattle.moka_engine.specs.declared.event.Event.TheVariants as event
 use Rattle.moka_engine.specs.declared.event.Event.{Event}
 use Rattle.moka_engine.specs.Reply.{Reply}
 use Rattle.moka_engine.specs.MapStep.{fresh_entry, OnlyReplies, IsInsert, IsUpdate, IsAddition, IsGet, IsMiss, IsHit, IsInvalidation}
+use Rattle.moka_engine.specs.MapStep.{value_taken}
 use Rattle.moka_engine.specs.Event.{IsPush, IsBeginning, IsTurn}
 use Rattle.moka_engine.specs.declared.event.Reply.TheVariants.{NotPossible, Done, Found, Discarded, At, OutOfMemory, TicketsUsedUp}
 use Rattle.moka_engine.specs.Consistent.{AreEntriesConsistent, IsConsistent}
@@ -34,7 +35,7 @@ use Rattle.moka_engine.specs.Run.{Happens}
 use Rattle.moka_engine.specs.WholeCall.{Log, OfReads, OfWrites, LastTurn, NextTurn, Maintains, MaintainsIf, MaintainsIfDue, PushesRead}
 use Rattle.moka_engine.specs.WholeCall.{PushesWrite, Pushed, PushesIf}
 use Rattle.moka_engine.specs.declared.call.Call.{Call}
-use Rattle.moka_engine.specs.declared.call.Call.TheVariants.{Insert, Get, Contains, Invalidate, InvalidateAll, Sync, Counts}
+use Rattle.moka_engine.specs.declared.call.Call.TheVariants.{Insert, Get, Contains, Invalidate, Remove as RemoveCall, InvalidateAll, Sync, Counts}
 use Rattle.moka_engine.specs.CoreCall.{is_due, log_length, scheduled, Decides, has_pending, IsCall, CoreTurns}
 use Rattle.moka_engine_laws.proofs.EventLemmas.{idle_is}
 use Rattle.moka_engine_laws.proofs.TurnLemmas.{consistent_turn}
@@ -367,56 +368,42 @@ module _ {K V S : Type 0} (keys : Keys K S) (laws : IsEquivalence keys.eq) (weig
                     refl,
                   )) refl refl
 
-      invalidate_returns : (key : K) (now : ℕ) → Returns (Invalidate key now)
-      invalidate_returns key now = by (entry_at keys.eq key old.entries) refl
-        where
-          step : (new : Core) (present : Option (Entry K V)) → entry_at keys.eq key old.entries ≡ present
-              → IsInvalidation keys old CALLER present Done new → Step old (event.Invalidate CALLER key now) Done new
-          step new present is h =
-              record {
-                weight = 0;
-                refused = false;
-                weighed = tt;
-                step =
-                    is_free Done new _ (subst (λ o. IsInvalidation keys old CALLER o Done new) (sym is) h);
-              }
+      -- a step that takes an entry out, and what follows it
+      abbrev Out : ℕ → Event K V → Reply K V → Type 0
+      Out now event reply =
+          (next : Core) × (new : Core) × Step old event reply next
+          × PushesIf Step Decides has_pending CALLER (has_pending next) now next new
 
-          by : (present : Option (Entry K V)) → entry_at keys.eq key old.entries ≡ present → Returns (Invalidate key now)
-          by None is =
-              let none : has_pending old ≡ false = ap is_some (none_pending keys laws weighs old rests.rest.pending) in (
-                Done,
-                old,
-                (
-                  refl,
-                  record {
-                    next = old;
-                    first = step old None is (refl, refl);
-                    follows =
-                        subst (λ b. PushesIf Step Decides has_pending CALLER b now old old) (sym none) refl;
-                  },
-                ),
-              )
-          by (Some e) is =
-              let new : Core =
-              record old
-              { entries = without (λ x. x.ticket) e.ticket old.entries; pending = with_pending CALLER (Writing (Remove e.ticket)) old }
-              in
-              let first = step new (Some e) is (refl, refl) in
-              let pends = ready (Writing (Remove e.ticket)) (event.Invalidate CALLER key now) Done new first refl refl in
-              let some : has_pending new ≡ true = ap is_some (pending_is keys laws weighs (Writing (Remove e.ticket)) new pends.pending) in
-              let all = write_returns (Remove e.ticket) now new pends in (
-                Done,
-                all.0,
-                (
-                  refl,
-                  record {
-                    next = new;
-                    first = first;
-                    follows =
-                        subst (λ b. PushesIf Step Decides has_pending CALLER b now new all.0) (sym some) all.1;
-                  },
-                ),
-              )
+      out_returns : (now : ℕ) (event : Event K V) (reply : Reply K V) (present : Option (Entry K V))
+          → ((new : Core) → IsInvalidation keys old CALLER present Done new → Step old event reply new) → Out now event reply
+      out_returns now event reply None step =
+          let none : has_pending old ≡ false = ap is_some (none_pending keys laws weighs old rests.rest.pending) in
+          (old, old, step old (refl, refl), subst (λ b. PushesIf Step Decides has_pending CALLER b now old old) (sym none) refl)
+      out_returns now event reply (Some e) step =
+          let next : Core =
+          record old
+          { entries = without (λ x. x.ticket) e.ticket old.entries; pending = with_pending CALLER (Writing (Remove e.ticket)) old }
+          in
+          let first = step next (refl, refl) in
+          let pends = ready (Writing (Remove e.ticket)) event reply next first refl refl in
+          let some : has_pending next ≡ true = ap is_some (pending_is keys laws weighs (Writing (Remove e.ticket)) next pends.pending) in
+          let all = write_returns (Remove e.ticket) now next pends in
+          (next, all.0, first, subst (λ b. PushesIf Step Decides has_pending CALLER b now next all.0) (sym some) all.1)
+
+      invalidate_returns : (key : K) (now : ℕ) → Returns (Invalidate key now)
+      invalidate_returns key now =
+          let out =
+          out_returns now (event.Invalidate CALLER key now) Done (entry_at keys.eq key old.entries)
+          (λ new h. record { weight = 0; refused = false; weighed = tt; step = is_free Done new _ h }) in
+          (Done, out.1, (refl, record { next = out.0; first = out.2; follows = out.3 }))
+
+      remove_returns : (key : K) (now : ℕ) → Returns (RemoveCall key now)
+      remove_returns key now =
+          let reply : Reply K V = Found (value_taken keys old now (entry_at keys.eq key old.entries)) in
+          let out =
+          out_returns now (event.Take CALLER key now) reply (entry_at keys.eq key old.entries)
+          (λ new h. record { weight = 0; refused = false; weighed = tt; step = is_free reply new _ (refl, h) }) in
+          (reply, out.1, record { next = out.0; first = out.2; follows = out.3 })
 
       -- every whole call returns
       pub call_returns : (call : Call K V) → Returns call
@@ -424,6 +411,7 @@ module _ {K V S : Type 0} (keys : Keys K S) (laws : IsEquivalence keys.eq) (weig
       call_returns (Get key now) = get_returns key now
       call_returns (Contains key now) = (_, old, record { weight = 0; refused = false; weighed = tt; step = (refl, refl) })
       call_returns (Invalidate key now) = invalidate_returns key now
+      call_returns (RemoveCall key now) = remove_returns key now
       call_returns (InvalidateAll now) = (Done, _, record { weight = 0; refused = false; weighed = tt; step = (refl, refl) })
       call_returns (Sync now) = let all = maintenance_returns now old rests.good rests.rest.place in (Done, all.0, (refl, all.1))
       call_returns Counts = (_, old, (refl, refl))

@@ -41,9 +41,9 @@ module _ {K V S : Type 0} (keys : Keys K S) (laws : IsEquivalence keys.eq) where
         from _ is (consistent_update keys laws old good caller e (entry_of-found _ old.entries e good.entries_apart found) value weight now)
     by_form event weight refused (Added caller free key value now on word none a) =
         from _ a.3 (consistent_addition keys laws old good caller key value weight now none a.0 a.1)
-    by_form event weight refused (Removed caller free key now e on word found is) =
+    by_form event weight refused (Removed caller free key e out found is) =
         from _ is (consistent_invalidation keys laws old good caller e (entry_of-found _ old.entries e good.entries_apart found))
-    by_form event weight refused (WasAbsent caller key now on word none is) = from old is good
+    by_form event weight refused (WasAbsent caller key out none is) = from old is good
     by_form event weight refused (Invalidated now on is) = from _ is (consistent_invalidation_of_all keys laws old good _)
     by_form event weight refused (Begun now quiet idle is) = from _ is (consistent_beginning keys laws old good now idle)
     by_form event weight refused (Turned on busy is) = from _ is (consistent_turn keys old good refused)

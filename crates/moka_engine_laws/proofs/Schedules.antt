@@ -13,7 +13,7 @@ use Rattle.moka_engine.specs.declared.constants.TheConstants.{CALLER, FLUSH_POIN
 use Rattle.moka_engine.specs.declared.constants.TheConstants.{NO_TICKET, READ_LOG_SIZE, WRITE_LOG_SIZE}
 use Rattle.moka_engine.specs.declared.constants.TheConstants.{SHARDS}
 use Rattle.moka_engine.specs.declared.event.Event.{Event}
-use Rattle.moka_engine.specs.declared.event.Event.TheVariants.{Insert, Get, Contains, Invalidate, InvalidateAll, Push, Forget, Copy}
+use Rattle.moka_engine.specs.declared.event.Event.TheVariants.{Insert, Get, Contains, Invalidate, Take, InvalidateAll, Push, Forget, Copy}
 use Rattle.moka_engine.specs.declared.event.Event.TheVariants.{Begin, Turn, Counts}
 use Rattle.moka_engine.specs.declared.event.Reply.TheVariants.{Done, Found, Bool as BoolReply, Discarded, Rows, At, Counts as CountsReply}
 use Rattle.moka_engine.specs.declared.event.Reply.TheVariants.{NotPossible, TicketsUsedUp}
@@ -30,7 +30,7 @@ use Rattle.moka_engine.specs.Place.{is_idle, name_of}
 use Rattle.moka_engine.specs.CoreState.{CoreState, new_core, is_expired, pending_of, with_pending, without_pending}
 use Rattle.moka_engine.specs.Turn.Turn.{after_turn}
 use Rattle.moka_engine.specs.Reply.{Reply}
-use Rattle.moka_engine.specs.MapStep.{IsAddition, IsCopy, IsGet, IsHit, IsInsert, IsInvalidation, IsMiss}
+use Rattle.moka_engine.specs.MapStep.{IsAddition, IsCopy, IsGet, IsHit, IsInsert, IsInvalidation, IsMiss, IsTaking, value_taken}
 use Rattle.moka_engine.specs.Event.{IsPush, IsForgetting}
 use Rattle.moka_engine.specs.Event.{IsBeginning, IsStep, IsTurn}
 use Rattle.moka_engine.specs.MapStep.{IsUpdate, OnlyReplies, fresh_entry, pairs_of}
@@ -124,6 +124,11 @@ step core (Contains key now) weight =
     (BoolReply (option_map_or (λ e. not (is_expired core.settings core.valid_after now e)) (entry_at eqb key core.entries) false), core)
 step core (Invalidate caller key now) weight =
     if_free core (pending_of caller core) (invalidated core caller (entry_at eqb key core.entries))
+step core (Take caller key now) weight =
+    if_free core (pending_of caller core) (
+      Found (value_taken keys core now (entry_at eqb key core.entries)),
+      (invalidated core caller (entry_at eqb key core.entries)).1,
+    )
 step core (InvalidateAll now) weight = (Done, record core { valid_after = cond (ltb core.valid_after now) now core.valid_after })
 step core (Push caller) weight = pushed core caller (pending_of caller core)
 step core (Forget caller) weight = forgotten core caller (pending_of caller core)
@@ -169,6 +174,10 @@ module _ (core : Core) where
   invalidates caller None = (refl, refl)
   invalidates caller (Some e) = (refl, refl)
 
+  takes_out : (caller : ℕ) (o : Option (Entry ℕ ℕ)) → IsInvalidation keys core caller o Done (invalidated core caller o).1
+  takes_out caller None = (refl, refl)
+  takes_out caller (Some e) = (refl, refl)
+
   pushes : (caller : ℕ) (o : Option Operation) → IsPush keys core caller o (pushed core caller o).0 (pushed core caller o).1
   pushes caller None = (refl, refl)
   pushes caller (Some (Reading read)) =
@@ -209,6 +218,9 @@ module _ (core : Core) where
   is_step (Invalidate caller key now) weight =
       free (pending_of caller core) (IsInvalidation keys core caller (entry_at eqb key core.entries)) _
       (invalidates caller (entry_at eqb key core.entries))
+  is_step (Take caller key now) weight =
+      free (pending_of caller core) (IsTaking keys core caller now (entry_at eqb key core.entries)) _
+      (refl, takes_out caller (entry_at eqb key core.entries))
   is_step (InvalidateAll now) weight = (refl, refl)
   is_step (Push caller) weight = pushes caller (pending_of caller core)
   is_step (Forget caller) weight = forgets caller (pending_of caller core)
@@ -294,6 +306,9 @@ get caller key = Once (Get caller key 0) 0 ∷ []
 
 abbrev invalidate : ℕ → ℕ → List Line
 invalidate caller key = Once (Invalidate caller key 0) 0 ∷ []
+
+abbrev take_out : ℕ → ℕ → List Line
+take_out caller key = Once (Take caller key 0) 0 ∷ []
 
 abbrev push : ℕ → List Line
 push caller = Once (Push caller) 0 ∷ []

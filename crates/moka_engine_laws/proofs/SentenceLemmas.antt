@@ -15,11 +15,11 @@ use Rattle.moka_engine.specs.Turn.Plan.{after_plan, after_plan_at}
 use Rattle.moka_engine.specs.Turn.Turn.{turn_at}
 use Rattle.moka_engine_laws.specs.LastWritten.{live, live_if}
 use Rattle.moka_engine_laws.specs.MaintenanceLaws.{DropsCandidates, DropsUpserts}
-use Rattle.moka_engine_laws.specs.Laws.{GetsLastWritten, StandsOnceInserted}
+use Rattle.moka_engine_laws.specs.Laws.{GetsLastWritten, StandsOnceInserted, TakesLastWritten}
 use Rattle.moka_engine_laws.proofs.ConsistentLemmas.{consistent_event}
 use Rattle.moka_engine_laws.proofs.CalledLemmas.{accepts_weighed}
 use Rattle.moka_engine_laws.proofs.EventLemmas.{entry_of-found}
-use Rattle.moka_engine_laws.proofs.WrittenLemmas.{gets_live_value, keeps_last_written}
+use Rattle.moka_engine_laws.proofs.WrittenLemmas.{gets_live_value, keeps_last_written, takes_live_value}
 
 module _ {K V S : Type 0} (keys : Keys K S) where
   -- the turn has seen that the entry has left
@@ -62,3 +62,9 @@ module _ {K V S : Type 0} (keys : Keys K S) (laws : IsEquivalence keys.eq) where
       keeps_last_written keys laws old mid happenings key value good run
       (live_value mid now (entry_at keys.eq key mid.entries) value
       (sym (gets_live_value keys laws mid new caller key now weight refused (Some value) step)))
+
+  pub takes_last_written : TakesLastWritten V keys
+  takes_last_written old mid new happenings caller key now weight refused value good run step =
+      keeps_last_written keys laws old mid happenings key value good run
+      (live_value mid now (entry_at keys.eq key mid.entries) value
+      (sym (takes_live_value keys laws mid new caller key now weight refused (Some value) step)))

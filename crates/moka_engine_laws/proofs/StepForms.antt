@@ -21,11 +21,11 @@ use Rattle.moka_engine.specs.Turn.Turn.{after_turn}
 use Rattle.moka_engine.specs.declared.event.Event.{Event}
 use Rattle.moka_engine.specs.Reply.{Reply}
 use Rattle.moka_engine.specs.MapStep.{pairs_of, fresh_entry, OnlyReplies, IsInsert, IsUpdate, IsAddition, IsGet, IsMiss, IsHit}
-use Rattle.moka_engine.specs.MapStep.{IsInvalidation, IsCopy}
+use Rattle.moka_engine.specs.MapStep.{IsInvalidation, IsTaking, IsCopy, value_taken}
 use Rattle.moka_engine.specs.Event.{IsPush, IsForgetting, IsBeginning, IsTurn, IsStep}
-use Rattle.moka_engine.specs.declared.event.Event.TheVariants.{Insert, Get, Contains, Invalidate, InvalidateAll, Push, Forget, Copy}
+use Rattle.moka_engine.specs.declared.event.Event.TheVariants.{Insert, Get, Contains, Invalidate, Take, InvalidateAll, Push, Forget, Copy}
 use Rattle.moka_engine.specs.declared.event.Event.TheVariants.{Begin, Turn, Counts}
-use Rattle.moka_engine.specs.declared.event.Reply.TheVariants.{NotPossible, Done, Discarded, Rows, OutOfMemory, TicketsUsedUp}
+use Rattle.moka_engine.specs.declared.event.Reply.TheVariants.{NotPossible, Done, Discarded, Found, Rows, OutOfMemory, TicketsUsedUp}
 use Rattle.moka_engine.specs.Place.{is_idle}
 
 -- by a test that decides what holds
@@ -37,7 +37,13 @@ by_Bool false P Q p q h = q refl h
 abbrev pub IsSilent : {K V : Type 0} → Event K V → Reply K V → Type 0
 IsSilent (Insert caller key value now) Done = ⊥
 IsSilent (Invalidate caller key now) Done = ⊥
+IsSilent (Take caller key now) (Found found) = ⊥
 IsSilent event reply = Unit {0}
+
+-- the event takes the entry of this key out, if there is one: an invalidation, or a removal with what it found
+pub data TakesOut {K V : Type 0} (caller : ℕ) (key : K) (event : Event K V) (reply : Reply K V) : Type 0 where
+  AsInvalidated : (now : ℕ) → event ≡ Invalidate caller key now → reply ≡ Done → TakesOut caller key event reply
+  AsTaken : (now : ℕ) (found : Option V) → event ≡ Take caller key now → reply ≡ Found found → TakesOut caller key event reply
 
 module _ {K V S : Type 0} (keys : Keys K S) (old : CoreState K V S) where
   -- a hit is of an entry that stands at some key
@@ -69,13 +75,13 @@ module _ {K V S : Type 0} (keys : Keys K S) (old : CoreState K V S) where
     Added : (caller : ℕ) → pending_of caller old ≡ None → (key : K) (value : V) (now : ℕ) → event ≡ Insert caller key value now
         → reply ≡ Done → entry_at keys.eq key old.entries ≡ None
         → IsAddition keys old caller (fresh_entry keys old key value weight now) Done new → StepForm event weight refused reply new
-    Removed : (caller : ℕ) → pending_of caller old ≡ None → (key : K) (now : ℕ) (e : Entry K V) → event ≡ Invalidate caller key now
-        → reply ≡ Done → entry_at keys.eq key old.entries ≡ Some e
+    Removed : (caller : ℕ) → pending_of caller old ≡ None → (key : K) (e : Entry K V) → TakesOut caller key event reply
+        → entry_at keys.eq key old.entries ≡ Some e
         → new ≡ record old
         { entries = without (λ x. x.ticket) e.ticket old.entries; pending = with_pending caller (Writing (Remove e.ticket)) old }
         → StepForm event weight refused reply new
-    WasAbsent : (caller : ℕ) (key : K) (now : ℕ) → event ≡ Invalidate caller key now → reply ≡ Done
-        → entry_at keys.eq key old.entries ≡ None → new ≡ old → StepForm event weight refused reply new
+    WasAbsent : (caller : ℕ) (key : K) → TakesOut caller key event reply → entry_at keys.eq key old.entries ≡ None → new ≡ old
+        → StepForm event weight refused reply new
     Invalidated : (now : ℕ) → event ≡ InvalidateAll now
         → new ≡ record old { valid_after = if ltb old.valid_after now then now else old.valid_after }
         → StepForm event weight refused reply new
@@ -126,10 +132,20 @@ module _ {K V S : Type 0} (keys : Keys K S) (old : CoreState K V S) where
         (λ b r. unchanged (Get caller key now) OutOfMemory tt r)
         (λ b m. Queued tt (Made caller free (Hit e.ticket now) (key, e, refl, is) m.1))) h
 
+    take_out : (caller : ℕ) (key : K) (event : Event K V) → pending_of caller old ≡ None → TakesOut caller key event reply
+        → (why : Reply K V) (present : Option (Entry K V))
+        → entry_at keys.eq key old.entries ≡ present → IsInvalidation keys old caller present why new → Form event
+    take_out caller key event free out why None is h = WasAbsent caller key out is h.1
+    take_out caller key event free out why (Some e) is h = Removed caller free key e out is h.1
+
     invalidate : (caller : ℕ) (key : K) (now : ℕ) → pending_of caller old ≡ None → (present : Option (Entry K V))
         → entry_at keys.eq key old.entries ≡ present → IsInvalidation keys old caller present reply new → Form (Invalidate caller key now)
-    invalidate caller key now free None is h = WasAbsent caller key now refl h.0 is h.1
-    invalidate caller key now free (Some e) is h = Removed caller free key now e refl h.0 is h.1
+    invalidate caller key now free present is h =
+        take_out caller key (Invalidate caller key now) free (AsInvalidated now refl (replied present h)) reply present is h
+      where
+        replied : (present : Option (Entry K V)) → IsInvalidation keys old caller present reply new → reply ≡ Done
+        replied None h = h.0
+        replied (Some e) h = h.0
 
     push : (caller : ℕ) (o : Option Operation) → pending_of caller old ≡ o → IsPush keys old caller o reply new → Form (Push caller)
     push caller None is h = unchanged (Push caller) NotPossible tt h
@@ -175,6 +191,10 @@ module _ {K V S : Type 0} (keys : Keys K S) (old : CoreState K V S) where
     step_forms (Invalidate caller key now) h =
         if_free (Invalidate caller key now) tt (pending_of caller old) _
         (λ free. invalidate caller key now free (entry_at keys.eq key old.entries) refl) h
+    step_forms (Take caller key now) h =
+        if_free (Take caller key now) tt (pending_of caller old) (IsTaking keys old caller now (entry_at keys.eq key old.entries) reply new)
+        (λ free t. take_out caller key (Take caller key now) free
+        (AsTaken now (value_taken keys old now (entry_at keys.eq key old.entries)) refl t.0) Done (entry_at keys.eq key old.entries) refl t.1) h
     step_forms (InvalidateAll now) h = Invalidated now refl h.1
     step_forms (Push caller) h = push caller (pending_of caller old) refl h
     step_forms (Forget caller) h = forget caller (pending_of caller old) refl h

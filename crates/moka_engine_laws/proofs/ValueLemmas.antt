@@ -13,14 +13,14 @@ use Rattle.moka_engine.specs.declared.event.Event.{Event}
 use Rattle.moka_engine.specs.Reply.{Reply}
 use Rattle.moka_engine.specs.MapStep.{AddsEntry, fresh_entry}
 use Rattle.moka_engine.specs.Event.{IsStep}
-use Rattle.moka_engine.specs.declared.event.Event.TheVariants.{Insert, Invalidate, InvalidateAll, Turn}
-use Rattle.moka_engine.specs.declared.event.Reply.TheVariants.{Done}
+use Rattle.moka_engine.specs.declared.event.Event.TheVariants.{Insert, Invalidate, Take, InvalidateAll, Turn}
+use Rattle.moka_engine.specs.declared.event.Reply.TheVariants.{Done, Found}
 use Rattle.moka_engine.specs.Consistent.{AreEntriesConsistent}
 use Rattle.moka_engine_laws.specs.LastWritten.{mapped_by, value_at}
 use Rattle.moka_engine.proofs.ListLemmas.{find-changed}
 use Rattle.moka_engine.proofs.TicketLemmas.{same_is, same_self}
 use Rattle.moka_engine_laws.proofs.StepForms.{IsSilent, StepForm, Same, Queued, Updated, Added, Removed, WasAbsent, Invalidated, Begun}
-use Rattle.moka_engine_laws.proofs.StepForms.{Turned, Queues, Made, Dropped, ReadPushed, WritePushed, step_forms}
+use Rattle.moka_engine_laws.proofs.StepForms.{AsInvalidated, AsTaken, TakesOut, Turned, Queues, Made, Dropped, ReadPushed, WritePushed, step_forms}
 use Rattle.moka_engine_laws.proofs.EventLemmas.{entry_of-found}
 use Rattle.moka_engine_laws.proofs.AdditionLemmas.{find-added, find-added_other}
 use Rattle.moka_engine_laws.proofs.CauseLemmas.{find-passes}
@@ -190,8 +190,10 @@ module _ {K V S : Type 0} (keys : Keys K S) (laws : IsEquivalence keys.eq) where
         nothing : (event : Event K V) (reply : Reply K V) → IsSilent event reply → (v : Option V) → mapped_by keys.eq key event reply v ≡ v
         nothing (Insert caller k value now) Done quiet v = absurd quiet
         nothing (Invalidate caller k now) Done quiet v = absurd quiet
+        nothing (Take caller k now) (Found found) quiet v = absurd quiet
         nothing (Insert caller k value now) other quiet v = refl
         nothing (Invalidate caller k now) other quiet v = refl
+        nothing (Take caller k now) other quiet v = refl
         nothing event reply quiet v = refl
 
     -- one that is known, with the reply that it got
@@ -199,6 +201,11 @@ module _ {K V S : Type 0} (keys : Keys K S) (laws : IsEquivalence keys.eq) where
         → value_at keys.eq key new ≡ mapped_by keys.eq key known got (value_at keys.eq key old) → Maps event
     replied event known got on word h = h ∙ ap (λ x. mapped_by keys.eq key known x (value_at keys.eq key old)) (sym word)
         ∙ ap (λ x. mapped_by keys.eq key x reply (value_at keys.eq key old)) (sym on)
+
+    taken_out : (event : Event K V) (caller : ℕ) (k : K) → TakesOut caller k event reply
+        → value_at keys.eq key new ≡ cond (keys.eq key k) None (value_at keys.eq key old) → Maps event
+    taken_out event caller k (AsInvalidated now on word) h = replied event (Invalidate caller k now) Done on word h
+    taken_out event caller k (AsTaken now found on word) h = replied event (Take caller k now) (Found found) on word h
 
     none_mapped : (k : K) → entry_at keys.eq k old.entries ≡ None
         → value_at keys.eq key old ≡ cond (keys.eq key k) None (value_at keys.eq key old)
@@ -229,10 +236,10 @@ module _ {K V S : Type 0} (keys : Keys K S) (laws : IsEquivalence keys.eq) where
     by_form event weight refused (Added caller free k value now on word none a) =
         inl (replied event (Insert caller k value now) Done on word
         (ap (value_at keys.eq key) a.3 ∙ value_added old good key (fresh_entry keys old k value weight now) a.0 none a.1))
-    by_form event weight refused (Removed caller free k now e on word found is) =
-        inl (replied event (Invalidate caller k now) Done on word (ap (value_at keys.eq key) is ∙ value_removed old good key k e found))
-    by_form event weight refused (WasAbsent caller k now on word none is) =
-        inl (replied event (Invalidate caller k now) Done on word (same_entries old is refl ∙ none_mapped k none))
+    by_form event weight refused (Removed caller free k e out found is) =
+        inl (taken_out event caller k out (ap (value_at keys.eq key) is ∙ value_removed old good key k e found))
+    by_form event weight refused (WasAbsent caller k out none is) =
+        inl (taken_out event caller k out (same_entries old is refl ∙ none_mapped k none))
     by_form event weight refused (Invalidated now on is) = inl (replied event (InvalidateAll now) reply on refl (same_entries _ is refl))
     by_form event weight refused (Begun now quiet idle is) = inl (silent event quiet (same_entries _ is refl))
     by_form event weight refused (Turned on busy is) = inr (subst IsTurnEvent (sym on) tt)

@@ -98,11 +98,11 @@ module _ {K V S : Type 0} (keys : Keys K S) (weighs : K → V → ℕ → Type 0
         (subst (λ r. IsWeighed weighs (Insert caller k value now) r weight) word
         (subst (λ ev. IsWeighed weighs ev reply weight) on w)) none
         (subst (λ es. AddsEntry old.entries (fresh_entry keys old k value weight now) es) (ap (λ c. c.entries) (sym a.3)) a.1)
-    by_form event weight refused reply w (Removed caller free k now x on word found is) = λ key e there.
+    by_form event weight refused reply w (Removed caller free k x out found is) = λ key e there.
         weighed key e
         (found_before keys.eq laws (λ y. not (same_ticket x.ticket y.ticket)) key old.entries e good.entries.keys_apart
         (ap (λ c. entry_at keys.eq key c.entries) (sym is) ∙ there))
-    by_form event weight refused reply w (WasAbsent caller k now on word none is) = as_before old is refl
+    by_form event weight refused reply w (WasAbsent caller k out none is) = as_before old is refl
     by_form event weight refused reply w (Invalidated now on is) = as_before _ is refl
     by_form event weight refused reply w (Begun now quiet idle is) = as_before _ is refl
     by_form event weight refused reply w (Turned on busy is) = λ key e there.

@@ -24,15 +24,15 @@ use Rattle.moka_engine.specs.Turn.Plan.{after_plan}
 use Rattle.moka_engine.specs.Turn.Turn.{turn_at, after_turn}
 use Rattle.moka_engine.specs.declared.event.Event.{Event}
 use Rattle.moka_engine.specs.Reply.{Reply}
-use Rattle.moka_engine.specs.MapStep.{OnlyReplies, IsGet, IsMiss, IsHit}
+use Rattle.moka_engine.specs.MapStep.{OnlyReplies, IsGet, IsMiss, IsHit, IsTaking, value_taken}
 use Rattle.moka_engine.specs.Event.{IsTurn, IsStep}
-use Rattle.moka_engine.specs.declared.event.Event.TheVariants.{Insert, Invalidate, Turn}
+use Rattle.moka_engine.specs.declared.event.Event.TheVariants.{Insert, Invalidate, Take, Turn}
 use Rattle.moka_engine.specs.declared.event.Reply.TheVariants.{Done, Found, OutOfMemory, NotPossible}
 use Rattle.moka_engine.specs.Consistent.{AreEntriesConsistent, IsConsistent}
 use Rattle.moka_engine_laws.specs.RemovalCause.{TurnCause}
 use Rattle.moka_engine_laws.specs.LastWritten.{written_by, last_written, mapped_by, mapped, value_at, live, live_if, live_at}
 use Rattle.moka_engine.specs.Run.{Happening, Runs}
-use Rattle.moka_engine_laws.specs.Laws.{KeepsLastWritten, GetsLiveValue}
+use Rattle.moka_engine_laws.specs.Laws.{KeepsLastWritten, GetsLiveValue, TakesLiveValue}
 use Rattle.moka_engine_laws.specs.PlainMap.{IsPlainMap, IsUnlimited, AsksForNode, RunsPlainly, IsPlain}
 use Rattle.moka_engine.proofs.ListLemmas.{find-changed}
 use Rattle.moka_engine.proofs.TicketLemmas.{of_ticket-without_same}
@@ -65,8 +65,14 @@ module _ {K V S : Type 0} (keys : Keys K S) (laws : IsEquivalence keys.eq) where
         by : (b : Bool) → cond b None present ≡ Some v → last ≡ Some v
         by true h = absurd (cc)
         by false h = holds h
+    written_from (Take caller k now) (Found found) present last v holds h = by (keys.eq key k) h
+      where
+        by : (b : Bool) → cond b None present ≡ Some v → last ≡ Some v
+        by true h = absurd (cc)
+        by false h = holds h
     written_from (Insert caller k value now) other present last v holds h = holds h
     written_from (Invalidate caller k now) other present last v holds h = holds h
+    written_from (Take caller k now) other present last v holds h = holds h
     written_from event reply present last v holds h = holds h
 
     turn_kept : (old new : CoreState K V S) (good : AreEntriesConsistent keys old) (reply : Reply K V) (refused idle : Bool)
@@ -132,6 +138,29 @@ module _ {K V S : Type 0} (keys : Keys K S) (laws : IsEquivalence keys.eq) where
           (λ operation. OnlyReplies keys old NotPossible (Found found) new)
           → found ≡ option_map (λ (e : Entry K V). e.value) (live_at keys.eq key now old)
       free None h = get (entry_at keys.eq key old.entries) h
+      free (Some operation) h = let is = h.0 in absurd (cc)
+
+  -- ---- what a removal answers
+
+  pub takes_live_value : TakesLiveValue V keys
+  takes_live_value old new caller key now weight refused found step = free (pending_of caller old) step
+    where
+      live_taken : (o : Option (Entry K V)) → value_taken keys old now o ≡ option_map (λ (e : Entry K V). e.value) (live_if old now o)
+      live_taken None = refl
+      live_taken (Some e) = by (is_expired old.settings old.valid_after now e)
+        where
+          by : (b : Bool) → cond b None (Some e.value) ≡ option_map (λ (x : Entry K V). x.value) (live b e)
+          by true = refl
+          by false = refl
+
+      free : (o : Option Operation)
+          → MatchOption o (IsTaking keys old caller now (entry_at keys.eq key old.entries) (Found found) new)
+          (λ operation. OnlyReplies keys old NotPossible (Found found) new)
+          → found ≡ option_map (λ (e : Entry K V). e.value) (live_at keys.eq key now old)
+      free None h =
+          let is = h.0 in
+          let same : found ≡ value_taken keys old now (entry_at keys.eq key old.entries) = cc in
+          same ∙ live_taken (entry_at keys.eq key old.entries)
       free (Some operation) h = let is = h.0 in absurd (cc)
 
   -- ---- without limits
@@ -272,8 +301,8 @@ module _ {K V S : Type 0} (keys : Keys K S) (laws : IsEquivalence keys.eq) where
     form_kept event weight refused plain (Queued quiet queue) = queue_kept queue
     form_kept event weight refused plain (Updated caller free k value now e on word found is) = kept _ is refl refl
     form_kept event weight refused plain (Added caller free k value now on word none a) = kept _ a.3 refl refl
-    form_kept event weight refused plain (Removed caller free k now e on word found is) = kept _ is refl refl
-    form_kept event weight refused plain (WasAbsent caller k now on word none is) = kept old is refl refl
+    form_kept event weight refused plain (Removed caller free k e out found is) = kept _ is refl refl
+    form_kept event weight refused plain (WasAbsent caller k out none is) = kept old is refl refl
     form_kept event weight refused plain (Invalidated now on is) = absurd (subst (IsPlain old refused) on plain)
     form_kept event weight refused plain (Begun now quiet idle is) = kept _ is refl refl
     form_kept event weight refused plain (Turned on busy is) =

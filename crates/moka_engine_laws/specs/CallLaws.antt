@@ -15,7 +15,7 @@ use Rattle.moka_engine.specs.Consistent.{IsConsistent, IsTrimmed}
 use Rattle.moka_engine_laws.specs.Quiescent.{IsQuiescent}
 use Rattle.moka_engine_laws.specs.LastWritten.{written_by, value_at, live_at}
 use Rattle.moka_engine.specs.declared.call.Call.{Call}
-use Rattle.moka_engine.specs.declared.call.Call.TheVariants.{Insert, Get, Sync}
+use Rattle.moka_engine.specs.declared.call.Call.TheVariants.{Insert, Get, Remove, Sync}
 use Rattle.moka_engine.specs.CoreCall.{numbers_from, IsAtRest, IsCall, IsIteration, Replays, entries_evicted}
 
 module _ {K V : Type 0} (eq : K → K → Bool) where
@@ -95,3 +95,9 @@ module _ {K V S : Type 0} (keys : Keys K S) (weighs : K → V → ℕ → Type 0
   CallsGetLive =
       (old new : CoreState K V S) (key : K) (now : ℕ) (found : Option V) →
       IsCall keys weighs old (Get key now) (Found found) new → found ≡ option_map (λ e. e.value) (live_at keys.eq key now old)
+
+  -- so does a call of remove
+  abbrev pub CallsRemoveLive : Type 0
+  CallsRemoveLive =
+      (old new : CoreState K V S) (key : K) (now : ℕ) (found : Option V) →
+      IsCall keys weighs old (Remove key now) (Found found) new → found ≡ option_map (λ e. e.value) (live_at keys.eq key now old)

@@ -4,8 +4,8 @@ use Rattle.moka_engine.specs.Entry.{Entry, entry_at}
 use Rattle.moka_engine.specs.CoreState.{CoreState, is_expired}
 use Rattle.moka_engine.specs.declared.event.Event.{Event}
 use Rattle.moka_engine.specs.Reply.{Reply}
-use Rattle.moka_engine.specs.declared.event.Event.TheVariants.{Insert, Invalidate}
-use Rattle.moka_engine.specs.declared.event.Reply.TheVariants.{Done}
+use Rattle.moka_engine.specs.declared.event.Event.TheVariants.{Insert, Invalidate, Take}
+use Rattle.moka_engine.specs.declared.event.Reply.TheVariants.{Done, Found}
 use Rattle.moka_engine.specs.Run.{Happening}
 
 module _ {K V : Type 0} (eq : K → K → Bool) where
@@ -19,10 +19,12 @@ module _ {K V : Type 0} (eq : K → K → Bool) where
   last_written key [] last = last
   last_written key (h ∷ hs) last = last_written key hs (written_by key h.event h.reply last)
 
-  -- the value of a plain map at a key, once an event has got a reply: an accepted insert writes, and an invalidation takes away
+  -- the value of a plain map at a key, once an event has got a reply: an accepted insert writes, and an invalidation or a
+  -- removal takes away, whatever was found
   abbrev pub mapped_by : K → Event K V → Reply K V → Option V → Option V
   mapped_by key (Insert caller k value now) Done present = if eq key k then Some value else present
   mapped_by key (Invalidate caller k now) Done present = if eq key k then None else present
+  mapped_by key (Take caller k now) (Found found) present = if eq key k then None else present
   mapped_by key event reply present = present
 
   -- the same over a list of events

@@ -3,7 +3,7 @@ use Rattle.std.specs.Prelude.{◌≡◌, ◌≤◌, ℕ, ◌+◌, Bool, List, �
 use Rattle.moka_base.specs.Keys.{Keys}
 use Rattle.moka_base.specs.Settings.{Settings}
 use Rattle.moka_engine.specs.declared.event.Event.{Event}
-use Rattle.moka_engine.specs.declared.event.Event.TheVariants.{Insert, Get}
+use Rattle.moka_engine.specs.declared.event.Event.TheVariants.{Insert, Get, Take}
 use Rattle.moka_engine.specs.declared.event.Reply.TheVariants.{Done, Found}
 use Rattle.moka_engine.specs.declared.ticket.Ticket.{Ticket}
 use Rattle.moka_engine.specs.Entry.{Entry, entry_at, entry_of}
@@ -72,7 +72,7 @@ module _ (V : Type 0) {K S : Type 0} (keys : Keys K S) where
       IsConsistent keys old → Runs keys old happenings new →
       entry_of t old.entries ≡ Some e → entry_of t new.entries ≡ None → TakesForCause old new happenings t
 
-  -- ---- what a get answers
+  -- ---- what a get and a removal answer
 
   -- what stands at a key is the value last written there, or what stood there at the start if none was
   abbrev pub KeepsLastWritten : Type 0
@@ -94,6 +94,21 @@ module _ (V : Type 0) {K S : Type 0} (keys : Keys K S) where
       (old mid new : CoreState K V S) (happenings : List (Happening K V)) (caller : ℕ) (key : K) (now weight : ℕ) (refused : Bool)
       (value : V) →
       IsConsistent keys old → Runs keys old happenings mid → IsStep keys mid (Get caller key now) weight refused (Found (Some value)) new →
+      last_written keys.eq key happenings (value_at keys.eq key old) ≡ Some value
+
+  -- so does a removal
+  abbrev pub TakesLiveValue : Type 0
+  TakesLiveValue =
+      (old new : CoreState K V S) (caller : ℕ) (key : K) (now weight : ℕ) (refused : Bool) (found : Option V) →
+      IsStep keys old (Take caller key now) weight refused (Found found) new →
+      found ≡ option_map (λ e. e.value) (live_at keys.eq key now old)
+
+  -- and what it answers is the value last written, or the one that stood at the start if none was
+  abbrev pub TakesLastWritten : Type 0
+  TakesLastWritten =
+      (old mid new : CoreState K V S) (happenings : List (Happening K V)) (caller : ℕ) (key : K) (now weight : ℕ) (refused : Bool)
+      (value : V) →
+      IsConsistent keys old → Runs keys old happenings mid → IsStep keys mid (Take caller key now) weight refused (Found (Some value)) new →
       last_written keys.eq key happenings (value_at keys.eq key old) ≡ Some value
 
   -- ---- what is charged

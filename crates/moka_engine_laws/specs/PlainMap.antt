@@ -40,7 +40,7 @@ module _ (V : Type 0) {K S : Type 0} (keys : Keys K S) where
       (next : CoreState K V S) × IsStep keys old h.event h.weight h.refused h.reply next × IsPlain old h.refused h.event
       × RunsPlainly next hs new
 
-  -- without limits the contents are those of a plain map under the accepted inserts and the invalidations
+  -- without limits the contents are those of a plain map under the accepted inserts, the invalidations and the removals
   abbrev pub IsPlainMap : Type 0
   IsPlainMap =
       (old new : CoreState K V S) (happenings : List (Happening K V)) (key : K) →

@@ -14,7 +14,7 @@ use Rattle.moka_engine.specs.CoreState.{CoreState}
 use Rattle.moka_engine.specs.Turn.Admission.{is_admitted, next_seen}
 use Rattle.moka_engine.specs.Turn.Expiry.{is_outlived, is_out_of_use}
 use Rattle.moka_engine.specs.declared.event.Event.{Event}
-use Rattle.moka_engine.specs.declared.event.Event.TheVariants.{Invalidate, Turn}
+use Rattle.moka_engine.specs.declared.event.Event.TheVariants.{Invalidate, Take, Turn}
 use Rattle.moka_engine.specs.Consistent.{outstanding}
 
 -- the ticket is the first of an order
@@ -72,5 +72,6 @@ module _ {K V S : Type 0} (keys : Keys K S) where
   -- the cause in a step
   abbrev pub RemovalCause : CoreState K V S → Entry K V → Event K V → Bool → Type 0
   RemovalCause core e (Invalidate caller key now) refused = keys.eq key e.key ≡ true
+  RemovalCause core e (Take caller key now) refused = keys.eq key e.key ≡ true
   RemovalCause core e Turn refused = TurnCause core e refused core.maintenance.place
   RemovalCause core e other refused = ⊥

@@ -6,9 +6,10 @@ ghost use Rattle.moka_engine.specs.declared.constants.TheConstants.{READ_LOG_SIZ
 ghost use Rattle.moka_engine_laws.specs.MaintenanceLaws.{AdmitsUndisturbed, ComesToRest, DropsCandidates, DropsUpserts, PublishesTrimmed};
 ghost use Rattle.moka_engine_laws.specs.Laws.{GetsLastWritten, GetsLiveValue, IsPairedAtRest, KeepsConsistent, KeepsLastWritten};
 ghost use Rattle.moka_engine_laws.specs.Laws.{LeavesForCause, StandsOnceInserted, StandsUntilCause, StaysConsistent, StaysCounted};
+ghost use Rattle.moka_engine_laws.specs.Laws.{TakesLastWritten, TakesLiveValue};
 ghost use Rattle.moka_engine_laws.specs.PlainMap.{IsPlainMap};
 ghost use Rattle.moka_engine_laws.specs.Weights.{AcceptsWeighed, KeepsWeighed, RunsKeepWeighed};
-ghost use Rattle.moka_engine_laws.specs.CallLaws.{CallsGetLive, CallsKeepLastWritten, CallsRest, CallsReturn, IterationsCopy};
+ghost use Rattle.moka_engine_laws.specs.CallLaws.{CallsGetLive, CallsKeepLastWritten, CallsRemoveLive, CallsRest, CallsReturn, IterationsCopy};
 ghost use Rattle.moka_engine_laws.specs.CallLaws.{ListsRest, ReplaysOneMore, ReplaysRest, RunsAreHappenings, SyncsEmpty};
 
 use moka_engine::weigh::WeighShared;
@@ -52,6 +53,16 @@ pub fn gets_answer_live_values<K: Eq + Hash, V, S: BuildHasher>()
 /// A get that answers a value answers the one last written.
 pub fn gets_answer_what_was_last_written<K: Eq + Hash, V, S: BuildHasher>()
     ensures { GetsLastWritten V (keys_by K.Hash S.BuildHasher S.Hasher.Hasher) }
+{}
+
+/// A removal answers the value that stood unexpired, and none where none did.
+pub fn removals_answer_live_values<K: Eq + Hash, V, S: BuildHasher>()
+    ensures { TakesLiveValue V (keys_by K.Hash S.BuildHasher S.Hasher.Hasher) }
+{}
+
+/// A removal that answers a value answers the one last written.
+pub fn removals_answer_what_was_last_written<K: Eq + Hash, V, S: BuildHasher>()
+    ensures { TakesLastWritten V (keys_by K.Hash S.BuildHasher S.Hasher.Hasher) }
 {}
 
 /// With nothing outstanding, entries and nodes are paired, and the charged entries are those of the map.
@@ -142,6 +153,11 @@ pub fn calls_keep_last_written<K: Eq + Hash, V, S: BuildHasher, W: WeighShared<K
 /// A whole call of get answers the value that stands unexpired.
 pub fn calls_of_get_answer_live_values<K: Eq + Hash, V, S: BuildHasher, W: WeighShared<K, V>>()
     ensures { (weigher : _) → CallsGetLive {V = V} (keys_by K.Hash S.BuildHasher S.Hasher.Hasher) (W.weighs weigher) }
+{}
+
+/// So does one of remove, of what stood before it.
+pub fn calls_of_remove_answer_live_values<K: Eq + Hash, V, S: BuildHasher, W: WeighShared<K, V>>()
+    ensures { (weigher : _) → CallsRemoveLive {V = V} (keys_by K.Hash S.BuildHasher S.Hasher.Hasher) (W.weighs weigher) }
 {}
 
 /// Copying all shards changes nothing, and gives each shard's unexpired pairs.

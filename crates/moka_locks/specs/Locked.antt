@@ -3,9 +3,9 @@ use Rattle.std.specs.Prelude.{◌≡◌, ◌⊎◌, ℕ, Bool, Option, None, Som
 use Rattle.moka_base.specs.Keys.{Keys}
 use Rattle.moka_base.specs.declared.error.InsertError.TheVariants as refused
 use Rattle.moka_base.specs.declared.error.OutOfMemory.{OutOfMemory as MemoryError}
-use Rattle.moka_behind.specs.Permitted.{ContainsIn, FindsIn, InsertsIn, InvalidatesIn}
+use Rattle.moka_behind.specs.Permitted.{ContainsIn, FindsIn, InsertsIn, InvalidatesIn, StandsIn, TakesIn}
 use Rattle.moka_engine.specs.declared.event.Event.{Event}
-use Rattle.moka_engine.specs.declared.event.Event.TheVariants.{Insert, Get, Contains, Invalidate, InvalidateAll, Push, Forget, Begin, Turn}
+use Rattle.moka_engine.specs.declared.event.Event.TheVariants.{Insert, Get, Contains, Invalidate, Take, InvalidateAll, Push, Forget, Begin, Turn}
 use Rattle.moka_engine.specs.declared.event.Reply.TheVariants.{Done, Found, Bool as Truth, Discarded, At}
 use Rattle.moka_engine.specs.declared.event.Reply.TheVariants.{NotPossible, OutOfMemory, TicketsUsedUp}
 use Rattle.moka_engine.specs.declared.operation.Operation.{Operation}
@@ -50,6 +50,11 @@ module _ {S W : Type 0} where
   abbrev pub leaving : Option Operation → Locked S W → Locked S W
   leaving operation locked = record locked { pending = operation }
 
+  -- it has left the removal of this ticket, or nothing more
+  abbrev pub removing : Option Ticket → Locked S W → Locked S W
+  removing None locked = locked
+  removing (Some t) locked = leaving (Some (Writing (Remove t))) locked
+
   -- it runs this maintenance
   abbrev pub running : Option Working → Locked S W → Locked S W
   running working locked = record locked { working = working }
@@ -88,6 +93,10 @@ module _ {K V S W : Type 0} (keys : Keys K S) (holds : K → V → Type 0) (weig
   locked_allows old (Invalidate caller key now) Done new =
       (InvalidatesIn keys holds key None × (new ≡ old))
       ⊎ ((t : Ticket) × InvalidatesIn keys holds key (Some t) × (new ≡ leaving (Some (Writing (Remove t))) old))
+  locked_allows old (Take caller key now) (Found found) new =
+      (left : Option Ticket) × TakesIn keys holds old.cache.settings key now found left × (new ≡ removing left old)
+  locked_allows old (Take caller key now) OutOfMemory new =
+      ((value : V) × StandsIn keys holds old.cache.settings key now value) × (new ≡ old)
   locked_allows old (InvalidateAll now) Done new = new ≡ old
   locked_allows old (Push caller) Done new = new ≡ leaving None old
   locked_allows old (Push caller) Discarded new = ((read : Read) × (old.pending ≡ Some (Reading read))) × (new ≡ leaving None old)

@@ -1,5 +1,5 @@
 //! What all clones of a cache share: its shards, its logs and its maintenance, each behind a lock, and some words.
-ghost use Rattle.std.specs.Prelude.{◌≡◌, ◌<◌, ◌≤◌, ◌+◌, ◌++◌, [], ◌∷◌, List, Some, map, IfOk, IfSome, OnOk};
+ghost use Rattle.std.specs.Prelude.{◌≡◌, ◌<◌, ◌≤◌, ◌+◌, ◌++◌, [], ◌∷◌, List, Some, map, IfOk, IfSome, OnErr, OnOk, Option};
 ghost use Rattle.std.specs.List.{IsDistinct};
 ghost use Rattle.std.specs.Vec.{vec_len};
 ghost use Rattle.moka_engine.specs.declared.constants.TheConstants.{SHARDS};
@@ -7,12 +7,13 @@ ghost use Rattle.moka_base.specs.Keys.{keys_by};
 ghost use Rattle.moka_locks.specs.Cache.{new_cache};
 ghost use Rattle.moka_locks.specs.Charged.{counts_of};
 ghost use Rattle.moka_published.specs.Log.{IsChain, IsSuffix, opening};
-ghost use Rattle.moka_behind.specs.Permitted.{ContainsIn, CopiesIn, FindsIn, InsertsIn, InvalidatesIn, first_of_ok};
+ghost use Rattle.moka_behind.specs.Permitted.{ContainsIn, CopiesIn, FindsIn, InsertsIn, InvalidatesIn, StandsIn, TakesIn, first_of_ok};
 ghost use Rattle.moka_behind.specs.Rule.{PairsMeet};
 ghost use Rattle.moka_locks.specs.Snapshot.{IsSnapshot, own_pairs};
 ghost use Rattle.moka_base.specs.Settings.{keeps_writes};
 ghost use Rattle.moka_engine.specs.CoreState.{new_maintenance};
 ghost use Rattle.moka_engine.specs.Place.{Idle};
+ghost use Rattle.moka_engine.specs.Reply.{IsHanded};
 ghost use Rattle.moka_locks.specs.SameTickets.{AtWork, IsOrdered, just_begun};
 
 mod turns;
@@ -386,6 +387,33 @@ impl<
             Ok(None) => Err(InsertError::TicketsUsedUp),
             Err(error) => Err(error),
         }
+    }
+}
+
+impl<
+    K: Eq + Hash + Drop,
+    V: Clone,
+    S: BuildHasher + Drop,
+    P: PairRule<K, V>,
+    W: Drop,
+    A: Allocator + Clone + Drop,
+> Inner<K, V, S, P, W, A> {
+    /// Takes out the entry of a key. The answer is a clone of its value, if it counts at a moment, and its ticket. Where the clone is refused, the entry
+    /// stays.
+    pub(crate) fn take<R: Wait>(
+        &self,
+        rt: &R,
+        key: &K,
+        now: Instant,
+    ) -> Result<(Option<V>, Option<Ticket>), OutOfMemory>
+        ensures taken { IfOk result (λ taken. (found : Option V) × IsHanded V.is_clone found taken.0
+            × TakesIn (keys_by K.Hash S.BuildHasher S.Hasher.Hasher) P.holds self.now.settings key.now now found taken.1) }
+        ensures refused { OnErr result ((value : V) × (¬ (V.is_infallible value))
+            × StandsIn (keys_by K.Hash S.BuildHasher S.Hasher.Hasher) P.holds self.now.settings key.now now value) }
+    {
+        let hash = self.hash_of(key);
+        let mut shard = lock(rt, self.shard(hash));
+        shard.take(key, hash, &self.settings, self.valid_after(), now)
     }
 }
 

@@ -15,7 +15,7 @@ use moka_engine::operation::{Read, Write};
 use moka_engine::place::Place;
 use moka_engine::weigh::WeighShared;
 use moka_logs::logs::LoggedRead;
-use moka_steps::steps::{ReadPush, Steps, WhichLog, WritePush};
+use moka_steps::steps::{ReadPush, Steps, TakingSteps, WhichLog, WritePush};
 use std::alloc::Allocator;
 use std::hash::{BuildHasher, Hash};
 use std::marker::Model;
@@ -261,5 +261,35 @@ impl<
             self.end(rt);
         }
         place
+    }
+}
+
+impl<
+    'a,
+    K: Eq + Hash + Drop,
+    V: Clone,
+    S: BuildHasher + Drop,
+    P: PairRule<K, V>,
+    W: WeighShared<K, V>,
+    A: Allocator + Clone + Drop,
+> TakingSteps<K, V, A> for Locked<'a, K, V, S, P, W, A> {
+    type Taken = V;
+
+    ghost is_taken = { V.is_clone };
+
+    ghost is_sure = { V.is_infallible };
+
+    fn take<R: Wait>(
+        &mut self,
+        rt: &R,
+        key: &K,
+        now: Instant,
+    ) -> Result<(Option<V>, bool), OutOfMemory> {
+        let (handed, ticket) = self.inner.take(rt, key, now)?;
+        let Some(ticket) = ticket else {
+            return Ok((handed, false));
+        };
+        self.pending = Pending::Write(Write::Remove { ticket });
+        Ok((handed, true))
     }
 }

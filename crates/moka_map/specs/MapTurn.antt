@@ -1,6 +1,5 @@
 -- A turn that needs an entry, on the map, and what a hit does to its entry. No public clause cites this module.
 use Rattle.std.specs.Prelude.{◌≡◌, ℕ, Bool, List, Option}
-use Rattle.moka_base.specs.Settings.{Settings}
 use Rattle.moka_engine.specs.declared.operation.Read.{Read}
 use Rattle.moka_engine.specs.declared.operation.Read.TheVariants.{Hit, Miss}
 use Rattle.moka_engine.specs.declared.ticket.Ticket.{Ticket}

@@ -188,6 +188,24 @@ impl<K: Eq + Hash + Drop, V: Drop, S: BuildHasher + Drop, A: Allocator + Clone +
         let _ = shard.len();
         ticket
     }
+
+    /// The same, and the answer has its value too, if it counts at a moment.
+    pub fn take(
+        &mut self,
+        key: &K,
+        valid_after: Instant,
+        now: Instant,
+    ) -> (Option<Shared<V, A>>, Option<Ticket>)
+        ensures value { result.0 ≡ option_map (λ e. e.value)
+            (unexpired self.old.settings valid_after now (entry_at K.eq key.now self.old.entries)) }
+        ensures step { IsInvalidated self.old (entry_at K.eq key.now self.old.entries) result.1 self.new }
+    {
+        let hash = self.hash_of(key);
+        let shard = &mut self.shards[(hash % SHARDS as u64) as usize];
+        let taken = shard.take(key, hash, &self.settings, valid_after, now);
+        let _ = shard.len();
+        taken
+    }
 }
 
 impl<K: Eq + Hash + Drop, V: Drop, S: BuildHasher + Drop, A: Allocator + Clone + Drop> Map<

@@ -10,7 +10,7 @@ use Rattle.std.proofs.lemmas.Bool.{cases_Bool, false≢true, leb-false, lt-ltb}
 use Rattle.moka_base.specs.Keys.{Keys}
 use Rattle.moka_engine.specs.declared.constants.TheConstants.{CALLER, FLUSH_POINT, READ_LOG_SIZE, WRITE_LOG_SIZE}
 use Rattle.moka_engine.specs.declared.call.Call.TheVariants as call
-use Rattle.moka_engine.specs.declared.event.Event.TheVariants.{Insert, Get, Invalidate, Push, Turn}
+use Rattle.moka_engine.specs.declared.event.Event.TheVariants.{Insert, Get, Invalidate, Take, Push, Turn}
 use Rattle.moka_engine.specs.declared.event.Event.{Event}
 use Rattle.moka_engine.specs.declared.event.Reply.TheVariants.{At, Done, Found, Discarded, NotPossible, OutOfMemory, TicketsUsedUp}
 use Rattle.moka_engine.specs.declared.place.Place.TheVariants as name
@@ -25,7 +25,7 @@ use Rattle.moka_engine.specs.CoreState.{CoreState, is_expired, pending_of, with_
 use Rattle.moka_engine.specs.Consistent.{IsConsistent}
 use Rattle.moka_engine.specs.CoreCall.{CoreTurns, Decides, Finishes, IsAtRest, IsCall, has_pending, is_due, scheduled}
 use Rattle.moka_engine.specs.Event.{IsPush}
-use Rattle.moka_engine.specs.MapStep.{IsAddition, IsGet, IsHit, IsInsert, IsInvalidation, IsMiss, IsUpdate, OnlyReplies, fresh_entry}
+use Rattle.moka_engine.specs.MapStep.{IsAddition, IsGet, IsHit, IsInsert, IsInvalidation, IsMiss, IsTaking, IsUpdate, OnlyReplies, fresh_entry}
 use Rattle.moka_engine.specs.Reply.{Reply}
 use Rattle.moka_engine.specs.Run.{Happens, RunsTo}
 use Rattle.moka_engine.specs.WholeCall.{AfterGet, AfterInsert, LastTurn, NextTurn, OfReads, OfWrites, MaintainsIfDue, Pushed, PushesIf}
@@ -308,6 +308,22 @@ module _ {K V S : Type 0} (keys : Keys K S) (laws : IsEquivalence keys.eq) (weig
           ),
         )
 
+    -- what a removal has left, if anything
+    pub removed : (key : K) (now : ℕ) (found : Option V) → Step old (Take CALLER key now) (Found found) next
+        → PendsWrite keys next ⊎ (next ≡ old)
+    removed key now found step =
+        by (entry_at keys.eq key old.entries)
+        (free (Found found) (IsTaking keys old CALLER now (entry_at keys.eq key old.entries) (Found found) next) step.step).1
+      where
+        by : (present : Option (Entry K V)) → IsInvalidation keys old CALLER present Done next → PendsWrite keys next ⊎ (next ≡ old)
+        by None h = inr h.1
+        by (Some e) h =
+            inl (
+              Remove e.ticket,
+              now_pends (Take CALLER key now) (Found found) (Writing (Remove e.ticket)) step (ap (λ c. c.pending) h.1)
+                  (ap (λ c. c.maintenance.place) h.1),
+            )
+
     -- what has found out has left a read
     pub found_pends : (key : K) (now : ℕ) (reply : Reply K V) (found : Option V) → reply ≡ Found found
         → Step old (Get CALLER key now) reply next
@@ -333,6 +349,17 @@ module _ {K V S : Type 0} (keys : Keys K S) (laws : IsEquivalence keys.eq) (weig
         → Step old (Invalidate CALLER key now) reply next → PendsWrite keys next
     taken_pends key now reply operation some step =
         elim ((taken key now reply step).1) [
+          | inl pends ↦ pends
+          | inr same ↦
+              let none : pending_of CALLER next ≡ None = ap (pending_of CALLER) same ∙ law.none_pending keys laws weighs old rest.pending in
+              absurd (cc)
+        ]
+
+    -- what a removal has left is a write
+    pub removed_pends : (key : K) (now : ℕ) (found : Option V) (operation : Operation) → pending_of CALLER next ≡ Some operation
+        → Step old (Take CALLER key now) (Found found) next → PendsWrite keys next
+    removed_pends key now found operation some step =
+        elim (removed key now found step) [
           | inl pends ↦ pends
           | inr same ↦
               let none : pending_of CALLER next ≡ None = ap (pending_of CALLER) same ∙ law.none_pending keys laws weighs old rest.pending in
@@ -420,6 +447,26 @@ module _ {K V S : Type 0} (keys : Keys K S) (laws : IsEquivalence keys.eq) (weig
             follows = subst (λ b. PushesIf Step Decides has_pending CALLER b now next next) (sym (ap is_some none)) refl;
           },
         )
+
+    -- a removal that has left one to push, and pushed it
+    pub called_remove : (key : K) (now : ℕ) (new : Core) (found : Option V) (operation : Operation)
+        → pending_of CALLER next ≡ Some operation
+        → Step old (Take CALLER key now) (Found found) next → CorePushesWrite keys weighs now next new
+        → IsCall keys weighs old (call.Remove key now) (Found found) new
+    called_remove key now new found operation some step push = record {
+      next = next;
+      first = step;
+      follows = subst (λ b. PushesIf Step Decides has_pending CALLER b now next new) (sym (ap is_some some)) push;
+    }
+
+    -- one that has left nothing
+    pub idle_remove : (key : K) (now : ℕ) (found : Option V) → pending_of CALLER next ≡ None
+        → Step old (Take CALLER key now) (Found found) next → IsCall keys weighs old (call.Remove key now) (Found found) next
+    idle_remove key now found none step = record {
+      next = next;
+      first = step;
+      follows = subst (λ b. PushesIf Step Decides has_pending CALLER b now next next) (sym (ap is_some none)) refl;
+    }
 
   -- ---- what leaves a core consistent
 

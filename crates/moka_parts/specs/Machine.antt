@@ -3,7 +3,7 @@ use Rattle.std.specs.Prelude.{◌≡◌, ◌≤◌, ℕ, ◌+◌, [], Option, No
 use Rattle.moka_base.specs.Keys.{Keys}
 use Rattle.moka_base.specs.declared.error.InsertError.{InsertError}
 use Rattle.moka_base.specs.declared.error.InsertError.TheVariants as error
-use Rattle.moka_engine.specs.declared.event.Event.TheVariants.{Get, Insert, Invalidate}
+use Rattle.moka_engine.specs.declared.event.Event.TheVariants.{Get, Insert, Invalidate, Take}
 use Rattle.moka_engine.specs.declared.event.Reply.TheVariants.{Done, Found, OutOfMemory, TicketsUsedUp}
 use Rattle.moka_engine.specs.declared.operation.Operation.{Operation}
 use Rattle.moka_engine.specs.declared.operation.Operation.TheVariants.{Reading, Writing}
@@ -78,3 +78,11 @@ module _ {K V S : Type 0} (keys : Keys K S) (weighs : K → V → ℕ → Type 0
       (caller now : ℕ) → pending_of caller old ≡ None
       → Happens keys weighs old (Invalidate caller key now) Done (left_pending caller (Writing write) new)
   TakesFor None = (caller now : ℕ) → pending_of caller old ≡ None → Happens keys weighs old (Invalidate caller key now) Done new
+
+  -- a removal by whatever caller has nothing pending finds this, makes the new map, and leaves this write pending, or none
+  abbrev pub RemovesFor : ℕ → Option V → Option Write → Type 0
+  RemovesFor now found (Some write) =
+      (caller : ℕ) → pending_of caller old ≡ None
+      → Happens keys weighs old (Take caller key now) (Found found) (left_pending caller (Writing write) new)
+  RemovesFor now found None =
+      (caller : ℕ) → pending_of caller old ≡ None → Happens keys weighs old (Take caller key now) (Found found) new

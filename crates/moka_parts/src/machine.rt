@@ -1,7 +1,7 @@
 //! What takes one atomic step at a time: the map, the logs, what is pending and the maintenance, each by itself.
 ghost use Rattle.std.specs.Prelude.{◌≡◌, ◌<◌, ◌↔◌, Bool, [], replicate, IsTrue, slice_index, IfErr, IfOk, OnErr};
 ghost use Rattle.moka_base.specs.Keys.{keys_by};
-ghost use Rattle.moka_parts.specs.Machine.{FindsFor, InsertsFor, IsUntouched, KeepsAllButMap, KeepsRoom, RefusesFor, RefusesInsertFor, TakesFor, refusal_reply};
+ghost use Rattle.moka_parts.specs.Machine.{FindsFor, InsertsFor, IsUntouched, KeepsAllButMap, KeepsRoom, RefusesFor, RefusesInsertFor, RemovesFor, TakesFor, refusal_reply};
 ghost use Rattle.moka_map.specs.Pending.{HasRoomFor};
 ghost use Rattle.moka_engine.specs.CoreCall.{IsAtRest};
 ghost use Rattle.moka_engine.specs.CoreState.{IsNew, new_core, new_maintenance};
@@ -297,6 +297,37 @@ impl<
         Some(Write::Remove { ticket })
     }
 
+    /// A removal by a caller, which answers the value.
+    pub fn take(&mut self, caller: u32, key: &K, now: Instant) -> Reply<Shared<V, A>, Rows<K, V, A>>
+        requires room { HasRoomFor caller self.old.room }
+        ensures step { Happens (keys_by K.Hash S.BuildHasher S.Hasher.Hasher) (W.weighs self.old.weigher)
+            self.old.state (Event.Take caller key.now now) result self.new.state }
+        ensures kept { KeepsRoom self.old self.new }
+    {
+        if self.pending.of(caller).is_some() {
+            return Reply::NotPossible;
+        }
+        let (found, write) = self.take_value(key, now);
+        let Some(write) = write else {
+            return Reply::Found(found);
+        };
+        self.pending.put(caller, Operation::Writing(write));
+        Reply::Found(found)
+    }
+
+    /// What a removal by any caller finds and does to the map that has nothing pending, and the write that it leaves pending, if there was an entry.
+    fn take_value(&mut self, key: &K, now: Instant) -> (Option<Shared<V, A>>, Option<Write>)
+        ensures taken { RemovesFor (keys_by K.Hash S.BuildHasher S.Hasher.Hasher) (W.weighs self.old.weigher)
+            self.old.state self.new.state key.now now result.0 result.1 }
+        ensures kept { KeepsAllButMap self.old self.new }
+    {
+        let (found, ticket) = self.map.take(key, self.valid_after, now);
+        let Some(ticket) = ticket else {
+            return (found, None);
+        };
+        (found, Some(Write::Remove { ticket }))
+    }
+
     /// Hides all entries from before a moment.
     pub fn invalidate_all(&mut self, now: Instant) -> Reply<Shared<V, A>, Rows<K, V, A>>
         ensures step { Happens (keys_by K.Hash S.BuildHasher S.Hasher.Hasher) (W.weighs self.old.weigher)
@@ -450,6 +481,7 @@ impl<
             Event::Get { caller, key, now } => self.get(caller, key.get(), now),
             Event::Contains { key, now } => self.contains_key(key.get(), now),
             Event::Invalidate { caller, key, now } => self.invalidate(caller, key.get(), now),
+            Event::Take { caller, key, now } => self.take(caller, key.get(), now),
             Event::InvalidateAll { now } => self.invalidate_all(now),
             Event::Push { caller } => self.push(caller),
             Event::Forget { caller } => self.forget(caller),

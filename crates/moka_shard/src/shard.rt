@@ -194,7 +194,7 @@ impl<K: Eq + Hash + Drop, V: Drop, S: BuildHasher + Drop, A: Allocator + Clone +
     }
 
     /// The entry in a slot, if a search has found one and it counts at a moment.
-    fn unexpired(
+    pub fn unexpired(
         &self,
         slot: Option<usize>,
         settings: &Settings<S, A>,
@@ -372,15 +372,50 @@ impl<K: Eq + Hash + Drop, V: Drop, S: BuildHasher + Drop, A: Allocator + Clone +
         Some(self.remove(slot))
     }
 
+    /// The same, and the answer has its value too, if it counts at a moment.
+    pub fn take(
+        &mut self,
+        key: &K,
+        hash: u64,
+        settings: &Settings<S, A>,
+        valid_after: Instant,
+        now: Instant,
+    ) -> (Option<Shared<V, A>>, Option<Ticket>)
+        requires { hash ≡ (keys_by K.Hash S.BuildHasher S.Hasher.Hasher).hash_of self.old.hash_state key.now }
+        ensures value { result.0 ≡ option_map (λ e. e.value)
+            (unexpired settings.now valid_after now (entry_at K.eq key.now (entries_in self.old.slots))) }
+        ensures step { IsInvalidation (state_of self.old) (entry_at K.eq key.now (entries_in self.old.slots)) result.1 (state_of self.new) }
+    {
+        let Some(slot) = self.find(key, hash) else {
+            return (None, None);
+        };
+        let counts = self.counts(Some(slot), settings, valid_after, now);
+        let (value, ticket) = self.take_out(slot);
+        if !counts {
+            return (None, Some(ticket));
+        }
+        (Some(value), Some(ticket))
+    }
+
     /// Takes out the entry in a slot. The answer is its ticket.
     pub fn remove(&mut self, slot: usize) -> Ticket
         requires { IsSome (entry_in self.old.slots slot) }
         ensures step { IsInvalidation (state_of self.old) (entry_in self.old.slots slot) (Some result) (state_of self.new) }
     {
+        let (_, ticket) = self.take_out(slot);
+        ticket
+    }
+
+    /// The same, and the answer has its value too.
+    fn take_out(&mut self, slot: usize) -> (Shared<V, A>, Ticket)
+        requires { IsSome (entry_in self.old.slots slot) }
+        ensures value { option_map (λ e. e.value) (entry_in self.old.slots slot) ≡ Some result.0 }
+        ensures step { IsInvalidation (state_of self.old) (entry_in self.old.slots slot) (Some result.1) (state_of self.new) }
+    {
         let entry = self.slots.remove(slot);
         let ticket = entry.ticket();
         self.index.remove(slot, ticket.hash);
-        ticket
+        (entry.into_value(), ticket)
     }
 
     /// The entry of a ticket, if it stands, was used at a moment. It is looked for in a slot first: that in which it was found before, as far as the

@@ -11,7 +11,7 @@ ghost use Rattle.moka_locks.specs.Cache.{new_cache};
 ghost use Rattle.moka_locks.specs.Charged.{counts_of};
 ghost use Rattle.moka_published.specs.Log.{IsChain, IsSuffix, opening};
 ghost use Rattle.moka_locks.specs.Locked.{Locked as LockedValue, locked_allows, locked_caller, locked_decides, resting_at};
-ghost use Rattle.moka_steps.specs.Steps.{AnswersGet, insert_reply, pends_by};
+ghost use Rattle.moka_steps.specs.Steps.{AnswersGet, AnswersRemove, insert_reply, pends_by};
 
 use crate::builder::CacheBuilder;
 use crate::iter::Iter;
@@ -52,7 +52,8 @@ use std::sync::Wait;
 ///
 /// The map has 16 shards, each behind a lock of its own. A call takes the lock of its key's shard, frees it, and then puts what it has done into a log
 /// behind another lock: a read into one, which drops it where it is full, and a write into the other, where it waits for room. No call takes two locks
-/// at a time but a maintenance, which has its own and one other. A value is cloned when no lock is held; the weigher is asked behind the shard's.
+/// at a time but a maintenance, which has its own and one other. A value is cloned when no lock is held, but for `remove`, which clones it behind the
+/// shard's; the weigher is asked behind the shard's too.
 /// `policy`, `entry_count`, `weighted_size`, `invalidate_all` and `clone` take no lock. No clause says that a call which waits returns.
 ///
 /// # Maintenance
@@ -320,6 +321,18 @@ impl<
         ensures ruled { IfOk result (λ found. IfSome found (λ copy. (value : V) × P.holds key.now value × V.is_clone value copy)) }
     {
         self.get(rt, key, now)
+    }
+
+    /// Takes the entry of a key out, and hands back a clone of its value where that is unexpired. The clone is made while the lock of the key's shard is
+    /// held, before the entry leaves: where it is refused, the cache is as it was. It counts as no read.
+    pub fn remove<R: Wait>(&self, rt: &R, key: &K, now: Instant) -> Result<Option<V>, OutOfMemory>
+        ensures call { (new : LockedValue S W) × AnswersRemove (locked_allows (keys_by K.Hash S.BuildHasher S.Hasher.Hasher) P.holds W.weighs)
+            locked_decides locked_caller V.is_clone V.is_infallible key.now now result (resting_at self.now) new }
+
+        // It is a clone of a value that meets the rule with the key.
+        ensures ruled { IfOk result (λ found. IfSome found (λ copy. (value : V) × P.holds key.now value × V.is_clone value copy)) }
+    {
+        steps::remove(rt, &mut Locked::new(self.inner.get()), key, now)
     }
 }
 

@@ -5,14 +5,14 @@ use Rattle.moka_base.specs.declared.error.InsertError.TheVariants as refused
 use Rattle.moka_base.specs.declared.error.OutOfMemory.{OutOfMemory as MemoryError}
 use Rattle.moka_engine.specs.declared.constants.TheConstants.{CALLER}
 use Rattle.moka_engine.specs.declared.event.Event.{Event}
-use Rattle.moka_engine.specs.declared.event.Event.TheVariants.{Turn}
+use Rattle.moka_engine.specs.declared.event.Event.TheVariants.{Take, Turn}
 use Rattle.moka_engine.specs.declared.event.Reply.TheVariants.{At, Done, Found, Discarded, NotPossible, OutOfMemory, TicketsUsedUp}
 use Rattle.moka_engine.specs.declared.operation.Operation.{Operation}
 use Rattle.moka_engine.specs.declared.operation.Operation.TheVariants.{Reading, Writing}
 use Rattle.moka_engine.specs.declared.place.Place.{Place as PlaceName}
 use Rattle.moka_engine.specs.declared.place.Place.TheVariants as name
-use Rattle.moka_engine.specs.Reply.{Reply}
-use Rattle.moka_engine.specs.WholeCall.{Log, OfReads, OfWrites, CallsGet}
+use Rattle.moka_engine.specs.Reply.{Reply, IsHanded}
+use Rattle.moka_engine.specs.WholeCall.{Log, OfReads, OfWrites, CallsGet, CallsRemove}
 use Rattle.moka_steps.specs.declared.steps.WhichLog.{WhichLog}
 use Rattle.moka_steps.specs.declared.steps.WhichLog.TheVariants as log
 use Rattle.moka_steps.specs.declared.steps.ReadPush.{ReadPush}
@@ -84,6 +84,11 @@ abbrev pub left_by_invalidate : Bool → Pending
 left_by_invalidate true = AWrite
 left_by_invalidate false = Nothing
 
+-- what a removal does
+abbrev pub left_by_take : {T : Type 0} → Result (T × Bool) MemoryError → Pending
+left_by_take (Ok taken) = left_by_invalidate taken.1
+left_by_take (Err error) = Nothing
+
 -- what a push of a write does
 abbrev pub left_by_push : WritePush → Pending
 left_by_push write.Pushed = Nothing
@@ -130,3 +135,24 @@ module _ {W K V : Type 0} (allowed : W → Event K V → Reply K V → W → Typ
   AnswersGet key now (Ok (Some copy)) old new = (value : V) × is_clone value copy × Gets key now true (Found (Some value)) old new
   AnswersGet key now (Err error) old new =
       Gets key now true OutOfMemory old new ⊎ ((value : V) × (¬ (is_infallible value)) × Gets key now false (Found (Some value)) old new)
+
+module _ {W K V T : Type 0} (allowed : W → Event K V → Reply K V → W → Type 0) (decides : W → Log → ℕ → Bool → W → Type 0)
+    (caller : W → Caller) (is_taken : V → T → Type 0) (is_sure : V → Type 0) where
+  -- a step that takes an entry out, by what it hands back: what it has found, or that memory for it was refused
+  abbrev pub Takes : K → ℕ → Result (Option T) MemoryError → W → W → Type 0
+  Takes key now (Ok handed) old new = (found : Option V) × IsHanded is_taken found handed × allowed old (Take CALLER key now) (Found found) new
+  Takes key now (Err error) old new = ((value : V) × (¬ (is_sure value))) × allowed old (Take CALLER key now) OutOfMemory new
+
+  -- a whole call of remove with this reply
+  abbrev pub Removes : K → ℕ → Reply K V → W → W → Type 0
+  Removes key now reply old new = CallsRemove allowed decides (pends_by caller) CALLER key now reply old new
+
+  -- what a whole call of remove answers
+  abbrev pub AnswersRemove : K → ℕ → Result (Option T) MemoryError → W → W → Type 0
+  AnswersRemove key now (Ok handed) old new = (found : Option V) × IsHanded is_taken found handed × Removes key now (Found found) old new
+  AnswersRemove key now (Err error) old new = ((value : V) × (¬ (is_sure value))) × Removes key now OutOfMemory old new
+
+-- what was handed back, without the word whether an entry has left
+abbrev pub handed_by : {T : Type 0} → Result (T × Bool) MemoryError → Result T MemoryError
+handed_by (Ok taken) = Ok taken.0
+handed_by (Err error) = Err error

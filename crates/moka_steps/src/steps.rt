@@ -4,8 +4,8 @@ ghost use Rattle.moka_engine.specs.declared.event.Event.{Event as StepEvent};
 ghost use Rattle.moka_engine.specs.Reply.{Reply as StepReply};
 ghost use Rattle.moka_engine.specs.WholeCall.{Log, CallsContains, CallsInsert, CallsInvalidate, CallsInvalidateAll};
 ghost use Rattle.moka_engine.specs.WholeCall.{CallsSync, Maintains, MaintainsIfDue, PushesRead, PushesWrite, Turns};
-ghost use Rattle.moka_steps.specs.Steps.{ARead, AWrite, AnswersGet, Caller, TakesTurns, at_rest, get_reply, goes_on};
-ghost use Rattle.moka_steps.specs.Steps.{insert_reply, left_by_get, left_by_insert, left_by_invalidate, left_by_push};
+ghost use Rattle.moka_steps.specs.Steps.{ARead, AWrite, AnswersGet, AnswersRemove, Caller, Takes, TakesTurns, at_rest, get_reply, goes_on};
+ghost use Rattle.moka_steps.specs.Steps.{handed_by, insert_reply, left_by_get, left_by_insert, left_by_invalidate, left_by_push, left_by_take};
 ghost use Rattle.moka_steps.specs.Steps.{log_of, maintaining, pends, pends_by, read_reply, write_reply};
 
 use moka_base::error::{InsertError, OutOfMemory};
@@ -148,6 +148,31 @@ pub trait Steps<K: Drop, V: Drop, A: Allocator + Drop> {
         ensures caller { caller self.new ≡ maintaining (goes_on result) (caller self.old) };
 }
 
+/// The steps of a cache that can also take an entry out and hand its value back. What it hands back is the implementer's to say: what it has stored of
+/// the value, or a clone that is made before the entry leaves.
+pub trait TakingSteps<K: Drop, V: Drop, A: Allocator + Drop>: Steps<K, V, A> {
+    /// What it hands back of a value.
+    type Taken: Drop;
+
+    // That is handed back for this value.
+    ghost is_taken: { V → Self.Taken → Type 0 };
+
+    // To hand this value back is never refused.
+    ghost is_sure: { V → Type 0 };
+
+    /// Takes the entry of a key out of the map. It hands the value back where that is unexpired, and says whether there was an entry: a write is pending
+    /// then. Where it is refused, the entry stays.
+    fn take<R: Wait>(
+        &mut self,
+        rt: &R,
+        key: &K,
+        now: Instant,
+    ) -> Result<(Option<Self::Taken>, bool), OutOfMemory>
+        requires { Self.caller self.old ≡ at_rest }
+        ensures step { Takes Self.allowed Self.decides Self.caller is_taken is_sure key.now now (handed_by result) self.old self.new }
+        ensures caller { Self.caller self.new ≡ pends (left_by_take result) };
+}
+
 /// Puts a pair into the cache; a pair of an equal key gives way. It is refused for want of memory, or where the key's shard has given out all its
 /// tickets, and then the cache takes no other step.
 pub fn insert<K: Drop, V: Drop, A: Allocator + Drop, T: Steps<K, V, A>, R: Wait>(
@@ -220,6 +245,25 @@ pub fn invalidate<K: Drop, V: Drop, A: Allocator + Drop, T: Steps<K, V, A>, R: W
     if steps.invalidate(rt, key, now) {
         push_write(rt, steps, now);
     }
+}
+
+/// Takes the pair of a key out of the cache, and hands its value back where that is unexpired. Where memory for that is refused, the cache takes no
+/// other step.
+pub fn remove<K: Drop, V: Drop, A: Allocator + Drop, T: TakingSteps<K, V, A>, R: Wait>(
+    rt: &R,
+    steps: &mut T,
+    key: &K,
+    now: Instant,
+) -> Result<Option<T::Taken>, OutOfMemory>
+    requires { T.caller steps.old ≡ at_rest }
+    ensures call { AnswersRemove T.allowed T.decides T.caller T.is_taken T.is_sure key.now now result steps.old steps.new }
+    ensures rest { T.caller steps.new ≡ at_rest }
+{
+    let (handed, has_left) = steps.take(rt, key, now)?;
+    if has_left {
+        push_write(rt, steps, now);
+    }
+    Ok(handed)
 }
 
 /// Hides all pairs from before this moment.

@@ -6,7 +6,7 @@ use moka_base::time::Instant;
 use moka_engine::event::Reply;
 use moka_engine::place::Place;
 use moka_engine::weigh::WeighShared;
-use moka_steps::steps::{ReadPush, Steps, WhichLog, WritePush};
+use moka_steps::steps::{ReadPush, Steps, TakingSteps, WhichLog, WritePush};
 use std::alloc::Allocator;
 use std::hash::{BuildHasher, Hash};
 use std::sync::Wait;
@@ -112,6 +112,36 @@ impl<
         match self.step_turn() {
             Reply::At(place) => place,
             _ => Place::Idle,
+        }
+    }
+}
+
+impl<
+    K: Eq + Hash + Drop,
+    V: Drop,
+    S: BuildHasher + Drop,
+    W: WeighShared<K, V>,
+    A: Allocator + Clone + Drop,
+> TakingSteps<K, V, A> for Core<K, V, S, W, A> {
+    ghost use Rattle.std.specs.Prelude.{◌≡◌, ⊤};
+
+    type Taken = Shared<V, A>;
+
+    ghost is_taken = { λ value taken. taken ≡ value };
+
+    ghost is_sure = { λ _. ⊤ };
+
+    fn take<R: Wait>(
+        &mut self,
+        _rt: &R,
+        key: &K,
+        now: Instant,
+    ) -> Result<(Option<Shared<V, A>>, bool), OutOfMemory> {
+        let reply = self.step_take(key, now);
+        let has_left = self.has_pending();
+        match reply {
+            Reply::Found(found) => Ok((found, has_left)),
+            _ => Err(OutOfMemory),
         }
     }
 }

@@ -71,6 +71,15 @@ impl<
         self.machine.invalidate(CALLER, key, now)
     }
 
+    /// The same, and answers the value that counts.
+    pub fn step_take(&mut self, key: &K, now: Instant) -> Reply<Shared<V, A>, Rows<K, V, A>>
+        ensures step { Happens (keys_by K.Hash S.BuildHasher S.Hasher.Hasher) (W.weighs self.old.weigher)
+            self.old.state (Event.Take CALLER key.now now) result self.new.state }
+        ensures weigher { self.new.weigher ≡ self.old.weigher }
+    {
+        self.machine.take(CALLER, key, now)
+    }
+
     /// Hides all entries from before a moment.
     pub fn step_invalidate_all(&mut self, now: Instant) -> Reply<Shared<V, A>, Rows<K, V, A>>
         ensures step { Happens (keys_by K.Hash S.BuildHasher S.Hasher.Hasher) (W.weighs self.old.weigher)

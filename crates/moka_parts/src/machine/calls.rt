@@ -49,6 +49,7 @@ impl<
             Call::Get { key, now } => self.call_get(key.get(), now),
             Call::Contains { key, now } => self.contains_key(key.get(), now),
             Call::Invalidate { key, now } => self.call_invalidate(key.get(), now),
+            Call::Remove { key, now } => self.call_remove(key.get(), now),
             Call::InvalidateAll { now } => self.invalidate_all(now),
             Call::Sync { now } => {
                 self.maintain(now);
@@ -108,6 +109,21 @@ impl<
         };
         self.log_write(write, now);
         Reply::Done
+    }
+
+    fn call_remove(&mut self, key: &K, now: Instant) -> Reply<Shared<V, A>, Rows<K, V, A>>
+        requires good { IsConsistent (keys_by K.Hash S.BuildHasher S.Hasher.Hasher) self.old.state }
+        requires rest { IsAtRest self.old.state }
+        ensures step { IsCall (keys_by K.Hash S.BuildHasher S.Hasher.Hasher) (W.weighs self.old.weigher)
+            self.old.state (call.Remove key.now now) result self.new.state }
+        ensures weigher { self.new.weigher ≡ self.old.weigher }
+    {
+        let (found, write) = self.take_value(key, now);
+        let Some(write) = write else {
+            return Reply::Found(found);
+        };
+        self.log_write(write, now);
+        Reply::Found(found)
     }
 
     /// What was published last.

@@ -2,7 +2,7 @@ use Rattle.moka_index.specs.HashIndex.{is_candidate}
 use Rattle.std.proofs.Common.{◌≡◌, subst, sym, true}
 use Rattle.moka_engine.specs.declared.ticket.Ticket.{Ticket}
 use Rattle.moka_shard.proofs.SlotLemmas.{invalidation_at, removed}
-use Rattle.moka_shard.proofs.shard.Shard.remove.Goals as goal
+use Rattle.moka_shard.proofs.shard.Shard.take_out.Goals as goal
 
 pub remove-requires : goal.remove-requires
 remove-requires g c =
@@ -14,11 +14,8 @@ invariant_of-self g c =
     rw c.remove-entry.ensures.slots
     (removed _ c.self.invariant c.args.slot c.remove-entry.result c.remove-entry.ensures.value c.remove.new.self c.remove.ensures.step)
 
-pub returns : goal.returns
-returns g c =
+pub returns-clause-step : goal.returns-clause-step
+returns-clause-step g c =
     rw (← c.self.view_is)
-    (record {
-      step =
-          invalidation_at _ _ c.self.invariant.0 c.args.slot c.remove-entry.result c.remove-entry.ensures.value c.ticket-ticket.result
-          c.remove-entry.new.self.slots c.ticket-ticket.ensures c.remove-entry.ensures.slots;
-    })
+    (invalidation_at _ _ c.self.invariant.0 c.args.slot c.remove-entry.result c.remove-entry.ensures.value c.ticket-ticket.result
+    c.remove-entry.new.self.slots c.ticket-ticket.ensures c.remove-entry.ensures.slots)

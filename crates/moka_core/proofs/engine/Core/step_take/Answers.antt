@@ -1,0 +1,11 @@
+use Rattle.moka_base.specs.Keys.{keys_by}
+use Rattle.moka_engine_laws.proofs.CallLemmas.{consistent_step}
+use Rattle.moka_core.proofs.engine.Core.step_take.Goals as goal
+
+pub invariant_of-self : goal.invariant_of-self
+invariant_of-self g c =
+    let keys = keys_by (record { eq = g.K.PartialEq.eq; hash_input = g.K.Hash.hash_input }) g.S.BuildHasher g.S.Hasher.Hasher in
+    let old = c.self.inside.machine in
+    consistent_step keys g.met.K.Eq.laws (g.W.WeighShared.weighs old.weigher) old.state c.take.new.self.state _ c.take.result
+    c.self.invariant
+    c.take.ensures.step
