@@ -165,7 +165,7 @@ def gen_unsync(r):
         return gen_unsync_aging(r)
     s = Settings(r, "unsync")
     keys, now = keys_of(r), moments_of(r)
-    w = jitter(r, [("insert", 30), ("get", 30), ("has", 6), ("invalidate", 5), ("clear", 0.7), ("drop-if", 2), ("iter", 6),
+    w = jitter(r, [("insert", 30), ("get", 30), ("has", 6), ("invalidate", 4), ("remove", 4), ("clear", 0.7), ("drop-if", 2), ("iter", 6),
                    ("count", 5), ("weight", 5), ("policy", 0.5), ("gets", 4)])
     lines = [s.first()]
     for _ in range(length_of(r)):
@@ -173,7 +173,7 @@ def gen_unsync(r):
         name = pick(r, w)
         if name == "insert":
             lines.append("%d insert %d %s%s" % (now(), k, text_of(r), s.weight(r)))
-        elif name in ("get", "has", "invalidate"):
+        elif name in ("get", "has", "invalidate", "remove"):
             lines.append("%d %s %d" % (now(), name, k))
         elif name == "gets":
             lines += ["%d get %d" % (now(), k)] * r.randint(2, 9)
@@ -215,7 +215,7 @@ def gen_unsync_hundred(r):
         elif x == 2:
             lines.append("%d iter" % t)
         elif x == 3:
-            lines.append("%d invalidate %d" % (t, k))
+            lines.append("%d %s %d" % (t, r.choice(["invalidate", "remove"]), k))
         else:
             lines.append("%d %s %d" % (t, r.choice(["get", "has"]), k))
         lines += ["0 count", "0 weight"]
@@ -284,7 +284,7 @@ class CoreScript:
 
     def invalidate(self, c=None, k=None):
         c = self.caller() if c is None else c
-        self.say("invalidate %d %d" % (c, self.r.choice(self.keys) if k is None else k))
+        self.say("%s %d %d" % (self.r.choice(["invalidate", "remove"]), c, self.r.choice(self.keys) if k is None else k))
         self.full.add(c)
         return c
 
@@ -547,6 +547,8 @@ class Live(CoreScript):
             return w.get(n[0], n[1], now)
         if name == "invalidate":
             return w.invalidate(n[0], n[1])
+        if name == "remove":
+            return w.take(n[0], n[1], now)
         if name == "clear":
             return w.invalidate_all(now)
         if name in ("push", "forget"):
@@ -1063,7 +1065,7 @@ def gen_recorded(r):
         return gen_recorded_five_hundred(r)
     s = Settings(r, "recorded")
     keys, now = keys_of(r), moments_of(r)
-    w = jitter(r, [("insert", 30), ("get", 30), ("has", 6), ("invalidate", 5), ("clear", 0.8), ("sync", 8), ("count", 5),
+    w = jitter(r, [("insert", 30), ("get", 30), ("has", 6), ("invalidate", 4), ("remove", 4), ("clear", 0.8), ("sync", 8), ("count", 5),
                    ("weight", 5), ("gets", 4), ("hases", 1), ("burst", 0.5)])
     lines = [s.first()]
     for _ in range(length_of(r)):
@@ -1071,7 +1073,7 @@ def gen_recorded(r):
         name = pick(r, w)
         if name == "insert":
             lines.append("%d insert %d %s%s" % (now(), k, text_of(r), s.weight(r)))
-        elif name in ("get", "has", "invalidate"):
+        elif name in ("get", "has", "invalidate", "remove"):
             lines.append("%d %s %d" % (now(), name, k))
         elif name == "gets":
             lines += ["%d get %d" % (now(), k)] * r.randint(2, 9)
@@ -1249,7 +1251,7 @@ NUMBERS = ["00", "01", "007", "+1", "-1", "1.0", "0x1", "1_0", "", "184467440737
            "18446744073709551620", "28446744073709551615", "99999999999999999999", "100000000000000000000", "4294967295", "4294967296", "65535",
            "65536", "4", "3", "0000000000000000000000", "9" * 40, "1" * 300, "1e3", "\u0661"]
 WORDS = ["max", "live", "idle", "weighed", "tickets", "max 3", "live 5ns", "idle 5ns", "tickets 3", "unsync", "core", "recorded", "sketch",
-         "sync", "insert", "get", "INSERT", "Get", "fetch", "remove", "count", "x" * 64, "x" * 65, "x" * 63 + "_", "a_b", "a.b", "-", "--", ""]
+         "sync", "insert", "get", "INSERT", "Get", "fetch", "REMOVE", "remove", "count", "x" * 64, "x" * 65, "x" * 63 + "_", "a_b", "a.b", "-", "--", ""]
 DURATIONS = ["5", "5ms", "s", "ns", "5sn", "5nss", "5us", "05ns", "00s", "18446744073709551615s", "18446744073709551616s",
              "18446744073709551615ns", "18446744073709551616ns", "5NS", "5S", "+5s", "-5s", "5n", "ns5", "5ns5", "0ns", "5sns", "5 s", "5 ns"]
 FIRSTS = ["", "sync", "sync max 3", "sync tickets 3", "sync max 3 weighed tickets 3", "unsync max", "unsync max 3 max 3", "core weighed weighed", "core tickets 3 weighed", "unsync tickets 3",
@@ -1259,8 +1261,8 @@ FIRSTS = ["", "sync", "sync max 3", "sync tickets 3", "sync max 3 weighed ticket
           "core max 3 live 3ns idle 3ns weighed tickets 3 ", "cores", "unsync max 3 5", "recorded tickets 3 tickets 3"]
 OTHERS = ["0 get 0", "0 get 1 0", "0 insert 0 a", "0 insert 1 0 a", "0 insert 0 a 1", "0 insert 1 0 a 1", "0 drop-if a", "0 iter", "0 policy",
           "0 sync", "0 push 1", "0 forget 1", "0 begin", "0 turn", "0 rest", "inc 0 1", "freq 0", "len", "ensure 3", "index 0 0", "0 len",
-          "0 has 0", "0 has 1 0", "0 invalidate 0", "0 invalidate 1 0", "0 clear", "clear", "0 count", "count", "0 weight", "0", "0 ", "",
-          " ", "0 push", "0 turn 1", "0 clear 1", "0 count 0", "0 remove 0", "index 0 4", "inc 0 65536", "inc 0", "len 0", "0 get", "0 insert 0",
+          "0 has 0", "0 has 1 0", "0 invalidate 0", "0 invalidate 1 0", "0 remove 0", "0 remove 1 0", "0 remove", "0 clear", "clear", "0 count", "count", "0 weight", "0", "0 ", "",
+          " ", "0 push", "0 turn 1", "0 clear 1", "0 count 0", "0 take 0", "index 0 4", "inc 0 65536", "inc 0", "len 0", "0 get", "0 insert 0",
           "0 policy 1", "0 iter 0", "0 drop-if", "0 drop-if a b", "insert 0 a", "get 0", "18446744073709551616 clear", "00 clear",
           "0 get 18446744073709551616", "0 push 4294967296", "0 push 4294967295", "0 insert 4294967296 0 a", "0 insert 0 a 4294967296"]
 

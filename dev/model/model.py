@@ -103,16 +103,17 @@ U64_, U32_, U16_, TEXT_, DEPTH_ = (
 
 LINES = {
     "unsync": {
-        b"insert": (U64_, TEXT_), b"get": (U64_,), b"has": (U64_,), b"invalidate": (U64_,), b"clear": (),
+        b"insert": (U64_, TEXT_), b"get": (U64_,), b"has": (U64_,), b"invalidate": (U64_,), b"remove": (U64_,), b"clear": (),
         b"drop-if": (TEXT_,), b"iter": (), b"count": (), b"weight": (), b"policy": ()},
     "recorded": {
-        b"insert": (U64_, TEXT_), b"get": (U64_,), b"has": (U64_,), b"invalidate": (U64_,), b"clear": (),
+        b"insert": (U64_, TEXT_), b"get": (U64_,), b"has": (U64_,), b"invalidate": (U64_,), b"remove": (U64_,), b"clear": (),
         b"sync": (), b"count": (), b"weight": ()},
     "sync": {
-        b"insert": (U64_, TEXT_), b"get": (U64_,), b"has": (U64_,), b"invalidate": (U64_,), b"clear": (),
+        b"insert": (U64_, TEXT_), b"get": (U64_,), b"has": (U64_,), b"invalidate": (U64_,), b"remove": (U64_,), b"clear": (),
         b"sync": (), b"iter": (), b"count": (), b"weight": (), b"policy": ()},
     "core": {
         b"insert": (U32_, U64_, TEXT_), b"get": (U32_, U64_), b"has": (U64_,), b"invalidate": (U32_, U64_),
+        b"remove": (U32_, U64_),
         b"clear": (), b"push": (U32_,), b"forget": (U32_,), b"begin": (), b"turn": (), b"rest": (), b"sync": (),
         b"iter": (), b"count": (), b"weight": ()},
     "sketch": {
@@ -439,6 +440,15 @@ class Unsync:
             if r is not None:
                 self.leave([r])
             return "ok"
+        if name == "remove":
+            r = self.row_of(a[0])
+            if r is None:
+                return "none"
+            self.leave([r])
+            if self.expired(r, now):
+                SEEN["unsync removal of an expired row that remained"] += 1
+                return "none"
+            return "some " + r.value
         if name == "insert":
             key, value, w = a
             r = self.row_of(key)
@@ -575,6 +585,18 @@ class World:
         if row is not None:
             self.hands[caller] = ("remove", row.ticket)
         return "ok"
+
+    def take(self, caller, key, now):
+        if caller in self.hands:
+            return "not possible"
+        row = self.rows.pop(key, None)
+        if row is None:
+            return "none"
+        self.hands[caller] = ("remove", row.ticket)
+        if self.expired(row, now):
+            SEEN["core removal of an expired row"] += 1
+            return "none"
+        return "some " + row.value
 
     def invalidate_all(self, now):
         self.invalid = max(self.invalid, now)
@@ -912,6 +934,12 @@ class World:
             self.push_write(now)
         return "ok"
 
+    def whole_remove(self, key, now):
+        answer = self.take(0, key, now)
+        if 0 in self.hands:
+            self.push_write(now)
+        return answer
+
     # -- what holds of each core, as far as a model without stored counts can test it
 
     def check_sound(self):
@@ -956,6 +984,8 @@ def run_core(o, calls):
             out.append(w.contains(a[0], now))
         elif name == "invalidate":
             out.append(w.invalidate(a[0], a[1]))
+        elif name == "remove":
+            out.append(w.take(a[0], a[1], now))
         elif name == "clear":
             out.append(w.invalidate_all(now))
         elif name == "push":
@@ -998,6 +1028,8 @@ def run_whole(o, calls):
             out.append(w.contains(a[0], now))
         elif name == "invalidate":
             out.append(w.whole_invalidate(a[0], now))
+        elif name == "remove":
+            out.append(w.whole_remove(a[0], now))
         elif name == "clear":
             out.append(w.invalidate_all(now))
         elif name == "sync":

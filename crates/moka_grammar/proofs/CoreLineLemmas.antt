@@ -7,7 +7,7 @@ use Rattle.std.proofs.lemmas.Option.{same_Some}
 use Rattle.moka_grammar.specs.declared.line.CacheOptions.{CacheOptions}
 use Rattle.moka_grammar.specs.declared.line.CoreLine.{CoreLine}
 use Rattle.moka_grammar.specs.declared.line.CoreRequest.{CoreRequest}
-use Rattle.moka_grammar.specs.declared.line.CoreRequest.TheVariants.{Insert, Get, ContainsKey, Invalidate, InvalidateAll, Push, Forget}
+use Rattle.moka_grammar.specs.declared.line.CoreRequest.TheVariants.{Insert, Get, ContainsKey, Invalidate, Remove, InvalidateAll, Push, Forget}
 use Rattle.moka_grammar.specs.declared.line.CoreRequest.TheVariants.{Begin, Turn, Rest, Sync, Iter, EntryCount, WeightedSize}
 use Rattle.moka_grammar.specs.Lines.{weight_words}
 use Rattle.moka_grammar.specs.CoreLines.{core_request_words, core_words, CoreRequestFits, CoreFits}
@@ -170,11 +170,15 @@ module _ (options : CacheOptions) where
             | inr not_has ↦ elim (chosen (bytes_eq call (codes "invalidate")) _ _ _ not_has.1) [
               | inl invalidate ↦ paired call (codes "invalidate") arguments (λ p. Invalidate p.0 p.1) r (λ p. refl)
                   (λ p h. h) invalidate.0 invalidate.1
-              | inr not_invalidate ↦ elim (chosen (bytes_eq call (codes "push")) _ _ _ not_invalidate.1) [
-                | inl push ↦ called call (codes "push") arguments (λ c. Push c) r (λ c. refl) (λ c h. h) push.0 push.1
-                | inr not_push ↦ elim (chosen (bytes_eq call (codes "forget")) _ _ _ not_push.1) [
-                  | inl forget ↦ called call (codes "forget") arguments (λ c. Forget c) r (λ c. refl) (λ c h. h) forget.0 forget.1
-                  | inr not_forget ↦ bare_of-found call arguments r not_forget.1
+              | inr not_invalidate ↦ elim (chosen (bytes_eq call (codes "remove")) _ _ _ not_invalidate.1) [
+                | inl remove ↦ paired call (codes "remove") arguments (λ p. Remove p.0 p.1) r (λ p. refl)
+                    (λ p h. h) remove.0 remove.1
+                | inr not_remove ↦ elim (chosen (bytes_eq call (codes "push")) _ _ _ not_remove.1) [
+                  | inl push ↦ called call (codes "push") arguments (λ c. Push c) r (λ c. refl) (λ c h. h) push.0 push.1
+                  | inr not_push ↦ elim (chosen (bytes_eq call (codes "forget")) _ _ _ not_push.1) [
+                    | inl forget ↦ called call (codes "forget") arguments (λ c. Forget c) r (λ c. refl) (λ c h. h) forget.0 forget.1
+                    | inr not_forget ↦ bare_of-found call arguments r not_forget.1
+                  ]
                 ]
               ]
             ]
@@ -198,6 +202,8 @@ module _ (options : CacheOptions) where
   request_words_are (ContainsKey key) fits = (IsWord-name (codes "has") refl, (IsWord-decimal key fits, tt))
   request_words_are (Invalidate caller key) fits =
       (IsWord-name (codes "invalidate") refl, (IsWord-decimal caller (omega (arith, fits.0)), (IsWord-decimal key fits.1, tt)))
+  request_words_are (Remove caller key) fits =
+      (IsWord-name (codes "remove") refl, (IsWord-decimal caller (omega (arith, fits.0)), (IsWord-decimal key fits.1, tt)))
   request_words_are InvalidateAll fits = (IsWord-name (codes "clear") refl, tt)
   request_words_are (Push caller) fits = (IsWord-name (codes "push") refl, (IsWord-decimal caller (omega (arith, fits)), tt))
   request_words_are (Forget caller) fits = (IsWord-name (codes "forget") refl, (IsWord-decimal caller (omega (arith, fits)), tt))
@@ -241,6 +247,8 @@ module _ (options : CacheOptions) where
   request_again n (Get caller key) small fits = rw (number_of-decimal n small, caller_and_key_of-again caller key fits.0 fits.1) refl
   request_again n (ContainsKey key) small fits = rw (number_of-decimal n small, number_of-decimal key fits) refl
   request_again n (Invalidate caller key) small fits =
+      rw (number_of-decimal n small, caller_and_key_of-again caller key fits.0 fits.1) refl
+  request_again n (Remove caller key) small fits =
       rw (number_of-decimal n small, caller_and_key_of-again caller key fits.0 fits.1) refl
   request_again n InvalidateAll small fits = rw (number_of-decimal n small) refl
   request_again n (Push caller) small fits =

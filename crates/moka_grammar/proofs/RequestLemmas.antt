@@ -9,7 +9,7 @@ use Rattle.moka_grammar.specs.declared.line.CacheHeader.{CacheHeader}
 use Rattle.moka_grammar.specs.declared.line.CacheOptions.{CacheOptions}
 use Rattle.moka_grammar.specs.declared.line.Line.{Line}
 use Rattle.moka_grammar.specs.declared.line.Request.{Request}
-use Rattle.moka_grammar.specs.declared.line.Request.TheVariants.{Insert, Get, ContainsKey, Invalidate, InvalidateAll}
+use Rattle.moka_grammar.specs.declared.line.Request.TheVariants.{Insert, Get, ContainsKey, Invalidate, Remove, InvalidateAll}
 use Rattle.moka_grammar.specs.declared.line.Request.TheVariants.{InvalidateIf, Sync, Iter, EntryCount, WeightedSize, Policy}
 use Rattle.moka_grammar.specs.Lines.{allows, request_words, line_words, RequestFits, LineFits}
 use Rattle.moka_grammar.specs.Reading.{◌>>=◌, number_of, text_of, no_argument, u64_of}
@@ -109,10 +109,14 @@ module _ (options : CacheOptions) where
             | inr not_has ↦ elim (chosen (bytes_eq call (codes "invalidate")) _ _ _ not_has.1) [
               | inl invalidate ↦ keyed call (codes "invalidate") arguments (λ k. Invalidate k) r (λ k. refl)
                   (λ k h. h) invalidate.0 invalidate.1
-              | inr not_invalidate ↦ elim (chosen (bytes_eq call (codes "drop-if")) _ _ _ not_invalidate.1) [
-                | inl drop_if ↦ named request_words (RequestFits options.weighed) call (codes "drop-if") arguments r drop_if.0
-                    (invalidate_if_of-found arguments r drop_if.1)
-                | inr not_drop_if ↦ bare_of-found call arguments r not_drop_if.1
+              | inr not_invalidate ↦ elim (chosen (bytes_eq call (codes "remove")) _ _ _ not_invalidate.1) [
+                | inl remove ↦ keyed call (codes "remove") arguments (λ k. Remove k) r (λ k. refl)
+                    (λ k h. h) remove.0 remove.1
+                | inr not_remove ↦ elim (chosen (bytes_eq call (codes "drop-if")) _ _ _ not_remove.1) [
+                  | inl drop_if ↦ named request_words (RequestFits options.weighed) call (codes "drop-if") arguments r drop_if.0
+                      (invalidate_if_of-found arguments r drop_if.1)
+                  | inr not_drop_if ↦ bare_of-found call arguments r not_drop_if.1
+                ]
               ]
             ]
           ]
@@ -130,6 +134,7 @@ module _ (options : CacheOptions) where
   request_words_are (Get key) fits = (IsWord-name (codes "get") refl, (IsWord-decimal key fits, tt))
   request_words_are (ContainsKey key) fits = (IsWord-name (codes "has") refl, (IsWord-decimal key fits, tt))
   request_words_are (Invalidate key) fits = (IsWord-name (codes "invalidate") refl, (IsWord-decimal key fits, tt))
+  request_words_are (Remove key) fits = (IsWord-name (codes "remove") refl, (IsWord-decimal key fits, tt))
   request_words_are InvalidateAll fits = (IsWord-name (codes "clear") refl, tt)
   request_words_are (InvalidateIf text) fits = (IsWord-name (codes "drop-if") refl, (IsWord-text text fits, tt))
   request_words_are Sync fits = (IsWord-name (codes "sync") refl, tt)
@@ -172,6 +177,7 @@ module _ (header : CacheHeader) where
   line_again n (Get key) small allowed fits = rw (number_of-decimal n small, number_of-decimal key fits, allowed) refl
   line_again n (ContainsKey key) small allowed fits = rw (number_of-decimal n small, number_of-decimal key fits, allowed) refl
   line_again n (Invalidate key) small allowed fits = rw (number_of-decimal n small, number_of-decimal key fits, allowed) refl
+  line_again n (Remove key) small allowed fits = rw (number_of-decimal n small, number_of-decimal key fits, allowed) refl
   line_again n InvalidateAll small allowed fits = rw (number_of-decimal n small, allowed) refl
   line_again n (InvalidateIf text) small allowed fits = rw (number_of-decimal n small, text_of-text text fits, allowed) refl
   line_again n Sync small allowed fits = rw (number_of-decimal n small, allowed) refl

@@ -6,7 +6,7 @@ use Rattle.moka_grammar.specs.Lines.{weight_words, WeightFits}
 use Rattle.moka_grammar.specs.declared.line.CacheOptions.{CacheOptions}
 use Rattle.moka_grammar.specs.declared.line.CoreLine.{CoreLine}
 use Rattle.moka_grammar.specs.declared.line.CoreRequest.{CoreRequest}
-use Rattle.moka_grammar.specs.declared.line.CoreRequest.TheVariants.{Insert, Get, ContainsKey, Invalidate, InvalidateAll, Push, Forget}
+use Rattle.moka_grammar.specs.declared.line.CoreRequest.TheVariants.{Insert, Get, ContainsKey, Invalidate, Remove, InvalidateAll, Push, Forget}
 use Rattle.moka_grammar.specs.declared.line.CoreRequest.TheVariants.{Begin, Turn, Rest, Sync, Iter, EntryCount, WeightedSize}
 
 -- the words of a request: the name of the call, and what it is given
@@ -15,6 +15,7 @@ core_request_words (Insert caller key text weight) = codes "insert" ∷ decimal 
 core_request_words (Get caller key) = codes "get" ∷ decimal caller ∷ decimal key ∷ []
 core_request_words (ContainsKey key) = codes "has" ∷ decimal key ∷ []
 core_request_words (Invalidate caller key) = codes "invalidate" ∷ decimal caller ∷ decimal key ∷ []
+core_request_words (Remove caller key) = codes "remove" ∷ decimal caller ∷ decimal key ∷ []
 core_request_words InvalidateAll = codes "clear" ∷ []
 core_request_words (Push caller) = codes "push" ∷ decimal caller ∷ []
 core_request_words (Forget caller) = codes "forget" ∷ decimal caller ∷ []
@@ -37,6 +38,7 @@ CoreRequestFits options (Insert caller key text weight) =
 CoreRequestFits options (Get caller key) = (caller < 2 ^ 32) × (key < 2 ^ 64)
 CoreRequestFits options (ContainsKey key) = key < 2 ^ 64
 CoreRequestFits options (Invalidate caller key) = (caller < 2 ^ 32) × (key < 2 ^ 64)
+CoreRequestFits options (Remove caller key) = (caller < 2 ^ 32) × (key < 2 ^ 64)
 CoreRequestFits options (Push caller) = caller < 2 ^ 32
 CoreRequestFits options (Forget caller) = caller < 2 ^ 32
 CoreRequestFits options request = Unit {0}

@@ -7,7 +7,7 @@ use Rattle.moka_grammar.specs.declared.line.Mode.{Mode}
 use Rattle.moka_grammar.specs.declared.line.Mode.TheVariants as mode
 use Rattle.moka_grammar.specs.declared.line.Line.{Line}
 use Rattle.moka_grammar.specs.declared.line.Request.{Request}
-use Rattle.moka_grammar.specs.declared.line.Request.TheVariants.{Insert, Get, ContainsKey, Invalidate, InvalidateAll}
+use Rattle.moka_grammar.specs.declared.line.Request.TheVariants.{Insert, Get, ContainsKey, Invalidate, Remove, InvalidateAll}
 use Rattle.moka_grammar.specs.declared.line.Request.TheVariants.{InvalidateIf, Sync, Iter, EntryCount, WeightedSize, Policy}
 
 -- the word of a weight, where there is one
@@ -21,6 +21,7 @@ request_words (Insert key text weight) = codes "insert" ∷ decimal key ∷ text
 request_words (Get key) = codes "get" ∷ decimal key ∷ []
 request_words (ContainsKey key) = codes "has" ∷ decimal key ∷ []
 request_words (Invalidate key) = codes "invalidate" ∷ decimal key ∷ []
+request_words (Remove key) = codes "remove" ∷ decimal key ∷ []
 request_words InvalidateAll = codes "clear" ∷ []
 request_words (InvalidateIf text) = codes "drop-if" ∷ text ∷ []
 request_words Sync = codes "sync" ∷ []
@@ -57,6 +58,7 @@ RequestFits weighed (Insert key text weight) = (key < 2 ^ 64) × IsText text × 
 RequestFits weighed (Get key) = key < 2 ^ 64
 RequestFits weighed (ContainsKey key) = key < 2 ^ 64
 RequestFits weighed (Invalidate key) = key < 2 ^ 64
+RequestFits weighed (Remove key) = key < 2 ^ 64
 RequestFits weighed (InvalidateIf text) = IsText text
 RequestFits weighed request = Unit {0}
 

@@ -6,7 +6,7 @@ use Rattle.moka_grammar.specs.ReadingLines.{weight_of}
 use Rattle.moka_grammar.specs.declared.line.CacheOptions.{CacheOptions}
 use Rattle.moka_grammar.specs.declared.line.CoreLine.{CoreLine}
 use Rattle.moka_grammar.specs.declared.line.CoreRequest.{CoreRequest}
-use Rattle.moka_grammar.specs.declared.line.CoreRequest.TheVariants.{Insert, Get, ContainsKey, Invalidate, InvalidateAll, Push, Forget}
+use Rattle.moka_grammar.specs.declared.line.CoreRequest.TheVariants.{Insert, Get, ContainsKey, Invalidate, Remove, InvalidateAll, Push, Forget}
 use Rattle.moka_grammar.specs.declared.line.CoreRequest.TheVariants.{Begin, Turn, Rest, Sync, Iter, EntryCount, WeightedSize}
 
 -- a caller, and a key behind it
@@ -54,6 +54,9 @@ request_of options call arguments =
     else if bytes_eq call (codes "invalidate") then (do
       named ← caller_and_key_of arguments
       Some (Invalidate named.0 named.1))
+    else if bytes_eq call (codes "remove") then (do
+      named ← caller_and_key_of arguments
+      Some (Remove named.0 named.1))
     else if bytes_eq call (codes "push") then (do
       caller ← u32_of arguments
       Some (Push caller))

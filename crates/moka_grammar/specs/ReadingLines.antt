@@ -14,7 +14,7 @@ use Rattle.moka_grammar.specs.declared.line.Mode.{Mode}
 use Rattle.moka_grammar.specs.declared.line.Mode.TheVariants as mode
 use Rattle.moka_grammar.specs.declared.line.Line.{Line}
 use Rattle.moka_grammar.specs.declared.line.Request.{Request}
-use Rattle.moka_grammar.specs.declared.line.Request.TheVariants.{Insert, Get, ContainsKey, Invalidate, InvalidateAll}
+use Rattle.moka_grammar.specs.declared.line.Request.TheVariants.{Insert, Get, ContainsKey, Invalidate, Remove, InvalidateAll}
 use Rattle.moka_grammar.specs.declared.line.Request.TheVariants.{InvalidateIf, Sync, Iter, EntryCount, WeightedSize, Policy}
 use Rattle.moka_grammar.specs.declared.line.SketchLine.{SketchLine}
 use Rattle.moka_grammar.specs.declared.line.SketchLine.TheVariants.{Inc, Freq, Index, Len, Ensure}
@@ -102,6 +102,9 @@ request_of options call arguments =
     else if bytes_eq call (codes "invalidate") then (do
       key ← u64_of arguments
       Some (Invalidate key))
+    else if bytes_eq call (codes "remove") then (do
+      key ← u64_of arguments
+      Some (Remove key))
     else if bytes_eq call (codes "drop-if") then invalidate_if_of arguments
     else bare_of call arguments
 

@@ -115,6 +115,10 @@ pub enum Request<T = Text> {
     Invalidate {
         key: u64,
     },
+    /// Removes it and asks for its text.
+    Remove {
+        key: u64,
+    },
     /// Removes all entries.
     InvalidateAll,
     /// Removes the entries whose text is this one.
@@ -159,6 +163,11 @@ pub enum CoreRequest<T = Text> {
     },
     /// Takes the entry of the key out of the map.
     Invalidate {
+        caller: u32,
+        key: u64,
+    },
+    /// Takes it out and asks for its text.
+    Remove {
         caller: u32,
         key: u64,
     },

@@ -8,7 +8,7 @@ use Rattle.moka_engine.specs.declared.constants.TheConstants.{CALLER}
 use Rattle.moka_engine.specs.declared.call.Call.{Call}
 use Rattle.moka_engine.specs.declared.call.Call.TheVariants as call
 use Rattle.moka_engine.specs.declared.event.Event.{Event}
-use Rattle.moka_engine.specs.declared.event.Event.TheVariants.{Insert, Get, Contains, Invalidate, InvalidateAll, Push, Forget, Copy}
+use Rattle.moka_engine.specs.declared.event.Event.TheVariants.{Insert, Get, Contains, Invalidate, Take, InvalidateAll, Push, Forget, Copy}
 use Rattle.moka_engine.specs.declared.event.Event.TheVariants.{Begin, Turn, Counts}
 use Rattle.moka_engine.specs.declared.event.Reply.TheVariants as reply
 use Rattle.moka_engine.specs.declared.operation.Operation.{Operation}
@@ -18,7 +18,7 @@ use Rattle.moka_engine.specs.CoreState.{CoreState, pending_of, without_pending}
 use Rattle.moka_engine.specs.CoreCall.{Decides, has_pending, scheduled, IsCall}
 use Rattle.moka_engine.specs.Event.{IsPush, IsForgetting, IsBeginning, IsTurn, IsStep}
 use Rattle.moka_engine.specs.MapStep.{OnlyReplies, IsInsert, IsUpdate, IsAddition, fresh_entry}
-use Rattle.moka_engine.specs.MapStep.{IsGet, IsMiss, IsHit, IsInvalidation, IsCopy, pairs_of}
+use Rattle.moka_engine.specs.MapStep.{IsGet, IsMiss, IsHit, IsInvalidation, IsTaking, IsCopy, pairs_of}
 use Rattle.moka_engine.specs.Place.{is_idle}
 use Rattle.moka_engine.specs.Reply.{Reply}
 use Rattle.moka_engine.specs.Run.{Happens}
@@ -71,9 +71,10 @@ module _ {K V S : Type 0} (keys : Keys K S) where
         (by_test refused (OnlyReplies keys old reply.OutOfMemory answer new) (IsHit keys old caller e now answer new)
         (only reply.OutOfMemory) (λ m. ap settings_of m.1)) h
 
-    invalidate : (caller : ℕ) (present : Option (Entry K V)) → IsInvalidation keys old caller present answer new → Stays old new
-    invalidate caller None h = ap settings_of h.1
-    invalidate caller (Some e) h = ap settings_of h.1
+    invalidate : (caller : ℕ) (present : Option (Entry K V)) (reply : Reply K V) → IsInvalidation keys old caller present reply new
+        → Stays old new
+    invalidate caller None reply h = ap settings_of h.1
+    invalidate caller (Some e) reply h = ap settings_of h.1
 
     push : (caller : ℕ) (o : Option Operation) → IsPush keys old caller o answer new → Stays old new
     push caller None h = only reply.NotPossible h
@@ -126,7 +127,11 @@ module _ {K V S : Type 0} (keys : Keys K S) where
     step (Contains key now) weight refused h = ap settings_of h.1
     step (Invalidate caller key now) weight refused h =
         let present = entry_at keys.eq key old.entries in
-        if_free (pending_of caller old) (IsInvalidation keys old caller present answer new) (invalidate caller present) h
+        if_free (pending_of caller old) (IsInvalidation keys old caller present answer new) (invalidate caller present answer) h
+    step (Take caller key now) weight refused h =
+        let present = entry_at keys.eq key old.entries in
+        if_free (pending_of caller old) (IsTaking keys old caller now present answer new)
+        (λ t. invalidate caller present reply.Done t.1) h
     step (InvalidateAll now) weight refused h = ap settings_of h.1
     step (Push caller) weight refused h = push caller (pending_of caller old) h
     step (Forget caller) weight refused h = forget caller (pending_of caller old) h
@@ -210,6 +215,19 @@ module _ {K V S : Type 0} (keys : Keys K S) where
     after_insert now (reply.Counts count weight) old new h = absurd h
     after_insert now reply.NotPossible old new h = absurd h
 
+    after_remove : (now : ℕ) (answer : Reply K V) (old new : CoreState K V S)
+        → whole.AfterRemove (Happens keys weighs) Decides has_pending CALLER now answer old new → Stays old new × IsAnswer answer
+    after_remove now (reply.Found found) old new h = (pushes_if (has_pending old) now old new h, tt)
+    after_remove now reply.OutOfMemory old new h = (ap settings_of h, tt)
+    after_remove now reply.Done old new h = absurd h
+    after_remove now (reply.Bool truth) old new h = absurd h
+    after_remove now reply.Discarded old new h = absurd h
+    after_remove now (reply.Rows pairs) old new h = absurd h
+    after_remove now (reply.At place) old new h = absurd h
+    after_remove now (reply.Counts count weight) old new h = absurd h
+    after_remove now reply.TicketsUsedUp old new h = absurd h
+    after_remove now reply.NotPossible old new h = absurd h
+
     -- in a whole call, which is answered as one
     call_stays : (old new : CoreState K V S) (made : Call K V) (answer : Reply K V) → IsCall keys weighs old made answer new
         → Stays old new × IsAnswer answer
@@ -220,6 +238,8 @@ module _ {K V S : Type 0} (keys : Keys K S) where
     call_stays old new (call.Contains key now) answer h = (happens old new _ answer h, subst IsAnswer (sym h.step.0) tt)
     call_stays old new (call.Invalidate key now) answer h =
         (pushes_if (has_pending h.1.next) now h.1.next new h.1.follows ∙ happens old h.1.next _ _ h.1.first, subst IsAnswer (sym h.0) tt)
+    call_stays old new (call.Remove key now) answer h =
+        let follows = after_remove now answer h.next new h.follows in (follows.0 ∙ happens old h.next _ answer h.first, follows.1)
     call_stays old new (call.InvalidateAll now) answer h = (happens old new _ answer h, subst IsAnswer (sym h.step.0) tt)
     call_stays old new (call.Sync now) answer h = (maintains now old new h.1, subst IsAnswer (sym h.0) tt)
     call_stays old new call.Counts answer h = (ap settings_of h.1, subst IsAnswer (sym h.0) tt)

@@ -8,7 +8,7 @@ use Rattle.moka_engine.specs.declared.constants.TheConstants.{CALLER}
 use Rattle.moka_engine.specs.declared.call.Call.{Call}
 use Rattle.moka_engine.specs.declared.call.Call.TheVariants as call
 use Rattle.moka_engine.specs.declared.event.Event.{Event}
-use Rattle.moka_engine.specs.declared.event.Event.TheVariants.{Insert, Get, Contains, Invalidate, InvalidateAll, Push, Forget, Copy}
+use Rattle.moka_engine.specs.declared.event.Event.TheVariants.{Insert, Get, Contains, Invalidate, Take, InvalidateAll, Push, Forget, Copy}
 use Rattle.moka_engine.specs.declared.event.Event.TheVariants.{Begin, Turn, Counts}
 use Rattle.moka_engine.specs.declared.event.Reply.TheVariants as reply
 use Rattle.moka_engine.specs.CoreState.{CoreState}
@@ -44,6 +44,7 @@ module _ {K V S : Type 0} (keys : Keys K S) (weighs wider : K → V → ℕ → 
   weighed (Get caller key now) answer weight h = tt
   weighed (Contains key now) answer weight h = tt
   weighed (Invalidate caller key now) answer weight h = tt
+  weighed (Take caller key now) answer weight h = tt
   weighed (InvalidateAll now) answer weight h = tt
   weighed (Push caller) answer weight h = tt
   weighed (Forget caller) answer weight h = tt
@@ -143,6 +144,20 @@ module _ {K V S : Type 0} (keys : Keys K S) (weighs wider : K → V → ℕ → 
   after_insert now (reply.Counts count weight) old new h = absurd h
   after_insert now reply.NotPossible old new h = absurd h
 
+  after_remove : (now : ℕ) (answer : Reply K V) (old new : CoreState K V S)
+      → whole.AfterRemove Narrow Decides has_pending CALLER now answer old new
+      → whole.AfterRemove Wide Decides has_pending CALLER now answer old new
+  after_remove now (reply.Found found) old new h = pushes_if (has_pending old) now old new h
+  after_remove now reply.OutOfMemory old new h = h
+  after_remove now reply.Done old new h = absurd h
+  after_remove now (reply.Bool truth) old new h = absurd h
+  after_remove now reply.Discarded old new h = absurd h
+  after_remove now (reply.Rows pairs) old new h = absurd h
+  after_remove now (reply.At place) old new h = absurd h
+  after_remove now (reply.Counts count weight) old new h = absurd h
+  after_remove now reply.TicketsUsedUp old new h = absurd h
+  after_remove now reply.NotPossible old new h = absurd h
+
   -- a whole call
   pub IsCall-wider : (old new : CoreState K V S) (made : Call K V) (answer : Reply K V) → IsCall keys weighs old made answer new
       → IsCall keys wider old made answer new
@@ -165,6 +180,11 @@ module _ {K V S : Type 0} (keys : Keys K S) (weighs wider : K → V → ℕ → 
       follows = pushes_if (has_pending h.1.next) now h.1.next new h.1.follows;
     },
   )
+  IsCall-wider old new (call.Remove key now) answer h = record {
+    next = h.next;
+    first = happens old h.next _ answer h.first;
+    follows = after_remove now answer h.next new h.follows;
+  }
   IsCall-wider old new (call.InvalidateAll now) answer h = happens old new _ answer h
   IsCall-wider old new (call.Sync now) answer h = (h.0, maintains now old new h.1)
   IsCall-wider old new call.Counts answer h = h

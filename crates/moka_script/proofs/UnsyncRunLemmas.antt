@@ -12,7 +12,7 @@ use Rattle.moka_grammar.specs.declared.line.CacheOptions.{CacheOptions}
 use Rattle.moka_grammar.specs.declared.line.Line.{Line}
 use Rattle.moka_grammar.specs.declared.line.Mode.{Mode}
 use Rattle.moka_grammar.specs.declared.line.Request.{Request}
-use Rattle.moka_grammar.specs.declared.line.Request.TheVariants.{Insert, Get, ContainsKey, Invalidate, InvalidateAll}
+use Rattle.moka_grammar.specs.declared.line.Request.TheVariants.{Insert, Get, ContainsKey, Invalidate, Remove, InvalidateAll}
 use Rattle.moka_grammar.specs.declared.line.Request.TheVariants.{InvalidateIf, Sync, Iter, EntryCount, WeightedSize, Policy}
 use Rattle.moka_grammar.specs.Lines.{allows, WeightFits, RequestFits, LineFits}
 use Rattle.moka_unsync.specs.declared.entry.Entry.{Entry}
@@ -88,6 +88,7 @@ module _ {W : Type 0} (weighs : W → ℕ → Stored (List ℕ) → ℕ → W �
   stored_request answers (Get key) = tt
   stored_request answers (ContainsKey key) = tt
   stored_request answers (Invalidate key) = tt
+  stored_request answers (Remove key) = tt
   stored_request answers InvalidateAll = tt
   stored_request answers (InvalidateIf text) = tt
   stored_request answers Sync = tt
@@ -118,6 +119,7 @@ module _ {W : Type 0} (weighs : W → ℕ → Stored (List ℕ) → ℕ → W �
     one_request (Get key) fits = tt
     one_request (ContainsKey key) fits = tt
     one_request (Invalidate key) fits = tt
+    one_request (Remove key) fits = tt
     one_request InvalidateAll fits = tt
     one_request (InvalidateIf text) fits = tt
     one_request Sync fits = tt

@@ -37,6 +37,7 @@ action_at now (asks.Insert caller key text weight) = Step (event.Insert caller k
 action_at now (asks.Get caller key) = Step (event.Get caller key now)
 action_at now (asks.ContainsKey key) = Step (event.Contains key now)
 action_at now (asks.Invalidate caller key) = Step (event.Invalidate caller key now)
+action_at now (asks.Remove caller key) = Step (event.Take caller key now)
 action_at now asks.InvalidateAll = Step (event.InvalidateAll now)
 action_at now (asks.Push caller) = Step (event.Push caller)
 action_at now (asks.Forget caller) = Step (event.Forget caller)

@@ -3,7 +3,7 @@ use Rattle.std.specs.Prelude.{◌≡◌, ℕ, List, [], ◌∷◌, ◌++◌, Opt
 use Rattle.moka_grammar.specs.declared.line.CacheOptions.{CacheOptions}
 use Rattle.moka_grammar.specs.declared.line.Line.{Line}
 use Rattle.moka_grammar.specs.declared.line.Request.{Request}
-use Rattle.moka_grammar.specs.declared.line.Request.TheVariants.{Insert, Get, ContainsKey, Invalidate, InvalidateAll, Sync}
+use Rattle.moka_grammar.specs.declared.line.Request.TheVariants.{Insert, Get, ContainsKey, Invalidate, Remove, InvalidateAll, Sync}
 use Rattle.moka_grammar.specs.declared.line.Request.TheVariants.{EntryCount, WeightedSize}
 use Rattle.moka_engine.specs.declared.call.Call.{Call}
 use Rattle.moka_engine.specs.declared.call.Call.TheVariants as call
@@ -26,6 +26,7 @@ call_at now (Insert key text weight) = Some (call.Insert key (stored_text text w
 call_at now (Get key) = Some (call.Get key now)
 call_at now (ContainsKey key) = Some (call.Contains key now)
 call_at now (Invalidate key) = Some (call.Invalidate key now)
+call_at now (Remove key) = Some (call.Remove key now)
 call_at now InvalidateAll = Some (call.InvalidateAll now)
 call_at now Sync = Some (call.Sync now)
 call_at now EntryCount = Some call.Counts

@@ -7,7 +7,7 @@ use Rattle.moka_common.specs.declared.weigh.UnitWeight.{UnitWeight}
 use Rattle.moka_grammar.specs.declared.line.CacheOptions.{CacheOptions}
 use Rattle.moka_grammar.specs.declared.line.Line.{Line}
 use Rattle.moka_grammar.specs.declared.line.Request.{Request}
-use Rattle.moka_grammar.specs.declared.line.Request.TheVariants.{Insert, Get, ContainsKey, Invalidate, InvalidateAll, InvalidateIf}
+use Rattle.moka_grammar.specs.declared.line.Request.TheVariants.{Insert, Get, ContainsKey, Invalidate, Remove, InvalidateAll, InvalidateIf}
 use Rattle.moka_grammar.specs.declared.line.Request.TheVariants.{Sync, Iter, EntryCount, WeightedSize, Policy as GetPolicy}
 use Rattle.moka_grammar.specs.Options.{span_nanos}
 use Rattle.moka_unsync.specs.declared.entry.Entry.{Entry}
@@ -53,6 +53,7 @@ module _ {W : Type 0} where
   IsAnswered old now (Get key) reply new = TellsStep old (machine.Get key now) reply new
   IsAnswered old now (ContainsKey key) reply new = TellsStep old (machine.ContainsKey key now) reply new
   IsAnswered old now (Invalidate key) reply new = TellsStep old (machine.Invalidate key now) reply new
+  IsAnswered old now (Remove key) reply new = TellsStep old (machine.Remove key now) reply new
   IsAnswered old now InvalidateAll reply new = TellsStep old machine.InvalidateAll reply new
   IsAnswered old now (InvalidateIf text) reply new =
       TellsStep old (machine.InvalidateEntriesIf (have_text text old.contents.entries)) reply new

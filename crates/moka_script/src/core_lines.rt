@@ -159,6 +159,10 @@ fn action_of<A: Allocator + Clone + Drop>(
             let key = Shared::new(alloc, key)?;
             Action::Step(Event::Invalidate { caller, key, now })
         }
+        CoreRequest::Remove { caller, key } => {
+            let key = Shared::new(alloc, key)?;
+            Action::Step(Event::Take { caller, key, now })
+        }
         CoreRequest::InvalidateAll => Action::Step(Event::InvalidateAll { now }),
         CoreRequest::Push { caller } => Action::Step(Event::Push { caller }),
         CoreRequest::Forget { caller } => Action::Step(Event::Forget { caller }),

@@ -181,6 +181,10 @@ fn call_at<A: Allocator + Clone + Drop>(
             let key = Shared::new(alloc, key)?;
             Ok(Call::Invalidate { key, now })
         }
+        Request::Remove { key } => {
+            let key = Shared::new(alloc, key)?;
+            Ok(Call::Remove { key, now })
+        }
         Request::InvalidateAll => Ok(Call::InvalidateAll { now }),
         Request::Sync => Ok(Call::Sync { now }),
         Request::EntryCount | Request::WeightedSize => Ok(Call::Counts),

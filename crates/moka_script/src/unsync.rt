@@ -124,6 +124,10 @@ fn reply_to<A: Allocator + Clone + Drop, W: Weigh<u64, Stored<Text<A>>>>(
             cache.invalidate(&key, now);
             push_reply(text, ReplyValue::Done)
         }
+        Request::Remove { key } => match cache.remove(&key, now) {
+            Some(stored) => push_reply(text, ReplyValue::Found(Some(stored.text.as_bytes()))),
+            None => push_reply(text, ReplyValue::Found(None)),
+        },
         Request::InvalidateAll => {
             cache.invalidate_all();
             push_reply(text, ReplyValue::Done)

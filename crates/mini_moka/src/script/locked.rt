@@ -136,11 +136,7 @@ fn reply_to<A: Allocator + Clone + Drop, R: Wait, W: WeighShared<u64, Stored<Tex
             let inserted = cache.insert(rt, key, stored_text(value, weight), now);
             push_reply(text, told(inserted))
         }
-        Request::Get { key } => match cache.get(rt, &key, now) {
-            Ok(Some(stored)) => push_reply(text, ReplyValue::Found(Some(stored.text.as_bytes()))),
-            Ok(None) => push_reply(text, ReplyValue::Found(None)),
-            Err(_) => push_reply(text, ReplyValue::OutOfMemory),
-        },
+        Request::Get { key } => tell_found(text, cache.get(rt, &key, now)),
         Request::ContainsKey { key } => push_reply(
             text,
             ReplyValue::Truth(cache.contains_key(rt, &key, now)),
@@ -149,6 +145,7 @@ fn reply_to<A: Allocator + Clone + Drop, R: Wait, W: WeighShared<u64, Stored<Tex
             cache.invalidate(rt, &key, now);
             push_reply(text, ReplyValue::Done)
         }
+        Request::Remove { key } => tell_found(text, cache.remove(rt, &key, now)),
         Request::InvalidateAll => {
             cache.invalidate_all(now);
             push_reply(text, ReplyValue::Done)
@@ -168,6 +165,18 @@ fn reply_to<A: Allocator + Clone + Drop, R: Wait, W: WeighShared<u64, Stored<Tex
             ReplyValue::Number(cache.weighted_size() as u128),
         ),
         Request::Policy => push_reply(text, ReplyValue::Limits(&cache.policy())),
+    }
+}
+
+/// Adds the line of a value that was found, or removed, to the text.
+fn tell_found<A: Allocator + Clone + Drop>(
+    text: &mut Vec<u8, A>,
+    found: Result<Option<Stored<Text<A>>>, OutOfMemory>,
+) -> Result<(), AllocError> {
+    match found {
+        Ok(Some(stored)) => push_reply(text, ReplyValue::Found(Some(stored.text.as_bytes()))),
+        Ok(None) => push_reply(text, ReplyValue::Found(None)),
+        Err(_) => push_reply(text, ReplyValue::OutOfMemory),
     }
 }
 

@@ -52,6 +52,10 @@ fn request_of<A: Allocator + Clone + Drop>(
         let (caller, key) = caller_and_key_of(arguments)?;
         return Ok(CoreRequest::Invalidate { caller, key });
     }
+    if call == b"remove".as_slice() {
+        let (caller, key) = caller_and_key_of(arguments)?;
+        return Ok(CoreRequest::Remove { caller, key });
+    }
     if call == b"push".as_slice() {
         let caller = u32_of(arguments)?;
         return Ok(CoreRequest::Push { caller });

@@ -54,6 +54,10 @@ fn request_of<A: Allocator + Clone + Drop>(
         let key = u64_of(arguments)?;
         return Ok(Request::Invalidate { key });
     }
+    if call == b"remove".as_slice() {
+        let key = u64_of(arguments)?;
+        return Ok(Request::Remove { key });
+    }
     if call == b"drop-if".as_slice() {
         return invalidate_if_of(alloc, arguments);
     }

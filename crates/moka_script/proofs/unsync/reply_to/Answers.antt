@@ -1,9 +1,9 @@
-use Rattle.std.proofs.Common.{rules, ◌≡◌, refl, ap, ◌∙◌, subst, inl, inr}
+use Rattle.std.proofs.Common.{None, Some, rules, ◌≡◌, refl, ap, ◌∙◌, subst, inl, inr}
 use Rattle.std.proofs.lemmas.List.{length-map}
 use Rattle.moka_unsync.specs.Insert.{IsInserted}
 use Rattle.moka_unsync.specs.Invalidate.{after_invalidate_if}
 use Rattle.moka_unsync.specs.Step as machine
-use Rattle.moka_script.specs.Reply.{Done, Truth, Number, Pairs, Limits, OutOfMemory}
+use Rattle.moka_script.specs.Reply.{Done, Found, Truth, Number, Pairs, Limits, OutOfMemory}
 use Rattle.moka_script.specs.ScriptKeys.{script_keys}
 use Rattle.moka_script.specs.ScriptWeighers.{AnswersRequest}
 use Rattle.moka_script.specs.Stored.{stored_text}
@@ -39,6 +39,19 @@ pub returns-in-Invalidate-clause-step : goal.returns-in-Invalidate-clause-step
 returns-in-Invalidate-clause-step g c =
     replied _ _ _ _ _ _ c.push_reply-in-Invalidate.result _ _ Done c.from_nanos-now.ensures c.in-Invalidate.is
     (machine.Done, (refl, c.invalidate.ensures.step), refl) c.push_reply-in-Invalidate.ensures
+
+pub returns-in-Some-clause-step : goal.returns-in-Some-clause-step
+returns-in-Some-clause-step g c =
+    replied _ _ _ _ _ _ c.push_reply-in-Some.result _ _ _ c.from_nanos-now.ensures c.in-Remove.is (
+      machine.Found (Some c.in-Some.stored),
+      (ap machine.Found c.in-Some.ensures.value, c.remove.ensures.step),
+      ap (λ t. Found (Some t)) (search rules),
+    ) c.push_reply-in-Some.ensures
+
+pub returns-in-None-clause-step : goal.returns-in-None-clause-step
+returns-in-None-clause-step g c =
+    replied _ _ _ _ _ _ c.push_reply-in-None.result _ _ (Found None) c.from_nanos-now.ensures c.in-Remove.is
+    (machine.Found None, (ap machine.Found c.in-None.ensures.value, c.remove.ensures.step), refl) c.push_reply-in-None.ensures
 
 pub returns-in-InvalidateAll-clause-step : goal.returns-in-InvalidateAll-clause-step
 returns-in-InvalidateAll-clause-step g c =
