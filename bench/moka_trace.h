@@ -25,6 +25,7 @@ enum moka_trace_kind {
     MOKA_TRACE_INSERT = 1,
     MOKA_TRACE_READ_THROUGH = 2, /* a get, and where it finds nothing an insert */
     MOKA_TRACE_GET_AND_INSERT = 3,
+    MOKA_TRACE_REMOVE_AND_INSERT = 4,
 };
 
 struct moka_trace_operation {

@@ -1,7 +1,9 @@
 //! The original for one thread and for several, an LRU cache and a map without a limit, all with the hasher that the port has; the original with
 //! std's as well.
 use crate::port::Outcome;
-use crate::traces::{Operation, Settings, GET, GET_AND_INSERT, INSERT, READ_THROUGH, UNLIMITED};
+use crate::traces::{
+    Operation, Settings, GET, GET_AND_INSERT, INSERT, READ_THROUGH, REMOVE_AND_INSERT, UNLIMITED,
+};
 use mini_moka::sync::{Cache as SharedCache, ConcurrentCacheExt};
 use mini_moka::unsync::Cache;
 use std::hash::{BuildHasher, Hasher};
@@ -37,6 +39,8 @@ impl BuildHasher for Multiply {
 pub trait Side {
     fn look(&mut self, key: u64) -> Option<u64>;
     fn put(&mut self, key: u64, value: u64);
+    /// Takes the key's entry out. The original hands no value back.
+    fn take_out(&mut self, key: u64);
     /// Does what is put off, after the last operation.
     fn finish(&mut self) {}
     fn entries(&self) -> u64;
@@ -74,6 +78,10 @@ impl<S: BuildHasher + Clone> Side for Original<S> {
 
     fn put(&mut self, key: u64, value: u64) {
         self.insert(key, value);
+    }
+
+    fn take_out(&mut self, key: u64) {
+        self.invalidate(&key);
     }
 
     fn entries(&self) -> u64 {
@@ -115,6 +123,10 @@ impl Side for SharedOriginal {
         self.insert(key, value);
     }
 
+    fn take_out(&mut self, key: u64) {
+        self.invalidate(&key);
+    }
+
     fn finish(&mut self) {
         self.sync();
     }
@@ -143,6 +155,10 @@ impl Side for LruCache {
         LruCache::put(self, key, value);
     }
 
+    fn take_out(&mut self, key: u64) {
+        self.pop(&key);
+    }
+
     fn entries(&self) -> u64 {
         self.len() as u64
     }
@@ -165,6 +181,10 @@ impl Side for Map {
 
     fn put(&mut self, key: u64, value: u64) {
         self.insert(key, value);
+    }
+
+    fn take_out(&mut self, key: u64) {
+        self.remove(&key);
     }
 
     fn entries(&self) -> u64 {
@@ -192,6 +212,10 @@ pub fn play<S: Side>(side: &mut S, operations: &[Operation]) -> Outcome {
             }
             GET_AND_INSERT => {
                 look(side, operation.key, &mut outcome);
+                side.put(operation.key, u64::from(operation.value));
+            }
+            REMOVE_AND_INSERT => {
+                side.take_out(operation.key);
                 side.put(operation.key, u64::from(operation.value));
             }
             _ => unreachable!("an operation of no kind that there is"),

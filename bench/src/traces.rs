@@ -7,6 +7,7 @@ pub const GET: u32 = 0;
 pub const INSERT: u32 = 1;
 pub const READ_THROUGH: u32 = 2;
 pub const GET_AND_INSERT: u32 = 3;
+pub const REMOVE_AND_INSERT: u32 = 4;
 
 /// One operation, as the static library takes it.
 #[repr(C)]
@@ -305,6 +306,7 @@ pub fn single_calls(entries: u64) -> Vec<Trace> {
         single("update", INSERT, &mut present, true),
         single("new key into a full cache", INSERT, &mut fresh, false),
         single("get and insert, new key", GET_AND_INSERT, &mut fresh, false),
+        single("remove and insert", REMOVE_AND_INSERT, &mut present, true),
     ]
 }
 

@@ -1,13 +1,13 @@
-// Each way to build a cache, with each of its requests refused in turn.
+// Each way to build a cache: with each of its requests refused in turn, with more room than there can be, and the room that is made.
 use crate::plays::{BOUND, Heap, Play, check};
 use mini_moka::common::{BuildError, FixedState};
 use mini_moka::sync::engine::Core;
 use mini_moka::{sync, unsync};
-use moka_refusals::for_each_refusal;
+use moka_refusals::{Refusals, RefusingHeap, for_each_refusal};
 use std::test::Fail;
 
-/// A way to build a cache with a limit of ten, and room for five entries where the way has a builder.
-#[derive(Clone, Copy, Debug)]
+/// A way to build a cache with a limit of ten.
+#[derive(Clone, Copy)]
 enum Way {
     UnsyncNew,
     UnsyncBuild,
@@ -19,42 +19,52 @@ enum Way {
     CoreNew,
 }
 
-fn unsync_error(heap: &Heap, way: Way) -> Option<BuildError> {
-    let builder = unsync::CacheBuilder::new(heap, 10).initial_capacity(5);
+/// Why it is not built, with this room from the start where the way has a builder, and how many bytes it holds if it is.
+type Outcome = (Option<BuildError>, u64);
+
+fn unsync_built(heap: &Heap, way: Way, room: usize) -> Outcome {
+    let builder = unsync::CacheBuilder::new(heap, 10).initial_capacity(room);
     let built: Result<unsync::Cache<u64, u64, _, _, &Heap>, BuildError> = match way {
         Way::UnsyncNew => unsync::Cache::new(heap, 10),
         Way::UnsyncBuild => builder.build(),
         _ => builder.build_with_hasher(FixedState::new()),
     };
-    built.err()
+    let held = heap.held_bytes();
+    (built.err(), held)
 }
 
-fn sync_error(heap: &Heap, way: Way) -> Option<BuildError> {
-    let builder = sync::CacheBuilder::new(heap, 10).initial_capacity(5);
+fn sync_built(heap: &Heap, way: Way, room: usize) -> Outcome {
+    let builder = sync::CacheBuilder::new(heap, 10).initial_capacity(room);
     let built: Result<sync::Cache<u64, u64, _, _, _, &Heap>, BuildError> = match way {
         Way::SyncNew => sync::Cache::new(heap, 10),
         Way::SyncBuild => builder.build(),
         _ => builder.build_with_hasher(FixedState::new()),
     };
-    built.err()
+    let held = heap.held_bytes();
+    (built.err(), held)
 }
 
-fn core_error(heap: &Heap, way: Way) -> Option<BuildError> {
-    let builder = sync::CacheBuilder::new(heap, 10).initial_capacity(5);
+fn core_built(heap: &Heap, way: Way, room: usize) -> Outcome {
+    let builder = sync::CacheBuilder::new(heap, 10).initial_capacity(room);
     let built: Result<Core<u64, u64, _, _, &Heap>, BuildError> = match way {
         Way::Core => builder.build_core(FixedState::new()),
         _ => Core::new(heap, FixedState::new()),
     };
-    built.err()
+    let held = heap.held_bytes();
+    (built.err(), held)
+}
+
+fn built(heap: &Heap, way: Way, room: usize) -> Outcome {
+    match way {
+        Way::UnsyncNew | Way::UnsyncBuild | Way::UnsyncHasher => unsync_built(heap, way, room),
+        Way::SyncNew | Way::SyncBuild | Way::SyncHasher => sync_built(heap, way, room),
+        Way::Core | Way::CoreNew => core_built(heap, way, room),
+    }
 }
 
 /// A build is refused by its name where memory was refused, and only there.
 fn build(heap: &Heap, way: Way) -> Play {
-    let error = match way {
-        Way::UnsyncNew | Way::UnsyncBuild | Way::UnsyncHasher => unsync_error(heap, way),
-        Way::SyncNew | Way::SyncBuild | Way::SyncHasher => sync_error(heap, way),
-        Way::Core | Way::CoreNew => core_error(heap, way),
-    };
+    let (error, _) = built(heap, way, 5);
     let refusal = if heap.refused() == 0 {
         None
     } else {
@@ -84,5 +94,26 @@ fn each_request_of_a_build_is_refused(rt: HostRuntime) -> Result<(), Fail> {
         *plays = for_each_refusal(rt.alloc(), rt.alloc(), BOUND, |heap| build(heap, *way))?;
     }
     assert_eq!(rt; refusals, REFUSALS);
+    Ok(())
+}
+
+// An entry of a shared cache and its place in the index take more than 64 bytes.
+#[test]
+fn room_from_the_start_is_made_or_refused_by_name(rt: HostRuntime) -> Result<(), Fail> {
+    let heap = RefusingHeap::new(rt.alloc(), rt.alloc(), Refusals::Never)?;
+    let errors = [
+        built(&heap, Way::UnsyncBuild, usize::MAX).0,
+        built(&heap, Way::SyncBuild, usize::MAX).0,
+    ];
+    let wanted = [
+        Some(BuildError::OutOfMemory),
+        Some(BuildError::CapacityTooLarge),
+    ];
+    let (least, more) = (
+        built(&heap, Way::SyncBuild, 0).1,
+        built(&heap, Way::SyncBuild, 16_000).1,
+    );
+    let is_made = more.saturating_sub(least) >= 16_000 * 64;
+    assert_eq!(rt; (errors, is_made, heap.held_bytes()), (wanted, true, 0));
     Ok(())
 }

@@ -4,22 +4,12 @@
 #[cfg(test)]
 mod build;
 #[cfg(test)]
-mod extremes;
-#[cfg(test)]
 mod one_hash;
-#[cfg(test)]
-mod parts;
 #[cfg(test)]
 mod plays;
 #[cfg(test)]
 mod runs;
 #[cfg(test)]
-mod scripts;
-#[cfg(test)]
-mod shared;
-#[cfg(test)]
 mod steps;
 #[cfg(test)]
 mod threads;
-#[cfg(test)]
-mod unsync_insert;

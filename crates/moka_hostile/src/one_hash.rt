@@ -1,151 +1,76 @@
-// Keys that all have one hash: in the caches, and in copies with each of their requests refused in turn.
-use crate::plays::{BOUND, Heap, HeapShared, Play, at, check, pair};
-use mini_moka::common::UnitWeight;
-use mini_moka::sync::engine::{Core, Event, Reply, Rows};
-use mini_moka::{sync, unsync};
-use moka_refusals::for_each_refusal;
+// Keys that all have one hash, of which some are equal.
+ghost use Rattle.std.specs.Prelude.{[], ◌==◌};
+ghost use Rattle.std.specs.Cmp.Rules.{comparing, hashing};
+ghost use Rattle.std.proofs.Common.{rules};
+
+use crate::plays::at;
+use mini_moka::sync;
 use std::alloc::Global;
-use std::hash::{BuildHasher, Hasher};
+use std::hash::{Hash, Hasher};
 use std::sync::Wait;
 use std::test::Fail;
 
-/// Each key has the hash 0.
+/// A key that equals each other one of its kind.
 #[derive(Clone, Copy)]
-pub struct Zero;
-
-impl Hasher for Zero {
-    ghost write = { λ hasher _. hasher };
-
-    ghost finish = { λ _. 0 };
-
-    fn finish(&self) -> u64 {
-        0
-    }
-
-    fn write(&mut self, _bytes: &[u8]) {}
+struct Kinded {
+    kind: u64,
+    number: u64,
 }
 
-impl BuildHasher for Zero {
-    type Hasher = Zero;
+impl PartialEq for Kinded {
+    ghost eq = { λ a b. a.kind == b.kind };
 
-    ghost build_hasher = { λ state. state };
+    ghost laws = { Prim.search (comparing, rules) };
 
-    fn build_hasher(&self) -> Zero {
-        *self
+    fn eq(&self, other: &Kinded) -> bool {
+        self.kind == other.kind
     }
 }
 
-/// Whether key 2 enters a cache of the keys 0 and 1 of which 0 was asked for five times, and how many entries there are.
-fn entered(alloc: Global) -> Result<(bool, u64), Fail> {
-    let mut cache = unsync::CacheBuilder::new(alloc, 2).build_with_hasher(Zero)?;
-    for key in 0..2u64 {
-        cache.insert(key, key, at(0))?;
-    }
-    for _ in 0..5 {
-        let _ = cache.get(&0, at(0));
-    }
-    cache.insert(2, 2, at(0))?;
-    Ok((cache.contains_key(&2, at(0)), cache.entry_count()))
+impl Eq for Kinded {
+    ghost laws = { Prim.search (comparing, rules) };
 }
 
-// The candidate is as popular as the victim, since they share their counters.
-#[test]
-fn a_candidate_of_the_same_hash_is_rejected(rt: HostRuntime) -> Result<(), Fail> {
-    assert_eq!(rt; entered(rt.alloc())?, (false, 2));
-    Ok(())
+impl Hash for Kinded {
+    ghost hash_input = { λ _. [] };
+
+    ghost respects_eq = { Prim.search (hashing, rules) };
+
+    fn hash<H: Hasher>(&self, _state: &mut H) {}
 }
 
-/// The keys 0 to 2 of a snapshot, by how often each comes.
-fn times_of<R: Wait>(rt: &R, alloc: Global) -> Result<[u64; 3], Fail> {
-    let cache = sync::Cache::builder(alloc).build_with_hasher(Zero)?;
-    for key in 0..3u64 {
-        cache.insert(rt, key, key, at(0))?;
+/// The key at a place of six: two of each kind.
+fn key_at(number: u64) -> Kinded {
+    Kinded {
+        kind: number / 2,
+        number,
     }
-    let mut times = [0u64; 3];
+}
+
+/// Adds the numbers of a pair's key and value to those of its kind, as three digits: how often it comes, and both.
+fn note(found: &mut [u64; 3], key: Kinded, value: u64) {
+    let digits = key.number.saturating_mul(10).saturating_add(value);
+    if let Some(place) = found.get_mut(key.kind as usize) {
+        *place = place.saturating_add(digits.saturating_add(100));
+    }
+}
+
+/// The pairs of a cache after six inserts.
+fn sync_pairs<R: Wait>(rt: &R, alloc: Global) -> Result<[u64; 3], Fail> {
+    let cache: sync::Cache<Kinded, u64> = sync::Cache::new(alloc, 10)?;
+    for number in 0..6u64 {
+        cache.insert(rt, key_at(number), number, at(0))?;
+    }
+    let mut found = [0; 3];
     for pair in cache.iter(rt, at(0))? {
-        match times.get_mut(*pair.key() as usize) {
-            Some(count) => *count = count.saturating_add(1),
-            None => return Err("a strange key".into()),
-        }
+        note(&mut found, *pair.key(), *pair.value());
     }
-    Ok(times)
+    Ok(found)
 }
 
+// An update keeps the first key object.
 #[test]
-fn a_snapshot_has_each_key_of_one_hash_once(rt: HostRuntime) -> Result<(), Fail> {
-    assert_eq!(rt; times_of(&rt, rt.alloc())?, [1; 3]);
-    Ok(())
-}
-
-type HeapCore<'a> = Core<u64, u64, Zero, UnitWeight, &'a Heap>;
-
-/// A core with the keys 0 to 2, where there is memory for them.
-fn with_three(heap: &Heap) -> Option<HeapCore<'_>> {
-    let mut core = Core::new(heap, Zero).ok()?;
-    for number in 0..3 {
-        let (key, value) = pair(heap, number, number)?;
-        let Reply::Done = core.step_insert(key, value, at(0)) else {
-            return None;
-        };
-        core.step_push();
-    }
-    Some(core)
-}
-
-/// A copy of each shard, or nothing where memory for the list is refused.
-fn copies(heap: &Heap) -> Option<Vec<Event<HeapShared<'_>, HeapShared<'_>>, &Heap>> {
-    let mut copies = Vec::with_capacity(heap, 16).ok()?;
-    for shard in 0..16 {
-        copies.push(Event::Copy { shard, now: at(0) }).ok()?;
-    }
-    Some(copies)
-}
-
-/// How often a copy has the keys 0, 1 and 2, as a digit each, or nothing where it is refused. A pair that is not a key with itself adds a thousand.
-fn digits_of(reply: &Reply<HeapShared, Rows<u64, u64, &Heap>>) -> Option<u64> {
-    let Reply::Rows(rows) = reply else {
-        return None;
-    };
-    let mut digits = 0u64;
-    for (key, value) in rows.as_slice() {
-        let digit = match (*key.get(), *value.get()) {
-            (0, 0) => 1,
-            (1, 1) => 10,
-            (2, 2) => 100,
-            _ => 1000,
-        };
-        digits = digits.saturating_add(digit);
-    }
-    Some(digits)
-}
-
-/// Whether a core has the keys 0 to 2.
-fn has_three(core: &HeapCore) -> bool {
-    (0..3).all(|key| matches!(core.step_contains_key(&key, at(0)), Reply::Bool(true)))
-}
-
-/// The first shard has all, each once, unless its copy is refused. The others have none and need no memory.
-fn copy_all(heap: &Heap) -> Play {
-    let Some(mut core) = with_three(heap) else {
-        return check(heap.refused() > 0, "a core with three keys");
-    };
-    let Some(copies) = copies(heap) else {
-        return Ok(());
-    };
-    let Ok(replies) = core.run(copies) else {
-        return check(has_three(&core), "the keys behind a refused list");
-    };
-    let first = if heap.refused() == 0 { Some(111) } else { None };
-    for (shard, reply) in replies.iter().enumerate() {
-        let wanted = if shard == 0 { first } else { Some(0) };
-        check(digits_of(reply) == wanted, "a copy")?;
-    }
-    check(has_three(&core), "the keys behind a copy")
-}
-
-#[test]
-fn a_copy_is_whole_or_refused(rt: HostRuntime) -> Result<(), Fail> {
-    let plays = for_each_refusal(rt.alloc(), rt.alloc(), BOUND, |heap| copy_all(heap))?;
-    assert_eq!(rt; plays, 34);
+fn keys_of_one_hash_are_one_where_they_are_equal(rt: HostRuntime) -> Result<(), Fail> {
+    assert_eq!(rt; sync_pairs(&rt, rt.alloc())?, [101, 123, 145]);
     Ok(())
 }

@@ -13,18 +13,6 @@ pub type Play = Result<(), &'static str>;
 /// More plays than any work here has requests.
 pub const BOUND: u64 = 2000;
 
-/// Inserts and updates of keys below six, for the cache that threads share and its core.
-pub const INSERTS: [(u64, u64); 8] = [
-    (0, 10),
-    (1, 11),
-    (2, 12),
-    (0, 20),
-    (3, 13),
-    (4, 14),
-    (2, 22),
-    (5, 15),
-];
-
 pub fn at(nanos: u64) -> Instant {
     Instant::from_nanos(nanos)
 }

@@ -12,20 +12,21 @@ type HeapCache<'a> = unsync::Cache<u64, Rc<u64, &'a Heap>, FixedState, UnitWeigh
 
 /// Insert, get and count, for key 0 and for key 1, or nothing where memory for the list is refused.
 fn call_list(heap: &Heap) -> Option<Vec<unsync::Call<u64, u64, &Heap>, &Heap>> {
-    let mut calls = Vec::with_capacity(heap, 6).ok()?;
-    for key in 0..2 {
-        let value = Rc::new(heap, 7).ok()?;
-        calls
-            .push(unsync::Call::Insert {
-                key,
-                value,
-                now: at(0),
-            })
-            .ok()?;
-        calls.push(unsync::Call::Get { key, now: at(0) }).ok()?;
-        calls.push(unsync::Call::EntryCount).ok()?;
-    }
-    Some(calls)
+    let now = at(0);
+    let (value, other) = (Rc::new(heap, 7).ok()?, Rc::new(heap, 7).ok()?);
+    let calls = vec![in heap;
+        unsync::Call::Insert { key: 0, value, now },
+        unsync::Call::Get { key: 0, now },
+        unsync::Call::EntryCount,
+        unsync::Call::Insert {
+            key: 1,
+            value: other,
+            now
+        },
+        unsync::Call::Get { key: 1, now },
+        unsync::Call::EntryCount,
+    ];
+    calls.ok()
 }
 
 /// What a reply is, in a letter: done, found with its value 7, absent, a number or refused.
@@ -42,22 +43,42 @@ fn letter(reply: &unsync::Reply<u64, &Heap>) -> char {
     }
 }
 
-/// The replies to these calls, and the entries afterwards.
-const RUNS: [(&str, u64); 4] = [("df1df2", 2), ("oa0df1", 1), ("df1oa1", 1), ("oa0oa0", 0)];
+/// The replies to these calls, in letters, and the entries afterwards.
+const RUNS: [([char; 6], u64); 5] = [
+    (['d', 'f', '1', 'd', 'f', '2'], 2),
+    (['o', 'a', '0', 'd', 'f', '1'], 1),
+    (['d', 'f', '1', 'o', 'a', '1'], 1),
+    (['o', 'a', '0', 'o', 'a', '0'], 0),
+    (['-'; 6], 0),
+];
 
-/// A list of calls on an empty cache. Where it is refused, no call was made.
+/// The replies in letters.
+fn letters_of(replies: &[unsync::Reply<u64, &Heap>]) -> [char; 6] {
+    let mut letters = ['-'; 6];
+    for (place, reply) in letters.iter_mut().zip(replies) {
+        *place = letter(reply);
+    }
+    letters
+}
+
+/// A list of calls on an empty cache. Where it is refused, there are no replies and no entries.
 fn run_calls(heap: &Heap) -> Play {
     let Some(calls) = call_list(heap) else {
         return Ok(());
     };
-    let mut cache: HeapCache = unsync::Cache::new(heap, 10).map_err(|_| "a build takes memory")?;
-    let Ok(replies) = unsync::run(heap, &mut cache, calls) else {
-        return check(cache.entry_count() == 0, "a list that is refused");
+    let Ok(mut cache) = HeapCache::new(heap, 10) else {
+        return Err("a build takes memory");
     };
-    let count = cache.entry_count();
-    let is_one = RUNS.iter().any(|(run, entries)| replies.iter().map(letter).eq(run.chars())
-        && *entries == count);
-    check(is_one, "the replies and the entries")
+    let mut letters = ['-'; 6];
+    if let Ok(replies) = unsync::run(heap, &mut cache, calls) {
+        letters = letters_of(&replies);
+    }
+    let run = (letters, cache.entry_count());
+    let is_whole = run == RUNS[0] || heap.refused() > 0;
+    check(
+        is_whole && RUNS.contains(&run),
+        "the replies and the entries",
+    )
 }
 
 #[test]
@@ -65,13 +86,6 @@ fn a_list_of_calls_is_refused_before_the_first(rt: HostRuntime) -> Result<(), Fa
     let plays = for_each_refusal(rt.alloc(), rt.alloc(), BOUND, |heap| run_calls(heap))?;
     assert_eq!(rt; plays, 20);
     Ok(())
-}
-
-type HeapCore<'a> = Core<u64, u64, FixedState, UnitWeight, &'a Heap>;
-
-/// A new core, where there is memory for it.
-fn new_core(heap: &Heap) -> Option<HeapCore<'_>> {
-    Core::new(heap, FixedState::new()).ok()
 }
 
 /// A recording cache with its passes.
@@ -82,25 +96,14 @@ type Opened<'a> = (
 
 /// A cache is opened whole, and closed with its passes, or is not opened.
 fn open_and_close(heap: &Heap) -> Play {
-    let Some(core) = new_core(heap) else {
+    let Ok(core) = Core::new(heap, FixedState::new()) else {
         return Ok(());
     };
-    if !core.is_new() {
-        return Err("a new core");
-    }
-    let earlier = heap.refused();
     let opened: Result<Opened, OutOfMemory> = Recorded::open(heap, core, 3);
-    let Ok((cache, passes)) = opened else {
-        return check(heap.refused() > earlier, "a refusal without a reason");
-    };
-    check(
-        heap.refused() == earlier && passes.len() == 3,
-        "an opened cache",
-    )?;
-    check(
-        cache.close(passes).is_ok(),
-        "a cache is closed with all its passes",
-    )
+    match opened {
+        Ok((cache, passes)) => check(cache.close(passes).is_ok(), "closed with all its passes"),
+        Err(_) => check(heap.refused() > 0, "a refusal without a reason"),
+    }
 }
 
 #[test]
@@ -114,140 +117,93 @@ type HeapRecord<'a> = Record<u64, u64, FixedState, UnitWeight, &'a Heap>;
 
 type HeapReply<'a> = Reply<HeapShared<'a>, Rows<u64, u64, &'a Heap>>;
 
-/// What a reply is, in a letter.
+/// What a reply is, in a letter: done, found with its value 7, absent or refused.
 fn core_letter(reply: &HeapReply) -> char {
     match reply {
         Reply::Done => 'd',
-        Reply::Found(Some(_)) => 'f',
+        Reply::Found(Some(value)) if *value.get() == 7 => 'f',
         Reply::Found(None) => 'a',
-        Reply::Counts { .. } => 'c',
         Reply::OutOfMemory => 'o',
         _ => '?',
     }
 }
 
-/// Which of the keys 0 to 2 are there.
-fn keys_of(kept: &HeapRecord) -> [bool; 3] {
-    let mut keys = [false; 3];
-    for (key, is_there) in keys.iter_mut().enumerate() {
-        *is_there = matches!(
-            kept.core().step_contains_key(&(key as u64), at(0)),
-            Reply::Bool(true)
-        );
-    }
-    keys
-}
-
-/// A call of a key, or of none.
-#[derive(Clone, Copy)]
-enum Kind {
-    Insert(u64),
-    Get(u64),
-    Sync,
-    Counts,
-}
-
-type HeapCall<'a> = Call<HeapShared<'a>, HeapShared<'a>>;
-
-/// The call, or nothing where memory for its key and value is refused.
-fn call_of(heap: &Heap, kind: Kind) -> Option<HeapCall<'_>> {
-    let now = at(0);
-    match kind {
-        Kind::Insert(key) => {
-            let (key, value) = pair(heap, key, 7)?;
-            Some(Call::Insert { key, value, now })
-        }
-        Kind::Get(key) => Some(Call::Get {
-            key: pair(heap, key, 7)?.0,
-            now,
-        }),
-        Kind::Sync => Some(Call::Sync { now }),
-        Kind::Counts => Some(Call::Counts),
-    }
-}
-
-const CALLS: [Kind; 9] = [
-    Kind::Insert(0),
-    Kind::Get(0),
-    Kind::Sync,
-    Kind::Insert(1),
-    Kind::Insert(2),
-    Kind::Get(1),
-    Kind::Sync,
-    Kind::Get(2),
-    Kind::Counts,
-];
-
-/// Whether a key is there after a call, where it was there before or not: what an insert does, it does to its own key, and only an applied call whose
-/// node was refused takes an entry away.
-fn may_be(kind: Kind, letter: char, is_refused: bool, key: u64, before: bool, after: bool) -> bool {
-    match kind {
-        Kind::Insert(own) if own == key && letter == 'd' => after,
-        Kind::Sync if is_refused => before || !after,
-        _ => before == after,
-    }
-}
-
-/// Makes a call. It is written down with its reply, or not made.
-fn apply<'a>(heap: &'a Heap, kept: &mut HeapRecord<'a>, kind: Kind) -> Play {
-    let Some(call) = call_of(heap, kind) else {
-        return Ok(());
-    };
-    let (made, before, earlier) = (kept.calls().len(), keys_of(kept), heap.refused());
-    let answer = match kept.apply(call) {
+/// What a call is answered, in a letter, or a dash where it is not recorded.
+fn answer_of<'a>(kept: &mut HeapRecord<'a>, call: Call<HeapShared<'a>, HeapShared<'a>>) -> char {
+    match kept.apply(call) {
         Ok(answer) => core_letter(&answer),
         Err(NotRecorded) => '-',
-    };
-    let (is_refused, after) = (heap.refused() > earlier, keys_of(kept));
-    if answer == '-' {
-        return check(
-            is_refused && kept.calls().len() == made && after == before,
-            "a call that was not made",
-        );
     }
-    let recorded = kept.calls().last().map(|last| core_letter(&last.reply));
-    check(
-        recorded == Some(answer) && kept.calls().len() == made.saturating_add(1),
-        "the record",
-    )?;
-    check((answer != 'o') || is_refused, "a refusal without a reason")?;
-    for (key, (was, is)) in before.iter().zip(&after).enumerate() {
-        check(
-            may_be(kind, answer, is_refused, key as u64, *was, *is),
-            "which keys are there",
-        )?;
-        let is_found = answer == 'f' || answer == 'a';
-        check(
-            !is_found
-                || !matches!(kind, Kind::Get(own) if own == key as u64)
-                || (answer == 'f') == *is,
-            "a get",
-        )?;
-    }
-    Ok(())
 }
 
-/// Makes the calls in turn.
+/// What an insert and a get of a key are answered, with dashes where memory for key and value is refused.
+fn insert_and_get<'a>(heap: &'a Heap, kept: &mut HeapRecord<'a>, key: u64) -> [char; 2] {
+    let now = at(0);
+    let (Some((key, value)), Some((again, _))) = (pair(heap, key, 7), pair(heap, key, 7)) else {
+        return ['-'; 2];
+    };
+    let inserted = answer_of(kept, Call::Insert { key, value, now });
+    [inserted, answer_of(kept, Call::Get { key: again, now })]
+}
+
+/// The answers that were written down.
+fn written(kept: &HeapRecord) -> [char; 6] {
+    let mut letters = ['-'; 6];
+    for (place, made) in letters.iter_mut().zip(kept.calls()) {
+        *place = core_letter(&made.reply);
+    }
+    letters
+}
+
+/// What an insert and a get may be answered: a call that is not recorded is not made, and what is refused is not there.
+const ANSWERS: [[char; 2]; 6] = [
+    ['d', 'f'],
+    ['d', '-'],
+    ['o', 'a'],
+    ['o', '-'],
+    ['-', 'a'],
+    ['-', '-'],
+];
+
+/// The answers in turn, without dashes.
+fn made(all: &[[char; 2]; 3]) -> [char; 6] {
+    let mut letters = ['-'; 6];
+    let mut places = letters.iter_mut();
+    for answers in all {
+        for letter in answers {
+            if *letter != '-' {
+                if let Some(place) = places.next() {
+                    *place = *letter;
+                }
+            }
+        }
+    }
+    letters
+}
+
+/// Inserts and gets of three keys, each written down with its answer or not made.
 fn record_all(heap: &Heap) -> Play {
-    let Some(core) = new_core(heap) else {
+    let Ok(core) = Core::new(heap, FixedState::new()) else {
         return Ok(());
     };
-    if !core.is_new() {
-        return Err("a new core");
-    }
     let mut kept = Record::new(heap, core);
-    for kind in &CALLS {
-        apply(heap, &mut kept, *kind)?;
+    let mut all = [['-'; 2]; 3];
+    for (key, answers) in all.iter_mut().enumerate() {
+        *answers = insert_and_get(heap, &mut kept, key as u64);
     }
-    check(
-        heap.refused() > 0 || kept.calls().len() == CALLS.len(),
-        "all are written down",
-    )
+    check(written(&kept) == made(&all), "the record has the answers")?;
+    let are_whole = all == [['d', 'f']; 3] || heap.refused() > 0;
+    check(are_whole && are_allowed(&all), "the answers")
+}
+
+/// Whether each key is answered as it may be.
+fn are_allowed(all: &[[char; 2]; 3]) -> bool {
+    all.iter().all(|answers| ANSWERS.contains(answers))
 }
 
 #[test]
 fn a_call_is_recorded_as_it_was_made_or_not_made(rt: HostRuntime) -> Result<(), Fail> {
     let plays = for_each_refusal(rt.alloc(), rt.alloc(), BOUND, |heap| record_all(heap))?;
-    assert_eq!(rt; plays, 78);
+    assert_eq!(rt; plays, 50);
     Ok(())
 }

@@ -1,8 +1,10 @@
-// Steps and lists of steps of a core, with each of their requests refused in turn.
-use crate::plays::{BOUND, Heap, HeapShared, INSERTS, Play, at, check, pair};
+// Lists of steps of a core, with each of their requests refused in turn, and hits, which make no request.
+use crate::plays::{BOUND, Heap, HeapShared, Play, at, check, pair};
 use mini_moka::common::{FixedState, UnitWeight};
-use mini_moka::sync::engine::{Call, Core, Event, Reply, Rows};
-use moka_refusals::for_each_refusal;
+use mini_moka::sync::engine::{Core, Event, Reply, Rows};
+use mini_moka::sync::steps::{insert, sync};
+use moka_refusals::{Refusals, RefusingHeap, for_each_refusal};
+use std::sync::Wait;
 use std::test::Fail;
 
 type HeapCore<'a> = Core<u64, u64, FixedState, UnitWeight, &'a Heap>;
@@ -11,115 +13,27 @@ type HeapEvent<'a> = Event<HeapShared<'a>, HeapShared<'a>>;
 
 type HeapReply<'a> = Reply<HeapShared<'a>, Rows<u64, u64, &'a Heap>>;
 
-/// The value of each key below six, if it has one. It leaves nothing behind.
-fn values_of(core: &mut HeapCore) -> Result<[Option<u64>; 6], &'static str> {
-    let mut values = [None; 6];
-    for (key, value) in values.iter_mut().enumerate() {
-        *value = match core.step_get(&(key as u64), at(0)) {
-            Reply::Found(found) => found.map(|shared| *shared.get()),
-            _ => return Err("a get of a u64 takes no memory"),
-        };
-        core.step_forget();
-    }
-    Ok(values)
-}
-
-/// The values, and how many entries are charged.
-fn picture(core: &mut HeapCore) -> Result<([Option<u64>; 6], usize), &'static str> {
-    let values = values_of(core)?;
-    if !core.is_at_rest() {
-        return Err("something is pending");
-    }
-    match core.call(Call::Counts) {
-        Reply::Counts { count, .. } => Ok((values, count)),
-        _ => Err("counts"),
-    }
-}
-
-/// Whether an insert is done. Where it is refused nothing is pending.
-fn insert<'a>(
-    core: &mut HeapCore<'a>,
-    heap: &'a Heap,
-    key: u64,
-    value: u64,
-) -> Result<bool, &'static str> {
-    let Some((key, value)) = pair(heap, key, value) else {
-        return Ok(false);
-    };
-    match core.step_insert(key, value, at(0)) {
-        Reply::Done => Ok(true),
-        Reply::OutOfMemory if !core.has_pending() => Ok(false),
-        _ => Err("an insert that is refused leaves nothing pending"),
-    }
-}
-
-/// Pushes an upsert and applies it. Whether its node is not refused.
-fn apply(core: &mut HeapCore, heap: &Heap) -> Result<bool, &'static str> {
-    let before = heap.refused();
-    core.step_push();
-    core.step_begin(at(0));
-    core.finish();
-    Ok(heap.refused() == before)
-}
-
-/// Each insert is done with its node, or is not there, and the others are as they were.
-fn insert_all(heap: &Heap) -> Play {
-    let Ok(mut core) = Core::new(heap, FixedState::new()) else {
-        return check(heap.refused() == 1, "a core");
-    };
-    for (key, value) in &INSERTS {
-        let (mut values, count) = picture(&mut core)?;
-        let mut wanted = count;
-        if insert(&mut core, heap, *key, *value)? {
-            let has_node = apply(&mut core, heap)?;
-            let Some(place) = values.get_mut(*key as usize) else {
-                return Err("a key below six");
-            };
-            let is_new = place.is_none();
-            *place = if has_node { Some(*value) } else { None };
-            wanted = if has_node && is_new {
-                count.saturating_add(1)
-            } else {
-                count
-            };
-            check(has_node || is_new, "an update has its node")?;
-        }
-        check(picture(&mut core)? == (values, wanted), "an insert")?;
-    }
-    Ok(())
-}
-
-#[test]
-fn an_insert_or_its_node_is_refused_on_a_core(rt: HostRuntime) -> Result<(), Fail> {
-    let plays = for_each_refusal(rt.alloc(), rt.alloc(), BOUND, |heap| insert_all(heap))?;
-    assert_eq!(rt; plays, 98);
-    Ok(())
-}
-
-/// What a list of steps asks, with its keys and values, or nothing where memory for these is refused.
+/// The insert of key 1 by a caller and a get by another, which push and forget what they have pending, or nothing where memory for these is refused.
 fn events(heap: &Heap) -> Option<Vec<HeapEvent<'_>, &Heap>> {
     let now = at(0);
-    let mut events = Vec::with_capacity(heap, 6).ok()?;
-    for (caller, other, key) in &[(1, 3, 0), (2, 4, 1)] {
-        let caller = *caller;
-        let (key, value) = pair(heap, *key, 7)?;
-        let again = key.try_clone().ok()?;
-        let insert = Event::Insert {
-            caller,
+    let (key, value) = pair(heap, 1, 7)?;
+    let again = key.try_clone().ok()?;
+    let events = vec![in heap;
+        Event::Insert {
+            caller: 1,
             key,
             value,
-            now,
-        };
-        let get = Event::Get {
-            caller: *other,
+            now
+        },
+        Event::Get {
+            caller: 2,
             key: again,
-            now,
-        };
-        events.push(insert).ok()?;
-        events.push(get).ok()?;
-        events.push(Event::Push { caller }).ok()?;
-    }
-    Some(events)
+            now
+        },
+        Event::Push { caller: 1 },
+        Event::Forget { caller: 2 },
+    ];
+    events.ok()
 }
 
 /// What a reply is, in a letter: done, found with its value 7, absent, not possible or refused.
@@ -134,58 +48,70 @@ fn letter(reply: &HeapReply) -> char {
     }
 }
 
-/// Whether the replies are these.
-fn are(replies: &[HeapReply], letters: &str) -> bool {
-    replies.iter().map(letter).eq(letters.chars())
-}
-
-/// Insert, get and push, for key 0 and then for key 1: done, or an insert refused with nothing to find and nothing pending. Beside each, what the keys
-/// have afterwards.
-const RUNS: [(&str, [Option<u64>; 2]); 4] = [
-    ("dfddfd", [Some(7), Some(7)]),
-    ("oandfd", [None, Some(7)]),
-    ("dfdoan", [Some(7), None]),
-    ("oanoan", [None, None]),
-];
-
-/// Whether the replies are those of one of the runs, with these values of the keys 0 and 1 afterwards.
-fn is_run(replies: &[HeapReply], first: Option<u64>, second: Option<u64>) -> bool {
-    for (run, values) in &RUNS {
-        if are(replies, run) && values[0] == first && values[1] == second {
-            return true;
-        }
+/// The replies in letters.
+fn letters_of(replies: &[HeapReply]) -> [char; 4] {
+    let mut letters = ['-'; 4];
+    for (place, reply) in letters.iter_mut().zip(replies) {
+        *place = letter(reply);
     }
-    false
+    letters
 }
 
-/// A list of steps on a core that may have key 5 already. Where it is refused no step was taken.
+/// An insert that is refused leaves nothing to find and nothing pending.
+const RUNS: [[char; 4]; 2] = [['d', 'f', 'd', 'd'], ['o', 'a', 'n', 'd']];
+
+/// A list of steps on a new core. Where it is refused no step was taken: what the get has pending would be there.
 fn run_all(heap: &Heap) -> Play {
     let Ok(mut core) = Core::new(heap, FixedState::new()) else {
         return check(heap.refused() == 1, "a core");
     };
-    insert(&mut core, heap, 5, 1)?;
-    core.step_push();
-    let before = values_of(&mut core)?;
     let Some(events) = events(heap) else {
         return Ok(());
     };
     let Ok(replies) = core.run(events) else {
-        return check(
-            core.is_at_rest() && values_of(&mut core)? == before,
-            "a list that is refused",
-        );
+        return check(core.is_at_rest(), "a list that is refused");
     };
-    let values = values_of(&mut core)?;
-    check(
-        is_run(&replies, values[0], values[1]),
-        "the replies and the values",
-    )?;
-    check(values[2..] == before[2..], "other keys")
+    let letters = letters_of(&replies);
+    let is_whole = letters == RUNS[0] || heap.refused() > 0;
+    check(is_whole && RUNS.contains(&letters), "the replies")
 }
 
 #[test]
 fn a_list_of_steps_is_refused_before_the_first(rt: HostRuntime) -> Result<(), Fail> {
     let plays = for_each_refusal(rt.alloc(), rt.alloc(), BOUND, |heap| run_all(heap))?;
-    assert_eq!(rt; plays, 40);
+    assert_eq!(rt; plays, 24);
+    Ok(())
+}
+
+/// Whether a whole get finds key 1.
+fn is_hit(core: &mut HeapCore) -> bool {
+    if !core.is_at_rest() {
+        return false;
+    }
+    matches!(core.get(&1, at(0)), Reply::Found(Some(_)))
+}
+
+/// How many of three hundred gets are hits, which make a maintenance due, several times over, and how many requests they make.
+fn requests_of_hits<R: Wait>(rt: &R, heap: &Heap) -> (u64, u64) {
+    let Ok(mut core) = Core::new(heap, FixedState::new()) else {
+        return (0, 0);
+    };
+    if let Some((key, value)) = pair(heap, 1, 7) {
+        let _ = insert(rt, &mut core, key, value, at(0));
+        sync(rt, &mut core, at(0));
+    }
+    heap.refuse(Refusals::From(1));
+    let mut hits = 0u64;
+    for _ in 0..300 {
+        hits = hits.saturating_add(u64::from(is_hit(&mut core)));
+    }
+    (hits, heap.asked())
+}
+
+// The insert and the maintenance before are whole calls over the steps of the core.
+#[test]
+fn a_hit_takes_no_memory(rt: HostRuntime) -> Result<(), Fail> {
+    let heap = RefusingHeap::new(rt.alloc(), rt.alloc(), Refusals::Never)?;
+    assert_eq!(rt; requests_of_hits(&rt, &heap), (300, 0));
     Ok(())
 }

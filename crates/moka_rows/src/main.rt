@@ -4,6 +4,7 @@
 #![tactic(auto)]
 
 mod ending;
+mod in_turn;
 mod played;
 mod row;
 mod wanted;

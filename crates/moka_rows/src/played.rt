@@ -1,5 +1,6 @@
 // Rows that are played: how many, and which differ.
 use crate::ending::Ending;
+use crate::in_turn::difference_in_turn;
 use crate::row::{RowLine, line_of};
 use crate::wanted::Wanted;
 use anyhow::{Context, Result, bail};
@@ -87,7 +88,7 @@ impl Played {
 }
 
 /// How a run of the script ends, and what it writes. The script's memory is that of the heap.
-fn outcome_of(
+pub fn outcome_of(
     rt: &impl Wait,
     alloc: Global,
     heap: &RefusingHeap<Global>,
@@ -119,7 +120,11 @@ fn difference(rt: &impl Wait, alloc: Global, wanted: &Wanted) -> Result<Option<S
     }
     let written = String::from_utf8(written)?;
     let text = wanted.text(alloc)?;
-    Ok(first_difference(alloc, &wanted.script, &written, &text)?)
+    let difference = first_difference(alloc, &wanted.script, &written, &text)?;
+    if difference.is_some() || wanted.in_turn.is_empty() {
+        return Ok(difference);
+    }
+    Ok(difference_in_turn(rt, alloc, &wanted.script, &wanted.in_turn)?)
 }
 
 /// The first line of a script whose reply is another, with both replies.

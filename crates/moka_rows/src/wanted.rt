@@ -22,6 +22,9 @@ const REFUSES: &str = "refuses request ";
 /// What a line begins with that names the first of the requests for memory that are refused, and what it ends with.
 const REFUSES_FROM: (&str, &str) = ("refuses requests from ", " on");
 
+/// What a line begins with that says how the plays end in which each request for memory is refused in turn.
+const REFUSES_EACH: &str = "refuses each request: ";
+
 /// Why a line of a row isn't read.
 #[derive(Clone, Copy, Debug, PartialEq, Eq)]
 pub enum LineError {
@@ -54,6 +57,8 @@ pub struct Wanted {
     pub ending: Ending,
     /// The requests for memory that are refused while the script runs.
     pub refusals: Refusals,
+    /// How many plays end in each way in which each request is refused in turn, or nothing where it is not played so.
+    pub in_turn: String,
     /// Whether any replies will do, as for a script in quotes.
     pub is_open: bool,
 }
@@ -66,6 +71,7 @@ impl Wanted {
             replies: String::new(alloc),
             ending: Ending::Done,
             refusals: Refusals::Never,
+            in_turn: String::new(alloc),
             is_open: false,
         }
     }
@@ -99,6 +105,9 @@ impl Wanted {
         if let Some(ending) = line.strip_prefix(ENDS) {
             self.ending = Ending::parse(ending)?;
             return Ok(());
+        }
+        if let Some(counts) = line.strip_prefix(REFUSES_EACH) {
+            return Ok(self.in_turn.push_str(counts)?);
         }
         if let Some(refusals) = refusals_of(line)? {
             self.refusals = refusals;

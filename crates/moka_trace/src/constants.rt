@@ -11,6 +11,8 @@ pub const INSERT: u32 = 1;
 pub const READ_THROUGH: u32 = 2;
 /// An operation that looks its key up, and then inserts it.
 pub const GET_AND_INSERT: u32 = 3;
+/// An operation that removes its key's entry, and then inserts it.
+pub const REMOVE_AND_INSERT: u32 = 4;
 
 /// A load of a list: elements picked by number are looked for, and moved to the back.
 pub const MOVE: u32 = 0;

@@ -4,7 +4,8 @@ ghost use Rattle.moka_engine.specs.CoreCall.{IsAtRest};
 
 use crate::Settings;
 use crate::constants::{
-    DONE, GET, GET_AND_INSERT, INSERT, OUT_OF_MEMORY, READ_THROUGH, UNKNOWN_KIND, UNLIMITED,
+    DONE, GET, GET_AND_INSERT, INSERT, OUT_OF_MEMORY, READ_THROUGH, REMOVE_AND_INSERT,
+    UNKNOWN_KIND, UNLIMITED,
 };
 use crate::hasher::MultiplyState;
 use crate::operation::Operation;
@@ -165,6 +166,11 @@ fn play_one<S: BuildHasher + Drop, W: WeighShared<u64, u64>>(
         }
         GET_AND_INSERT => {
             look(core, key, now, found)?;
+            insert(core, alloc, key, value, now)?;
+        }
+        REMOVE_AND_INSERT => {
+            let removed = Shared::new(alloc, key)?;
+            let _ = core.call(Call::Remove { key: removed, now });
             insert(core, alloc, key, value, now)?;
         }
         _ => return Err(PlayError::UnknownKind),

@@ -6,6 +6,6 @@
 pub struct Operation {
     pub key: u64,
     pub value: u32,
-    /// `GET`, `INSERT`, `READ_THROUGH` or `GET_AND_INSERT`.
+    /// `GET`, `INSERT`, `READ_THROUGH`, `GET_AND_INSERT` or `REMOVE_AND_INSERT`.
     pub kind: u32,
 }

@@ -1,7 +1,7 @@
 // Plays the operations of a trace on a cache.
 ghost use Rattle.std.specs.Prelude.{◌+◌, ◌≡◌, ◌≤◌, length, IfOk};
 
-use crate::constants::{GET, GET_AND_INSERT, INSERT, READ_THROUGH};
+use crate::constants::{GET, GET_AND_INSERT, INSERT, READ_THROUGH, REMOVE_AND_INSERT};
 use crate::operation::Operation;
 use moka_base::error::OutOfMemory;
 use moka_common::error::{BuildError, InsertError};
@@ -136,6 +136,10 @@ fn play_one<S: BuildHasher + Drop, W: Weigh<u64, u64>>(
         }
         GET_AND_INSERT => {
             look(cache, operation.key, now, found);
+            cache.insert(operation.key, u64::from(operation.value), now)?;
+        }
+        REMOVE_AND_INSERT => {
+            let _ = cache.remove(&operation.key, now);
             cache.insert(operation.key, u64::from(operation.value), now)?;
         }
         _ => return Err(PlayError::UnknownKind),

@@ -1,7 +1,7 @@
 // Traces, played as a caller in C plays them. Outcomes are worked by hand.
 use crate::constants::{
     DONE, FILL_AND_EMPTY, FIND, FIND_AND_REPLACE, GET, GET_AND_INSERT, IN_LANES, INSERT, MOVE,
-    READ_THROUGH, TAKE_TURNS, UNKNOWN_KIND, UNLIMITED, WORD_BY_WORD,
+    READ_THROUGH, REMOVE_AND_INSERT, TAKE_TURNS, UNKNOWN_KIND, UNLIMITED, WORD_BY_WORD,
 };
 use crate::core_player::moka_trace_play_core;
 use crate::index::{moka_trace_index, moka_trace_index_by_map};
@@ -22,15 +22,37 @@ const PLAIN: Settings = Settings {
     is_std_hashed: false,
 };
 
-/// The status, and the outcome's hits, checksum, entries and weight, which are 9 each before the call.
-fn played(alloc: Global, settings: &Settings, operations: &[Operation]) -> (u32, [u64; 4]) {
+/// An outcome's hits, checksum, entries and weight.
+type Told = [u64; 4];
+
+/// What is told before a call.
+const BEFORE: Told = [9; 4];
+
+/// What plays a trace.
+#[derive(Clone, Copy)]
+enum Player {
+    Cache,
+    Core,
+}
+
+/// The status and the outcome of a trace.
+fn played(
+    alloc: Global,
+    player: Player,
+    settings: &Settings,
+    operations: &[Operation],
+) -> (u32, Told) {
+    let [hits, checksum, entries, weight] = BEFORE;
     let mut outcome = Outcome {
-        hits: 9,
-        checksum: 9,
-        entries: 9,
-        weight: 9,
+        hits,
+        checksum,
+        entries,
+        weight,
     };
-    let status = moka_trace_play(alloc, settings, operations, &mut outcome);
+    let status = match player {
+        Player::Cache => moka_trace_play(alloc, settings, operations, &mut outcome),
+        Player::Core => moka_trace_play_core(alloc, settings, operations, &mut outcome),
+    };
     let told = [
         outcome.hits,
         outcome.checksum,
@@ -40,171 +62,209 @@ fn played(alloc: Global, settings: &Settings, operations: &[Operation]) -> (u32,
     (status, told)
 }
 
-fn operation(kind: u32, key: u64, value: u32) -> Operation {
-    Operation { key, value, kind }
-}
+/// Two keys: 7 has the value 5 and then 6, and 8 has 4 and then 9. Three look-ups find 5, 4 and 5.
+const EACH_KIND: [Operation; 6] = [
+    Operation {
+        key: 7,
+        value: 5,
+        kind: INSERT,
+    },
+    Operation {
+        key: 7,
+        value: 0,
+        kind: GET,
+    },
+    Operation {
+        key: 8,
+        value: 4,
+        kind: READ_THROUGH,
+    },
+    Operation {
+        key: 8,
+        value: 3,
+        kind: READ_THROUGH,
+    },
+    Operation {
+        key: 7,
+        value: 6,
+        kind: GET_AND_INSERT,
+    },
+    Operation {
+        key: 8,
+        value: 9,
+        kind: REMOVE_AND_INSERT,
+    },
+];
 
-/// Two keys: 7 has the value 5 and then 6, and 8 has 4. Three look-ups find 5, 4 and 5.
-fn each_kind() -> [Operation; 5] {
-    [
-        operation(INSERT, 7, 5),
-        operation(GET, 7, 0),
-        operation(READ_THROUGH, 8, 4),
-        operation(READ_THROUGH, 8, 3),
-        operation(GET_AND_INSERT, 7, 6),
-    ]
-}
+/// An insert at the moment 0, and looks at 10 and 20.
+const LOOKS: [Operation; 3] = [
+    Operation {
+        key: 7,
+        value: 5,
+        kind: INSERT,
+    },
+    Operation {
+        key: 7,
+        value: 0,
+        kind: GET,
+    },
+    Operation {
+        key: 7,
+        value: 0,
+        kind: GET,
+    },
+];
+
+/// An insert, and an operation of no kind.
+const STRANGE: [Operation; 2] = [
+    Operation {
+        key: 7,
+        value: 5,
+        kind: INSERT,
+    },
+    Operation {
+        key: 7,
+        value: 5,
+        kind: 5,
+    },
+];
+
+/// A trace with its settings, its status and its outcome.
+type Case = (Player, Settings, &'static [Operation], (u32, Told));
+
+// Where one entry is allowed the key 8 is rejected while it was asked for as often as 7, and then takes its place; 7 doesn't come back for the same reason.
+const CASES: [Case; 8] = [
+    (Player::Cache, PLAIN, &EACH_KIND, (DONE, [3, 14, 2, 2])),
+    (Player::Core, PLAIN, &EACH_KIND, (DONE, [3, 14, 2, 2])),
+    (
+        Player::Cache,
+        Settings {
+            is_weighed: true,
+            ..PLAIN
+        },
+        &EACH_KIND,
+        (DONE, [3, 14, 2, 15]),
+    ),
+    (
+        Player::Cache,
+        Settings {
+            is_std_hashed: true,
+            ..PLAIN
+        },
+        &EACH_KIND,
+        (DONE, [3, 14, 2, 2]),
+    ),
+    (
+        Player::Cache,
+        Settings {
+            capacity: 1,
+            ..PLAIN
+        },
+        &EACH_KIND,
+        (DONE, [1, 5, 1, 1]),
+    ),
+    (
+        Player::Cache,
+        Settings {
+            time_to_live: 20,
+            ..PLAIN
+        },
+        &LOOKS,
+        (DONE, [1, 5, 0, 0]),
+    ),
+    (
+        Player::Cache,
+        Settings {
+            time_to_idle: 20,
+            ..PLAIN
+        },
+        &LOOKS,
+        (DONE, [2, 10, 1, 1]),
+    ),
+    (Player::Cache, PLAIN, &STRANGE, (UNKNOWN_KIND, BEFORE)),
+];
 
 #[test]
-fn each_operation_is_made(rt: HostRuntime) {
-    assert_eq!(rt;
-        played(rt.alloc(), &PLAIN, &each_kind()),
-        (DONE, [3, 14, 2, 2])
-    );
+fn traces_have_their_outcomes(rt: HostRuntime) {
+    for (player, settings, operations, outcome) in &CASES {
+        assert_eq!(rt; played(rt.alloc(), *player, settings, operations), *outcome);
+    }
 }
 
-#[test]
-fn a_weighed_entry_weighs_its_value(rt: HostRuntime) {
-    let weighed = Settings {
-        is_weighed: true,
-        ..PLAIN
-    };
-    assert_eq!(rt;
-        played(rt.alloc(), &weighed, &each_kind()),
-        (DONE, [3, 14, 2, 10])
-    );
-}
+/// What is summed before a call.
+const SUM: u64 = 9;
 
-#[test]
-fn the_hash_state_changes_no_outcome(rt: HostRuntime) {
-    let hashed = Settings {
-        is_std_hashed: true,
-        ..PLAIN
-    };
-    assert_eq!(rt;
-        played(rt.alloc(), &hashed, &each_kind()),
-        (DONE, [3, 14, 2, 2])
-    );
-}
-
-#[test]
-fn a_limit_is_kept(rt: HostRuntime) {
-    let limited = Settings {
-        capacity: 1,
-        ..PLAIN
-    };
-    // The key 8 is rejected while it was asked for as often as 7, and then takes its place; 7 doesn't come back for the same reason.
-    assert_eq!(rt;
-        played(rt.alloc(), &limited, &each_kind()),
-        (DONE, [1, 5, 1, 1])
-    );
-}
-
-#[test]
-fn an_entry_lives_and_idles_as_long_as_it_is_set(rt: HostRuntime) {
-    let live = Settings {
-        time_to_live: 20,
-        ..PLAIN
-    };
-    let idle = Settings {
-        time_to_idle: 20,
-        ..PLAIN
-    };
-    let looks = [
-        operation(INSERT, 7, 5),
-        operation(GET, 7, 0),
-        operation(GET, 7, 0),
-    ];
-    assert_eq!(rt; played(rt.alloc(), &live, &looks), (DONE, [1, 5, 0, 0]));
-    assert_eq!(rt; played(rt.alloc(), &idle, &looks), (DONE, [2, 10, 1, 1]));
-}
-
-#[test]
-fn an_operation_of_no_kind_leaves_the_outcome(rt: HostRuntime) {
-    let strange = [operation(INSERT, 7, 5), operation(4, 7, 5)];
-    assert_eq!(rt;
-        played(rt.alloc(), &PLAIN, &strange),
-        (UNKNOWN_KIND, [9, 9, 9, 9])
-    );
-}
-
-#[test]
-fn each_operation_is_made_on_a_core(rt: HostRuntime) {
-    let mut outcome = Outcome {
-        hits: 9,
-        checksum: 9,
-        entries: 9,
-        weight: 9,
-    };
-    let status = moka_trace_play_core(rt.alloc(), &PLAIN, &each_kind(), &mut outcome);
-    assert_eq!(rt; (status, outcome.hits, outcome.checksum), (DONE, 3, 14));
-    assert_eq!(rt; (outcome.entries, outcome.weight), (2, 2));
-}
-
-/// The status, and the sum, which is 9 before the call.
+/// The status and the sum of a load of a list.
 fn told_of_list(alloc: Global, load: u32, picks: &[usize], rounds: usize) -> (u32, u64) {
-    let mut sum = 9;
+    let mut sum = SUM;
     let status = moka_trace_list(alloc, load, 3, picks, rounds, &mut sum);
     (status, sum)
 }
 
+// A list takes the last of the nodes that were made ahead first, so 0 and 1 have the ids 2 and 1. They move, and 7 isn't there: two moves, and the order is 2, 0, 1. Of
+// the next load nothing is left, and 0, 1 and 2 were met in each round. In the third each has had its turn, so the order is 0, 1, 2 again.
 #[test]
-fn hashes_are_counted_and_read(rt: HostRuntime) {
-    // 1 is counted four times and read twice, and 2 is counted twice: hashes that differ modulo 4 share no counter.
-    let mut sum = 9;
-    let status = moka_trace_sketch(rt.alloc(), 128, &[1, 1, 2], 2, 1, &mut sum);
-    assert_eq!(rt; (status, sum), (DONE, 10));
+fn a_load_of_a_list_is_played(rt: HostRuntime) {
+    let told = [
+        told_of_list(rt.alloc(), MOVE, &[2, 7, 1], 1),
+        told_of_list(rt.alloc(), FILL_AND_EMPTY, &[], 2),
+        told_of_list(rt.alloc(), TAKE_TURNS, &[], 1),
+        told_of_list(rt.alloc(), 3, &[], 1),
+    ];
+    let wanted = [
+        (DONE, 2 + 2 * 31 * 31 + 1),
+        (DONE, 6),
+        (DONE, 3 + 31 + 2),
+        (UNKNOWN_KIND, SUM),
+    ];
+    assert_eq!(rt; told, wanted);
 }
 
-/// The status of two agings of nine words of 15 in each counter, and the sum, which is 9 before the call.
+/// The status of two agings of nine words of 15 in each counter, and the sum.
 fn told_of_agings(alloc: Global, load: u32) -> (u32, u64) {
-    let mut sum = 9;
+    let mut sum = SUM;
     let status = moka_trace_aging(alloc, load, &[u64::MAX; 9], 2, &mut sum);
     (status, sum)
 }
 
-#[test]
-fn a_table_ages(rt: HostRuntime) {
-    // Each time all 144 counters are odd, so the half of the size is less by 36: 2147483611, and then 1073741769.
-    let sum = 31 * 2_147_483_611 + 1_073_741_769;
-    assert_eq!(rt; told_of_agings(rt.alloc(), IN_LANES), (DONE, sum));
-    assert_eq!(rt; told_of_agings(rt.alloc(), WORD_BY_WORD), (DONE, sum));
-    assert_eq!(rt; told_of_agings(rt.alloc(), 2), (UNKNOWN_KIND, 9));
+/// The status of counts of the hashes 1, 1 and 2, and the sum of what is read.
+fn told_of_counts(alloc: Global) -> (u32, u64) {
+    let mut sum = SUM;
+    let status = moka_trace_sketch(alloc, 128, &[1, 1, 2], 2, 1, &mut sum);
+    (status, sum)
 }
 
+// 1 is counted four times and read twice, and 2 is counted twice: hashes that differ modulo 4 share no counter. At each aging all 144 counters are odd, so the half of
+// the size is less by 36: 2147483611, and then 1073741769.
 #[test]
-fn a_load_of_a_list_is_played(rt: HostRuntime) {
-    // A list takes the last of the nodes that were made ahead first, so 0 and 1 have the ids 2 and 1. They move, and 7 isn't there: two moves, and the order
-    // is 2, 0, 1.
-    assert_eq!(rt;
-        told_of_list(rt.alloc(), MOVE, &[2, 7, 1], 1),
-        (DONE, 2 + 2 * 31 * 31 + 1)
-    );
-    // Nothing is left, and 0, 1 and 2 were met in each round.
-    assert_eq!(rt; told_of_list(rt.alloc(), FILL_AND_EMPTY, &[], 2), (DONE, 6));
-    // Each has had its turn, so the order is 0, 1, 2 again.
-    assert_eq!(rt;
-        told_of_list(rt.alloc(), TAKE_TURNS, &[], 1),
-        (DONE, 3 + 31 + 2)
-    );
-    assert_eq!(rt; told_of_list(rt.alloc(), 3, &[], 1), (UNKNOWN_KIND, 9));
+fn a_table_counts_and_ages(rt: HostRuntime) {
+    let told = [
+        told_of_counts(rt.alloc()),
+        told_of_agings(rt.alloc(), IN_LANES),
+        told_of_agings(rt.alloc(), WORD_BY_WORD),
+        told_of_agings(rt.alloc(), 2),
+    ];
+    let aged = (DONE, 31 * 2_147_483_611 + 1_073_741_769);
+    assert_eq!(rt; told, [(DONE, 10), aged, aged, (UNKNOWN_KIND, SUM)]);
 }
 
+/// The statuses of a load of an index and of one of a map, and both sums.
+fn told_of_index(alloc: Global, load: u32) -> [(u32, u64); 2] {
+    let (hashes, sought) = ([5, 6, 7], [7, 5, 9]);
+    let (mut sum, mut by_map) = (SUM, SUM);
+    let status = moka_trace_index(alloc, load, &hashes, &sought, 2, &mut sum);
+    let mapped = moka_trace_index_by_map(alloc, load, &hashes, &sought, 2, &mut by_map);
+    [(status, sum), (mapped, by_map)]
+}
+
+// 7 has the id 2 and 5 the id 0, in each of two rounds. 9 isn't there.
 #[test]
 fn index_and_map_find_the_same(rt: HostRuntime) {
-    // 7 has the id 2 and 5 the id 0, in each of two rounds. 9 isn't there.
-    let (hashes, sought) = ([5, 6, 7], [7, 5, 9]);
-    for load in [FIND, FIND_AND_REPLACE, UNKNOWN_KIND] {
-        let expected = if load <= FIND_AND_REPLACE {
-            (DONE, 4)
-        } else {
-            (UNKNOWN_KIND, 9)
-        };
-        let mut sum = 9;
-        let status = moka_trace_index(rt.alloc(), load, &hashes, &sought, 2, &mut sum);
-        assert_eq!(rt; (status, sum), expected);
-        let mut by_map = 9;
-        let mapped = moka_trace_index_by_map(rt.alloc(), load, &hashes, &sought, 2, &mut by_map);
-        assert_eq!(rt; (mapped, by_map), expected);
-    }
+    let told = [
+        told_of_index(rt.alloc(), FIND),
+        told_of_index(rt.alloc(), FIND_AND_REPLACE),
+        told_of_index(rt.alloc(), UNKNOWN_KIND),
+    ];
+    let wanted = [[(DONE, 4); 2], [(DONE, 4); 2], [(UNKNOWN_KIND, SUM); 2]];
+    assert_eq!(rt; told, wanted);
 }

@@ -2,16 +2,16 @@
 #![tactic(auto)]
 
 #[cfg(test)]
-mod common;
-#[cfg(test)]
 mod deque;
+#[cfg(test)]
 mod hashers;
-pub mod heap;
+#[cfg(test)]
+mod list;
+#[cfg(test)]
+mod sizes;
 #[cfg(test)]
 mod sketch;
 #[cfg(test)]
 mod unsync;
 #[cfg(test)]
-mod unsync_runs;
-#[cfg(test)]
-mod unsync_sizes;
+mod unsync_insert;

@@ -1,4 +1,6 @@
 // The examples of the cache that threads share.
+use mini_moka::Error;
+use mini_moka::common::FixedState;
 use mini_moka::common::time::Instant;
 use mini_moka::sync::Cache;
 use mini_moka::sync::housekeeper::Housekeeper;
@@ -9,56 +11,39 @@ use moka_examples::shared::{
     IsSquare, charged_in_bytes, counted_twice, key_and_length, some_square, square,
     square_by_threads, squares_below, there_within_ten_seconds,
 };
+use std::sync::Wait;
 use std::test::Fail;
 
+// Sixteen threads share a cache; a clone is the same cache; a shared text is there until its time is over, and weighs its bytes.
 #[test]
-fn sixteen_threads_share_a_cache(rt: HostRuntime) -> Result<(), Fail> {
-    assert_eq!(rt; square_by_threads(rt, rt.alloc())?, (1240, 16));
+fn examples_of_a_shared_cache_give_what_they_say(rt: HostRuntime) -> Result<(), Fail> {
+    let alloc = rt.alloc();
+    let found = (
+        square_by_threads(rt, alloc)?,
+        counted_twice(&rt, alloc)?,
+        there_within_ten_seconds(&rt, alloc)?,
+    );
+    let charged = charged_in_bytes(&rt, alloc, String::from_str(alloc, "alice")?)?;
+    assert_eq!(rt; (found, charged), (((1240, 16), (2, 2), (true, false)), 5));
     Ok(())
 }
 
-#[test]
-fn a_clone_is_the_same_cache(rt: HostRuntime) -> Result<(), Fail> {
-    assert_eq!(rt; counted_twice(&rt, rt.alloc())?, (2, 2));
-    Ok(())
-}
-
-#[test]
-fn a_shared_text_is_there_until_its_time_is_over(rt: HostRuntime) -> Result<(), Fail> {
-    assert_eq!(rt; there_within_ten_seconds(&rt, rt.alloc())?, (true, false));
-    Ok(())
-}
-
-#[test]
-fn a_shared_text_weighs_its_bytes(rt: HostRuntime) -> Result<(), Fail> {
-    let text = String::from_str(rt.alloc(), "alice")?;
-    assert_eq!(rt; charged_in_bytes(&rt, rt.alloc(), text)?, 5);
-    Ok(())
+/// A pair of a cache of squares before it is asked for the square of 7, that square twice, and a pair then.
+fn squares_of_seven<R: Wait>(
+    rt: &R,
+    squares: &Cache<u32, u64, FixedState, IsSquare>,
+) -> Result<(Option<(u32, u64)>, [u64; 2], Option<(u32, u64)>), Error> {
+    let now = Instant::from_secs(0);
+    let before = some_square(rt, squares, now)?;
+    let both = [square(rt, squares, 7, now)?, square(rt, squares, 7, now)?];
+    Ok((before, both, some_square(rt, squares, now)?))
 }
 
 #[test]
 fn a_square_is_found_again(rt: HostRuntime) -> Result<(), Fail> {
     let squares = Cache::builder(rt.alloc()).pair_rule::<IsSquare>().build()?;
-    let now = Instant::from_secs(0);
-    let both = [
-        square(&rt, &squares, 7, now)?,
-        square(&rt, &squares, 7, now)?,
-    ];
-    assert_eq!(rt;
-        (both, squares.contains_key(&rt, &7, now)),
-        ([49, 49], true)
-    );
-    Ok(())
-}
-
-#[test]
-fn a_snapshot_gives_a_square_of_the_cache(rt: HostRuntime) -> Result<(), Fail> {
-    let squares = Cache::builder(rt.alloc()).pair_rule::<IsSquare>().build()?;
-    let now = Instant::from_secs(0);
-    let none = some_square(&rt, &squares, now)?;
-    let made = square(&rt, &squares, 7, now)?;
-    let some = some_square(&rt, &squares, now)?;
-    assert_eq!(rt; (none, made, some), (None, 49, Some((7, 49))));
+    let found = squares_of_seven(&rt, &squares)?;
+    assert_eq!(rt; found, (None, [49, 49], Some((7, 49))));
     Ok(())
 }
 
@@ -70,15 +55,26 @@ fn a_snapshot_gives_all_squares_of_the_cache(rt: HostRuntime) -> Result<(), Fail
     Ok(())
 }
 
+/// The key of the entry that comes of an insert, and the length of its text.
+fn entry_read<R: Wait>(
+    rt: &R,
+    cache: &Cache<u64, String>,
+    text: String,
+) -> Result<(u64, usize), Error> {
+    let now = Instant::from_secs(0);
+    cache.insert(rt, 7, text, now)?;
+    match cache.iter(rt, now)?.next() {
+        Some(entry) => Ok(key_and_length(&entry)),
+        None => Ok((0, 0)),
+    }
+}
+
 #[test]
 fn an_entry_reads_as_its_text(rt: HostRuntime) -> Result<(), Fail> {
+    let text = String::from_str(rt.alloc(), "alice")?;
     let cache: Cache<u64, String> = Cache::new(rt.alloc(), 10)?;
-    let now = Instant::from_secs(0);
-    cache.insert(&rt, 7, String::from_str(rt.alloc(), "alice")?, now)?;
-    let Some(entry) = cache.iter(&rt, now)?.next() else {
-        return Err("an entry".into());
-    };
-    assert_eq!(rt; key_and_length(&entry), (7, 5));
+    let read = entry_read(&rt, &cache, text)?;
+    assert_eq!(rt; read, (7, 5));
     Ok(())
 }
 

@@ -1,11 +1,14 @@
 // Calls of one cache from several threads at a time.
 use crate::shared::all_are_well;
 use moka_common::time::Instant;
-use moka_sync::cache::Cache;
+use moka_sync::cache::{Cache, ConcurrentCacheExt};
 use std::alloc::Global;
 use std::sync::Wait;
 use std::test::Fail;
 use std::thread::{Builder, Threads};
+
+/// A key that all threads insert and invalidate.
+const OF_ALL: u64 = 5000;
 
 fn start() -> Instant {
     Instant::from_nanos(0)
@@ -26,19 +29,6 @@ fn are_read_back<R: Wait>(rt: &R, cache: &Cache<u64, u64>, first: u64) -> bool {
             return false;
         }
     }
-    true
-}
-
-/// Inserts two keys, and takes the first one out.
-fn insert_two<R: Wait>(rt: &R, cache: &Cache<u64, u64>) -> bool {
-    if cache.insert(rt, 10, 1, start()).is_err() {
-        return false;
-    }
-    let _ = cache.get(rt, &10, start());
-    if cache.insert(rt, 20, 2, start()).is_err() {
-        return false;
-    }
-    cache.invalidate(rt, &10, start());
     true
 }
 
@@ -66,9 +56,9 @@ fn is_whole<R: Wait>(rt: &R, cache: &Cache<u64, u64>, keys: u64) -> bool {
     are_own && count == keys
 }
 
-/// Reads back 64 writes, and takes out every fourth of them.
+/// Reads back 64 writes and takes out every fourth of them, and writes a key of all threads before and takes that out behind.
 fn keep_three_of_four<R: Wait>(rt: &R, cache: &Cache<u64, u64>, first: u64) -> bool {
-    if !are_read_back(rt, cache, first) {
+    if cache.insert(rt, OF_ALL, 1, start()).is_err() || !are_read_back(rt, cache, first) {
         return false;
     }
     for key in first..first.saturating_add(64) {
@@ -76,28 +66,79 @@ fn keep_three_of_four<R: Wait>(rt: &R, cache: &Cache<u64, u64>, first: u64) -> b
             cache.invalidate(rt, &key, start());
         }
     }
+    cache.invalidate(rt, &OF_ALL, start());
     true
+}
+
+/// How many keys are removed by all threads.
+const REMOVED: u64 = 1000;
+
+/// The value of a key that its insert with this serial number brings: it names both.
+fn value_of(key: u64, serial: u64) -> u64 {
+    serial.wrapping_mul(10_000).wrapping_add(key)
+}
+
+/// Where the thread with the keys from this one on puts what it has removed at a key.
+fn carried_to(key: u64, first: u64) -> u64 {
+    first
+        .wrapping_mul(1000)
+        .wrapping_add(10_000)
+        .wrapping_add(key)
+}
+
+/// Removes each of the keys that is still there, and puts its value at a key of this thread alone.
+fn carry_all<R: Wait>(rt: &R, cache: &Cache<u64, u64>, first: u64) -> bool {
+    for key in 0..REMOVED {
+        let Ok(removed) = cache.remove(rt, &key, start()) else {
+            return false;
+        };
+        if let Some(value) = removed {
+            if cache
+                .insert(rt, carried_to(key, first), value, start())
+                .is_err()
+            {
+                return false;
+            }
+        }
+    }
+    true
+}
+
+/// How many of eight threads have the last value of a key, or nothing where one has another value or the key is still there.
+fn carriers<R: Wait>(rt: &R, cache: &Cache<u64, u64>, key: u64) -> Option<u64> {
+    if cache.contains_key(rt, &key, start()) {
+        return None;
+    }
+    let mut count = 0u64;
+    for number in 0..8u64 {
+        let place = carried_to(key, number.wrapping_mul(64));
+        if let Some(value) = cache.get(rt, &place, start()).ok()? {
+            if value != value_of(key, 2) {
+                return None;
+            }
+            count = count.saturating_add(1);
+        }
+    }
+    Some(count)
 }
 
 /// What one of several threads does with the cache that all share.
 #[derive(Clone, Copy)]
 enum Task {
-    ReadBack,
-    InsertTwo,
     InsertAll,
     Look,
     KeepThreeOfFour,
+    CarryAll,
 }
 
 impl Task {
     /// Does it, with the keys from this one on where each thread has keys of its own. The answer is whether all was as it should be.
     fn is_well_done<R: Wait>(self, rt: &R, cache: &Cache<u64, u64>, first: u64) -> bool {
         match self {
-            Task::ReadBack => are_read_back(rt, cache, first),
-            Task::InsertTwo => insert_two(rt, cache),
             Task::InsertAll => insert_all(rt, cache, 1024),
             Task::Look => is_whole(rt, cache, 1024),
             Task::KeepThreeOfFour => keep_three_of_four(rt, cache, first),
+            Task::CarryAll => carry_all(rt, cache, first),
         }
     }
 }
@@ -116,22 +157,6 @@ fn are_well_done<R: Wait + Threads + Copy + Send + 'static>(
         threads.push(Builder::new().spawn(&rt, move || task.is_well_done(&rt, &shared, first))?)?;
     }
     Ok(all_are_well(&rt, threads))
-}
-
-#[test]
-fn each_thread_reads_its_own_writes(rt: HostRuntime) -> Result<(), Fail> {
-    let cache: Cache<u64, u64> = Cache::builder(rt.alloc()).build()?;
-    assert!(rt; are_well_done(rt, rt.alloc(), &cache, &[Task::ReadBack; 4])?);
-    Ok(())
-}
-
-#[test]
-fn what_all_threads_invalidate_is_gone(rt: HostRuntime) -> Result<(), Fail> {
-    let cache: Cache<u64, u64> = Cache::new(rt.alloc(), 100)?;
-    assert!(rt; are_well_done(rt, rt.alloc(), &cache, &[Task::InsertTwo; 4])?);
-    assert!(rt; cache.get(&rt, &10, start()) == Ok(None));
-    assert!(rt; cache.get(&rt, &20, start()) == Ok(Some(2)));
-    Ok(())
 }
 
 /// Eight threads that insert, and eight that look.
@@ -162,8 +187,11 @@ fn a_snapshot_is_whole_while_threads_insert_the_same_pairs(rt: HostRuntime) -> R
     Ok(())
 }
 
-/// Whether the keys divisible by 4 are absent, and each other one has itself for its value.
+/// Whether the keys divisible by 4 are absent, among them that of all threads, and each other one has itself for its value.
 fn has_three_of_four<R: Wait>(rt: &R, cache: &Cache<u64, u64>) -> bool {
+    if cache.contains_key(rt, &OF_ALL, start()) {
+        return false;
+    }
     for key in 0..1024u64 {
         let expected = if key % 4 == 0 { None } else { Some(key) };
         if cache.get(rt, &key, start()) != Ok(expected) {
@@ -178,5 +206,31 @@ fn sixteen_threads_keep_three_keys_of_four(rt: HostRuntime) -> Result<(), Fail> 
     let cache: Cache<u64, u64> = Cache::new(rt.alloc(), 10_000)?;
     assert!(rt; are_well_done(rt, rt.alloc(), &cache, &[Task::KeepThreeOfFour; 16])?);
     assert!(rt; has_three_of_four(&rt, &cache));
+    cache.sync(&rt, start());
+    assert_eq!(rt; (cache.entry_count(), cache.weighted_size()), (768, 768));
+    Ok(())
+}
+
+/// Inserts each key twice, and asks eight threads to remove them all. Whether each last value is with exactly one of them then.
+fn are_removed_once<R: Wait + Threads + Copy + Send + 'static>(
+    rt: R,
+    alloc: Global,
+) -> Result<bool, Fail> {
+    let cache: Cache<u64, u64> = Cache::builder(alloc).build()?;
+    for serial in 1..3u64 {
+        for key in 0..REMOVED {
+            cache.insert(&rt, key, value_of(key, serial), start())?;
+        }
+    }
+    let mut is_well = are_well_done(rt, alloc, &cache, &[Task::CarryAll; 8])?;
+    for key in 0..REMOVED {
+        is_well &= carriers(&rt, &cache, key) == Some(1);
+    }
+    Ok(is_well)
+}
+
+#[test]
+fn each_value_is_removed_by_one_thread(rt: HostRuntime) -> Result<(), Fail> {
+    assert!(rt; are_removed_once(rt, rt.alloc())?);
     Ok(())
 }

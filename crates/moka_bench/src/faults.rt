@@ -1,2 +1,0 @@
-// Streams that fail, one call after another.
-mod streams;
