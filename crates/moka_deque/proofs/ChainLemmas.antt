@@ -9,9 +9,10 @@ use Rattle.slab.proofs.SlabLemmas.{Updates-with_value}
 use Rattle.slab.specs.Slab.{Slab, get, slab_len, Updates, with_value}
 use Rattle.moka_deque.specs.declared.chain.links.LinkTable.{LinkTable}
 use Rattle.moka_deque.specs.declared.chain.links.TheConstants.{NONE}
+use Rattle.moka_deque.specs.Chain.{inserted, moved_before}
 use Rattle.moka_deque.specs.Chained.{IsChained, IsThreaded, before_rest, capacity_of, items_of, walk}
 use Rattle.moka_deque.specs.Deque.{moved_to_back}
-use Rattle.moka_deque.specs.Links.{IsPlace, Lengthened, LinkedBack, Unlinked, links_at, next_at, prev_at}
+use Rattle.moka_deque.specs.Links.{IsPlace, Lengthened, LinkedBack, LinkedBefore, Unlinked, links_at, next_at, prev_at}
 use Rattle.moka_deque.specs.Nodes.{AreApart, follower, preceder}
 use Rattle.moka_deque.proofs.DequeLemmas.{AreApart-push, AreApart-remove, AreApart-set, absent-remove}
 use Rattle.moka_deque.proofs.DequeLemmas.{absent-set, absent_head, absent_tail, differs}
@@ -19,9 +20,10 @@ use Rattle.moka_deque.proofs.DequeLemmas.{found_cons, found_same, length-remove,
 use Rattle.moka_deque.proofs.DequeLemmas.{lookup-push, lookup-remove_other, lookup-remove_same}
 use Rattle.moka_deque.proofs.DequeLemmas.{lookup-same, lookup-set, nat_eq-same, ne_comm}
 use Rattle.moka_deque.proofs.IdLemmas.{moved-found}
-use Rattle.moka_deque.proofs.NodesLemmas.{follower-push, follower-remove, follower-set, follower_absent}
+use Rattle.moka_deque.proofs.InsertedLemmas.{AreApart-inserted, length-inserted, lookup-inserted, moved_before-inserted}
+use Rattle.moka_deque.proofs.NodesLemmas.{follower-inserted, follower-push, follower-remove, follower-set, follower_absent}
 use Rattle.moka_deque.proofs.NodesLemmas.{follower_behind, follower_place, last_place}
-use Rattle.moka_deque.proofs.NodesLemmas.{preceder-push, preceder-remove, preceder-set, preceder_absent, preceder_place}
+use Rattle.moka_deque.proofs.NodesLemmas.{preceder-inserted, preceder-push, preceder-remove, preceder-set, preceder_absent, preceder_place}
 
 module _ {T : Type 0} (element : ℕ → Option T) (following preceding : ℕ → ℕ) (es : List (ℕ × T))
     (h : IsThreaded element following preceding es) (element_new : ℕ → Option T) (id : ℕ) where
@@ -87,6 +89,33 @@ module _ {T : Type 0} (element : ℕ → Option T) (following preceding : ℕ �
             ∙ sym (preceder-push NONE NONE id q x es place h.end absent);
         apart = AreApart-push id x es h.apart absent;
         end = lookup-push NONE id x es absent ∙ cond-false (nat_eq id NONE) (Some x) (lookup (nat_eq NONE) es) place ∙ h.end;
+      }
+
+  -- a new node is right before another, once it is linked there
+  pub threaded-inserted : (x : T) (next : ℕ) → lookup (nat_eq id) es ≡ None → nat_eq id NONE ≡ false → IsSome (lookup (nat_eq next) es)
+      → element_new id ≡ Some x → ((q : ℕ) → nat_eq id q ≡ false → element_new q ≡ element q) → (ahead behind : ℕ → ℕ)
+      → ((q : ℕ) → ahead q ≡ cond (nat_eq (preceding next) q) id (cond (nat_eq id q) next (following q)))
+      → ((q : ℕ) → behind q ≡ cond (nat_eq next q) id (cond (nat_eq id q) (preceding next) (preceding q)))
+      → IsThreaded element_new ahead behind (inserted next (id, x) es)
+  threaded-inserted x next absent place found here kept ahead behind forward back =
+      record {
+        elements = λ q. elim (cases_Bool (nat_eq id q)) [
+          | inl same ↦
+              ap element_new (sym (eqb-true id q same)) ∙ here ∙ sym (cond-true (nat_eq id q) (Some x) (lookup (nat_eq q) es) same)
+              ∙ sym (lookup-inserted q next id x es absent)
+          | inr other ↦
+              kept q other ∙ h.elements q ∙ sym (cond-false (nat_eq id q) (Some x) (lookup (nat_eq q) es) other)
+              ∙ sym (lookup-inserted q next id x es absent)
+        ];
+        next = λ q.
+            forward q ∙ (λ i. cond (nat_eq (h.prev next i) q) id (cond (nat_eq id q) next (h.next q i)))
+            ∙ sym (follower-inserted NONE NONE id next q x es (ne_comm id NONE place) h.end h.apart absent found);
+        prev = λ q.
+            back q ∙ (λ i. cond (nat_eq next q) id (cond (nat_eq id q) (h.prev next i) (h.prev q i)))
+            ∙ sym (preceder-inserted NONE NONE id next q x es absent found);
+        apart = AreApart-inserted next id x es h.apart absent;
+        end = lookup-inserted NONE next id x es absent
+            ∙ cond-false (nat_eq id NONE) (Some x) (lookup (nat_eq NONE) es) place ∙ h.end;
       }
 
   -- a node has another element
@@ -233,7 +262,17 @@ without_node slots links mid es id x h at out =
     (cond-true (nat_eq id id) None (get slots id) (nat_eq-same id)) (λ q other. cond-false (nat_eq id q) None (get slots q) other)
     (next_at mid) (prev_at mid) out.next out.prev
 
--- the last node is a place still, once another is taken out
+-- once a node is taken out, the places of the rest have links still
+mid_place : {T A : Type 0} (slots : Slab T) (links mid : LinkTable A) (es : List (ℕ × T)) (id : ℕ) → IsChained slots links es
+    → length mid.links.items ≡ length links.links.items → (q : ℕ)
+    → IsSome (lookup (nat_eq q) (remove_entry (nat_eq id) es)) ⊎ (NONE ≡ q) → IsPlace mid q
+mid_place slots links mid es id h mid_len q (inr end) = inr end
+mid_place slots links mid es id h mid_len q (inl found) =
+    let other : nat_eq id q ≡ false = differs id q (remove_entry (nat_eq id) es) (lookup-remove_same id es h.threaded.apart) found in
+    let stands : IsSome (get slots q) = ap is_some (h.threaded.elements q ∙ sym (lookup-remove_other id q es other)) ∙ found in
+    inl (subst (λ n. q < n) (sym mid_len) (h.linked q stands))
+
+-- so has the last node
 mid_tail : {T A : Type 0} (slots : Slab T) (links mid : LinkTable A) (es : List (ℕ × T)) (id : ℕ) (x : T) → IsChained slots links es
     → lookup (nat_eq id) es ≡ Some x → Unlinked links mid id → length mid.links.items ≡ length links.links.items → IsPlace mid mid.last
 mid_tail slots links mid es id x h at out mid_len =
@@ -241,18 +280,16 @@ mid_tail slots links mid es id x h at out mid_len =
     let apart = without_node slots links mid es id x h at out in
     let last : mid.last ≡ preceder NONE NONE rest NONE =
     sym (cond-true (nat_eq NONE NONE) mid.last (links_at mid.links.items NONE).prev (nat_eq-same NONE)) ∙ apart.prev NONE in
-    rw last (place (last_place NONE NONE rest))
-  where
-    place : IsSome (lookup (nat_eq (preceder NONE NONE (remove_entry (nat_eq id) es) NONE)) (remove_entry (nat_eq id) es))
-        ⊎ (NONE ≡ preceder NONE NONE (remove_entry (nat_eq id) es) NONE)
-        → IsPlace mid (preceder NONE NONE (remove_entry (nat_eq id) es) NONE)
-    place (inr end) = inr end
-    place (inl found) =
-        let q = preceder NONE NONE (remove_entry (nat_eq id) es) NONE in
-        let other : nat_eq id q ≡ false = differs id q (remove_entry (nat_eq id) es) (lookup-remove_same id es h.threaded.apart) found in
-        let stands : IsSome (get slots q) =
-        ap is_some (h.threaded.elements q ∙ sym (lookup-remove_other id q es other)) ∙ found in
-        inl (subst (λ n. q < n) (sym mid_len) (h.linked q stands))
+    rw last (mid_place slots links mid es id h mid_len (preceder NONE NONE rest NONE) (last_place NONE NONE rest))
+
+-- and the one before another
+mid_before : {T A : Type 0} (slots : Slab T) (links mid : LinkTable A) (es : List (ℕ × T)) (id next : ℕ) (x : T) → IsChained slots links es
+    → lookup (nat_eq id) es ≡ Some x → IsSome (lookup (nat_eq next) (remove_entry (nat_eq id) es)) → Unlinked links mid id
+    → length mid.links.items ≡ length links.links.items → IsPlace mid (prev_at mid next)
+mid_before slots links mid es id next x h at found out mid_len =
+    let rest = remove_entry (nat_eq id) es in
+    let apart = without_node slots links mid es id x h at out in
+    rw (apart.prev next) (mid_place slots links mid es id h mid_len (preceder NONE NONE rest next) (preceder_place NONE NONE rest next found))
 
 -- a node of the list is at the back
 pub chained-moved : {T A : Type 0} (slots : Slab T) (links mid links_new : LinkTable A) (es : List (ℕ × T)) (id : ℕ) (x : T)
@@ -291,6 +328,46 @@ chained-found slots links mid links_new es id h found out mid_len back new_len =
         let step = out (prev_place slots links es h id found) (next_place slots links es h id) in
         chained-moved slots links mid links_new es id x h at step mid_len (back (mid_tail slots links mid es id x h at step mid_len))
         new_len
+
+-- a node of the list is right before another
+pub chained-moved_before : {T A : Type 0} (slots : Slab T) (links mid links_new : LinkTable A) (es : List (ℕ × T)) (id next : ℕ) (x : T)
+    → IsChained slots links es → lookup (nat_eq id) es ≡ Some x → IsSome (lookup (nat_eq next) (remove_entry (nat_eq id) es))
+    → Unlinked links mid id → length mid.links.items ≡ length links.links.items
+    → LinkedBefore mid links_new id next → length links_new.links.items ≡ length mid.links.items
+    → IsChained slots links_new (moved_before id next es)
+chained-moved_before slots links mid links_new es id next x h at next_found out mid_len before new_len =
+    let rest = remove_entry (nat_eq id) es in
+    let found : IsSome (lookup (nat_eq id) es) = ap is_some at in
+    let apart = without_node slots links mid es id x h at out in
+    let whole =
+    threaded-inserted (without slots id) (next_at mid) (prev_at mid) rest apart (get slots) id x next
+    (lookup-remove_same id es h.threaded.apart) (ne_comm NONE id (differs NONE id es h.threaded.end found)) next_found
+    (h.threaded.elements id ∙ at) (λ q other. sym (cond-false (nat_eq id q) None (get slots q) other)) (next_at links_new)
+    (prev_at links_new) before.next before.prev in
+    subst (IsChained slots links_new) (sym (moved_before-inserted id next x es at)) (record {
+      threaded = whole;
+      linked = λ q stands. subst (λ n. q < n) (sym (new_len ∙ mid_len)) (h.linked q stands);
+      numbered = subst (λ n. n ≤ NONE) (sym (new_len ∙ mid_len)) h.numbered;
+      len = h.len ∙ omega (arith, length-remove id es found, length-inserted next (id, x) rest);
+      fits = h.fits;
+    })
+
+-- the same by what each of the two changes asks for
+pub chained-found_before : {T A : Type 0} (slots : Slab T) (links mid links_new : LinkTable A) (es : List (ℕ × T)) (id next : ℕ)
+    → IsChained slots links es → IsSome (lookup (nat_eq id) es) → IsSome (lookup (nat_eq next) es) → nat_eq id next ≡ false
+    → (IsPlace links (prev_at links id) → IsPlace links (next_at links id) → Unlinked links mid id)
+    → length mid.links.items ≡ length links.links.items → (IsPlace mid (prev_at mid next) → LinkedBefore mid links_new id next)
+    → length links_new.links.items ≡ length mid.links.items → IsChained slots links_new (moved_before id next es)
+chained-found_before slots links mid links_new es id next h found next_found other out mid_len before new_len =
+    by (lookup (nat_eq id) es) refl found
+  where
+    by : (o : Option _) → lookup (nat_eq id) es ≡ o → is_some o ≡ true → IsChained slots links_new (moved_before id next es)
+    by None at some = absurd (false≢true some)
+    by (Some x) at some =
+        let step = out (prev_place slots links es h id found) (next_place slots links es h id) in
+        let stays : IsSome (lookup (nat_eq next) (remove_entry (nat_eq id) es)) = ap is_some (lookup-remove_other id next es other) ∙ next_found in
+        chained-moved_before slots links mid links_new es id next x h at stays step mid_len
+        (before (mid_before slots links mid es id next x h at stays step mid_len)) new_len
 
 -- a node of the list has another element
 pub chained-set : {T A : Type 0} (slots : Slab T) (links : LinkTable A) (es : List (ℕ × T)) (id : ℕ) (w : T) → IsChained slots links es
@@ -434,3 +511,14 @@ pub shows-moved : {T A : Type 0} {slots : Slab T} {links mid links_new : LinkTab
 shows-moved {slots = slots} {links = links} {mid = mid} {links_new = links_new} id h found out mid_len back new_len =
     shows slots links_new (moved_to_back id (items_of slots links))
     (chained-found slots links mid links_new (items_of slots links) id h found out mid_len back new_len)
+
+-- a node of the chain was moved to right before another
+pub shows-moved_before : {T A : Type 0} {slots : Slab T} {links mid links_new : LinkTable A} (id next : ℕ)
+    → IsChained slots links (items_of slots links)
+    → IsSome (lookup (nat_eq id) (items_of slots links)) → IsSome (lookup (nat_eq next) (items_of slots links)) → nat_eq id next ≡ false
+    → (IsPlace links (prev_at links id) → IsPlace links (next_at links id) → Unlinked links mid id)
+    → length mid.links.items ≡ length links.links.items → (IsPlace mid (prev_at mid next) → LinkedBefore mid links_new id next)
+    → length links_new.links.items ≡ length mid.links.items → Shows slots links_new (moved_before id next (items_of slots links))
+shows-moved_before {slots = slots} {links = links} {mid = mid} {links_new = links_new} id next h found next_found other out mid_len before new_len =
+    shows slots links_new (moved_before id next (items_of slots links))
+    (chained-found_before slots links mid links_new (items_of slots links) id next h found next_found other out mid_len before new_len)

@@ -4,6 +4,7 @@ pub mod ChainLemmas
 pub mod IdLemmas
 pub mod WalkLemmas
 pub mod CutLemmas
+pub mod InsertedLemmas
 pub mod EndLemmas
 pub mod SlotLemmas
 pub mod RawApart

@@ -5,11 +5,19 @@ use Rattle.std.proofs.Common.{Some, None, is_some, IsSome}
 use Rattle.std.proofs.Common.{refl, sym, ap, ◌∙◌, inl, inr}
 use Rattle.std.proofs.lemmas.Bool.{cases_Bool, cond_both, cond-true, cond-false, eqb-true, false≢true}
 use Rattle.std.specs.Map.{lookup, remove_entry, set_value}
+use Rattle.moka_deque.specs.Chain.{inserted}
 use Rattle.moka_deque.specs.Deque.{first_id, next_id}
 use Rattle.moka_deque.specs.Nodes.{AreApart, follower, preceder}
 use Rattle.moka_deque.proofs.DequeLemmas.{nat_eq-same, nat_eq_comm, ne_comm, cond_swap, not_both, absent_head, absent_tail}
 use Rattle.moka_deque.proofs.DequeLemmas.{remove-same, remove-other, found_cons, found_same, found_tail}
 use Rattle.moka_deque.proofs.DequeLemmas.{set-same, set-other}
+use Rattle.moka_deque.proofs.InsertedLemmas.{inserted-same, inserted-other}
+
+-- behind a test that failed, the same test fails
+where_fails : (a b : Bool) (y z v w : ℕ) → cond a y (cond b z w) ≡ cond a y (cond b z (cond a v w))
+where_fails true b y z v w = refl
+where_fails false true y z v w = refl
+where_fails false false y z v w = refl
 
 module _ {T : Type 0} (none : ℕ) where
   -- what precedes a node is before the list or in it
@@ -273,6 +281,63 @@ module _ {T : Type 0} (none : ℕ) where
       (cond_swap (nat_eq q e.0) (nat_eq id q) p l (preceder none e.0 es q)
       (λ a b. not_both id e.0 q (absent_head id e es new) b (nat_eq_comm e.0 q ∙ a)))
       )
+
+  -- the links forward once a node is put before another
+  pub follower-inserted : (p id next q : ℕ) (x : T) (es : List (ℕ × T)) → nat_eq p id ≡ false → lookup (nat_eq p) es ≡ None → AreApart es
+      → lookup (nat_eq id) es ≡ None → IsSome (lookup (nat_eq next) es)
+      → follower none p (inserted next (id, x) es) q ≡ cond (nat_eq (preceder none p es next) q) id
+      (cond (nat_eq id q) next (follower none p es q))
+  follower-inserted p id next q x [] ne absent apart new found = absurd (false≢true found)
+  follower-inserted p id next q x (e ∷ es) ne absent apart new found =
+      elim (cases_Bool (nat_eq next e.0)) [
+        | inl same ↦
+            let before : preceder none p (e ∷ es) next ≡ p = cond-true (nat_eq next e.0) p (preceder none e.0 es next) same in
+            rw (inserted-same next (id, x) e es same, before) (
+            ap (λ n. cond (nat_eq p q) id (cond (nat_eq id q) n (follower none e.0 es q))) (sym (eqb-true next e.0 same))
+            ∙ where_fails (nat_eq p q) (nat_eq id q) id next e.0 (follower none e.0 es q)
+            )
+        | inr other ↦
+            let before : preceder none p (e ∷ es) next ≡ preceder none e.0 es next = preceder_behind p e es next other in
+            let l = preceder none e.0 es next in
+            let later : IsSome (lookup (nat_eq next) es) = found_tail next e es other found in
+            let unlike : nat_eq p l ≡ false = preceder_apart e.0 p es next (absent_head p e es absent) (absent_tail p e es absent) later in
+            let rest =
+            follower-inserted e.0 id next q x es (ne_comm id e.0 (absent_head id e es new)) apart.0 apart.1 (absent_tail id e es new) later in
+            rw (inserted-other next (id, x) e es other, before) (
+            ap (cond (nat_eq p q) e.0) rest
+            ∙ cond_swap (nat_eq p q) (nat_eq l q) e.0 id (cond (nat_eq id q) next (follower none e.0 es q)) (λ a b. not_both p l q unlike a b)
+            ∙ ap (cond (nat_eq l q) id) (cond_swap (nat_eq p q) (nat_eq id q) e.0 next (follower none e.0 es q) (λ a b. not_both p id q ne a b))
+            )
+      ]
+
+  -- the links back
+  pub preceder-inserted : (p id next q : ℕ) (x : T) (es : List (ℕ × T)) → lookup (nat_eq id) es ≡ None → IsSome (lookup (nat_eq next) es)
+      → preceder none p (inserted next (id, x) es) q ≡ cond (nat_eq next q) id
+      (cond (nat_eq id q) (preceder none p es next) (preceder none p es q))
+  preceder-inserted p id next q x [] new found = absurd (false≢true found)
+  preceder-inserted p id next q x (e ∷ es) new found =
+      elim (cases_Bool (nat_eq next e.0)) [
+        | inl same ↦
+            let before : preceder none p (e ∷ es) next ≡ p = cond-true (nat_eq next e.0) p (preceder none e.0 es next) same in
+            let at : nat_eq q e.0 ≡ nat_eq next q = ap (nat_eq q) (sym (eqb-true next e.0 same)) ∙ nat_eq_comm q next in
+            let apart : nat_eq id next ≡ false = ap (nat_eq id) (eqb-true next e.0 same) ∙ absent_head id e es new in
+            rw (inserted-same next (id, x) e es same, before, at, nat_eq_comm q id) (
+            cond_swap (nat_eq id q) (nat_eq next q) p id (preceder none e.0 es q) (λ a b. not_both id next q apart a b)
+            ∙ where_fails (nat_eq next q) (nat_eq id q) id p p (preceder none e.0 es q)
+            )
+        | inr other ↦
+            let before : preceder none p (e ∷ es) next ≡ preceder none e.0 es next = preceder_behind p e es next other in
+            let l = preceder none e.0 es next in
+            let rest = preceder-inserted e.0 id next q x es (absent_tail id e es new) (found_tail next e es other found) in
+            rw (inserted-other next (id, x) e es other, before) (
+            ap (cond (nat_eq q e.0) p) rest
+            ∙ cond_swap (nat_eq q e.0) (nat_eq next q) p id (cond (nat_eq id q) l (preceder none e.0 es q))
+            (λ a b. not_both next e.0 q other b (nat_eq_comm e.0 q ∙ a))
+            ∙ ap (cond (nat_eq next q) id)
+            (cond_swap (nat_eq q e.0) (nat_eq id q) p l (preceder none e.0 es q)
+            (λ a b. not_both id e.0 q (absent_head id e es new) b (nat_eq_comm e.0 q ∙ a)))
+            )
+      ]
 
 module _ {T : Type 0} (none : ℕ) where
   -- nothing follows a node that is neither before the list nor in it

@@ -52,3 +52,8 @@ module _ {A : Type 0} where
   pub record LinkedBack (old new : LinkTable A) (id : ℕ) : Type 0 where
     pub next : (q : ℕ) → next_at new q ≡ (if nat_eq old.last q then id else if nat_eq id q then NONE else next_at old q)
     pub prev : (q : ℕ) → prev_at new q ≡ (if nat_eq NONE q then id else if nat_eq id q then old.last else prev_at old q)
+
+  -- the node is right before another, where the one was that preceded it
+  pub record LinkedBefore (old new : LinkTable A) (id behind : ℕ) : Type 0 where
+    pub next : (q : ℕ) → next_at new q ≡ (if nat_eq (prev_at old behind) q then id else if nat_eq id q then behind else next_at old q)
+    pub prev : (q : ℕ) → prev_at new q ≡ (if nat_eq behind q then id else if nat_eq id q then prev_at old behind else prev_at old q)

@@ -3,7 +3,7 @@
 // `NONE` stands for the place before the first node and behind the last, so that the ends need no cases: its next node is the first, and its previous
 // one the last. A node that is not in the chain has no neighbours.
 ghost use Rattle.std.specs.Prelude.{◌≡◌, ℕ, ◌<◌, ◌≤◌, if◌then◌else◌, length, OnOk};
-ghost use Rattle.moka_deque.specs.Links.{IsNumbered, IsPlace, Lengthened, LinkedBack, RelinksAt, Unlinked, next_at, prev_at};
+ghost use Rattle.moka_deque.specs.Links.{IsNumbered, IsPlace, Lengthened, LinkedBack, LinkedBefore, RelinksAt, Unlinked, next_at, prev_at};
 
 use std::alloc::{AllocError, Allocator, Global};
 
@@ -109,6 +109,23 @@ impl<A: Allocator> LinkTable<A> {
         };
         self.set_next(last, id as u32);
         self.last = id as u32;
+    }
+
+    /// Puts a node, which has no neighbours, right before another one.
+    pub(crate) fn link_before(&mut self, id: usize, behind: usize)
+        requires numbered { IsNumbered self.old }
+        requires here { id < length self.old.links.items }
+        requires behind_here { behind < length self.old.links.items }
+        ensures step { IsPlace self.old (prev_at self.old behind) → LinkedBefore self.old self.new id behind }
+        ensures len { length self.new.links.items ≡ length self.old.links.items }
+    {
+        let prev = self.links[behind].prev;
+        self.links[id] = Links {
+            next: behind as u32,
+            prev,
+        };
+        self.set_next(prev, id as u32);
+        self.links[behind].prev = id as u32;
     }
 
     /// Writes which node is behind this one.
