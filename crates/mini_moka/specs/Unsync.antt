@@ -4,6 +4,7 @@ pub use Rattle.moka_unsync.specs.CacheState
 pub use Rattle.moka_unsync.specs.Builder
 pub use Rattle.moka_unsync.specs.Upkeep
 pub use Rattle.moka_unsync.specs.Lookup
+pub use Rattle.moka_unsync.specs.Window
 pub use Rattle.moka_unsync.specs.Insert
 pub use Rattle.moka_unsync.specs.Invalidate
 pub use Rattle.moka_unsync.specs.Iterate

@@ -1,12 +1,13 @@
 -- Lemmas on why an entry leaves with a call.
 use Rattle.std.proofs.Common.{◌≡◌, ◌⊎◌, ◌<◌, ◌≤◌, ◌+◌, ◌-◌, ◌||◌, ℕ, zero, suc, Bool}
-use Rattle.std.proofs.Common.{true, false, cond, not, List, [], ◌∷◌, ◌++◌, map, sum_by}
+use Rattle.std.proofs.Common.{true, false, cond, not, List, [], ◌∷◌, ◌++◌, All, filter, map, sum_by}
 use Rattle.std.proofs.Common.{take, take_while, nat_le, nat_lt, Option, Some, None, option_map, refl, sym, ap, ◌∙◌, subst, inl, inr, arith}
 use Rattle.std.proofs.lemmas.Bool.{cases_Bool, cases_lt, cond-true, cond-false, false≢true, leb-false, ltb-true, or_left, or_right}
-use Rattle.std.proofs.lemmas.List.Sums.{sum_by-cons, take_while-cons}
+use Rattle.std.proofs.lemmas.List.Sums.{sum_by-append, sum_by-cons}
 use Rattle.std.proofs.Math.Seq.{take-nil}
 use Rattle.std.specs.Cmp.{IsEquivalence}
-use Rattle.std.specs.List.{list_any}
+use Rattle.std.specs.List.{AllByRecursion, list_any}
+use Rattle.std.proofs.lemmas.List.Elements.{filter-append, recursion_from_All}
 use Rattle.moka_base.specs.Admission.{outvoted}
 use Rattle.moka_base.specs.Keys.{Keys}
 use Rattle.moka_base.specs.Moment.{live_expired}
@@ -14,60 +15,45 @@ use Rattle.moka_base.specs.Policy.{Policy}
 use Rattle.moka_base.specs.Prefix.{shortest_prefix}
 use Rattle.moka_sketch.specs.Sketch.{Table, estimate}
 use Rattle.moka_machine.specs.declared.entry.Entry.{Entry}
-use Rattle.moka_machine.specs.declared.constants.TheConstants.{EVICTION_BATCH_SIZE}
-use Rattle.moka_machine.specs.Contents.{Contents, Write, after_leaving, entry_at, entries_without, entry_keys, total_weight, without}
+use Rattle.moka_machine.specs.declared.constants.TheConstants.{EVICTION_BATCH_SIZE, WINDOW_SHARE}
+use Rattle.moka_machine.specs.Contents.{Contents, Write, after_leaving, entry_at, entries_without, entry_keys, main_of, total_weight, window_of, without}
 use Rattle.moka_machine.specs.CacheState.{CacheState}
-use Rattle.moka_base.specs.Settings.{live_nanos}
-use Rattle.moka_machine.specs.Upkeep.{after_expiry, after_live_expiry, after_trim, after_upkeep, has_lived, is_idle, least_recent}
+use Rattle.moka_base.specs.Settings.{keeps_writes, live_nanos}
+use Rattle.moka_machine.specs.Upkeep.{after_expiry, after_idle, after_live_expiry, after_trim, after_upkeep, has_lived, is_idle, least_recent}
 use Rattle.moka_machine.specs.Lookup.{after_use, after_look, unexpired_at}
 use Rattle.moka_machine.specs.Upkeep.{is_expired}
-use Rattle.moka_machine.specs.Insert.{after_put, after_verdict, new_entry, victims_of}
+use Rattle.moka_machine.specs.Insert.{after_entering, after_entry, after_new, after_put, after_verdict, new_entry}
+use Rattle.moka_machine.specs.Window.{after_candidacy, after_candidates, candidates, excess, main_limit, victims_of, windowed_limit}
 use Rattle.moka_machine.specs.Invalidate.{chosen}
 use Rattle.moka_machine.specs.Step.{Answer, IsStep, Request, Get, ContainsKey, Insert, Invalidate, Remove}
 use Rattle.moka_machine.specs.Step.{InvalidateAll, InvalidateEntriesIf, Iterate, EntryCount, WeightedSize}
-use Rattle.moka_history.specs.Removal.{RemovalCause, Invalidated, Expired, AboveLimit, GaveWay, entries_from, upkeep_moment}
-use Rattle.moka_history.proofs.HistoryLemmas.{any-key, entry_at-leaving, one_of, something}
-use Rattle.moka_machine.proofs.ContentsLemmas.{found_key}
-use Rattle.moka_laws.proofs.LimitLemmas.{prefix_parts, total-cons, total-filter, total-upkeep}
-use Rattle.moka_laws.proofs.MapLemmas.{entry_at-equal, entry_at-other, entry_at-push, entry_at-put}
+use Rattle.moka_history.specs.Removal.{RemovalCause, Invalidated, Expired, AboveLimit, Displaced, Rejected, entries_from, upkeep_moment}
+use Rattle.moka_history.proofs.HistoryLemmas.{IsSame, any-key, entry_at-leaving, one_of, same-both, same-moved, same-self, something}
+use Rattle.moka_machine.proofs.ContentsLemmas.{found_key, idle_keys}
+use Rattle.moka_machine.proofs.WindowLemmas.{total-split}
+use Rattle.moka_laws.proofs.CandidateLemmas.{All-front, least_parts, prefix_parts, victims_weigh}
+use Rattle.moka_laws.proofs.KeyLemmas.{StandOnce, contents-standing, once-candidacy, once-candidates, once-push, once-remains}
+use Rattle.moka_laws.proofs.LimitLemmas.{filter-swap, is_unlisted, main-leaving, main-moved, total-cons, total-filter, total-upkeep}
+use Rattle.moka_laws.proofs.RemainLemmas.{remains-leaving, remains-upkeep}
+use Rattle.moka_laws.proofs.StandLemmas.{AreCandidates, StandsIn, are-chosen, are-left, main-stands, once-front, window-stands}
+use Rattle.moka_laws.proofs.MapLemmas.{entry_at-equal, entry_at-moved, entry_at-other, entry_at-push}
 use Rattle.moka_history.proofs.TiedLemmas.{all-taken, all-take, one-passes, prefix-cons, IsTied, AllTied, absent-left}
 
 -- ---- why upkeep removes an entry
 
 module _ {K V : Type 0} (eq : K → K → Bool) (laws : IsEquivalence eq) where
-  -- a front that passes, and the entry is in it
-  front-passes : (test : Entry K V → Bool) (most : ℕ) (entries : List (Entry K V)) (key : K) (e : Entry K V)
+  -- where one of these entries, which stand at their keys, leaves as idle, the entry at its key was idle too long
+  front-passes : (test : Entry K V → Bool) (most : ℕ) (contents : Contents K V) (window : Bool) (entries : List (Entry K V)) (key : K)
+      (e : Entry K V) → All (StandsIn eq laws contents.entries window) entries
       → list_any (λ (f : Entry K V). eq f.key key) (take most (take_while test entries)) ≡ true
-      → entry_at eq key entries ≡ Some e → test e ≡ true
-  front-passes test most [] key e any found = something {o = None} refl found
-  front-passes test most (x ∷ xs) key e any found =
-      elim (cases_Bool (test x)) [
-        | inl passes ↦
-            by (λ m. front-passes test m xs key e) most passes
-            (sym (ap (λ l. list_any (λ (f : Entry K V). eq f.key key) (take most l))
-            (take_while-cons test x xs ∙ cond-true (test x) (x ∷ take_while test xs) [] passes)) ∙ any)
-        | inr fails ↦
-            none most (sym (ap (λ l. list_any (λ (f : Entry K V). eq f.key key) (take most l))
-            (take_while-cons test x xs ∙ cond-false (test x) (x ∷ take_while test xs) [] fails)) ∙ any)
-      ]
-    where
-      none : (most : ℕ) → list_any (λ (f : Entry K V). eq f.key key) (take most []) ≡ true → test e ≡ true
-      none zero any = absurd (false≢true any)
-      none (suc most) any = absurd (false≢true any)
-
-      by : ((m : ℕ) → list_any (λ (f : Entry K V). eq f.key key)
-          (take m (take_while test xs)) ≡ true → entry_at eq key xs ≡ Some e → test e ≡ true)
-          → (most : ℕ) → test x ≡ true → list_any (λ (f : Entry K V). eq f.key key) (take most (x ∷ take_while test xs)) ≡ true
-          → test e ≡ true
-      by rest zero passes any = absurd (false≢true any)
-      by rest (suc most) passes any =
-          elim (cases_Bool (eq key x.key)) [
-            | inl equal ↦ subst (λ f. test f ≡ true) (one_of (cond-true (eq key x.key) (Some x) (entry_at eq key xs) equal) found) passes
-            | inr differ ↦
-                rest most (sym (ap (λ b. b || list_any (λ (f : Entry K V). eq f.key key) (take most (take_while test xs)))
-                (laws.symm x.key key ∙ differ)) ∙ any)
-                (sym (cond-false (eq key x.key) (Some x) (entry_at eq key xs) differ) ∙ found)
-          ]
+      → entry_at eq key contents.entries ≡ Some e → test e ≡ true
+  front-passes test most contents window entries key e stand any found =
+      let S : Entry K V → Type 0 = StandsIn eq laws contents.entries window in
+      let P : Entry K V → Type 0 = λ f. S f × (test f ≡ true) in
+      let (f, (stands, passes), equal) =
+      one-passes P (λ f. eq f.key key) (take most (take_while test entries))
+      (all-take P most (take_while test entries) (all-taken S test entries (recursion_from_All S entries stand))) any in
+      subst (λ x. test x ≡ true) (one_of stands.0 (entry_at-equal laws f.key key equal contents.entries ∙ found)) passes
 
   -- where the entry at a key leaves with others, it is among them
   among : {X : Type 0} (key_of : X → K) (gone : List X) (contents : Contents K V) (key : K)
@@ -201,35 +187,47 @@ module _ {K V : Type 0} (eq : K → K → Bool) (laws : IsEquivalence eq) where
 
   -- upkeep removes an entry since it is expired, or since the entries weigh more than the limit
   upkeep-cause : (policy : Policy) (now : ℕ) (contents : Contents K V) (key : K) (e : Entry K V) → AllTied eq contents
-      → entry_at eq key contents.entries ≡ Some e
+      → StandOnce eq contents.entries → entry_at eq key contents.entries ≡ Some e
       → (entry_at eq key (after_upkeep eq policy now contents).entries ≡ Some e)
       ⊎ ((is_expired policy now e ≡ true) ⊎
       ((l : ℕ) × (policy.max_capacity ≡ Some l) × (l < total_weight (entries_from eq key contents.entries))))
-  upkeep-cause policy now contents key e tied found =
+  upkeep-cause policy now contents key e tied once found =
       let most = EVICTION_BATCH_SIZE in
+      let lived_keys = map (λ w. w.key) (take most (take_while (has_lived policy now) contents.written)) in
       let lived = after_live_expiry eq policy now most contents in
+      let apart = once-remains eq contents lived (remains-leaving eq lived_keys contents) once in
+      let waited = after_idle eq policy now most (window_of lived.entries) lived in
       let expired = after_expiry eq policy now contents in
       elim (among (λ w. w.key) (take most (take_while (has_lived policy now) contents.written)) contents key) [
         | inl any ↦
             inr (inl (or_left (live_expired (live_nanos policy) e.modified now) (is_idle policy now e)
             (lived-too-long policy now most contents key e tied found any)))
         | inr stays ↦
-            elim (among (λ e. e.key) (take most (take_while (is_idle policy now) lived.entries)) lived key) [
+            elim (among (λ e. e.key) (take most (take_while (is_idle policy now) (window_of lived.entries))) lived key) [
               | inl any ↦
                   inr (inl (or_right (live_expired (live_nanos policy) e.modified now) (is_idle policy now e)
-                  (front-passes (is_idle policy now) most lived.entries key e any (stays ∙ found))))
-              | inr used ↦
-                  elim (trim-cause policy.max_capacity expired key e (used ∙ (stays ∙ found))) [
-                    | inl stands ↦ inl stands
-                    | inr (l, is, above) ↦
-                        let less : total_weight (entries_from eq key expired.entries) ≤ total_weight
-                        (entries_from eq key contents.entries) =
-                        grind (
-                          arith,
-                          from-leaving (map (λ w. w.key) (take most (take_while (has_lived policy now) contents.written))) contents key,
-                          from-leaving (entry_keys (take most (take_while (is_idle policy now) lived.entries))) lived key,
-                        ) in
-                        inr (inr (l, is, grind (arith, above, less)))
+                  (front-passes (is_idle policy now) most lived true (window_of lived.entries) key e (window-stands eq laws lived.entries apart)
+                  any (stays ∙ found))))
+              | inr waits ↦
+                  elim (among (λ e. e.key) (take most (take_while (is_idle policy now) (main_of lived.entries))) waited key) [
+                    | inl any ↦
+                        inr (inl (or_right (live_expired (live_nanos policy) e.modified now) (is_idle policy now e)
+                        (front-passes (is_idle policy now) most lived false (main_of lived.entries) key e (main-stands eq laws lived.entries apart)
+                        any (stays ∙ found))))
+                    | inr used ↦
+                        elim (trim-cause policy.max_capacity expired key e (used ∙ (waits ∙ (stays ∙ found)))) [
+                          | inl stands ↦ inl stands
+                          | inr (l, is, above) ↦
+                              let less : total_weight (entries_from eq key expired.entries) ≤ total_weight
+                              (entries_from eq key contents.entries) =
+                              grind (
+                                arith,
+                                from-leaving lived_keys contents key,
+                                from-leaving (idle_keys policy now (window_of lived.entries)) lived key,
+                                from-leaving (idle_keys policy now (main_of lived.entries)) waited key,
+                              ) in
+                              inr (inr (l, is, grind (arith, above, less)))
+                        ]
                   ]
             ]
       ]
@@ -255,17 +253,17 @@ module _ {K V : Type 0} (eq : K → K → Bool) (laws : IsEquivalence eq) where
       ]
 
   -- a new entry is used more than one that gives way to it, and there is no room for all
-  gave-way : (limit : Option ℕ) (sketch : Option Table) (new : Entry K V) (contents : Contents K V) (gone : List (Entry K V))
-      → victims_of limit sketch new contents ≡ Some gone
-      → (key : K) (e : Entry K V) → list_any (λ (f : Entry K V). eq f.key key) gone ≡ true → entry_at eq key contents.entries ≡ Some e
-      → (l : ℕ) × (limit ≡ Some l) × (l < total_weight contents.entries + new.weight) × (estimate sketch e.hash < estimate sketch new.hash)
-  gave-way None sketch new contents gone is key e any found =
+  displaced : (limit : Option ℕ) (sketch : Option Table) (new : Entry K V) (entries : List (Entry K V)) (gone : List (Entry K V))
+      → victims_of limit sketch new entries ≡ Some gone
+      → (key : K) (e : Entry K V) → list_any (λ (f : Entry K V). eq f.key key) gone ≡ true → entry_at eq key entries ≡ Some e
+      → (l : ℕ) × (limit ≡ Some l) × (l < total_weight entries + new.weight) × (estimate sketch e.hash < estimate sketch new.hash)
+  displaced None sketch new entries gone is key e any found =
       absurd (false≢true (ap (list_any (λ (f : Entry K V). eq f.key key)) (one_of refl is) ∙ any))
-  gave-way (Some limit) sketch new contents gone is key e any found =
-      by (nat_le (total_weight contents.entries + new.weight) limit) (nat_le new.weight limit)
-      (leb-false (total_weight contents.entries + new.weight) limit) is
+  displaced (Some limit) sketch new entries gone is key e any found =
+      by (nat_le (total_weight entries + new.weight) limit) (nat_le new.weight limit)
+      (leb-false (total_weight entries + new.weight) limit) is
     where
-      walked : (o : Option (List (Entry K V))) → shortest_prefix (λ e. e.weight) new.weight contents.entries ≡ o
+      walked : (o : Option (List (Entry K V))) → shortest_prefix (λ e. e.weight) new.weight entries ≡ o
           → outvoted (λ e. e.weight) (λ e. estimate sketch e.hash) (estimate sketch new.hash) o ≡ Some gone
           → estimate sketch e.hash < estimate sketch new.hash
       walked None same is = something {o = None} refl is
@@ -274,7 +272,7 @@ module _ {K V : Type 0} (eq : K → K → Bool) (laws : IsEquivalence eq) where
             | inl above ↦
                 let those : p ≡ gone =
                 one_of (cond-true (nat_lt (sum_by (λ e. estimate sketch e.hash) p) (estimate sketch new.hash)) (Some p) None above) is in
-                let (rest, parts, enough) = prefix_parts (λ e. e.weight) new.weight contents.entries p same in
+                let (rest, parts, enough) = prefix_parts (λ e. e.weight) new.weight entries p same in
                 let less =
                 voted (λ e. estimate sketch e.hash) p rest key e (ap (list_any (λ (f : Entry K V). eq f.key key)) those ∙ any)
                 (sym (ap (entry_at eq key) parts) ∙ found) in
@@ -283,31 +281,403 @@ module _ {K V : Type 0} (eq : K → K → Bool) (laws : IsEquivalence eq) where
                 something (cond-false (nat_lt (sum_by (λ e. estimate sketch e.hash) p) (estimate sketch new.hash)) (Some p) None below) is
           ]
 
-      by : (fits allowed : Bool) → (fits ≡ false → limit < total_weight contents.entries + new.weight)
+      by : (fits allowed : Bool) → (fits ≡ false → limit < total_weight entries + new.weight)
           → cond fits (Some [])
           (cond allowed (outvoted (λ e. e.weight) (λ e. estimate sketch e.hash) (estimate sketch new.hash)
-          (shortest_prefix (λ e. e.weight) new.weight contents.entries)) None) ≡ Some gone
-          → (l : ℕ) × (Some limit ≡ Some l) × (l < total_weight contents.entries + new.weight)
+          (shortest_prefix (λ e. e.weight) new.weight entries)) None) ≡ Some gone
+          → (l : ℕ) × (Some limit ≡ Some l) × (l < total_weight entries + new.weight)
           × (estimate sketch e.hash < estimate sketch new.hash)
       by true allowed full is = absurd (false≢true (ap (list_any (λ (f : Entry K V). eq f.key key)) (one_of refl is) ∙ any))
       by false false full is = something {o = None} refl is
-      by false true full is = (limit, refl, full refl, walked (shortest_prefix (λ e. e.weight) new.weight contents.entries) refl is)
+      by false true full is = (limit, refl, full refl, walked (shortest_prefix (λ e. e.weight) new.weight entries) refl is)
 
   -- where a new entry is rejected, there is no room for all
-  pub no-room : (limit : Option ℕ) (sketch : Option Table) (new : Entry K V) (contents : Contents K V)
-      → victims_of limit sketch new contents ≡ None
-      → (l : ℕ) × (limit ≡ Some l) × (l < total_weight contents.entries + new.weight)
-  no-room None sketch new contents is = something is refl
-  no-room (Some limit) sketch new contents is =
-      by (nat_le (total_weight contents.entries + new.weight) limit) (leb-false (total_weight contents.entries + new.weight) limit)
+  pub no-room : (limit : Option ℕ) (sketch : Option Table) (new : Entry K V) (entries : List (Entry K V))
+      → victims_of limit sketch new entries ≡ None
+      → (l : ℕ) × (limit ≡ Some l) × (l < total_weight entries + new.weight)
+  no-room None sketch new entries is = something is refl
+  no-room (Some limit) sketch new entries is =
+      by (nat_le (total_weight entries + new.weight) limit) (leb-false (total_weight entries + new.weight) limit)
       (outvoted (λ e. e.weight) (λ e. estimate sketch e.hash) (estimate sketch new.hash)
-      (shortest_prefix (λ e. e.weight) new.weight contents.entries)) is
+      (shortest_prefix (λ e. e.weight) new.weight entries)) is
     where
-      by : (fits : Bool) → (fits ≡ false → limit < total_weight contents.entries + new.weight) → (o : Option (List (Entry K V)))
+      by : (fits : Bool) → (fits ≡ false → limit < total_weight entries + new.weight) → (o : Option (List (Entry K V)))
           → cond fits (Some []) (cond (nat_le new.weight limit) o None) ≡ None
-          → (l : ℕ) × (Some limit ≡ Some l) × (l < total_weight contents.entries + new.weight)
+          → (l : ℕ) × (Some limit ≡ Some l) × (l < total_weight entries + new.weight)
       by true full o is = something is refl
       by false full o is = (limit, refl, full refl)
+
+  -- ---- candidates for main, one after another
+
+  -- what is found passes a test among those that pass it
+  found-passing : (test : Entry K V → Bool) (key : K) (es : List (Entry K V)) (e : Entry K V) → entry_at eq key es ≡ Some e
+      → test e ≡ true → entry_at eq key (filter test es) ≡ Some e
+  found-passing test key [] e found passes = found
+  found-passing test key (x ∷ xs) e found passes =
+      elim (cases_Bool (eq key x.key)) [
+        | inl equal ↦
+            let is : x ≡ e = one_of (cond-true (eq key x.key) (Some x) (entry_at eq key xs) equal) found in
+            ap (entry_at eq key) (cond-true (test x) (x ∷ filter test xs) (filter test xs) (ap test is ∙ passes))
+            ∙ (cond-true (eq key x.key) (Some x) (entry_at eq key (filter test xs)) equal ∙ ap Some is)
+        | inr differ ↦
+            let rest = found-passing test key xs e (sym (cond-false (eq key x.key) (Some x) (entry_at eq key xs) differ) ∙ found) passes in
+            elim (cases_Bool (test x)) [
+              | inl stays ↦
+                  ap (entry_at eq key) (cond-true (test x) (x ∷ filter test xs) (filter test xs) stays)
+                  ∙ (cond-false (eq key x.key) (Some x) (entry_at eq key (filter test xs)) differ ∙ rest)
+              | inr leaves ↦ ap (entry_at eq key) (cond-false (test x) (x ∷ filter test xs) (filter test xs) leaves) ∙ rest
+            ]
+      ]
+
+  -- what becomes of an entry when a candidate is judged: it stands, or it is the candidate and main has no room, or it gives way to it
+  pub data Judged (limit : ℕ) (sketch : Option Table) (c : Entry K V) (contents after : Contents K V) (key : K) (e : Entry K V) : Type 0 where
+    Stays : (new : Entry K V) → entry_at eq key after.entries ≡ Some new → IsSame eq laws e new → Judged limit sketch c contents after key e
+    IsRejected : eq c.key key ≡ true → e.in_window ≡ true → limit < total_weight (main_of contents.entries) + c.weight
+        → Judged limit sketch c contents after key e
+    GivesWay : estimate sketch e.hash < estimate sketch c.hash → limit < total_weight (main_of contents.entries) + c.weight
+        → entry_at eq c.key after.entries ≡ Some (record c { in_window = false }) → Judged limit sketch c contents after key e
+
+  judged : (limit : ℕ) (sketch : Option Table) (c : Entry K V) (contents : Contents K V) → StandOnce eq contents.entries
+      → StandsIn eq laws contents.entries true c
+      → (gone : Option (List (Entry K V))) → victims_of (Some limit) sketch c (main_of contents.entries) ≡ gone
+      → (key : K) (e : Entry K V) → entry_at eq key contents.entries ≡ Some e
+      → Judged limit sketch c contents (after_candidacy eq c gone contents) key e
+  judged limit sketch c contents once stands None is key e found =
+      elim (cases_Bool (eq c.key key)) [
+        | inl equal ↦
+            let same : c ≡ e = one_of (sym (entry_at-equal laws c.key key equal contents.entries) ∙ stands.0) found in
+            let (l, limited, full) = no-room (Some limit) sketch c (main_of contents.entries) is in
+            IsRejected equal (ap (λ x. x.in_window) (sym same) ∙ stands.1)
+            (subst (λ n. n < total_weight (main_of contents.entries) + c.weight) (sym (one_of refl limited)) full)
+        | inr differ ↦ Stays e (entry_at-other laws c.key key differ contents.entries ∙ found) (same-self eq laws e)
+      ]
+  judged limit sketch c contents once stands (Some gone) is key e found =
+      let left = after_leaving eq (entry_keys gone) contents in
+      let moved = record c { in_window = false } in
+      let at : (k : K) → entry_at eq k (after_candidacy eq c (Some gone) contents).entries ≡ cond (eq c.key k) (Some moved)
+      (entry_at eq k left.entries) =
+      λ k. entry_at-moved laws k moved left.entries in
+      elim (cases_Bool (eq c.key key)) [
+        | inl equal ↦
+            let same : c ≡ e = one_of (sym (entry_at-equal laws c.key key equal contents.entries) ∙ stands.0) found in
+            Stays moved (at key ∙ cond-true (eq c.key key) (Some moved) (entry_at eq key left.entries) equal)
+            (subst (λ x. IsSame eq laws x moved) same (same-moved eq laws c))
+        | inr differ ↦
+            elim (among (λ (x : Entry K V). x.key) gone contents key) [
+              | inr stays ↦
+                  Stays e (at key ∙ (cond-false (eq c.key key) (Some moved) (entry_at eq key left.entries) differ ∙ (stays ∙ found)))
+                  (same-self eq laws e)
+              | inl any ↦
+                  let (rest, parts, heavy) = victims_weigh limit sketch c (main_of contents.entries) gone is in
+                  let M : Entry K V → Type 0 = StandsIn eq laws contents.entries false in
+                  let (g, in_main, equal) =
+                  one-passes M (λ (x : Entry K V). eq x.key key) gone
+                  (recursion_from_All M gone (All-front M gone rest (subst (All M) parts (main-stands eq laws contents.entries once)))) any in
+                  let same : g ≡ e = one_of in_main.0 (entry_at-equal laws g.key key equal contents.entries ∙ found) in
+                  let (l, limited, full, more) =
+                  displaced (Some limit) sketch c (main_of contents.entries) gone is key e any
+                  (found-passing (λ x. not x.in_window) key contents.entries e found (ap (λ x. not x.in_window) (sym same) ∙ ap not in_main.1)) in
+                  GivesWay more (subst (λ n. n < total_weight (main_of contents.entries) + c.weight) (sym (one_of refl limited)) full)
+                  (at c.key ∙ cond-true (eq c.key c.key) (Some moved) (entry_at eq c.key left.entries) (laws.refl c.key))
+            ]
+      ]
+
+  -- main grows by no more than the candidate
+  main-grows : (c : Entry K V) (gone : Option (List (Entry K V))) (contents : Contents K V)
+      → total_weight (main_of (after_candidacy eq c gone contents).entries) ≤ total_weight (main_of contents.entries) + c.weight
+  main-grows c None contents =
+      grind (
+        arith,
+        ap total_weight (filter-swap eq laws (λ x. not x.in_window) (λ x. not (eq c.key x.key)) contents.entries),
+        total-filter (λ x. not (eq c.key x.key)) (main_of contents.entries),
+      )
+  main-grows c (Some gone) contents =
+      grind (
+        arith,
+        main-moved eq laws c (after_leaving eq (entry_keys gone) contents),
+        ap total_weight (main-leaving eq laws gone contents),
+        total-filter (λ x. is_unlisted eq (entry_keys gone) x.key) (main_of contents.entries),
+      )
+
+  -- what becomes of an entry when several are judged: it stands; or it was in the window, or gave way to one that stands in main, and main has no
+  -- room for so much
+  pub data Decided (limit most : ℕ) (sketch : Option Table) (after : Contents K V) (key : K) (e : Entry K V) : Type 0 where
+    StaysThen : (new : Entry K V) → entry_at eq key after.entries ≡ Some new → IsSame eq laws e new → Decided limit most sketch after key e
+    WasRejected : e.in_window ≡ true → limit < most → Decided limit most sketch after key e
+    DisplacedBy : (new : Entry K V) → entry_at eq new.key after.entries ≡ Some new → new.in_window ≡ false
+        → estimate sketch e.hash < estimate sketch new.hash → limit < most → Decided limit most sketch after key e
+
+  decided : (limit most : ℕ) (sketch : Option Table) (cs : List (Entry K V)) (contents : Contents K V) → StandOnce eq contents.entries
+      → AreCandidates eq laws contents cs → total_weight (main_of contents.entries) + total_weight cs ≤ most
+      → (key : K) (e : Entry K V) → entry_at eq key contents.entries ≡ Some e
+      → Decided (main_limit limit) most sketch (after_candidates eq limit sketch cs contents) key e
+  decided limit most sketch [] contents once are fits key e found = StaysThen e found (same-self eq laws e)
+  decided limit most sketch (c ∷ cs) contents once are fits key e found =
+      let gone = victims_of (Some (main_limit limit)) sketch c (main_of contents.entries) in
+      let next = after_candidacy eq c gone contents in
+      by (decided limit most sketch cs next (once-candidacy eq laws c gone contents once)
+      (are-left eq laws (main_limit limit) sketch c cs contents once are gone refl)
+      (grind (arith, fits, main-grows c gone contents, total-cons c cs)))
+      (judged (main_limit limit) sketch c contents once are.stand.0 gone refl key e found)
+    where
+      full : main_limit limit < total_weight (main_of contents.entries) + c.weight → main_limit limit < most
+      full above = grind (arith, above, fits, total-cons c cs)
+
+      same-hash : (x y : Entry K V) → IsSame eq laws x y → estimate sketch x.hash ≡ estimate sketch y.hash
+      same-hash x y same = ap (λ z. estimate sketch z.hash) (sym same.but)
+
+      stayed : (x : Entry K V) → IsSame eq laws e x
+          → Decided (main_limit limit) most sketch (after_candidates eq limit sketch (c ∷ cs) contents) key x
+          → Decided (main_limit limit) most sketch (after_candidates eq limit sketch (c ∷ cs) contents) key e
+      stayed x same (StaysThen new at then) = StaysThen new at (same-both eq laws e x new same then)
+      stayed x same (WasRejected waits above) = WasRejected (same.waits waits) above
+      stayed x same (DisplacedBy new at main more above) =
+          DisplacedBy new at main (subst (λ n. n < estimate sketch new.hash) (sym (same-hash e x same)) more) above
+
+      gave : estimate sketch e.hash < estimate sketch c.hash → main_limit limit < most
+          → Decided (main_limit limit) most sketch (after_candidates eq limit sketch (c ∷ cs) contents) c.key (record c { in_window = false })
+          → Decided (main_limit limit) most sketch (after_candidates eq limit sketch (c ∷ cs) contents) key e
+      gave less above (StaysThen new at then) =
+          let moved = record c { in_window = false } in
+          DisplacedBy new (ap (λ x. entry_at eq x.key (after_candidates eq limit sketch (c ∷ cs) contents).entries) then.but ∙ at)
+          (never new.in_window then.waits)
+          (subst (λ n. estimate sketch e.hash < n) (same-hash moved new then) less) above
+        where
+          never : (b : Bool) → (b ≡ true → false ≡ true) → b ≡ false
+          never true h = absurd (false≢true (h refl))
+          never false h = refl
+      gave less above (WasRejected waits more) = absurd (false≢true waits)
+      gave less above (DisplacedBy new at main more full) = DisplacedBy new at main (grind (arith, less, more)) full
+
+      by : ((k : K) (x : Entry K V)
+          → entry_at eq k (after_candidacy eq c (victims_of (Some (main_limit limit)) sketch c (main_of contents.entries)) contents).entries
+          ≡ Some x → Decided (main_limit limit) most sketch (after_candidates eq limit sketch (c ∷ cs) contents) k x)
+          → Judged (main_limit limit) sketch c contents
+          (after_candidacy eq c (victims_of (Some (main_limit limit)) sketch c (main_of contents.entries)) contents) key e
+          → Decided (main_limit limit) most sketch (after_candidates eq limit sketch (c ∷ cs) contents) key e
+      by later (Stays new at same) = stayed new same (later key new at)
+      by later (IsRejected equal waits above) = WasRejected waits (full above)
+      by later (GivesWay less above at) = gave less (full above) (later c.key (record c { in_window = false }) at)
+
+  -- ---- a new entry that enters the window
+
+  -- a beginning of a list with one more is one of the list, or all
+  last-front : (xs p rest : List (Entry K V)) (y : Entry K V) → xs ++ y ∷ [] ≡ p ++ rest
+      → ((r : List (Entry K V)) × (xs ≡ p ++ r)) ⊎ (p ≡ xs ++ y ∷ [])
+  last-front xs [] rest y is = inl (xs, refl)
+  last-front [] (q ∷ []) rest y is = let head : y ≡ q = cc in inr (ap (λ x. x ∷ []) (sym head))
+  last-front [] (q ∷ r ∷ p) rest y is = let none : [] ≡ r ∷ (p ++ rest) = cc in absurd (cc)
+  last-front (x ∷ xs) (q ∷ p) rest y is =
+      let head : x ≡ q = cc in
+      let tail : xs ++ y ∷ [] ≡ p ++ rest = cc in
+      elim (last-front xs p rest y tail) [
+        | inl (r, parts) ↦ inl (r, λ i. head i ∷ parts i)
+        | inr all ↦ inr (λ i. sym head i ∷ all i)
+      ]
+
+  candidates-append : (limit : ℕ) (sketch : Option Table) (xs ys : List (Entry K V)) (contents : Contents K V)
+      → after_candidates eq limit sketch (xs ++ ys) contents
+      ≡ after_candidates eq limit sketch ys (after_candidates eq limit sketch xs contents)
+  candidates-append limit sketch [] ys contents = refl
+  candidates-append limit sketch (x ∷ xs) ys contents =
+      candidates-append limit sketch xs ys
+      (after_candidacy eq x (victims_of (Some (main_limit limit)) sketch x (main_of contents.entries)) contents)
+
+  stand-front : (P : Entry K V → Type 0) (xs ys : List (Entry K V)) → AllByRecursion P (xs ++ ys) → AllByRecursion P xs
+  stand-front P [] ys all = tt
+  stand-front P (x ∷ xs) ys all = (all.0, stand-front P xs ys all.1)
+
+  are-front : (contents : Contents K V) (xs ys : List (Entry K V)) → AreCandidates eq laws contents (xs ++ ys) → AreCandidates eq laws contents xs
+  are-front contents xs ys are =
+      record { stand = stand-front (StandsIn eq laws contents.entries true) xs ys are.stand; once = once-front eq xs ys are.once }
+
+  are-behind : (limit : ℕ) (sketch : Option Table) (xs ys : List (Entry K V)) (contents : Contents K V) → StandOnce eq contents.entries
+      → AreCandidates eq laws contents (xs ++ ys) → AreCandidates eq laws (after_candidates eq limit sketch xs contents) ys
+  are-behind limit sketch [] ys contents once are = are
+  are-behind limit sketch (x ∷ xs) ys contents once are =
+      let gone = victims_of (Some (main_limit limit)) sketch x (main_of contents.entries) in
+      are-behind limit sketch xs ys (after_candidacy eq x gone contents) (once-candidacy eq laws x gone contents once)
+      (are-left eq laws (main_limit limit) sketch x (xs ++ ys) contents once are gone refl)
+
+  main-grows-all : (limit : ℕ) (sketch : Option Table) (cs : List (Entry K V)) (contents : Contents K V)
+      → total_weight (main_of (after_candidates eq limit sketch cs contents).entries) ≤ total_weight (main_of contents.entries) + total_weight cs
+  main-grows-all limit sketch [] contents = grind (arith)
+  main-grows-all limit sketch (c ∷ cs) contents =
+      let gone = victims_of (Some (main_limit limit)) sketch c (main_of contents.entries) in
+      grind (arith, main-grows-all limit sketch cs (after_candidacy eq c gone contents), main-grows c gone contents, total-cons c cs)
+
+  -- what becomes of an entry when a new one enters the window
+  pub data Entered (limit : ℕ) (sketch : Option Table) (contents after : Contents K V) (key : K) (e : Entry K V) : Type 0 where
+    StaysWith : (new : Entry K V) → entry_at eq key after.entries ≡ Some new → IsSame eq laws e new → Entered limit sketch contents after key e
+    RejectedWith : e.in_window ≡ true → main_limit limit < total_weight contents.entries → Entered limit sketch contents after key e
+    DisplacedWith : (new : Entry K V) → entry_at eq new.key after.entries ≡ Some new → estimate sketch e.hash < estimate sketch new.hash
+        → main_limit limit < total_weight contents.entries + new.weight → Entered limit sketch contents after key e
+
+  module _ (keeps : Bool) (limit : ℕ) (sketch : Option Table) (new : Entry K V) (contents : Contents K V)
+      (absent : entry_at eq new.key contents.entries ≡ None) (once : StandOnce eq contents.entries) where
+    abbrev waiting : Entry K V
+    waiting = record new { in_window = true }
+
+    abbrev within : Contents K V
+    within = after_entry eq keeps (record new { in_window = true }) contents
+
+    abbrev chosen_ones : List (Entry K V)
+    chosen_ones = candidates limit (after_entry eq keeps (record new { in_window = true }) contents).entries
+
+    apart : StandOnce eq within.entries
+    apart = once-push eq laws contents.entries waiting absent once
+
+    within-at : (key : K) → entry_at eq key within.entries ≡ cond (eq new.key key) (Some waiting) (entry_at eq key contents.entries)
+    within-at key =
+        entry_at-push laws key waiting contents.entries (λ equal. sym (entry_at-equal laws new.key key equal contents.entries) ∙ absent)
+
+    within-main : total_weight (main_of within.entries) ≡ total_weight (main_of contents.entries)
+    within-main =
+        grind (
+          arith,
+          ap total_weight (filter-append (λ e. not e.in_window) contents.entries (waiting ∷ [])),
+          sum_by-append (λ e. e.weight) (main_of contents.entries) [],
+        )
+
+    -- some of the window, or all of it and then the new one
+    parted : ((r : List (Entry K V)) × (window_of contents.entries ≡ chosen_ones ++ r))
+        ⊎ (chosen_ones ≡ window_of contents.entries ++ waiting ∷ [])
+    parted =
+        let (rest, parts, heavy) = least_parts (excess limit within.entries) (window_of within.entries) in
+        last-front (window_of contents.entries) chosen_ones rest waiting
+        (sym (filter-append (λ e. e.in_window) contents.entries (waiting ∷ [])) ∙ parts)
+
+    fits-some : (r : List (Entry K V)) → window_of contents.entries ≡ chosen_ones ++ r
+        → total_weight (main_of within.entries) + total_weight chosen_ones ≤ total_weight contents.entries
+    fits-some r parts =
+        grind (
+          arith,
+          within-main,
+          ap total_weight parts,
+          sum_by-append (λ e. e.weight) chosen_ones r,
+          total-split contents.entries,
+        )
+
+    fits-all : total_weight (main_of within.entries) + total_weight (window_of contents.entries) ≤ total_weight contents.entries
+    fits-all = grind (arith, within-main, total-split contents.entries)
+
+    -- where all are candidates, the new one is the last
+    abbrev before_last : Contents K V
+    before_last =
+        after_candidates eq limit sketch (window_of contents.entries) (after_entry eq keeps (record new { in_window = true }) contents)
+
+    abbrev after_last : Contents K V
+    after_last =
+        after_candidacy eq waiting (victims_of (Some (main_limit limit)) sketch waiting (main_of before_last.entries)) before_last
+
+    last-is : chosen_ones ≡ window_of contents.entries ++ waiting ∷ [] → after_entering eq keeps limit sketch new contents ≡ after_last
+    last-is all =
+        ap (λ cs. after_candidates eq limit sketch cs within) all
+        ∙ candidates-append limit sketch (window_of contents.entries) (waiting ∷ []) within
+
+    all-are : chosen_ones ≡ window_of contents.entries ++ waiting ∷ []
+        → AreCandidates eq laws within (window_of contents.entries ++ waiting ∷ [])
+    all-are all = subst (AreCandidates eq laws within) all (are-chosen eq laws limit within apart)
+
+    judged-last : chosen_ones ≡ window_of contents.entries ++ waiting ∷ [] → (key : K) (e : Entry K V)
+        → entry_at eq key before_last.entries ≡ Some e → Judged (main_limit limit) sketch waiting before_last after_last key e
+    judged-last all key e found =
+        let are = are-behind limit sketch (window_of contents.entries) (waiting ∷ []) within apart (all-are all) in
+        judged (main_limit limit) sketch waiting before_last (once-candidates eq laws limit sketch (window_of contents.entries) within apart)
+        are.stand.0 (victims_of (Some (main_limit limit)) sketch waiting (main_of before_last.entries)) refl key e found
+
+    decided-before : chosen_ones ≡ window_of contents.entries ++ waiting ∷ [] → (key : K) (e : Entry K V)
+        → entry_at eq key within.entries ≡ Some e
+        → Decided (main_limit limit) (total_weight contents.entries) sketch before_last key e
+    decided-before all key e found =
+        decided limit (total_weight contents.entries) sketch (window_of contents.entries) within apart
+        (are-front within (window_of contents.entries) (waiting ∷ []) (all-are all)) fits-all key e found
+
+    fewer-before : total_weight (main_of before_last.entries) ≤ total_weight contents.entries
+    fewer-before = grind (arith, fits-all, main-grows-all limit sketch (window_of contents.entries) within)
+
+    pub entered : (key : K) (e : Entry K V) → entry_at eq key contents.entries ≡ Some e
+        → Entered limit sketch contents (after_entering eq keeps limit sketch new contents) key e
+    entered key e found =
+        elim (cases_Bool (eq new.key key)) [
+          | inl equal ↦ something (sym (entry_at-equal laws new.key key equal contents.entries) ∙ absent) found
+          | inr differ ↦
+              let there = within-at key ∙ (cond-false (eq new.key key) (Some waiting) (entry_at eq key contents.entries) differ ∙ found) in
+              elim parted [
+                | inl (r, parts) ↦
+                    some (decided limit (total_weight contents.entries) sketch chosen_ones within apart
+                    (are-chosen eq laws limit within apart) (fits-some r parts) key e there)
+                | inr all ↦
+                    subst (λ c. Entered limit sketch contents c key e) (sym (last-is all)) (every all differ (decided-before all key e there))
+              ]
+        ]
+      where
+        some : Decided (main_limit limit) (total_weight contents.entries) sketch (after_entering eq keeps limit sketch new contents) key e
+            → Entered limit sketch contents (after_entering eq keeps limit sketch new contents) key e
+        some (StaysThen x at same) = StaysWith x at same
+        some (WasRejected waits above) = RejectedWith waits above
+        some (DisplacedBy x at main more above) = DisplacedWith x at more (grind (arith, above))
+
+        stayed : eq new.key key ≡ false → (x : Entry K V) → IsSame eq laws e x
+            → Judged (main_limit limit) sketch waiting before_last after_last key x
+            → Entered limit sketch contents after_last key e
+        stayed differ x same (Stays y at then) = StaysWith y at (same-both eq laws e x y same then)
+        stayed differ x same (IsRejected equal waits above) = absurd (false≢true (sym differ ∙ equal))
+        stayed differ x same (GivesWay less above at) =
+            DisplacedWith (record waiting { in_window = false }) at
+            (subst (λ n. n < estimate sketch new.hash) (ap (λ z. estimate sketch z.hash) same.but) less)
+            (grind (arith, above, fewer-before))
+
+        gave : (x : Entry K V) → x.in_window ≡ false → estimate sketch e.hash < estimate sketch x.hash
+            → main_limit limit < total_weight contents.entries
+            → Judged (main_limit limit) sketch waiting before_last after_last x.key x
+            → Entered limit sketch contents after_last key e
+        gave x main more above (Stays y at then) =
+            DisplacedWith y (ap (λ z. entry_at eq z.key after_last.entries) then.but ∙ at)
+            (subst (λ n. estimate sketch e.hash < n) (sym (ap (λ z. estimate sketch z.hash) then.but)) more) (grind (arith, above))
+        gave x main more above (IsRejected equal waits full) = absurd (false≢true (sym main ∙ waits))
+        gave x main more above (GivesWay less full at) =
+            DisplacedWith (record waiting { in_window = false }) at (grind (arith, more, less)) (grind (arith, above))
+
+        every : chosen_ones ≡ window_of contents.entries ++ waiting ∷ [] → eq new.key key ≡ false
+            → Decided (main_limit limit) (total_weight contents.entries) sketch before_last key e
+            → Entered limit sketch contents after_last key e
+        every all differ (StaysThen x at same) = stayed differ x same (judged-last all key x at)
+        every all differ (WasRejected waits above) = RejectedWith waits above
+        every all differ (DisplacedBy x at main more above) = gave x main more above (judged-last all x.key x at)
+
+    -- where the new one doesn't stand then, main has no room for all
+    pub new-rejected : entry_at eq new.key (after_entering eq keeps limit sketch new contents).entries ≡ None
+        → main_limit limit < total_weight contents.entries + new.weight
+    new-rejected none =
+        let there = within-at new.key ∙ cond-true (eq new.key new.key) (Some waiting) (entry_at eq new.key contents.entries) (laws.refl new.key) in
+        elim parted [
+          | inl (r, parts) ↦
+              some (decided limit (total_weight contents.entries) sketch chosen_ones within apart
+              (are-chosen eq laws limit within apart) (fits-some r parts) new.key waiting there)
+          | inr all ↦
+              every all (sym (ap (λ c. entry_at eq new.key c.entries) (last-is all)) ∙ none) (decided-before all new.key waiting there)
+        ]
+      where
+        some : Decided (main_limit limit) (total_weight contents.entries) sketch (after_entering eq keeps limit sketch new contents) new.key waiting
+            → main_limit limit < total_weight contents.entries + new.weight
+        some (StaysThen x at same) = something none at
+        some (WasRejected waits above) = grind (arith, above)
+        some (DisplacedBy x at main more above) = grind (arith, above)
+
+        last : (x : Entry K V) → entry_at eq new.key after_last.entries ≡ None
+            → Judged (main_limit limit) sketch waiting before_last after_last new.key x
+            → main_limit limit < total_weight contents.entries + new.weight
+        last x none (Stays y at then) = something none at
+        last x none (IsRejected equal waits above) = grind (arith, above, fewer-before)
+        last x none (GivesWay less above at) = grind (arith, above, fewer-before)
+
+        every : chosen_ones ≡ window_of contents.entries ++ waiting ∷ [] → entry_at eq new.key after_last.entries ≡ None
+            → Decided (main_limit limit) (total_weight contents.entries) sketch before_last new.key waiting
+            → main_limit limit < total_weight contents.entries + new.weight
+        every all none (StaysThen x at same) = last x none (judged-last all new.key x at)
+        every all none (WasRejected waits above) = grind (arith, above)
+        every all none (DisplacedBy x at main more above) = grind (arith, above)
 
 -- ---- why an entry leaves with a call
 
@@ -315,6 +685,19 @@ module _ {K V : Type 0} (eq : K → K → Bool) (laws : IsEquivalence eq) where
 pub not-put : {X : Type 0} {P : Type 0} (b : Bool) (x : X) (o : Option X) (e : X) → cond b (Some x) o ≡ None → o ≡ Some e → P
 not-put true x o e none some = something none refl
 not-put false x o e none some = something none some
+
+-- a limit with a window is the limit
+pub windowed-is : (o : Option ℕ) (limit : ℕ) → windowed_limit o ≡ Some limit → o ≡ Some limit
+windowed-is None limit h = something {o = None} refl h
+windowed-is (Some l) limit h =
+    elim (cases_Bool (nat_le WINDOW_SHARE l)) [
+      | inl large ↦ sym (cond-true (nat_le WINDOW_SHARE l) (Some l) None large) ∙ h
+      | inr small ↦ something (cond-false (nat_le WINDOW_SHARE l) (Some l) None small) h
+    ]
+
+-- main may weigh no more than the limit
+pub main-less : (limit : ℕ) → main_limit limit ≤ limit
+main-less limit = omega arith
 
 module _ {K V S : Type 0} (keys : Keys K S) (laws : IsEquivalence keys.eq) (key : K) (e : Entry K V) where
   -- another key is equal to the entry's as it is to the key
@@ -329,16 +712,16 @@ module _ {K V S : Type 0} (keys : Keys K S) (laws : IsEquivalence keys.eq) (key 
   use-stands now None contents stands none = something none stands
   use-stands now (Some used) contents stands none =
       not-put (keys.eq used.key key) (record used { accessed = now }) (entry_at keys.eq key contents.entries) e
-      (sym (entry_at-put laws key (record used { accessed = now }) contents.entries) ∙ none) stands
+      (sym (entry_at-moved laws key (record used { accessed = now }) contents.entries) ∙ none) stands
 
 module _ {K V S W : Type 0} (keys : Keys K S) (laws : IsEquivalence keys.eq) (key : K) (e : Entry K V) where
   -- upkeep removes it, or it stands when the call acts
   upkept : (old new : CacheState K V S W) (request : Request K V) (now : ℕ) → upkeep_moment request ≡ Some now
-      → AllTied keys.eq old.contents → entry_at keys.eq key old.contents.entries ≡ Some e
+      → AllTied keys.eq old.contents → StandOnce keys.eq old.contents.entries → entry_at keys.eq key old.contents.entries ≡ Some e
       → (entry_at keys.eq key (after_look keys old now).contents.entries ≡ Some e → RemovalCause keys old request new e)
       → RemovalCause keys old request new e
-  upkept old new request now is tied found later =
-      elim (upkeep-cause keys.eq laws old.settings.policy now old.contents key e tied found) [
+  upkept old new request now is tied once found later =
+      elim (upkeep-cause keys.eq laws old.settings.policy now old.contents key e tied once found) [
         | inl stands ↦ later stands
         | inr (inl over) ↦ Expired now is over
         | inr (inr (l, limited, above)) ↦
@@ -351,19 +734,19 @@ module _ {K V S W : Type 0} (keys : Keys K S) (laws : IsEquivalence keys.eq) (ke
   put-cause : (old new cache : CacheState K V S W) (other : K) (value : V) (now : ℕ) (o : Option (Entry K V)) (put : Entry K V)
       (refused : Bool) → new ≡ after_put keys.eq cache o put refused
       → cache.settings ≡ old.settings → cache.sketch ≡ old.sketch
-      → total_weight cache.contents.entries ≤ total_weight old.contents.entries → put.key ≡ other
+      → total_weight cache.contents.entries ≤ total_weight old.contents.entries → StandOnce keys.eq cache.contents.entries → put.key ≡ other
       → entry_at keys.eq put.key cache.contents.entries ≡ o → entry_at keys.eq key cache.contents.entries ≡ Some e
       → entry_at keys.eq key new.contents.entries ≡ None
       → RemovalCause keys old (Insert other value now) new e
-  put-cause old new cache other value now (Some known) put refused is settings sketch less own there stands none =
-      let update = record put { key = known.key; hash = known.hash } in
+  put-cause old new cache other value now (Some known) put refused is settings sketch less once own there stands none =
+      let update = record put { key = known.key; hash = known.hash; in_window = known.in_window } in
       not-put (keys.eq known.key key) update (entry_at keys.eq key cache.contents.entries) e
-      (sym (entry_at-put laws key update cache.contents.entries) ∙
+      (sym (entry_at-moved laws key update cache.contents.entries) ∙
       (sym (ap (λ c. entry_at keys.eq key c.contents.entries) is) ∙ none)) stands
-  put-cause old new cache other value now None put refused is settings sketch less own there stands none =
-      by (victims_of cache.settings.policy.max_capacity cache.sketch put cache.contents) refl (ap (λ c. c.contents.entries) is)
+  put-cause old new cache other value now None put refused is settings sketch less once own there stands none =
+      entering (windowed_limit cache.settings.policy.max_capacity) refl is
     where
-      by : (gone : Option (List (Entry K V))) → victims_of cache.settings.policy.max_capacity cache.sketch put cache.contents ≡ gone
+      by : (gone : Option (List (Entry K V))) → victims_of cache.settings.policy.max_capacity cache.sketch put cache.contents.entries ≡ gone
           → new.contents.entries ≡ (after_verdict keys.eq cache put gone refused).contents.entries
           → RemovalCause keys old (Insert other value now) new e
       by None verdict after = something (sym (ap (entry_at keys.eq key) after) ∙ none) stands
@@ -383,60 +766,88 @@ module _ {K V S W : Type 0} (keys : Keys K S) (laws : IsEquivalence keys.eq) (ke
                       ∙ none) (same ∙ stands)
                   | inl any ↦
                       let (l, limited, full, more) =
-                      gave-way keys.eq laws cache.settings.policy.max_capacity cache.sketch put cache.contents gone
+                      displaced keys.eq laws cache.settings.policy.max_capacity cache.sketch put cache.contents.entries gone
                       verdict key e any stands in
-                      GaveWay other value now l put refl
-                      (sym (same-key keys laws key e cache.contents.entries stands other) ∙ (ap (λ k. keys.eq k key) (sym own) ∙ differ))
-                      (ap (λ k. entry_at keys.eq k new.contents.entries) (sym own) ∙
+                      Displaced other value now l put refl
+                      (sym (same-key keys laws key e cache.contents.entries stands put.key) ∙ differ)
+                      (
                       (at put.key ∙ cond-true (keys.eq put.key put.key) (Some put) (entry_at keys.eq put.key left.entries)
                       (laws.refl put.key)))
                       (subst (λ s. estimate s e.hash < estimate s put.hash) sketch more)
-                      (sym (ap (λ s. s.policy.max_capacity) settings) ∙ limited) (grind (arith, full, less))
+                      (sym (ap (λ s. s.policy.max_capacity) settings) ∙ limited) (grind (arith, full, less, main-less l))
                 ]
+          ]
+
+      entering : (limit : Option ℕ) → windowed_limit cache.settings.policy.max_capacity ≡ limit
+          → new ≡ after_new keys.eq cache limit put refused → RemovalCause keys old (Insert other value now) new e
+      entering None windowed is =
+          by (victims_of cache.settings.policy.max_capacity cache.sketch put cache.contents.entries) refl (ap (λ c. c.contents.entries) is)
+      entering (Some limit) windowed is =
+          let keeps = keeps_writes cache.settings.policy in
+          let contents = after_entering keys.eq keeps limit cache.sketch put cache.contents in
+          let after : new.contents ≡ contents =
+          ap (λ c. c.contents) is ∙ contents-standing keys.eq (record cache { contents = contents }) put refused in
+          let limited : old.settings.policy.max_capacity ≡ Some limit =
+          ap (λ s. s.policy.max_capacity) (sym settings) ∙ windowed-is cache.settings.policy.max_capacity limit windowed in
+          elim (entered keys.eq laws keeps limit cache.sketch put cache.contents there once key e stands) [
+            | StaysWith x at same ↦ something (sym (ap (λ c. entry_at keys.eq key c.entries) after) ∙ none) at
+            | RejectedWith waits above ↦ Rejected other value now limit refl waits limited (grind (arith, above, less))
+            | DisplacedWith x at more above ↦
+                Displaced other value now limit x refl
+                (elim (cases_Bool (keys.eq x.key e.key)) [
+                  | inl equal ↦
+                      something (sym (ap (λ c. entry_at keys.eq key c.entries) after) ∙ none)
+                      (sym (entry_at-equal laws x.key key (same-key keys laws key e cache.contents.entries stands x.key ∙ equal) contents.entries)
+                      ∙ at)
+                  | inr differ ↦ differ
+                ])
+                (ap (λ c. entry_at keys.eq x.key c.entries) after ∙ at)
+                (subst (λ s. estimate s e.hash < estimate s x.hash) sketch more) limited (grind (arith, above, less))
           ]
 
   module _ (weighs : W → K → V → ℕ → W → Type 0) where
     -- an entry that stands before a call and not after it leaves for a cause
     pub step-cause : (old new : CacheState K V S W) (request : Request K V) (answer : Answer K V)
-        → IsStep keys weighs old request answer new → AllTied keys.eq old.contents
+        → IsStep keys weighs old request answer new → AllTied keys.eq old.contents → StandOnce keys.eq old.contents.entries
         → entry_at keys.eq key old.contents.entries ≡ Some e → entry_at keys.eq key new.contents.entries ≡ None
         → RemovalCause keys old request new e
-    step-cause old new (Get other now) answer step tied found none =
-        upkept old new (Get other now) now refl tied found
+    step-cause old new (Get other now) answer step tied once found none =
+        upkept old new (Get other now) now refl tied once found
         (λ stands. use-stands keys laws key e now (unexpired_at keys.eq old.settings.policy now other (after_look keys old now).contents)
         (after_look keys old now).contents stands
         (sym (ap (λ c. entry_at keys.eq key c.contents.entries) step.1) ∙ none))
-    step-cause old new (ContainsKey other now) answer step tied found none =
-        upkept old new (ContainsKey other now) now refl tied found
+    step-cause old new (ContainsKey other now) answer step tied once found none =
+        upkept old new (ContainsKey other now) now refl tied once found
         (λ stands. something (sym (ap (λ c. entry_at keys.eq key c.contents.entries) step.1) ∙ none) stands)
-    step-cause old new (Insert other value now) answer (inl (done, inserted)) tied found none =
+    step-cause old new (Insert other value now) answer (inl (done, inserted)) tied once found none =
         let kept = (after_look keys old now).contents in
-        upkept old new (Insert other value now) now refl tied found
+        upkept old new (Insert other value now) now refl tied once found
         (λ stands. put-cause old new (record old { weigher = inserted.weigher; capacity = inserted.capacity; contents = kept })
         other value now
         (entry_at keys.eq other kept.entries)
         (new_entry keys old.settings.hash_state other value inserted.weight now) inserted.refused inserted.step refl refl
-        (total-upkeep keys.eq old.settings.policy now old.contents) refl refl stands none)
-    step-cause old new (Insert other value now) answer (inr (refused, same)) tied found none =
+        (total-upkeep keys.eq old.settings.policy now old.contents)
+        (once-remains keys.eq old.contents kept (remains-upkeep keys.eq old.settings.policy now old.contents) once) refl refl stands none)
+    step-cause old new (Insert other value now) answer (inr (refused, same)) tied once found none =
         something (sym (ap (λ c. entry_at keys.eq key c.contents.entries) same.same) ∙ none) found
-    step-cause old new (Invalidate other now) answer step tied found none =
-        upkept old new (Invalidate other now) now refl tied found
+    step-cause old new (Invalidate other now) answer step tied once found none =
+        upkept old new (Invalidate other now) now refl tied once found
         (λ stands. elim (cases_Bool (keys.eq other key)) [
           | inl equal ↦ Invalidated (sym (same-key keys laws key e old.contents.entries found other) ∙ equal)
           | inr differ ↦
               something (sym (entry_at-other laws other key differ (after_look keys old now).contents.entries) ∙
               (sym (ap (λ c. entry_at keys.eq key c.contents.entries) step.1) ∙ none)) stands
         ])
-    step-cause old new (Remove other now) answer step tied found none =
-        upkept old new (Remove other now) now refl tied found
+    step-cause old new (Remove other now) answer step tied once found none =
+        upkept old new (Remove other now) now refl tied once found
         (λ stands. elim (cases_Bool (keys.eq other key)) [
           | inl equal ↦ Invalidated (sym (same-key keys laws key e old.contents.entries found other) ∙ equal)
           | inr differ ↦
               something (sym (entry_at-other laws other key differ (after_look keys old now).contents.entries) ∙
               (sym (ap (λ c. entry_at keys.eq key c.contents.entries) step.1) ∙ none)) stands
         ])
-    step-cause old new InvalidateAll answer step tied found none = Invalidated refl
-    step-cause old new (InvalidateEntriesIf answers) answer step tied found none =
+    step-cause old new InvalidateAll answer step tied once found none = Invalidated refl
+    step-cause old new (InvalidateEntriesIf answers) answer step tied once found none =
         let gone = chosen answers old.contents.entries in
         elim (among keys.eq laws (λ (x : Entry K V). x.key) gone old.contents key) [
           | inl any ↦
@@ -444,9 +855,9 @@ module _ {K V S W : Type 0} (keys : Keys K S) (laws : IsEquivalence keys.eq) (ke
               ((λ i. list_any (λ (x : Entry K V). sym (same-key keys laws key e old.contents.entries found x.key) i) gone) ∙ any))
           | inr same ↦ something (sym same ∙ (sym (ap (λ c. entry_at keys.eq key c.contents.entries) step.1) ∙ none)) found
         ]
-    step-cause old new (Iterate now) answer step tied found none =
+    step-cause old new (Iterate now) answer step tied once found none =
         something (sym (ap (λ c. entry_at keys.eq key c.contents.entries) step.1) ∙ none) found
-    step-cause old new EntryCount answer step tied found none =
+    step-cause old new EntryCount answer step tied once found none =
         something (sym (ap (λ c. entry_at keys.eq key c.contents.entries) step.1) ∙ none) found
-    step-cause old new WeightedSize answer step tied found none =
+    step-cause old new WeightedSize answer step tied once found none =
         something (sym (ap (λ c. entry_at keys.eq key c.contents.entries) step.1) ∙ none) found

@@ -6,7 +6,7 @@ use Rattle.moka_base.specs.Keys.{Keys}
 use Rattle.moka_base.specs.Moment.{idle_expired, live_expired}
 use Rattle.moka_base.specs.Settings.{idle_nanos, live_nanos}
 use Rattle.moka_history.specs.History.{Exchange, LastWrite, is_over, last_write}
-use Rattle.moka_history.specs.Removal.{Invalidated, Expired, AboveLimit, GaveWay}
+use Rattle.moka_history.specs.Removal.{Invalidated, Expired, AboveLimit, Displaced, Rejected}
 use Rattle.moka_history.specs.Excluded.{EntriesWithoutCauseStay, ExpiredValuesAreNotCurrent, ReplacedValuesAreNotCurrent, inserted}
 use Rattle.moka_history.proofs.HistoryLemmas.{one_of, something}
 
@@ -37,5 +37,6 @@ module _ {K S : Type 0} (keys : Keys K S) (V W : Type 0) where
   without_cause old new request e unlimited valid fresh (Invalidated invalid) = false≢true (sym valid ∙ invalid)
   without_cause old new request e unlimited valid fresh (Expired now at is) = false≢true (sym (fresh now at) ∙ is)
   without_cause old new request e unlimited valid fresh (AboveLimit now limit at limited more) = something unlimited limited
-  without_cause old new request e unlimited valid fresh (GaveWay key value now limit entered asked other stands used limited full) =
+  without_cause old new request e unlimited valid fresh (Displaced key value now limit entered asked other stands used limited full) =
       something unlimited limited
+  without_cause old new request e unlimited valid fresh (Rejected key value now limit asked waits limited full) = something unlimited limited

@@ -11,13 +11,15 @@ use Rattle.moka_base.specs.Keys.{Keys}
 use Rattle.moka_base.specs.Policy.{Policy}
 use Rattle.moka_machine.specs.declared.entry.Entry.{Entry}
 use Rattle.moka_machine.specs.declared.constants.TheConstants.{EVICTION_BATCH_SIZE}
-use Rattle.moka_machine.specs.Contents.{Contents, after_leaving, entry_at, entries_without, entry_keys, total_weight, without}
+use Rattle.moka_machine.specs.Contents.{Contents, after_leaving, entry_at, entries_without, entry_keys, main_of, total_weight, window_of, with_latest, without}
 use Rattle.moka_machine.specs.CacheState.{CacheState, new_cache}
-use Rattle.moka_base.specs.Settings.{Settings}
-use Rattle.moka_machine.specs.Upkeep.{after_expiry, after_live_expiry, after_trim, after_upkeep, has_lived, is_idle, least_recent}
+use Rattle.moka_base.specs.Settings.{Settings, keeps_writes}
+use Rattle.moka_sketch.specs.Sketch.{Table}
+use Rattle.moka_machine.specs.Upkeep.{after_expiry, after_idle, after_live_expiry, after_trim, after_upkeep, has_lived, is_idle, least_recent}
 use Rattle.moka_machine.specs.Lookup.{after_get, after_use, after_look, unexpired_at}
 use Rattle.moka_machine.specs.Upkeep.{is_expired, unexpired}
-use Rattle.moka_machine.specs.Insert.{after_put, after_verdict, new_entry, victims_of}
+use Rattle.moka_machine.specs.Insert.{after_entering, after_entry, after_new, after_put, after_verdict, new_entry}
+use Rattle.moka_machine.specs.Window.{after_candidacy, after_candidates, candidates, main_limit, victims_of, windowed_limit}
 use Rattle.moka_machine.specs.Invalidate.{chosen}
 use Rattle.moka_machine.specs.Iterate.{unexpired_pairs}
 use Rattle.moka_machine.specs.Step.{Answer, IsStep, Request, Get, ContainsKey, Insert, Invalidate, Remove, InvalidateAll}
@@ -27,10 +29,12 @@ use Rattle.moka_history.specs.History.{IsLastInsert, LastWrite, LastWritesAreIns
 use Rattle.moka_history.specs.History.{is_invalidated, is_over, is_written, known_after, last_write, used_at}
 use Rattle.moka_history.specs.Removal.{last_write_of}
 use Rattle.moka_machine.proofs.ContentsLemmas.{found_key}
-use Rattle.moka_laws.proofs.KeyLemmas.{entry_at-gone, StandOnce, none_stand, once-step}
+use Rattle.moka_laws.proofs.KeyLemmas.{StandOnce, contents-standing, entry_at-gone, none_stand, once-candidacy, once-push, once-remains, once-step}
 use Rattle.moka_laws.proofs.LimitLemmas.{found_there}
-use Rattle.moka_laws.proofs.MapLemmas.{entry_at-equal, entry_at-other, entry_at-push}
-use Rattle.moka_laws.proofs.MapLemmas.{entry_at-put, gone_either, settings-step, told_by_value}
+use Rattle.moka_laws.proofs.MapLemmas.{entry_at-equal, entry_at-moved, entry_at-other, entry_at-push}
+use Rattle.moka_laws.proofs.RemainLemmas.{remains-upkeep}
+use Rattle.moka_laws.proofs.StandLemmas.{AreCandidates, are-chosen, are-left}
+use Rattle.moka_laws.proofs.MapLemmas.{gone_either, settings-step, told_by_value}
 
 -- a key among those of entries is that of one of them
 pub any-key : {K V : Type 0} (test : K → Bool) (entries : List (Entry K V))
@@ -93,9 +97,11 @@ module _ {K V : Type 0} {eq : K → K → Bool} (laws : IsEquivalence eq) where
       → entry_at eq key (after_upkeep eq policy now contents).entries ≡ Some e → entry_at eq key contents.entries ≡ Some e
   found-upkeep policy now contents key e h =
       let lived = after_live_expiry eq policy now EVICTION_BATCH_SIZE contents in
+      let waited = after_idle eq policy now EVICTION_BATCH_SIZE (window_of lived.entries) lived in
       (found-leaving (λ w. w.key) (take EVICTION_BATCH_SIZE (take_while (has_lived policy now) contents.written)) contents key e
-      (found-leaving (λ e. e.key) (take EVICTION_BATCH_SIZE (take_while (is_idle policy now) lived.entries)) lived key e
-      (found-trim policy.max_capacity (after_expiry eq policy now contents) key e h)).1).1
+      (found-leaving (λ e. e.key) (take EVICTION_BATCH_SIZE (take_while (is_idle policy now) (window_of lived.entries))) lived key e
+      (found-leaving (λ e. e.key) (take EVICTION_BATCH_SIZE (take_while (is_idle policy now) (main_of lived.entries))) waited key e
+      (found-trim policy.max_capacity (after_expiry eq policy now contents) key e h)).1).1).1
 
 module _ {K V : Type 0} {eq : K → K → Bool} (laws : IsEquivalence eq) where
   -- behind an entry of another key they are found as before
@@ -115,6 +121,81 @@ module _ {K V : Type 0} {eq : K → K → Bool} (laws : IsEquivalence eq) where
     cond-true (eq x.key x.key) (Some x) (entry_at eq x.key xs) (laws.refl x.key),
     found-behind x xs xs (IsDistinct-head eq x.key (entry_keys xs) once) (found-own xs (IsDistinct-tail eq x.key (entry_keys xs) once)),
   )
+
+-- ---- what stands once a new entry entered the window
+
+module _ {K V : Type 0} (eq : K → K → Bool) (laws : IsEquivalence eq) where
+  -- the same entry, wherever it is; in the window only if it was there
+  pub record IsSame (old new : Entry K V) : Type 0 where
+    pub but : new ≡ record old { in_window = new.in_window }
+    pub waits : new.in_window ≡ true → old.in_window ≡ true
+
+  pub same-self : (e : Entry K V) → IsSame e e
+  same-self e = record { but = refl; waits = λ w. w }
+
+  pub same-moved : (e : Entry K V) → IsSame e (record e { in_window = false })
+  same-moved e = record { but = refl; waits = λ w. absurd (false≢true w) }
+
+  pub same-both : (a b c : Entry K V) → IsSame a b → IsSame b c → IsSame a c
+  same-both a b c f g =
+      record { but = g.but ∙ ap (λ (e : Entry K V). record e { in_window = c.in_window }) f.but; waits = λ w. f.waits (g.waits w) }
+
+  -- what stands once a candidate was judged stood before
+  found-candidacy : (c : Entry K V) (contents : Contents K V) → entry_at eq c.key contents.entries ≡ Some c
+      → (gone : Option (List (Entry K V))) (key : K) (e : Entry K V) → entry_at eq key (after_candidacy eq c gone contents).entries ≡ Some e
+      → (old : Entry K V) × (entry_at eq key contents.entries ≡ Some old) × IsSame old e
+  found-candidacy c contents stands None key e h =
+      let (differ, is) = left_of (eq c.key key) (entry_at eq key contents.entries) e (sym (entry_at-without laws c.key key contents.entries) ∙ h) in
+      (e, is, same-self e)
+  found-candidacy c contents stands (Some gone) key e h =
+      let left = after_leaving eq (entry_keys gone) contents in
+      let moved = record c { in_window = false } in
+      let at : cond (eq c.key key) (Some moved) (entry_at eq key left.entries) ≡ Some e = sym (entry_at-moved laws key moved left.entries) ∙ h in
+      elim (cases_Bool (eq c.key key)) [
+        | inl equal ↦
+            let is : moved ≡ e = one_of (cond-true (eq c.key key) (Some moved) (entry_at eq key left.entries) equal) at in
+            (c, sym (entry_at-equal laws c.key key equal contents.entries) ∙ stands, subst (IsSame c) is (same-moved c))
+        | inr differ ↦
+            let stays = sym (cond-false (eq c.key key) (Some moved) (entry_at eq key left.entries) differ) ∙ at in
+            (e, (found-leaving laws (λ x. x.key) gone contents key e stays).1, same-self e)
+      ]
+
+  found-candidates : (limit : ℕ) (sketch : Option Table) (es : List (Entry K V)) (contents : Contents K V) → StandOnce eq contents.entries
+      → AreCandidates eq laws contents es
+      → (key : K) (e : Entry K V) → entry_at eq key (after_candidates eq limit sketch es contents).entries ≡ Some e
+      → (old : Entry K V) × (entry_at eq key contents.entries ≡ Some old) × IsSame old e
+  found-candidates limit sketch [] contents once are key e h = (e, h, same-self e)
+  found-candidates limit sketch (c ∷ es) contents once are key e h =
+      let gone = victims_of (Some (main_limit limit)) sketch c (main_of contents.entries) in
+      let next = after_candidacy eq c gone contents in
+      let (middle, there, same) =
+      found-candidates limit sketch es next (once-candidacy eq laws c gone contents once)
+      (are-left eq laws (main_limit limit) sketch c es contents once are gone refl) key e h in
+      let (old, stood, same_before) = found-candidacy c contents are.stand.0.0 gone key middle there in
+      (old, stood, same-both old middle e same_before same)
+
+  -- what stands then is the new entry, or stood before
+  pub found-entering : (keeps : Bool) (limit : ℕ) (sketch : Option Table) (new : Entry K V) (contents : Contents K V)
+      → entry_at eq new.key contents.entries ≡ None → StandOnce eq contents.entries
+      → (key : K) (e : Entry K V) → entry_at eq key (after_entering eq keeps limit sketch new contents).entries ≡ Some e
+      → ((eq new.key key ≡ true) × (e ≡ record new { in_window = e.in_window }))
+      ⊎ ((eq new.key key ≡ false) × ((old : Entry K V) × (entry_at eq key contents.entries ≡ Some old) × IsSame old e))
+  found-entering keeps limit sketch new contents absent once key e h =
+      let waiting = record new { in_window = true } in
+      let entered = after_entry eq keeps waiting contents in
+      let apart = once-push eq laws contents.entries waiting absent once in
+      let (old, stood, same) =
+      found-candidates limit sketch (candidates limit entered.entries) entered apart (are-chosen eq laws limit entered apart) key e h in
+      let at : cond (eq new.key key) (Some waiting) (entry_at eq key contents.entries) ≡ Some old =
+      sym (entry_at-push laws key waiting contents.entries (λ equal. sym (entry_at-equal laws new.key key equal contents.entries) ∙ absent))
+      ∙ stood in
+      elim (cases_Bool (eq new.key key)) [
+        | inl equal ↦
+            let is : waiting ≡ old = one_of (cond-true (eq new.key key) (Some waiting) (entry_at eq key contents.entries) equal) at in
+            inl (equal, same.but ∙ ap (λ (x : Entry K V). record x { in_window = e.in_window }) (sym is))
+        | inr differ ↦
+            inr (differ, (old, sym (cond-false (eq new.key key) (Some waiting) (entry_at eq key contents.entries) differ) ∙ at, same))
+      ]
 
 -- ---- what is known of the entries
 
@@ -143,12 +224,12 @@ module _ {K V S : Type 0} (keys : Keys K S) (laws : IsEquivalence keys.eq) where
   told-hit : (known : K → Option (LastWrite V)) (entries : List (Entry K V)) (other : K) (now : ℕ) (used : Entry K V)
       → IsTold known entries → entry_at keys.eq other entries ≡ Some used
       → IsTold (λ key. cond (keys.eq other key) (option_map (used_at now) (known key)) (known key))
-      (entries_without keys.eq used.key entries ++ record used { accessed = now } ∷ [])
+      (with_latest (record used { accessed = now }) (entries_without keys.eq used.key entries))
   told-hit known entries other now used told there key e h =
       let new = record used { accessed = now } in
       let same : keys.eq other key ≡ keys.eq used.key key = laws.congr other used.key key (found_key keys.eq other used entries there) in
       let at : cond (keys.eq used.key key) (Some new) (entry_at keys.eq key entries) ≡ Some e =
-      sym (entry_at-put laws key new entries) ∙ h in
+      sym (entry_at-moved laws key new entries) ∙ h in
       elim (cases_Bool (keys.eq used.key key)) [
         | inl equal ↦
             let is : new ≡ e = one_of (cond-true (keys.eq used.key key) (Some new) (entry_at keys.eq key entries) equal) at in
@@ -163,16 +244,16 @@ module _ {K V S : Type 0} (keys : Keys K S) (laws : IsEquivalence keys.eq) where
 module _ {K V S W : Type 0} (keys : Keys K S) (laws : IsEquivalence keys.eq) where
   -- an entry that is put where none or another stands
   told-put : (known : K → Option (LastWrite V)) (cache : CacheState K V S W) (o : Option (Entry K V)) (new : Entry K V) (refused : Bool)
-      → IsTold keys laws known cache.contents.entries
+      → IsTold keys laws known cache.contents.entries → StandOnce keys.eq cache.contents.entries
       → entry_at keys.eq new.key cache.contents.entries ≡ o
       → IsTold keys laws (λ key. cond (keys.eq new.key key) (Some (last_write_of new)) (known key))
       (after_put keys.eq cache o new refused).contents.entries
-  told-put known cache (Some old) new refused told there key e h =
+  told-put known cache (Some old) new refused told once there key e h =
       let entries = cache.contents.entries in
-      let put = record new { key = old.key; hash = old.hash } in
+      let put = record new { key = old.key; hash = old.hash; in_window = old.in_window } in
       let same : keys.eq new.key key ≡ keys.eq old.key key = laws.congr new.key old.key key (found_key keys.eq new.key old entries there) in
       let at : cond (keys.eq old.key key) (Some put) (entry_at keys.eq key entries) ≡ Some e =
-      sym (entry_at-put laws key put entries) ∙ h in
+      sym (entry_at-moved laws key put entries) ∙ h in
       elim (cases_Bool (keys.eq old.key key)) [
         | inl equal ↦
             let is : put ≡ e = one_of (cond-true (keys.eq old.key key) (Some put) (entry_at keys.eq key entries) equal) at in
@@ -181,8 +262,7 @@ module _ {K V S W : Type 0} (keys : Keys K S) (laws : IsEquivalence keys.eq) whe
             cond-false (keys.eq new.key key) _ _ (same ∙ differ) ∙ told key e
             (sym (cond-false (keys.eq old.key key) (Some put) (entry_at keys.eq key entries) differ) ∙ at)
       ]
-  told-put known cache None new refused told none key e h =
-      by (victims_of cache.settings.policy.max_capacity cache.sketch new cache.contents) h
+  told-put known cache None new refused told once none key e h = entering (windowed_limit cache.settings.policy.max_capacity) h
     where
       by : (gone : Option (List (Entry K V)))
           → entry_at keys.eq key (after_verdict keys.eq cache new gone refused).contents.entries ≡ Some e
@@ -210,6 +290,19 @@ module _ {K V S W : Type 0} (keys : Keys K S) (laws : IsEquivalence keys.eq) whe
                 cond-false (keys.eq new.key key) _ _ differ ∙ told key e (found-leaving laws (λ e. e.key) gone cache.contents key e stays).1
           ]
 
+      entering : (limit : Option ℕ) → entry_at keys.eq key (after_new keys.eq cache limit new refused).contents.entries ≡ Some e
+          → cond (keys.eq new.key key) (Some (last_write_of new)) (known key) ≡ Some (last_write_of e)
+      entering None h = by (victims_of cache.settings.policy.max_capacity cache.sketch new cache.contents.entries) h
+      entering (Some limit) h =
+          let keeps = keeps_writes cache.settings.policy in
+          let contents = after_entering keys.eq keeps limit cache.sketch new cache.contents in
+          elim (found-entering keys.eq laws keeps limit cache.sketch new cache.contents none once key e
+          (sym (ap (λ c. entry_at keys.eq key c.entries) (contents-standing keys.eq (record cache { contents = contents }) new refused)) ∙ h)) [
+            | inl (equal, same) ↦ cond-true (keys.eq new.key key) _ _ equal ∙ ap (λ e. Some (last_write_of e)) (sym same)
+            | inr (differ, (old, stood, same)) ↦
+                cond-false (keys.eq new.key key) _ _ differ ∙ (told key old stood ∙ ap (λ e. Some (last_write_of e)) (sym same.but))
+          ]
+
   pub told-upkeep : (known : K → Option (LastWrite V)) (cache : CacheState K V S W) (now : ℕ)
       → IsTold keys laws known cache.contents.entries → IsTold keys laws known (after_look keys cache now).contents.entries
   told-upkeep known cache now told key e h = told key e (found-upkeep laws cache.settings.policy now cache.contents key e h)
@@ -218,10 +311,11 @@ module _ {K V S W : Type 0} (keys : Keys K S) (laws : IsEquivalence keys.eq) whe
     -- after each call the entries have what is known then
     pub told-step : (old new : CacheState K V S W) (request : Request K V) (answer : Answer K V) (known : K → Option (LastWrite V))
         → IsStep keys weighs old request answer new
+        → StandOnce keys.eq old.contents.entries
         → IsTold keys laws known old.contents.entries
         → IsTold keys laws (λ key. known_after keys request answer (chosen_keys request old.contents.entries) key
         (known key)) new.contents.entries
-    told-step old new (Get other now) answer known step told key e h =
+    told-step old new (Get other now) answer known step once told key e h =
         by (unexpired_at keys.eq old.settings.policy now other (after_look keys old now).contents)
         (found_there old.settings.policy now (entry_at keys.eq other (after_look keys old now).contents.entries)) step.0
         (sym (ap (λ c. entry_at keys.eq key c.contents.entries) step.1) ∙ h)
@@ -239,46 +333,58 @@ module _ {K V S W : Type 0} (keys : Keys K S) (laws : IsEquivalence keys.eq) whe
             ap (λ a. known_after keys (Get other now) a (chosen_keys (Get other now) old.contents.entries) key (known key)) is
             ∙ told-hit keys laws known (after_look keys old now).contents.entries other now used (told-upkeep known old now told)
             (there used refl) key e h
-    told-step old new (ContainsKey other now) answer known step told key e h =
+    told-step old new (ContainsKey other now) answer known step once told key e h =
         told-upkeep known old now told key e (sym (ap (λ c. entry_at keys.eq key c.contents.entries) step.1) ∙ h)
-    told-step old new (Insert other value now) answer known (inl (done, inserted)) told key e h =
+    told-step old new (Insert other value now) answer known (inl (done, inserted)) once told key e h =
         let kept = (after_look keys old now).contents in
         ap (λ a. known_after keys (Insert other value now) a (chosen_keys (Insert other value now) old.contents.entries) key
         (known key)) done
         ∙ told-put known (record old { weigher = inserted.weigher; capacity = inserted.capacity; contents = kept })
         (entry_at keys.eq other kept.entries)
         (new_entry keys old.settings.hash_state other value inserted.weight now) inserted.refused
-        (told-upkeep known old now told) refl key e
+        (told-upkeep known old now told)
+        (once-remains keys.eq old.contents kept (remains-upkeep keys.eq old.settings.policy now old.contents) once) refl key e
         (sym (ap (λ c. entry_at keys.eq key c.contents.entries) inserted.step) ∙ h)
-    told-step old new (Insert other value now) answer known (inr (refused, same)) told key e h =
+    told-step old new (Insert other value now) answer known (inr (refused, same)) once told key e h =
         ap (λ a. known_after keys (Insert other value now) a (chosen_keys (Insert other value now) old.contents.entries) key
         (known key)) refused ∙ told key e (sym (ap (λ c. entry_at keys.eq key c.contents.entries) same.same) ∙ h)
-    told-step old new (Invalidate other now) answer known step told key e h =
+    told-step old new (Invalidate other now) answer known step once told key e h =
         let kept = (after_look keys old now).contents in
         let (differ, stands) =
         left_of (keys.eq other key) (entry_at keys.eq key kept.entries) e
         (sym (entry_at-without laws other key kept.entries) ∙ (sym (ap (λ c. entry_at keys.eq key c.contents.entries) step.1) ∙ h)) in
         cond-false (keys.eq other key) None (known key) differ ∙ told-upkeep known old now told key e stands
-    told-step old new (Remove other now) answer known step told key e h =
+    told-step old new (Remove other now) answer known step once told key e h =
         let kept = (after_look keys old now).contents in
         let (differ, stands) =
         left_of (keys.eq other key) (entry_at keys.eq key kept.entries) e
         (sym (entry_at-without laws other key kept.entries) ∙ (sym (ap (λ c. entry_at keys.eq key c.contents.entries) step.1) ∙ h)) in
         cond-false (keys.eq other key) None (known key) differ ∙ told-upkeep known old now told key e stands
-    told-step old new InvalidateAll answer known step told key e h =
+    told-step old new InvalidateAll answer known step once told key e h =
         something {o = None} refl (sym (ap (λ c. entry_at keys.eq key c.contents.entries) step.1) ∙ h)
-    told-step old new (InvalidateEntriesIf answers) answer known step told key e h =
+    told-step old new (InvalidateEntriesIf answers) answer known step once told key e h =
         let gone = chosen answers old.contents.entries in
         let (differ, stands) =
         found-leaving laws (λ e. e.key) gone old.contents key e (sym (ap (λ c. entry_at keys.eq key c.contents.entries) step.1) ∙ h) in
         cond-false (list_any (λ k. keys.eq k key) (entry_keys gone)) None (known key) (any-key (λ k. keys.eq k key) gone ∙ differ)
         ∙ told key e stands
-    told-step old new (Iterate now) answer known step told key e h =
+    told-step old new (Iterate now) answer known step once told key e h =
         told key e (sym (ap (λ c. entry_at keys.eq key c.contents.entries) step.1) ∙ h)
-    told-step old new EntryCount answer known step told key e h =
+    told-step old new EntryCount answer known step once told key e h =
         told key e (sym (ap (λ c. entry_at keys.eq key c.contents.entries) step.1) ∙ h)
-    told-step old new WeightedSize answer known step told key e h =
+    told-step old new WeightedSize answer known step once told key e h =
         told key e (sym (ap (λ c. entry_at keys.eq key c.contents.entries) step.1) ∙ h)
+
+    -- from a new cache no key has two entries
+    pub once-run : (settings : Settings S) (weigher : W) (capacity : ℕ) (past : List (Transition K V S W)) (cache : CacheState K V S W)
+        → Leads keys weighs (new_cache settings weigher capacity) past cache
+        → StandOnce keys.eq cache.contents.entries
+    once-run settings weigher capacity [] cache leads =
+        subst (λ c. StandOnce keys.eq c.contents.entries) (sym leads) (none_stand keys laws weighs)
+    once-run settings weigher capacity (call ∷ earlier) cache (is, step, leads) =
+        subst (λ c. StandOnce keys.eq c.contents.entries) is
+        (once-step keys laws weighs call.before call.after call.request call.answer step
+        (once-run settings weigher capacity earlier call.before leads))
 
     -- so from a new cache the entries have what the calls tell
     pub told-run : (settings : Settings S) (weigher : W) (capacity : ℕ) (past : List (Transition K V S W)) (cache : CacheState K V S W)
@@ -288,7 +394,7 @@ module _ {K V S W : Type 0} (keys : Keys K S) (laws : IsEquivalence keys.eq) whe
         something {o = None} refl (sym (ap (λ c. entry_at keys.eq key c.contents.entries) leads) ∙ h)
     told-run settings weigher capacity (call ∷ earlier) cache (is, step, leads) key e h =
         told-step call.before call.after call.request call.answer (λ key. last_write keys key (exchanges earlier)) step
-        (told-run settings weigher capacity earlier call.before leads) key e
+        (once-run settings weigher capacity earlier call.before leads) (told-run settings weigher capacity earlier call.before leads) key e
         (ap (λ c. entry_at keys.eq key c.contents.entries) is ∙ h)
 
     -- its settings are those that it was made with
@@ -322,17 +428,6 @@ module _ {K V S W : Type 0} (keys : Keys K S) (laws : IsEquivalence keys.eq) whe
           subst (λ s. is_over s.policy now (last_write_of used) ≡ false) (settings-run settings weigher capacity past cache leads)
               (fresh used refl),
         )
-
-    -- from a new cache no key has two entries
-    once-run : (settings : Settings S) (weigher : W) (capacity : ℕ) (past : List (Transition K V S W)) (cache : CacheState K V S W)
-        → Leads keys weighs (new_cache settings weigher capacity) past cache
-        → StandOnce keys.eq cache.contents.entries
-    once-run settings weigher capacity [] cache leads =
-        subst (λ c. StandOnce keys.eq c.contents.entries) (sym leads) (none_stand keys laws weighs)
-    once-run settings weigher capacity (call ∷ earlier) cache (is, step, leads) =
-        subst (λ c. StandOnce keys.eq c.contents.entries) is
-        (once-step keys laws weighs call.before call.after call.request call.answer step
-        (once-run settings weigher capacity earlier call.before leads))
 
     pub pairs_are_current : PairsAreCurrent keys weighs
     pairs_are_current settings weigher capacity past cache next now pairs leads step =

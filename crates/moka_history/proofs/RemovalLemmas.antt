@@ -7,10 +7,11 @@ use Rattle.moka_base.specs.Keys.{Keys}
 use Rattle.moka_machine.specs.declared.entry.Entry.{Entry}
 use Rattle.moka_machine.specs.Contents.{Contents, after_leaving, entry_at, entry_keys, total_weight}
 use Rattle.moka_machine.specs.CacheState.{CacheState, new_cache}
-use Rattle.moka_base.specs.Settings.{Settings}
+use Rattle.moka_base.specs.Settings.{Settings, keeps_writes}
 use Rattle.moka_machine.specs.Lookup.{after_use, after_look, unexpired_at}
 use Rattle.moka_machine.specs.Upkeep.{is_expired, unexpired}
-use Rattle.moka_machine.specs.Insert.{after_put, after_verdict, new_entry, victims_of}
+use Rattle.moka_machine.specs.Insert.{after_entering, after_new, after_put, after_verdict, new_entry}
+use Rattle.moka_machine.specs.Window.{main_limit, victims_of, windowed_limit}
 use Rattle.moka_machine.specs.Invalidate.{chosen}
 use Rattle.moka_machine.specs.Step.{Answer, IsStep, Request, Get, ContainsKey, Insert, Invalidate, Remove, InvalidateAll}
 use Rattle.moka_machine.specs.Step.{InvalidateEntriesIf, Iterate, EntryCount, WeightedSize, Found}
@@ -18,52 +19,70 @@ use Rattle.moka_history.specs.History.{LastWrite, Leads, Transition, chosen_keys
 use Rattle.moka_history.specs.Removal.{EntriesLeaveForACause, InsertsEnterOrAreRejected, IsMissing}
 use Rattle.moka_history.specs.Removal.{IsRejected, Leaves, MissesHaveAReason, RemovalCause, last_write_of}
 use Rattle.moka_machine.proofs.ContentsLemmas.{absent-leaving}
-use Rattle.moka_history.proofs.HistoryLemmas.{found-upkeep, found_fresh, one_of, same_found, settings-run, something, told-run, told-upkeep}
+use Rattle.moka_history.proofs.HistoryLemmas.{found-entering, found-upkeep, found_fresh, once-run, one_of, same_found, settings-run, something, told-run, told-upkeep}
 use Rattle.moka_machine.proofs.ContentsLemmas.{found_key}
 use Rattle.moka_laws.proofs.LimitLemmas.{found_there, total-upkeep}
-use Rattle.moka_laws.proofs.MapLemmas.{entry_at-equal, entry_at-push, entry_at-put}
+use Rattle.moka_laws.proofs.MapLemmas.{entry_at-equal, entry_at-moved, entry_at-push}
+use Rattle.moka_laws.proofs.KeyLemmas.{StandOnce, contents-standing, once-remains}
+use Rattle.moka_laws.proofs.RemainLemmas.{remains-upkeep}
 use Rattle.moka_history.proofs.TiedLemmas.{absent-left, tied-run}
-use Rattle.moka_history.proofs.CauseLemmas.{no-room, not-put, use-stands, step-cause}
+use Rattle.moka_history.proofs.CauseLemmas.{main-less, new-rejected, no-room, not-put, step-cause, use-stands, windowed-is}
 
 -- ---- why a key is missing
 
 module _ {K V S W : Type 0} (keys : Keys K S) (laws : IsEquivalence keys.eq) (weighs : W → K → V → ℕ → W → Type 0) where
   -- an entry that is put and does not stand then was rejected
   put-rejected : (cache : CacheState K V S W) (put : Entry K V) (refused : Bool) (o : Option (Entry K V))
-      → entry_at keys.eq put.key cache.contents.entries ≡ o
+      → StandOnce keys.eq cache.contents.entries → entry_at keys.eq put.key cache.contents.entries ≡ o
       → entry_at keys.eq put.key (after_put keys.eq cache o put refused).contents.entries ≡ None
-      → (l : ℕ) × (cache.settings.policy.max_capacity ≡ Some l) × (l < total_weight cache.contents.entries + put.weight)
-  put-rejected cache put refused (Some known) there none =
-      let update = record put { key = known.key; hash = known.hash } in
+      → (l : ℕ) × (cache.settings.policy.max_capacity ≡ Some l) × (main_limit l < total_weight cache.contents.entries + put.weight)
+  put-rejected cache put refused (Some known) once there none =
+      let update = record put { key = known.key; hash = known.hash; in_window = known.in_window } in
       not-put (keys.eq known.key put.key) update (entry_at keys.eq put.key cache.contents.entries) known
-      (sym (entry_at-put laws put.key update cache.contents.entries) ∙ none) there
-  put-rejected cache put refused None there none =
-      by (victims_of cache.settings.policy.max_capacity cache.sketch put cache.contents) refl none
+      (sym (entry_at-moved laws put.key update cache.contents.entries) ∙ none) there
+  put-rejected cache put refused None once there none = entering (windowed_limit cache.settings.policy.max_capacity) refl none
     where
-      by : (gone : Option (List (Entry K V))) → victims_of cache.settings.policy.max_capacity cache.sketch put cache.contents ≡ gone
+      by : (gone : Option (List (Entry K V))) → victims_of cache.settings.policy.max_capacity cache.sketch put cache.contents.entries ≡ gone
           → entry_at keys.eq put.key (after_verdict keys.eq cache put gone refused).contents.entries ≡ None
-          → (l : ℕ) × (cache.settings.policy.max_capacity ≡ Some l) × (l < total_weight cache.contents.entries + put.weight)
-      by None verdict none = no-room keys.eq laws cache.settings.policy.max_capacity cache.sketch put cache.contents verdict
+          → (l : ℕ) × (cache.settings.policy.max_capacity ≡ Some l) × (main_limit l < total_weight cache.contents.entries + put.weight)
+      by None verdict none =
+          let (l, limited, full) = no-room keys.eq laws cache.settings.policy.max_capacity cache.sketch put cache.contents.entries verdict in
+          (l, limited, grind (arith, full, main-less l))
       by (Some gone) verdict none =
           let left = after_leaving keys.eq (entry_keys gone) cache.contents in
           something none
           (entry_at-push laws put.key put left.entries (λ equal. absent-left laws gone cache.contents put.key there)
           ∙ cond-true (keys.eq put.key put.key) (Some put) (entry_at keys.eq put.key left.entries) (laws.refl put.key))
 
+      entering : (limit : Option ℕ) → windowed_limit cache.settings.policy.max_capacity ≡ limit
+          → entry_at keys.eq put.key (after_new keys.eq cache limit put refused).contents.entries ≡ None
+          → (l : ℕ) × (cache.settings.policy.max_capacity ≡ Some l) × (main_limit l < total_weight cache.contents.entries + put.weight)
+      entering None windowed none = by (victims_of cache.settings.policy.max_capacity cache.sketch put cache.contents.entries) refl none
+      entering (Some limit) windowed none =
+          let keeps = keeps_writes cache.settings.policy in
+          let contents = after_entering keys.eq keeps limit cache.sketch put cache.contents in (
+            limit,
+            windowed-is cache.settings.policy.max_capacity limit windowed,
+            new-rejected keys.eq laws keeps limit cache.sketch put cache.contents there once
+                (sym (ap (λ c. entry_at keys.eq put.key c.entries)
+                (contents-standing keys.eq (record cache { contents = contents }) put refused)) ∙ none),
+          )
+
   -- an accepted insert at the key, after which none has an entry, was rejected
   rejected : (key : K) (old new : CacheState K V S W) (request : Request K V) (answer : Answer K V)
-      → IsStep keys weighs old request answer new
+      → IsStep keys weighs old request answer new → StandOnce keys.eq old.contents.entries
       → is_written keys request answer key ≡ true → entry_at keys.eq key new.contents.entries ≡ None
       → IsRejected keys weighs (record { before = old; request = request; answer = answer; after = new }) key
-  rejected key old new (Get other now) answer step written none = absurd (false≢true written)
-  rejected key old new (ContainsKey other now) answer step written none = absurd (false≢true written)
-  rejected key old new (Insert other value now) answer (inl (done, inserted)) written none =
+  rejected key old new (Get other now) answer step once written none = absurd (false≢true written)
+  rejected key old new (ContainsKey other now) answer step once written none = absurd (false≢true written)
+  rejected key old new (Insert other value now) answer (inl (done, inserted)) once written none =
       let kept = (after_look keys old now).contents in
       let equal : keys.eq other key ≡ true = sym (ap (λ a. is_written keys (Insert other value now) a key) done) ∙ written in
       let (l, limited, full) =
       put-rejected (record old { weigher = inserted.weigher; capacity = inserted.capacity; contents = kept })
       (new_entry keys old.settings.hash_state other value inserted.weight now) inserted.refused
-      (entry_at keys.eq other kept.entries) refl
+      (entry_at keys.eq other kept.entries)
+      (once-remains keys.eq old.contents kept (remains-upkeep keys.eq old.settings.policy now old.contents) once) refl
       (entry_at-equal laws other key equal _ ∙ (sym (ap (λ c. entry_at keys.eq key c.contents.entries) inserted.step) ∙ none)) in
       record {
         other = other;
@@ -79,21 +98,22 @@ module _ {K V S W : Type 0} (keys : Keys K S) (laws : IsEquivalence keys.eq) (we
         limited = limited;
         no_room = grind (arith, full, total-upkeep keys.eq old.settings.policy now old.contents);
       }
-  rejected key old new (Insert other value now) answer (inr (refused, same)) written none =
+  rejected key old new (Insert other value now) answer (inr (refused, same)) once written none =
       absurd (false≢true (sym (ap (λ a. is_written keys (Insert other value now) a key) refused) ∙ written))
-  rejected key old new (Invalidate other now) answer step written none = absurd (false≢true written)
-  rejected key old new (Remove other now) answer step written none = absurd (false≢true written)
-  rejected key old new InvalidateAll answer step written none = absurd (false≢true written)
-  rejected key old new (InvalidateEntriesIf answers) answer step written none = absurd (false≢true written)
-  rejected key old new (Iterate now) answer step written none = absurd (false≢true written)
-  rejected key old new EntryCount answer step written none = absurd (false≢true written)
-  rejected key old new WeightedSize answer step written none = absurd (false≢true written)
+  rejected key old new (Invalidate other now) answer step once written none = absurd (false≢true written)
+  rejected key old new (Remove other now) answer step once written none = absurd (false≢true written)
+  rejected key old new InvalidateAll answer step once written none = absurd (false≢true written)
+  rejected key old new (InvalidateEntriesIf answers) answer step once written none = absurd (false≢true written)
+  rejected key old new (Iterate now) answer step once written none = absurd (false≢true written)
+  rejected key old new EntryCount answer step once written none = absurd (false≢true written)
+  rejected key old new WeightedSize answer step once written none = absurd (false≢true written)
 
   pub entries_leave : EntriesLeaveForACause keys weighs
   entries_leave settings weigher capacity past call cache key e (is, step, leads) found none =
       subst (λ c. RemovalCause keys call.before call.request c e) is
       (step-cause keys laws key e weighs call.before call.after call.request call.answer step
-      (tied-run keys laws weighs settings weigher capacity past call.before leads) found
+      (tied-run keys laws weighs settings weigher capacity past call.before leads)
+      (once-run keys laws weighs settings weigher capacity past call.before leads) found
       (ap (λ c. entry_at keys.eq key c.contents.entries) is ∙ none))
 
   -- a key without an entry is missing for a reason
@@ -120,7 +140,8 @@ module _ {K V S W : Type 0} (keys : Keys K S) (laws : IsEquivalence keys.eq) (we
             left = gone;
             cause =
                 step-cause keys laws key e weighs call.before call.after call.request call.answer step
-                (tied-run keys laws weighs settings weigher capacity earlier call.before leads) stood gone;
+                (tied-run keys laws weighs settings weigher capacity earlier call.before leads)
+                (once-run keys laws weighs settings weigher capacity earlier call.before leads) stood gone;
           })
 
       by : (entry_at keys.eq key call.before.contents.entries ≡ None → IsMissing keys weighs earlier key) → (o : Option (Entry K V))
@@ -128,7 +149,8 @@ module _ {K V S W : Type 0} (keys : Keys K S) (laws : IsEquivalence keys.eq) (we
           → IsMissing keys weighs (call ∷ earlier) key
       by rest o at =
           elim (cases_Bool (is_written keys call.request call.answer key)) [
-            | inl written ↦ inl (rejected key call.before call.after call.request call.answer step written gone)
+            | inl written ↦ inl (rejected key call.before call.after call.request call.answer step
+                (once-run keys laws weighs settings weigher capacity earlier call.before leads) written gone)
             | inr not_written ↦ inr (not_written, unwritten rest o at)
           ]
 
@@ -188,7 +210,7 @@ module _ {K V S W : Type 0} (keys : Keys K S) (laws : IsEquivalence keys.eq) (we
   absent-use now other key (Some used) contents there none =
       let new = record used { accessed = now } in
       let found = there used refl in
-      entry_at-put laws key new contents.entries
+      entry_at-moved laws key new contents.entries
       ∙ elim (cases_Bool (keys.eq used.key key)) [
         | inl equal ↦
             something none (sym (entry_at-equal laws other key
@@ -197,17 +219,16 @@ module _ {K V S W : Type 0} (keys : Keys K S) (laws : IsEquivalence keys.eq) (we
       ]
 
   absent-put : (cache : CacheState K V S W) (put : Entry K V) (refused : Bool) (key : K) (o : Option (Entry K V))
-      → entry_at keys.eq put.key cache.contents.entries ≡ o
+      → StandOnce keys.eq cache.contents.entries → entry_at keys.eq put.key cache.contents.entries ≡ o
       → keys.eq put.key key ≡ false → entry_at keys.eq key cache.contents.entries ≡ None
       → entry_at keys.eq key (after_put keys.eq cache o put refused).contents.entries ≡ None
-  absent-put cache put refused key (Some known) there differ none =
-      let update = record put { key = known.key; hash = known.hash } in
-      entry_at-put laws key update cache.contents.entries
+  absent-put cache put refused key (Some known) once there differ none =
+      let update = record put { key = known.key; hash = known.hash; in_window = known.in_window } in
+      entry_at-moved laws key update cache.contents.entries
       ∙ (cond-false (keys.eq known.key key) (Some update) (entry_at keys.eq key cache.contents.entries)
       (sym (laws.congr put.key known.key key (found_key keys.eq put.key known cache.contents.entries there)) ∙ differ)
       ∙ none)
-  absent-put cache put refused key None there differ none =
-      by (victims_of cache.settings.policy.max_capacity cache.sketch put cache.contents)
+  absent-put cache put refused key None once there differ none = entering (windowed_limit cache.settings.policy.max_capacity)
     where
       by : (gone : Option (List (Entry K V))) → entry_at keys.eq key (after_verdict keys.eq cache put gone refused).contents.entries ≡ None
       by None = none
@@ -217,40 +238,60 @@ module _ {K V S W : Type 0} (keys : Keys K S) (laws : IsEquivalence keys.eq) (we
           entry_at-push laws key put left.entries (λ equal. empty) ∙
           (cond-false (keys.eq put.key key) (Some put) (entry_at keys.eq key left.entries) differ ∙ empty)
 
+      nothing : (keeps : Bool) (limit : ℕ) (o : Option (Entry K V))
+          → entry_at keys.eq key (after_entering keys.eq keeps limit cache.sketch put cache.contents).entries ≡ o
+          → entry_at keys.eq key (after_entering keys.eq keeps limit cache.sketch put cache.contents).entries ≡ None
+      nothing keeps limit None at = at
+      nothing keeps limit (Some e) at =
+          elim (found-entering keys.eq laws keeps limit cache.sketch put cache.contents there once key e at) [
+            | inl (equal, same) ↦ absurd (false≢true (sym differ ∙ equal))
+            | inr (other, (old, stood, same)) ↦ something none stood
+          ]
+
+      entering : (limit : Option ℕ) → entry_at keys.eq key (after_new keys.eq cache limit put refused).contents.entries ≡ None
+      entering None = by (victims_of cache.settings.policy.max_capacity cache.sketch put cache.contents.entries)
+      entering (Some limit) =
+          let keeps = keeps_writes cache.settings.policy in
+          let contents = after_entering keys.eq keeps limit cache.sketch put cache.contents in
+          ap (λ c. entry_at keys.eq key c.entries) (contents-standing keys.eq (record cache { contents = contents }) put refused)
+          ∙ nothing keeps limit (entry_at keys.eq key contents.entries) refl
+
   -- without an accepted insert no key comes to have an entry
   absent-step : (key : K) (old new : CacheState K V S W) (request : Request K V) (answer : Answer K V)
-      → IsStep keys weighs old request answer new
+      → IsStep keys weighs old request answer new → StandOnce keys.eq old.contents.entries
       → is_written keys request answer key ≡ false → entry_at keys.eq key old.contents.entries ≡ None
       → entry_at keys.eq key new.contents.entries ≡ None
-  absent-step key old new (Get other now) answer step written none =
+  absent-step key old new (Get other now) answer step once written none =
       let kept = (after_look keys old now).contents in
       ap (λ c. entry_at keys.eq key c.contents.entries) step.1
       ∙ absent-use now other key (unexpired_at keys.eq old.settings.policy now other kept) kept
       (found_there old.settings.policy now (entry_at keys.eq other kept.entries)) (absent-upkeep old now key none)
-  absent-step key old new (ContainsKey other now) answer step written none =
+  absent-step key old new (ContainsKey other now) answer step once written none =
       ap (λ c. entry_at keys.eq key c.contents.entries) step.1 ∙ absent-upkeep old now key none
-  absent-step key old new (Insert other value now) answer (inl (done, inserted)) written none =
+  absent-step key old new (Insert other value now) answer (inl (done, inserted)) once written none =
       let kept = (after_look keys old now).contents in
       ap (λ c. entry_at keys.eq key c.contents.entries) inserted.step
       ∙ absent-put (record old { weigher = inserted.weigher; capacity = inserted.capacity; contents = kept })
       (new_entry keys old.settings.hash_state other value inserted.weight now) inserted.refused key
-      (entry_at keys.eq other kept.entries) refl (sym (ap (λ a. is_written keys (Insert other value now) a key) done) ∙ written)
+      (entry_at keys.eq other kept.entries)
+      (once-remains keys.eq old.contents kept (remains-upkeep keys.eq old.settings.policy now old.contents) once) refl
+      (sym (ap (λ a. is_written keys (Insert other value now) a key) done) ∙ written)
       (absent-upkeep old now key none)
-  absent-step key old new (Insert other value now) answer (inr (refused, same)) written none =
+  absent-step key old new (Insert other value now) answer (inr (refused, same)) once written none =
       ap (λ c. entry_at keys.eq key c.contents.entries) same.same ∙ none
-  absent-step key old new (Invalidate other now) answer step written none =
+  absent-step key old new (Invalidate other now) answer step once written none =
       ap (λ c. entry_at keys.eq key c.contents.entries) step.1 ∙ absent-leaving keys.eq key (other ∷ [])
       (after_look keys old now).contents (absent-upkeep old now key none)
-  absent-step key old new (Remove other now) answer step written none =
+  absent-step key old new (Remove other now) answer step once written none =
       ap (λ c. entry_at keys.eq key c.contents.entries) step.1 ∙ absent-leaving keys.eq key (other ∷ [])
       (after_look keys old now).contents (absent-upkeep old now key none)
-  absent-step key old new InvalidateAll answer step written none = ap (λ c. entry_at keys.eq key c.contents.entries) step.1
-  absent-step key old new (InvalidateEntriesIf answers) answer step written none =
+  absent-step key old new InvalidateAll answer step once written none = ap (λ c. entry_at keys.eq key c.contents.entries) step.1
+  absent-step key old new (InvalidateEntriesIf answers) answer step once written none =
       ap (λ c. entry_at keys.eq key c.contents.entries) step.1 ∙ absent-leaving keys.eq key
       (entry_keys (chosen answers old.contents.entries)) old.contents none
-  absent-step key old new (Iterate now) answer step written none = ap (λ c. entry_at keys.eq key c.contents.entries) step.1 ∙ none
-  absent-step key old new EntryCount answer step written none = ap (λ c. entry_at keys.eq key c.contents.entries) step.1 ∙ none
-  absent-step key old new WeightedSize answer step written none = ap (λ c. entry_at keys.eq key c.contents.entries) step.1 ∙ none
+  absent-step key old new (Iterate now) answer step once written none = ap (λ c. entry_at keys.eq key c.contents.entries) step.1 ∙ none
+  absent-step key old new EntryCount answer step once written none = ap (λ c. entry_at keys.eq key c.contents.entries) step.1 ∙ none
+  absent-step key old new WeightedSize answer step once written none = ap (λ c. entry_at keys.eq key c.contents.entries) step.1 ∙ none
 
   missing-absent : (settings : Settings S) (weigher : W) (capacity : ℕ) (past : List (Transition K V S W))
       (cache : CacheState K V S W) (key : K)
@@ -263,7 +304,8 @@ module _ {K V S W : Type 0} (keys : Keys K S) (laws : IsEquivalence keys.eq) (we
       sym (ap (λ c. entry_at keys.eq key c.contents.entries) is) ∙ leaves.left
   missing-absent settings weigher capacity (call ∷ earlier) cache key (is, step, leads) (inr (unwritten, inr missing)) =
       sym (ap (λ c. entry_at keys.eq key c.contents.entries) is)
-      ∙ absent-step key call.before call.after call.request call.answer step unwritten
+      ∙ absent-step key call.before call.after call.request call.answer step
+      (once-run keys laws weighs settings weigher capacity earlier call.before leads) unwritten
       (missing-absent settings weigher capacity earlier call.before key leads missing)
 
   -- a get of a key that is missing, or whose last write is over, finds nothing
@@ -324,6 +366,7 @@ module _ {K V S W : Type 0} (keys : Keys K S) (laws : IsEquivalence keys.eq) (we
           (last_write_of e ≡ record { value = value; written = now; used = now })) ⊎ IsRejected keys weighs call key
       by None at =
           inr (rejected key call.before call.after call.request call.answer step
+          (once-run keys laws weighs settings weigher capacity past call.before leads)
           ((λ i. is_written keys (asked i) (done i) key) ∙ laws.refl key)
           (ap (λ c. entry_at keys.eq key c.contents.entries) is ∙ at))
       by (Some e) at =

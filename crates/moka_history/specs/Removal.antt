@@ -7,6 +7,7 @@ use Rattle.moka_machine.specs.declared.entry.Entry.{Entry}
 use Rattle.moka_machine.specs.Contents.{entry_at, total_weight}
 use Rattle.moka_machine.specs.CacheState.{CacheState, new_cache}
 use Rattle.moka_machine.specs.Upkeep.{is_expired}
+use Rattle.moka_machine.specs.Window.{main_limit}
 use Rattle.moka_machine.specs.Step.{Request, Get, ContainsKey, Insert, Invalidate, Remove, Done, Found}
 use Rattle.moka_history.specs.History.{LastWrite, Leads, Transition, chosen_keys, exchanges}
 use Rattle.moka_history.specs.History.{is_invalidated, is_over, is_written, last_write}
@@ -24,7 +25,7 @@ upkeep_moment request = None
 abbrev pub last_write_of : {K V : Type 0} → Entry K V → LastWrite V
 last_write_of e = record { value = e.value; written = e.modified; used = e.accessed }
 
--- the entry at a key and those used since
+-- the entry at a key and those behind it, which leave later: in main those used since, and the window
 abbrev pub entries_from : {K V : Type 0} → (K → K → Bool) → K → List (Entry K V) → List (Entry K V)
 entries_from eq key [] = []
 entries_from eq key (e ∷ entries) = if eq key e.key then e ∷ entries else entries_from eq key entries
@@ -37,17 +38,22 @@ module _ {K V S W : Type 0} (keys : Keys K S) where
         → RemovalCause old request new e
     -- one of its durations has passed
     Expired : (now : ℕ) → upkeep_moment request ≡ Some now → is_expired old.settings.policy now e ≡ true → RemovalCause old request new e
-    -- it and the entries used since weigh more than the limit
+    -- it and those behind it weigh more than the limit
     AboveLimit : (now limit : ℕ) → upkeep_moment request ≡ Some now → old.settings.policy.max_capacity ≡ Some limit
         → limit < total_weight (entries_from keys.eq e.key old.contents.entries) → RemovalCause old request new e
-    -- a new entry enters, of another key, that is used more, and there is no room for all
-    GaveWay : (key : K) (value : V) (now limit : ℕ) (entered : Entry K V) → request ≡ Insert key value now → keys.eq key e.key ≡ false
-        → entry_at keys.eq key new.contents.entries ≡ Some entered → estimate old.sketch e.hash < estimate old.sketch entered.hash
-        → old.settings.policy.max_capacity ≡ Some limit → limit < total_weight old.contents.entries + entered.weight
+    -- with an insert, one of another key that is used more stands then, and main has no room for all
+    Displaced : (key : K) (value : V) (now limit : ℕ) (entered : Entry K V) → request ≡ Insert key value now
+        → keys.eq entered.key e.key ≡ false → entry_at keys.eq entered.key new.contents.entries ≡ Some entered
+        → estimate old.sketch e.hash < estimate old.sketch entered.hash
+        → old.settings.policy.max_capacity ≡ Some limit → main_limit limit < total_weight old.contents.entries + entered.weight
+        → RemovalCause old request new e
+    -- with an insert, it was in the window, and main has no room for all
+    Rejected : (key : K) (value : V) (now limit : ℕ) → request ≡ Insert key value now → e.in_window ≡ true
+        → old.settings.policy.max_capacity ≡ Some limit → main_limit limit < total_weight old.contents.entries
         → RemovalCause old request new e
 
 module _ {K V S W : Type 0} (keys : Keys K S) (weighs : W → K → V → ℕ → W → Type 0) where
-  -- an accepted insert at an equal key, after which none has an entry: all entries and this one weigh more than the limit
+  -- an accepted insert at an equal key, after which none has an entry: all entries and this one weigh more than main may
   pub record IsRejected (call : Transition K V S W) (key : K) : Type 0 where
     pub other : K
     pub value : V
@@ -60,7 +66,7 @@ module _ {K V S W : Type 0} (keys : Keys K S) (weighs : W → K → V → ℕ �
     pub absent : entry_at keys.eq key call.after.contents.entries ≡ None
     pub weighed : weighs call.before.weigher other value weight weigher
     pub limited : call.before.settings.policy.max_capacity ≡ Some limit
-    pub no_room : limit < total_weight call.before.contents.entries + weight
+    pub no_room : main_limit limit < total_weight call.before.contents.entries + weight
 
   -- an entry with the last write of the key leaves with a call, for a cause
   pub record Leaves (call : Transition K V S W) (earlier : List (Transition K V S W)) (key : K) : Type 0 where

@@ -1,23 +1,27 @@
 -- Lemmas on keys that stand once.
-use Rattle.std.proofs.Common.{◌≡◌, ◌||◌, ℕ, Bool, true, false, not, List, [], ◌∷◌, ◌++◌, filter}
+use Rattle.std.proofs.Common.{◌≡◌, ◌||◌, ℕ, Bool, true, false, cond, not, List, [], ◌∷◌, ◌++◌, filter}
 use Rattle.std.proofs.Common.{is_some, Option, Some, None, refl, sym, ap, ◌∙◌, inl, inr, subst}
 use Rattle.std.proofs.lemmas.Bool.{cases_Bool, cond-true, cond-false, false≢true}
-use Rattle.std.proofs.lemmas.Map.Keys.{IsDistinct-push}
+use Rattle.std.proofs.lemmas.Map.Keys.{IsDistinct-cons, IsDistinct-head, IsDistinct-push, IsDistinct-tail}
 use Rattle.std.proofs.lemmas.Map.Made.{IsDistinct-keys_filter}
 use Rattle.std.specs.Cmp.{IsEquivalence}
-use Rattle.std.specs.List.{IsDistinct, list_any}
+use Rattle.std.specs.List.{AllByRecursion, IsDistinct, list_any}
 use Rattle.std.specs.Map.{keys_of}
 use Rattle.moka_base.specs.Keys.{Keys}
+use Rattle.moka_base.specs.Settings.{keeps_writes}
+use Rattle.moka_sketch.specs.Sketch.{Table}
 use Rattle.moka_machine.specs.declared.entry.Entry.{Entry}
-use Rattle.moka_machine.specs.Contents.{Contents, after_leaving, entry_at, entries_without, entry_keys}
+use Rattle.moka_machine.specs.Contents.{Contents, after_leaving, after_moving, entry_at, entries_without, entry_keys, main_of, with_latest, without}
 use Rattle.moka_machine.specs.CacheState.{CacheState, new_cache}
-use Rattle.moka_machine.specs.Insert.{after_put, after_verdict, new_entry, victims_of}
+use Rattle.moka_machine.specs.Insert.{after_asking, after_entering, after_entry, after_new, after_put, after_standing, after_verdict, new_entry}
+use Rattle.moka_machine.specs.Window.{after_candidacy, after_candidates, candidates, main_limit, victims_of, windowed_limit}
 use Rattle.moka_laws.specs.Laws.{KeysStandOnce, Remains}
 use Rattle.moka_machine.specs.Lookup.{after_look, after_use, unexpired_at}
 use Rattle.moka_machine.specs.Iterate.{pairs_of}
 use Rattle.moka_machine.specs.Step.{Answer, IsStep, Request, Runs, Get, ContainsKey, Insert, Invalidate, Remove}
 use Rattle.moka_machine.specs.Step.{InvalidateAll, InvalidateEntriesIf, Iterate, EntryCount, WeightedSize}
 use Rattle.moka_machine.proofs.ContentsLemmas.{absent-leaving}
+use Rattle.moka_machine.proofs.WindowLemmas.{goes_before}
 use Rattle.moka_laws.proofs.RemainLemmas.{invalidations, looks, remains-leaving, remains-upkeep}
 
 module _ {K V : Type 0} where
@@ -109,10 +113,85 @@ module _ {K V : Type 0} (eq : K → K → Bool) where
         once-push (entries_without eq new.key contents.entries) new (entry_at-gone new.key new.key (laws.refl new.key) contents.entries)
         (once-remains contents (after_leaving eq (new.key ∷ []) contents) (remains-leaving eq (new.key ∷ []) contents) once)
 
+    -- a key without an entry differs from each key
+    apart : (key : K) (entries : List (Entry K V)) → entry_at eq key entries ≡ None → AllByRecursion (λ k. eq key k ≡ false) (entry_keys entries)
+    apart key [] absent = tt
+    apart key (e ∷ es) absent =
+        elim (cases_Bool (eq key e.key)) [
+          | inl equal ↦ absurd (false≢true (sym (ap is_some (sym (cond-true (eq key e.key) (Some e) (entry_at eq key es) equal) ∙ absent))))
+          | inr differ ↦ (differ, apart key es (sym (cond-false (eq key e.key) (Some e) (entry_at eq key es) differ) ∙ absent))
+        ]
+
+    -- a key that differs from each differs from one more
+    apart-latest : (key : K) (new : Entry K V) (entries : List (Entry K V)) → eq key new.key ≡ false
+        → AllByRecursion (λ k. eq key k ≡ false) (entry_keys entries) → AllByRecursion (λ k. eq key k ≡ false) (entry_keys (with_latest new entries))
+    apart-latest key new [] differ all = (differ, tt)
+    apart-latest key new (e ∷ es) differ all =
+        elim (cases_Bool (goes_before new e)) [
+          | inl before ↦
+              subst (λ l. AllByRecursion (λ k. eq key k ≡ false) (entry_keys l))
+              (sym (cond-true (goes_before new e) (new ∷ e ∷ es) (e ∷ with_latest new es) before)) (differ, all)
+          | inr behind ↦
+              subst (λ l. AllByRecursion (λ k. eq key k ≡ false) (entry_keys l))
+              (sym (cond-false (goes_before new e) (new ∷ e ∷ es) (e ∷ with_latest new es) behind))
+              (all.0, apart-latest key new es differ all.1)
+        ]
+
+    -- a new key stands once, wherever it is put
+    pub once-latest : (new : Entry K V) (entries : List (Entry K V)) → entry_at eq new.key entries ≡ None → StandOnce entries
+        → StandOnce (with_latest new entries)
+    once-latest new [] absent once = once-push [] new absent once
+    once-latest new (e ∷ es) absent once =
+        let all = apart new.key (e ∷ es) absent in
+        elim (cases_Bool (goes_before new e)) [
+          | inl before ↦
+              subst StandOnce (sym (cond-true (goes_before new e) (new ∷ e ∷ es) (e ∷ with_latest new es) before))
+              (IsDistinct-cons eq new.key (entry_keys (e ∷ es)) all once)
+          | inr behind ↦
+              let later : entry_at eq new.key es ≡ None = sym (cond-false (eq new.key e.key) (Some e) (entry_at eq new.key es) all.0) ∙ absent in
+              subst StandOnce (sym (cond-false (goes_before new e) (new ∷ e ∷ es) (e ∷ with_latest new es) behind))
+              (IsDistinct-cons eq e.key (entry_keys (with_latest new es))
+              (apart-latest e.key new es (laws.symm e.key new.key ∙ all.0) (IsDistinct-head eq e.key (entry_keys es) once))
+              (once-latest new es later (IsDistinct-tail eq e.key (entry_keys es) once)))
+        ]
+
+    -- and so does one that moves
+    pub once-moving : (entry : Entry K V) (contents : Contents K V) → StandOnce contents.entries
+        → StandOnce (after_moving eq entry contents).entries
+    once-moving entry contents once =
+        once-latest entry (entries_without eq entry.key contents.entries)
+        (entry_at-gone entry.key entry.key (laws.refl entry.key) contents.entries)
+        (once-remains contents (after_leaving eq (entry.key ∷ []) contents) (remains-leaving eq (entry.key ∷ []) contents) once)
+
     once-use : (now : ℕ) (o : Option (Entry K V)) (contents : Contents K V) → StandOnce contents.entries
         → StandOnce (after_use eq now o contents).entries
     once-use now None contents once = once
-    once-use now (Some used) contents once = once-put contents (record used { accessed = now }) once
+    once-use now (Some used) contents once = once-moving (record used { accessed = now }) contents once
+
+    -- a candidate for main leaves each key once
+    pub once-candidacy : (e : Entry K V) (gone : Option (List (Entry K V))) (contents : Contents K V) → StandOnce contents.entries
+        → StandOnce (after_candidacy eq e gone contents).entries
+    once-candidacy e None contents once = once-remains contents (without eq contents e.key) (remains-leaving eq (e.key ∷ []) contents) once
+    once-candidacy e (Some gone) contents once =
+        let left = after_leaving eq (entry_keys gone) contents in
+        once-moving (record e { in_window = false }) left (once-remains contents left (remains-leaving eq (entry_keys gone) contents) once)
+
+    pub once-candidates : (limit : ℕ) (sketch : Option Table) (entries : List (Entry K V)) (contents : Contents K V) → StandOnce contents.entries
+        → StandOnce (after_candidates eq limit sketch entries contents).entries
+    once-candidates limit sketch [] contents once = once
+    once-candidates limit sketch (e ∷ es) contents once =
+        let gone = victims_of (Some (main_limit limit)) sketch e (main_of contents.entries) in
+        once-candidates limit sketch es (after_candidacy eq e gone contents) (once-candidacy e gone contents once)
+
+module _ {K V S W : Type 0} (eq : K → K → Bool) where
+  -- asking for a table changes no contents
+  pub contents-standing : (cache : CacheState K V S W) (new : Entry K V) (refused : Bool)
+      → (after_standing eq cache new refused).contents ≡ cache.contents
+  contents-standing cache new refused = by (is_some (entry_at eq new.key cache.contents.entries))
+    where
+      by : (b : Bool) → (cond b (after_asking eq refused cache) cache).contents ≡ cache.contents
+      by true = refl
+      by false = refl
 
 module _ {K V S W : Type 0} (eq : K → K → Bool) (laws : IsEquivalence eq) where
   once-verdict : (cache : CacheState K V S W) (new : Entry K V) (gone : Option (List (Entry K V))) (refused : Bool)
@@ -124,12 +203,26 @@ module _ {K V S W : Type 0} (eq : K → K → Bool) (laws : IsEquivalence eq) wh
       once-push eq laws left.entries new (absent-leaving eq new.key (entry_keys gone) cache.contents absent)
       (once-remains eq cache.contents left (remains-leaving eq (entry_keys gone) cache.contents) once)
 
+  -- an entry that enters the window stands once
+  once-new : (cache : CacheState K V S W) (limit : Option ℕ) (new : Entry K V) (refused : Bool)
+      → entry_at eq new.key cache.contents.entries ≡ None
+      → StandOnce eq cache.contents.entries → StandOnce eq (after_new eq cache limit new refused).contents.entries
+  once-new cache None new refused absent once =
+      once-verdict cache new (victims_of cache.settings.policy.max_capacity cache.sketch new cache.contents.entries) refused absent once
+  once-new cache (Some limit) new refused absent once =
+      let keeps = keeps_writes cache.settings.policy in
+      let entered = after_entry eq keeps (record new { in_window = true }) cache.contents in
+      let contents = after_entering eq keeps limit cache.sketch new cache.contents in
+      subst (λ c. StandOnce eq c.entries) (sym (contents-standing eq (record cache { contents = contents }) new refused))
+      (once-candidates eq laws limit cache.sketch (candidates limit entered.entries) entered
+      (once-push eq laws cache.contents.entries (record new { in_window = true }) absent once))
+
   once-insert : (cache : CacheState K V S W) (o : Option (Entry K V)) (new : Entry K V) (refused : Bool)
       → entry_at eq new.key cache.contents.entries ≡ o
       → StandOnce eq cache.contents.entries → StandOnce eq (after_put eq cache o new refused).contents.entries
-  once-insert cache None new refused absent once =
-      once-verdict cache new (victims_of cache.settings.policy.max_capacity cache.sketch new cache.contents) refused absent once
-  once-insert cache (Some old) new refused found once = once-put eq laws cache.contents (record new { key = old.key; hash = old.hash }) once
+  once-insert cache None new refused absent once = once-new cache (windowed_limit cache.settings.policy.max_capacity) new refused absent once
+  once-insert cache (Some old) new refused found once =
+      once-moving eq laws (record new { key = old.key; hash = old.hash; in_window = old.in_window }) cache.contents once
 
 module _ {K V S W : Type 0} (keys : Keys K S) (laws : IsEquivalence keys.eq) (weighs : W → K → V → ℕ → W → Type 0) where
   -- no call makes a key stand twice

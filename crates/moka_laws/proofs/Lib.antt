@@ -1,7 +1,10 @@
 pub mod RemainLemmas
+pub mod CandidateLemmas
 pub mod LimitLemmas
 pub mod KeyLemmas
 pub mod MapLemmas
+pub mod StandLemmas
 pub mod OwnLemmas
 pub mod RoomLemmas
 pub mod WriteLemmas
+pub mod OrderLemmas

@@ -1,31 +1,35 @@
 -- Lemmas on how much the contents weigh after a call.
-use Rattle.std.proofs.Common.{◌≡◌, ◌⊎◌, ◌≤◌, ◌+◌, ◌-◌, ℕ, zero, suc, Bool, true, false, cond, not, ◌&&◌, List, [], ◌∷◌}
-use Rattle.std.proofs.Common.{◌++◌, All, filter, length, map, sum_by, take, take_while, nat_le, nat_lt, is_some, Option}
-use Rattle.std.proofs.Common.{Some, None, option_map, unwrap_or, refl, sym, ap, ◌∙◌, inl, inr, arith, subst}
-use Rattle.std.proofs.lemmas.Bool.{cases_Bool, cond-true, cond-false, false≢true, leb-true}
-use Rattle.std.proofs.lemmas.List.Elements.{All-filter, All-from_recursion, All-head, All-push, All-tail, recursion_from_All}
+use Rattle.std.proofs.Common.{◌≡◌, ◌⊎◌, ◌≤◌, ◌+◌, ◌-◌, ℕ, max, Bool, true, false, cond, not, ◌&&◌, List, [], ◌∷◌}
+use Rattle.std.proofs.Common.{◌++◌, All, filter, length, map, take, take_while, nat_le, is_some, Option}
+use Rattle.std.proofs.Common.{Some, None, unwrap_or, refl, sym, ap, ◌∙◌, inl, inr, arith, subst}
+use Rattle.std.proofs.lemmas.Bool.{cases_Bool, cond-true, cond-false, false≢true}
+use Rattle.std.proofs.lemmas.List.Elements.{All-filter, All-from_recursion, All-head, All-tail, filter-append, recursion_from_All}
+use Rattle.std.proofs.Math.Nat.{le-max_left, le-max_right}
 use Rattle.std.proofs.lemmas.List.Sums.{sum_by-append, sum_by-cons, sum_by_push}
 use Rattle.std.specs.Cmp.{IsEquivalence}
 use Rattle.std.specs.List.{AllByRecursion}
-use Rattle.moka_base.specs.Admission.{outvoted}
 use Rattle.moka_base.specs.Keys.{Keys}
 use Rattle.moka_base.specs.Policy.{Policy}
-use Rattle.moka_base.specs.Prefix.{shortest_prefix}
-use Rattle.moka_sketch.specs.Sketch.{Table, estimate}
+use Rattle.moka_sketch.specs.Sketch.{Table}
 use Rattle.moka_machine.specs.declared.entry.Entry.{Entry}
-use Rattle.moka_machine.specs.declared.constants.TheConstants.{EVICTION_BATCH_SIZE}
-use Rattle.moka_machine.specs.Contents.{Contents, after_leaving, entry_at, entries_without, entry_keys, total_weight, without}
+use Rattle.moka_machine.specs.declared.constants.TheConstants.{EVICTION_BATCH_SIZE, WINDOW_SHARE}
+use Rattle.moka_machine.specs.Contents.{Contents, after_leaving, after_moving, entry_at, entries_without, entry_keys, main_of, total_weight, window_of, with_latest, without}
 use Rattle.moka_machine.specs.CacheState.{CacheState, new_cache}
 use Rattle.moka_base.specs.Settings.{keeps_writes}
-use Rattle.moka_machine.specs.Upkeep.{after_expiry, after_live_expiry, after_trim, after_upkeep}
-use Rattle.moka_machine.specs.Upkeep.{has_lived, is_idle, least_recent, is_expired, unexpired}
-use Rattle.moka_machine.specs.Insert.{IsInserted, after_admission, after_put, after_verdict, new_entry, victims_of}
+use Rattle.moka_machine.specs.Upkeep.{after_expiry, after_idle, after_live_expiry, after_trim, after_upkeep}
+use Rattle.moka_machine.specs.Upkeep.{has_lived, least_recent, is_expired, unexpired}
+use Rattle.moka_machine.specs.Insert.{IsInserted, after_admission, after_asking, after_entering, after_entry, after_new, after_put, after_verdict}
+use Rattle.moka_machine.specs.Insert.{new_entry}
+use Rattle.moka_machine.specs.Window.{after_candidacy, after_candidates, candidates, excess, main_limit, victims_of, window_limit, windowed_limit}
 use Rattle.moka_machine.specs.Invalidate.{chosen}
 use Rattle.moka_laws.specs.Laws.{IsUpdate, OnlyUpdatesOutgrowLimit, StaysWithinLimit}
 use Rattle.moka_machine.specs.Lookup.{after_search, after_use, unexpired_at}
 use Rattle.moka_machine.specs.Step.{Answer, IsStep, Request, Runs, Get, ContainsKey, Insert, Invalidate, Remove}
 use Rattle.moka_machine.specs.Step.{InvalidateAll, InvalidateEntriesIf, Iterate, EntryCount, WeightedSize}
-use Rattle.moka_machine.proofs.ContentsLemmas.{All-leaving, All-upkeep}
+use Rattle.moka_machine.proofs.ContentsLemmas.{All-leaving, All-upkeep, idle_keys}
+use Rattle.moka_machine.proofs.WindowLemmas.{All-latest, total-latest, total-main_latest, total-split, window-latest}
+use Rattle.moka_laws.proofs.CandidateLemmas.{All-new, least_parts, victims_weigh}
+use Rattle.moka_laws.proofs.MapLemmas.{settings-put}
 use Rattle.moka_laws.proofs.RemainLemmas.{filter-all, filter-both}
 
 and-false : (a b : Bool) → b ≡ false → (a && b) ≡ false
@@ -34,7 +38,7 @@ and-false false b h = refl
 
 module _ {K : Type 0} (eq : K → K → Bool) where
   -- whether a key is none of these
-  abbrev is_unlisted : List K → K → Bool
+  abbrev pub is_unlisted : List K → K → Bool
   is_unlisted [] k = true
   is_unlisted (key ∷ keys) k = not (eq key k) && is_unlisted keys k
 
@@ -91,11 +95,13 @@ module _ {K V : Type 0} where
         → total_weight (after_upkeep eq policy now contents).entries ≤ total_weight contents.entries
     total-upkeep policy now contents =
         let lived = after_live_expiry eq policy now EVICTION_BATCH_SIZE contents in
+        let waited = after_idle eq policy now EVICTION_BATCH_SIZE (window_of lived.entries) lived in
         let expired = after_expiry eq policy now contents in
         grind (
           arith,
           total-leaving (map (λ w. w.key) (take EVICTION_BATCH_SIZE (take_while (has_lived policy now) contents.written))) contents,
-          total-leaving (entry_keys (take EVICTION_BATCH_SIZE (take_while (is_idle policy now) lived.entries))) lived,
+          total-leaving (idle_keys policy now (window_of lived.entries)) lived,
+          total-leaving (idle_keys policy now (main_of lived.entries)) waited,
           total-trim policy.max_capacity expired,
         )
 
@@ -146,26 +152,6 @@ module _ {K V : Type 0} where
 
 -- ---- a new entry
 
--- a shortest prefix is a beginning, and weighs enough
-pub prefix_parts : {X : Type 0} (weight : X → ℕ) (enough : ℕ) (xs prefix : List X) → shortest_prefix weight enough xs ≡ Some prefix
-    → (rest : List X) × (xs ≡ prefix ++ rest) × (enough ≤ sum_by weight prefix)
-prefix_parts weight zero xs prefix h = let is : [] ≡ prefix = ap (λ o. unwrap_or o []) h in (xs, ap (λ p. p ++ xs) is, grind (arith))
-prefix_parts weight (suc n) [] prefix h = absurd (false≢true (ap is_some h))
-prefix_parts {X = X} weight (suc n) (x ∷ xs) prefix h =
-    by (shortest_prefix weight (suc n - weight x) xs) (prefix_parts weight (suc n - weight x) xs) h
-  where
-    by : (o : Option (List X)) → ((p : List X) → o ≡ Some p → (rest : List X) × (xs ≡ p ++ rest) × (suc n - weight x ≤ sum_by weight p))
-        → option_map (λ p. x ∷ p) o ≡ Some prefix
-        → (rest : List X) × (x ∷ xs ≡ prefix ++ rest) × (suc n ≤ sum_by weight prefix)
-    by None parts_of h = absurd (false≢true (ap is_some h))
-    by (Some p) parts_of h =
-        let (rest, parts, enough) = parts_of p refl in
-        let is : x ∷ p ≡ prefix = ap (λ o. unwrap_or o []) h in (
-          rest,
-          ap (λ l. x ∷ l) parts ∙ ap (λ l. l ++ rest) is,
-          subst (λ l. suc n ≤ sum_by weight l) is (grind (arith, sum_by-cons weight x p, enough)),
-        )
-
 module _ {K V : Type 0} where
   -- what is found is there
   pub found_there : (policy : Policy) (now : ℕ) (o : Option (Entry K V)) (used : Entry K V) → unexpired policy now o ≡ Some used
@@ -182,50 +168,191 @@ module _ {K V : Type 0} (eq : K → K → Bool) (laws : IsEquivalence eq) where
   abbrev pub IsBounded : ℕ → Contents K V → Contents K V → Type 0
   IsBounded limit old new = (total_weight new.entries ≤ total_weight old.entries) ⊎ (total_weight new.entries ≤ limit)
 
-  -- those that give way make room for the new entry, or there is room
-  bounded_victims : (keeps : Bool) (limit : ℕ) (sketch : Option Table) (new : Entry K V) (contents : Contents K V) (fits allowed : Bool)
-      → (fits ≡ true → total_weight contents.entries + new.weight ≤ limit)
-      → (gone : Option (List (Entry K V)))
-      → gone ≡ cond fits (Some [])
-      (cond allowed (outvoted (λ e. e.weight) (λ e. estimate sketch e.hash) (estimate sketch new.hash)
-      (shortest_prefix (λ e. e.weight) new.weight contents.entries)) None)
-      → IsBounded limit contents (after_admission eq keeps new gone contents)
-  bounded_victims keeps limit sketch new contents fits allowed room None is = inl (grind (arith))
-  bounded_victims keeps limit sketch new contents true allowed room (Some gone) is =
-      let none : gone ≡ [] = ap (λ o. unwrap_or o []) is in
-      inr (rw (total-push new (after_leaving eq (entry_keys gone) contents).entries)
-      (subst (λ g. total_weight (after_leaving eq (entry_keys g) contents).entries + new.weight ≤ limit) (sym none) (room refl)))
-  bounded_victims keeps limit sketch new contents false false room (Some gone) is = absurd (false≢true (sym (ap is_some is)))
-  bounded_victims keeps limit sketch new contents false true room (Some gone) is =
-      let (rest, parts, enough) =
-      by (shortest_prefix (λ e. e.weight) new.weight contents.entries) (prefix_parts (λ e. e.weight) new.weight contents.entries) is in
-      inl (rw (total-push new (after_leaving eq (entry_keys gone) contents).entries)
-      (grind (arith, enough, total-front eq laws gone rest contents parts, ap total_weight parts, sum_by-append (λ e. e.weight) gone rest)))
-    where
-      by : (o : Option (List (Entry K V))) → ((p : List (Entry K V)) → o ≡ Some p
-          → (rest : List (Entry K V)) × (contents.entries ≡ p ++ rest) × (new.weight ≤ total_weight p))
-          → Some gone ≡ outvoted (λ e. e.weight) (λ e. estimate sketch e.hash) (estimate sketch new.hash) o
-          → (rest : List (Entry K V)) × (contents.entries ≡ gone ++ rest) × (new.weight ≤ total_weight gone)
-      by None parts_of is = absurd (false≢true (sym (ap is_some is)))
-      by (Some p) parts_of is =
-          elim (cases_Bool (nat_lt (sum_by (λ e. estimate sketch e.hash) p) (estimate sketch new.hash))) [
-            | inl above ↦
-                let same : p ≡ gone =
-                ap (λ o. unwrap_or o [])
-                (sym (is ∙ cond-true (nat_lt (sum_by (λ e. estimate sketch e.hash) p) (estimate sketch new.hash)) (Some p) None above)) in
-                subst (λ g. (rest : List (Entry K V)) × (contents.entries ≡ g ++ rest) × (new.weight ≤ total_weight g)) same
-                (parts_of p refl)
-            | inr below ↦
-                absurd (false≢true (sym
-                (ap is_some (is ∙ cond-false (nat_lt (sum_by (λ e. estimate sketch e.hash) p) (estimate sketch new.hash)) (Some p) None
-                below))))
-          ]
-
   bounded_admission : (keeps : Bool) (limit : ℕ) (sketch : Option Table) (new : Entry K V) (contents : Contents K V)
-      → IsBounded limit contents (after_admission eq keeps new (victims_of (Some limit) sketch new contents) contents)
-  bounded_admission keeps limit sketch new contents =
-      bounded_victims keeps limit sketch new contents (nat_le (total_weight contents.entries + new.weight) limit) (nat_le new.weight limit)
-      (leb-true (total_weight contents.entries + new.weight) limit) (victims_of (Some limit) sketch new contents) refl
+      (gone : Option (List (Entry K V))) → victims_of (Some limit) sketch new contents.entries ≡ gone
+      → IsBounded limit contents (after_admission eq keeps new gone contents)
+  bounded_admission keeps limit sketch new contents None is = inl (grind (arith))
+  bounded_admission keeps limit sketch new contents (Some gone) is = by (victims_weigh limit sketch new contents.entries gone is)
+    where
+      by : (rest : List (Entry K V)) × (contents.entries ≡ gone ++ rest)
+          × ((total_weight contents.entries + new.weight ≤ limit) ⊎ (new.weight ≤ total_weight gone))
+          → IsBounded limit contents (after_admission eq keeps new (Some gone) contents)
+      by (rest, parts, inl room) =
+          inr (rw (total-push new (after_leaving eq (entry_keys gone) contents).entries)
+          (grind (arith, room, total-leaving eq (entry_keys gone) contents)))
+      by (rest, parts, inr enough) =
+          inl (rw (total-push new (after_leaving eq (entry_keys gone) contents).entries)
+          (grind (
+            arith,
+            enough,
+            total-front eq laws gone rest contents parts,
+            ap total_weight parts,
+            sum_by-append (λ e. e.weight) gone rest,
+          )))
+
+  -- ---- candidates for main
+
+  -- two tests in either order
+  pub filter-swap : (p q : Entry K V → Bool) (es : List (Entry K V)) → filter p (filter q es) ≡ filter q (filter p es)
+  filter-swap p q es = filter-both q p es ∙ ((λ i. filter (λ e. and-comm (q e) (p e) i) es) ∙ sym (filter-both p q es))
+    where
+      and-comm : (a b : Bool) → (a && b) ≡ (b && a)
+      and-comm true true = refl
+      and-comm true false = refl
+      and-comm false true = refl
+      and-comm false false = refl
+
+  -- the window once a candidate was judged: some have left, and it is one of them
+  window-candidacy : (e : Entry K V) (gone : Option (List (Entry K V))) (contents : Contents K V)
+      → (stays : K → Bool) × (stays e.key ≡ false)
+      × (window_of (after_candidacy eq e gone contents).entries ≡ filter (λ x. stays x.key) (window_of contents.entries))
+  window-candidacy e None contents = (
+    λ k. not (eq e.key k),
+    ap not (laws.refl e.key),
+    filter-swap (λ x. x.in_window) (λ x. not (eq e.key x.key)) contents.entries,
+  )
+  window-candidacy e (Some gone) contents =
+      let left = after_leaving eq (entry_keys gone) contents in (
+        λ k. is_unlisted eq (entry_keys gone) k && not (eq e.key k),
+        and-false (is_unlisted eq (entry_keys gone) e.key) (not (eq e.key e.key)) (ap not (laws.refl e.key)),
+        window-latest (record e { in_window = false }) (entries_without eq e.key left.entries) refl
+            ∙ (filter-swap (λ x. x.in_window) (λ x. not (eq e.key x.key)) left.entries
+            ∙ (ap (λ l. filter (λ x. not (eq e.key x.key)) (window_of l)) (leaving-filter eq (entry_keys gone) contents)
+            ∙ (ap (filter (λ x. not (eq e.key x.key)))
+            (filter-swap (λ x. x.in_window) (λ x. is_unlisted eq (entry_keys gone) x.key) contents.entries)
+            ∙ filter-both (λ x. is_unlisted eq (entry_keys gone) x.key) (λ x. not (eq e.key x.key)) (window_of contents.entries)))),
+      )
+
+  -- and once several were, one after another
+  window-candidates : (limit : ℕ) (sketch : Option Table) (es : List (Entry K V)) (contents : Contents K V)
+      → (stays : K → Bool) × AllByRecursion (λ e. stays e.key ≡ false) es
+      × (window_of (after_candidates eq limit sketch es contents).entries ≡ filter (λ x. stays x.key) (window_of contents.entries))
+  window-candidates limit sketch [] contents = (λ k. true, tt, filter-all (window_of contents.entries))
+  window-candidates limit sketch (e ∷ es) contents =
+      let gone = victims_of (Some (main_limit limit)) sketch e (main_of contents.entries) in
+      let (first, leaves, is) = window-candidacy e gone contents in
+      let (later, all, rest) = window-candidates limit sketch es (after_candidacy eq e gone contents) in (
+        λ k. first k && later k,
+        (ap (λ b. b && later e.key) leaves, behind first later es all),
+        rest
+            ∙ (ap (filter (λ x. later x.key)) is
+            ∙ filter-both (λ x. first x.key) (λ x. later x.key) (window_of contents.entries)),
+      )
+    where
+      behind : (first later : K → Bool) (es : List (Entry K V)) → AllByRecursion (λ e. later e.key ≡ false) es
+          → AllByRecursion (λ e. (first e.key && later e.key) ≡ false) es
+      behind first later [] all = tt
+      behind first later (e ∷ es) all = (and-false (first e.key) (later e.key) all.0, behind first later es all.1)
+
+  -- what is left of main
+  pub main-leaving : (gone : List (Entry K V)) (contents : Contents K V)
+      → main_of (after_leaving eq (entry_keys gone) contents).entries
+      ≡ filter (λ x. is_unlisted eq (entry_keys gone) x.key) (main_of contents.entries)
+  main-leaving gone contents =
+      ap main_of (leaving-filter eq (entry_keys gone) contents)
+      ∙ filter-swap (λ x. not x.in_window) (λ x. is_unlisted eq (entry_keys gone) x.key) contents.entries
+
+  -- an entry that comes to main adds no more than its weight
+  pub main-moved : (e : Entry K V) (contents : Contents K V)
+      → total_weight (main_of (after_moving eq (record e { in_window = false }) contents).entries)
+      ≤ total_weight (main_of contents.entries) + e.weight
+  main-moved e contents =
+      rw (total-main_latest (record e { in_window = false }) (entries_without eq e.key contents.entries) refl)
+      (grind (
+        arith,
+        ap total_weight (filter-swap (λ x. not x.in_window) (λ x. not (eq e.key x.key)) contents.entries),
+        total-filter (λ x. not (eq e.key x.key)) (main_of contents.entries),
+      ))
+
+  -- main, once a candidate was judged, weighs no more than before, or no more than it may
+  main-candidacy : (limit : ℕ) (sketch : Option Table) (e : Entry K V) (contents : Contents K V) (gone : Option (List (Entry K V)))
+      → victims_of (Some limit) sketch e (main_of contents.entries) ≡ gone
+      → (total_weight (main_of (after_candidacy eq e gone contents).entries) ≤ total_weight (main_of contents.entries))
+      ⊎ (total_weight (main_of (after_candidacy eq e gone contents).entries) ≤ limit)
+  main-candidacy limit sketch e contents None is =
+      inl (rw (filter-swap (λ x. not x.in_window) (λ x. not (eq e.key x.key)) contents.entries)
+      (total-filter (λ x. not (eq e.key x.key)) (main_of contents.entries)))
+  main-candidacy limit sketch e contents (Some gone) is =
+      by (victims_weigh limit sketch e (main_of contents.entries) gone is)
+    where
+      by : (rest : List (Entry K V)) × (main_of contents.entries ≡ gone ++ rest)
+          × ((total_weight (main_of contents.entries) + e.weight ≤ limit) ⊎ (e.weight ≤ total_weight gone))
+          → (total_weight (main_of (after_candidacy eq e (Some gone) contents).entries) ≤ total_weight (main_of contents.entries))
+          ⊎ (total_weight (main_of (after_candidacy eq e (Some gone) contents).entries) ≤ limit)
+      by (rest, parts, inl room) =
+          inr (grind (
+            arith,
+            room,
+            main-moved e (after_leaving eq (entry_keys gone) contents),
+            ap total_weight (main-leaving gone contents),
+            total-filter (λ x. is_unlisted eq (entry_keys gone) x.key) (main_of contents.entries),
+          ))
+      by (rest, parts, inr enough) =
+          inl (grind (
+            arith,
+            enough,
+            main-moved e (after_leaving eq (entry_keys gone) contents),
+            ap total_weight (main-leaving gone contents ∙ ap (filter (λ x. is_unlisted eq (entry_keys gone) x.key)) parts),
+            total-behind (λ x. is_unlisted eq (entry_keys gone) x.key) gone rest (all-listed eq laws gone),
+            ap total_weight parts,
+            sum_by-append (λ e. e.weight) gone rest,
+          ))
+
+  main-candidates : (limit : ℕ) (sketch : Option Table) (es : List (Entry K V)) (contents : Contents K V)
+      → (total_weight (main_of (after_candidates eq limit sketch es contents).entries) ≤ total_weight (main_of contents.entries))
+      ⊎ (total_weight (main_of (after_candidates eq limit sketch es contents).entries) ≤ main_limit limit)
+  main-candidates limit sketch [] contents = inl (grind (arith))
+  main-candidates limit sketch (e ∷ es) contents =
+      let gone = victims_of (Some (main_limit limit)) sketch e (main_of contents.entries) in
+      let next = after_candidacy eq e gone contents in
+      elim (main-candidates limit sketch es next) [
+        | inl less ↦
+            elim (main-candidacy (main_limit limit) sketch e contents gone refl) [
+              | inl h ↦ inl (grind (arith, less, h))
+              | inr h ↦ inr (grind (arith, less, h))
+            ]
+        | inr h ↦ inr h
+      ]
+
+  -- an entry that enters the window leaves no more weight, or no more than the limit
+  bounded_entering : (keeps : Bool) (limit : ℕ) (sketch : Option Table) (new : Entry K V) (contents : Contents K V)
+      → IsBounded limit contents (after_entering eq keeps limit sketch new contents)
+  bounded_entering keeps limit sketch new contents =
+      let entry = record new { in_window = true } in
+      let entered = after_entry eq keeps entry contents in
+      let window = window_of entered.entries in
+      let enough = excess limit entered.entries in
+      let after = after_candidates eq limit sketch (candidates limit entered.entries) entered in
+      let (rest, parts, heavy) = least_parts enough window in
+      let (stays, leave, left) = window-candidates limit sketch (candidates limit entered.entries) entered in
+      let less : total_weight (window_of after.entries) ≤ total_weight rest =
+      rw (left ∙ ap (filter (λ x. stays x.key)) parts) (total-behind (λ x. stays x.key) (candidates limit entered.entries) rest leave) in
+      let main : total_weight (main_of entered.entries) ≤ total_weight contents.entries =
+      grind (
+        arith,
+        ap total_weight (filter-append (λ e. not e.in_window) contents.entries (entry ∷ [])),
+        sum_by-append (λ e. e.weight) (main_of contents.entries) [],
+        total-split contents.entries,
+      ) in
+      by (total_weight contents.entries) (total_weight (main_of entered.entries)) (total_weight window) (total_weight entered.entries)
+      (total_weight (candidates limit entered.entries)) (total_weight rest)
+      (total_weight (main_of after.entries)) (total_weight (window_of after.entries)) (total_weight after.entries)
+      main (total-split entered.entries) (ap total_weight parts ∙ sum_by-append (λ e. e.weight) (candidates limit entered.entries) rest)
+      less (total-split after.entries)
+      (elim heavy [ inl h ↦ inl h | inr none ↦ inr (ap total_weight none) ])
+      (main-candidates limit sketch (candidates limit entered.entries) entered)
+    where
+      by : (old main1 window1 all1 chosen rest main2 window2 all2 : ℕ)
+          → main1 ≤ old → main1 + window1 ≡ all1 → window1 ≡ chosen + rest → window2 ≤ rest → main2 + window2 ≡ all2
+          → (max (window1 - window_limit limit) (all1 - limit) ≤ chosen) ⊎ (rest ≡ 0)
+          → (main2 ≤ main1) ⊎ (main2 ≤ main_limit limit)
+          → (all2 ≤ old) ⊎ (all2 ≤ limit)
+      by old main1 window1 all1 chosen rest main2 window2 all2 a b c d e (inl enough) (inl less) =
+          inr (omega (arith, le-max_right (window1 - window_limit limit) (all1 - limit)))
+      by old main1 window1 all1 chosen rest main2 window2 all2 a b c d e (inl enough) (inr less) =
+          inr (omega (arith, le-max_left (window1 - window_limit limit) (all1 - limit)))
+      by old main1 window1 all1 chosen rest main2 window2 all2 a b c d e (inr none) (inl less) = inl (omega arith)
+      by old main1 window1 all1 chosen rest main2 window2 all2 a b c d e (inr none) (inr less) = inr (omega arith)
 
   -- a use leaves no more weight
   total-search : (policy : Policy) (now : ℕ) (key : K) (contents : Contents K V)
@@ -237,7 +364,7 @@ module _ {K V : Type 0} (eq : K → K → Bool) (laws : IsEquivalence eq) where
           → total_weight (after_use eq now o contents).entries ≤ total_weight contents.entries
       by None there = grind (arith)
       by (Some used) there =
-          rw (total-push (record used { accessed = now }) (entries_without eq used.key contents.entries))
+          rw (total-latest (record used { accessed = now }) (entries_without eq used.key contents.entries))
           (total-found eq laws key used contents.entries (there used refl))
 
 module _ {K V S W : Type 0} (keys : Keys K S) (laws : IsEquivalence keys.eq) (weighs : W → K → V → ℕ → W → Type 0) where
@@ -251,11 +378,32 @@ module _ {K V S W : Type 0} (keys : Keys K S) (laws : IsEquivalence keys.eq) (we
       → IsBounded keys.eq laws limit cache.contents (after_put keys.eq cache o new refused).contents
   bounded_put cache limit new refused has (Some old) none = absurd (false≢true (sym none))
   bounded_put cache limit new refused has None none =
-      subst (λ l. IsBounded keys.eq laws limit cache.contents
-      (after_verdict keys.eq cache new (victims_of l cache.sketch new cache.contents) refused).contents) (sym has)
-      (by (victims_of (Some limit) cache.sketch new cache.contents)
-      (bounded_admission keys.eq laws (keeps_writes cache.settings.policy) limit cache.sketch new cache.contents))
+      subst (λ l. IsBounded keys.eq laws limit cache.contents (after_new keys.eq cache (windowed_limit l) new refused).contents) (sym has)
+      (elim (cases_Bool (nat_le WINDOW_SHARE limit)) [
+        | inl windowed ↦
+            subst (λ l. IsBounded keys.eq laws limit cache.contents (after_new keys.eq cache l new refused).contents)
+            (sym (cond-true (nat_le WINDOW_SHARE limit) (Some limit) None windowed))
+            (standing (is_some (entry_at keys.eq new.key entered.entries))
+            (bounded_entering keys.eq laws (keeps_writes cache.settings.policy) limit cache.sketch new cache.contents))
+        | inr low ↦
+            subst (λ l. IsBounded keys.eq laws limit cache.contents (after_new keys.eq cache l new refused).contents)
+            (sym (cond-false (nat_le WINDOW_SHARE limit) (Some limit) None low))
+            (subst (λ l. IsBounded keys.eq laws limit cache.contents
+            (after_verdict keys.eq cache new (victims_of l cache.sketch new cache.contents.entries) refused).contents) (sym has)
+            (by (victims_of (Some limit) cache.sketch new cache.contents.entries)
+            (bounded_admission keys.eq laws (keeps_writes cache.settings.policy) limit cache.sketch new cache.contents
+            (victims_of (Some limit) cache.sketch new cache.contents.entries) refl)))
+      ])
     where
+      entered : Contents K V
+      entered = after_entering keys.eq (keeps_writes cache.settings.policy) limit cache.sketch new cache.contents
+
+      standing : (b : Bool) → IsBounded keys.eq laws limit cache.contents entered
+          → IsBounded keys.eq laws limit cache.contents
+          (cond b (after_asking keys.eq refused (record cache { contents = entered })) (record cache { contents = entered })).contents
+      standing true bounded = bounded
+      standing false bounded = bounded
+
       by : (o : Option (List (Entry K V)))
           → IsBounded keys.eq laws limit cache.contents (after_admission keys.eq (keeps_writes cache.settings.policy) new o cache.contents)
           → IsBounded keys.eq laws limit cache.contents (after_verdict keys.eq cache new o refused).contents
@@ -351,8 +499,8 @@ module _ {K V : Type 0} (eq : K → K → Bool) where
             (sym (cond-false (eq key f.key) (Some f) (entry_at eq key fs) differ) ∙ h)
       ]
 
-  ones_push : (es : List (Entry K V)) (e : Entry K V) → AllOne es → e.weight ≡ 1 → AllOne (es ++ e ∷ [])
-  ones_push es e ones one = All-push (λ e. e.weight ≡ 1) es e ones one
+  ones_latest : (es : List (Entry K V)) (e : Entry K V) → AllOne es → e.weight ≡ 1 → AllOne (with_latest e es)
+  ones_latest es e ones one = All-latest (λ e. e.weight ≡ 1) e es ones one
 
   ones_search : (policy : Policy) (now : ℕ) (key : K) (contents : Contents K V) → AllOne contents.entries
       → AllOne (after_search eq policy now key contents).entries
@@ -363,7 +511,7 @@ module _ {K V : Type 0} (eq : K → K → Bool) where
           → AllOne (after_use eq now o contents).entries
       by None there = ones
       by (Some used) there =
-          ones_push (entries_without eq used.key contents.entries) (record used { accessed = now })
+          ones_latest (entries_without eq used.key contents.entries) (record used { accessed = now })
           (All-filter (λ e. not (eq used.key e.key)) (λ e. e.weight ≡ 1) contents.entries ones)
           (ones_found key contents.entries used ones (there used refl))
 
@@ -380,13 +528,13 @@ module _ {K V S W : Type 0} (keys : Keys K S) (laws : IsEquivalence keys.eq) (we
       → IsWithin limit (after_put keys.eq cache o new refused)
   within_put limit cache new refused within one (Some old) at =
       let less = entries_without keys.eq old.key cache.contents.entries in
-      let update = record new { key = old.key; hash = old.hash } in
+      let update = record new { key = old.key; hash = old.hash; in_window = old.in_window } in
       record {
         has = within.has;
         ones =
-            ones_push keys.eq less update
+            ones_latest keys.eq less update
             (All-filter (λ e. not (keys.eq old.key e.key)) (λ e. e.weight ≡ 1) cache.contents.entries within.ones) one;
-        fits = rw (total-push update less)
+        fits = rw (total-latest update less)
             (grind (
               arith,
               total-found keys.eq laws new.key old cache.contents.entries at,
@@ -397,26 +545,17 @@ module _ {K V S W : Type 0} (keys : Keys K S) (laws : IsEquivalence keys.eq) (we
             ));
       }
   within_put limit cache new refused within one None at =
-      let gone = victims_of cache.settings.policy.max_capacity cache.sketch new cache.contents in
-      by gone (bounded_put keys laws weighs cache limit new refused within.has None refl) refl
-    where
-      by : (o : Option (List (Entry K V))) → IsBounded keys.eq laws limit cache.contents
-          (after_verdict keys.eq cache new (victims_of cache.settings.policy.max_capacity cache.sketch new cache.contents) refused).contents
-          → victims_of cache.settings.policy.max_capacity cache.sketch new cache.contents ≡ o
-          → IsWithin limit (after_verdict keys.eq cache new (victims_of cache.settings.policy.max_capacity cache.sketch new cache.contents)
-          refused)
-      by None bounded is = subst (λ o. IsWithin limit (after_verdict keys.eq cache new o refused)) (sym is) within
-      by (Some gone) bounded is =
-          let below : IsBounded keys.eq laws limit cache.contents (after_verdict keys.eq cache new (Some gone) refused).contents =
-          subst (λ o. IsBounded keys.eq laws limit cache.contents (after_verdict keys.eq cache new o refused).contents) is bounded in
-          subst (λ o. IsWithin limit (after_verdict keys.eq cache new o refused)) (sym is)
-          (record {
-            has = within.has;
-            ones =
-                ones_push keys.eq (after_leaving keys.eq (entry_keys gone) cache.contents).entries new
-                (All-leaving keys.eq (λ e. e.weight ≡ 1) (entry_keys gone) cache.contents within.ones) one;
-            fits = elim below [ inl h ↦ grind (arith, h, within.fits) | inr h ↦ h ];
-          })
+      record {
+        has = ap (λ s. s.policy.max_capacity) (settings-put keys.eq cache None new refused) ∙ within.has;
+        ones =
+            All-new keys.eq (λ e. e.weight ≡ 1) (λ e b h. h) cache (windowed_limit cache.settings.policy.max_capacity) new refused
+            within.ones one;
+        fits =
+            elim (bounded_put keys laws weighs cache limit new refused within.has None refl) [
+              | inl h ↦ grind (arith, h, within.fits)
+              | inr h ↦ h
+            ];
+      }
 
   within_less : (limit : ℕ) (old new meant : CacheState K V S W) → IsWithin limit old → new ≡ meant → meant.settings ≡ old.settings
       → AllOne keys.eq meant.contents.entries

@@ -15,18 +15,20 @@ use Rattle.moka_base.specs.Moment.{idle_expired, live_expired}
 use Rattle.moka_base.specs.Policy.{Policy}
 use Rattle.moka_machine.specs.declared.entry.Entry.{Entry}
 use Rattle.moka_machine.specs.declared.constants.TheConstants.{EVICTION_BATCH_SIZE}
-use Rattle.moka_machine.specs.Contents.{Contents, after_leaving, entry_at, entries_without, entry_keys, without}
+use Rattle.moka_machine.specs.Contents.{Contents, after_leaving, entry_at, entries_without, entry_keys, main_of, window_of, with_latest, without}
 use Rattle.moka_machine.specs.CacheState.{CacheState}
-use Rattle.moka_base.specs.Settings.{idle_nanos, live_nanos}
-use Rattle.moka_machine.specs.Upkeep.{after_expiry, after_idle_expiry, after_trim, after_upkeep, has_lived, is_idle, is_expired, unexpired}
+use Rattle.moka_base.specs.Settings.{idle_nanos, keeps_writes, live_nanos}
+use Rattle.moka_machine.specs.Upkeep.{after_expiry, after_idle, after_idle_expiry, after_trim, after_upkeep, has_lived, is_idle, is_expired, unexpired}
 use Rattle.moka_machine.specs.Lookup.{after_look, after_search, after_use, found_by_get, unexpired_at}
-use Rattle.moka_machine.specs.Insert.{after_put, after_verdict, new_entry, victims_of}
+use Rattle.moka_machine.specs.Insert.{after_asking, after_entering, after_new, after_put, after_verdict, new_entry}
+use Rattle.moka_machine.specs.Window.{victims_of, windowed_limit}
 use Rattle.moka_machine.specs.Invalidate.{chosen}
 use Rattle.moka_machine.specs.Iterate.{unexpired_pairs, pairs_of}
 use Rattle.moka_machine.specs.Step.{Answer, IsStep, Request, Get, ContainsKey, Insert, Invalidate, Remove, InvalidateAll}
 use Rattle.moka_machine.specs.Step.{InvalidateEntriesIf, Iterate, EntryCount, WeightedSize, Found, Truth, OutOfMemory, Pairs, Number}
 use Rattle.moka_laws.specs.PlainMap.{IsMapAnswer, IsUnbounded, RunsAsMap, StepsAsMap, value_after, value_at}
 use Rattle.moka_machine.proofs.ContentsLemmas.{found_key}
+use Rattle.moka_machine.proofs.WindowLemmas.{latest_parts}
 use Rattle.moka_laws.proofs.KeyLemmas.{entry_at-gone, keys-pairs, once-step}
 
 -- ---- upkeep without limits
@@ -52,16 +54,17 @@ module _ (policy : Policy) (unbounded : IsUnbounded policy) (now : ℕ) where
 
   -- nothing leaves
   upkeep-same : {K V : Type 0} (eq : K → K → Bool) (contents : Contents K V) → after_upkeep eq policy now contents ≡ contents
-  upkeep-same eq contents =
+  upkeep-same {K = K} {V = V} eq contents =
       let none_lived : take EVICTION_BATCH_SIZE (take_while (has_lived policy now) contents.written) ≡ [] =
       ap (take EVICTION_BATCH_SIZE) (take_while-none (has_lived policy now) contents.written (λ w. lives w.modified))
       ∙ take-nil EVICTION_BATCH_SIZE in
-      let none_idle : take EVICTION_BATCH_SIZE (take_while (is_idle policy now) contents.entries) ≡ [] =
-      ap (take EVICTION_BATCH_SIZE) (take_while-none (is_idle policy now) contents.entries (λ e. used e.accessed))
+      let none_idle = λ (es : List (Entry K V)). ap (take EVICTION_BATCH_SIZE) (take_while-none (is_idle policy now) es (λ e. used e.accessed))
       ∙ take-nil EVICTION_BATCH_SIZE in
       ap (λ limit. after_trim eq limit (after_expiry eq policy now contents)) unbounded.0
       ∙ (ap (after_idle_expiry eq policy now EVICTION_BATCH_SIZE) (ap (λ l. after_leaving eq (map (λ w. w.key) l) contents) none_lived)
-      ∙ ap (λ l. after_leaving eq (entry_keys l) contents) none_idle)
+      ∙ (ap (λ l. after_leaving eq (entry_keys l) (after_idle eq policy now EVICTION_BATCH_SIZE (window_of contents.entries) contents))
+      (none_idle (main_of contents.entries))
+      ∙ ap (λ l. after_leaving eq (entry_keys l) contents) (none_idle (window_of contents.entries))))
 
 -- ---- what stands at a key
 
@@ -118,6 +121,42 @@ module _ {K V : Type 0} {eq : K → K → Bool} (laws : IsEquivalence eq) where
         | inr differ ↦ ap (cond (eq new.key key) (Some new)) (entry_at-other new.key key differ entries)
       ]
 
+  -- a new entry stands at its key, wherever it is put
+  pub entry_at-latest : (key : K) (new : Entry K V) (entries : List (Entry K V)) → entry_at eq new.key entries ≡ None
+      → entry_at eq key (with_latest new entries) ≡ cond (eq new.key key) (Some new) (entry_at eq key entries)
+  entry_at-latest key new entries absent =
+      let (front, back, parts, latest) = latest_parts new entries in
+      let before = find-append (λ e. eq key e.key) front back in
+      ap (entry_at eq key) latest
+      ∙ (find-append (λ e. eq key e.key) front (new ∷ back)
+      ∙ elim (cases_Bool (eq new.key key)) [
+        | inl equal ↦
+            (λ i. option_or
+            (or_left (entry_at eq key front) (entry_at eq key back)
+            (sym before ∙ (sym (ap (entry_at eq key) parts) ∙ (sym (entry_at-equal new.key key equal entries) ∙ absent))) i)
+            (cond-true (eq key new.key) (Some new) (entry_at eq key back) (laws.symm key new.key ∙ equal) i))
+            ∙ sym (cond-true (eq new.key key) (Some new) (entry_at eq key entries) equal)
+        | inr differ ↦
+            ap (option_or (entry_at eq key front))
+            (cond-false (eq key new.key) (Some new) (entry_at eq key back) (laws.symm key new.key ∙ differ))
+            ∙ (sym before
+            ∙ (sym (ap (entry_at eq key) parts) ∙ sym (cond-false (eq new.key key) (Some new) (entry_at eq key entries) differ)))
+      ])
+    where
+      or_left : (a b : Option (Entry K V)) → option_or a b ≡ None → a ≡ None
+      or_left None b none = refl
+      or_left (Some e) b none = none
+
+  -- and so does one that moves
+  pub entry_at-moved : (key : K) (moved : Entry K V) (entries : List (Entry K V))
+      → entry_at eq key (with_latest moved (entries_without eq moved.key entries)) ≡ cond (eq moved.key key) (Some moved) (entry_at eq key entries)
+  entry_at-moved key moved entries =
+      entry_at-latest key moved (entries_without eq moved.key entries) (entry_at-gone eq laws moved.key moved.key (laws.refl moved.key) entries)
+      ∙ elim (cases_Bool (eq moved.key key)) [
+        | inl equal ↦ cond-true (eq moved.key key) (Some moved) _ equal ∙ sym (cond-true (eq moved.key key) (Some moved) _ equal)
+        | inr differ ↦ ap (cond (eq moved.key key) (Some moved)) (entry_at-other moved.key key differ entries)
+      ]
+
 -- ---- what value it has
 
 -- a choice between values
@@ -163,9 +202,9 @@ module _ {K V : Type 0} {eq : K → K → Bool} (laws : IsEquivalence eq) (key :
 
   -- an entry that takes the place of another brings its value
   value-put : (new : Entry K V) (entries : List (Entry K V))
-      → value_in (entries_without eq new.key entries ++ new ∷ []) ≡ cond (eq new.key key) (Some new.value) (value_in entries)
+      → value_in (with_latest new (entries_without eq new.key entries)) ≡ cond (eq new.key key) (Some new.value) (value_in entries)
   value-put new entries =
-      ap (option_map (λ e. e.value)) (entry_at-put laws key new entries) ∙ value_of (eq new.key key) (Some new) (entry_at eq key entries)
+      ap (option_map (λ e. e.value)) (entry_at-moved laws key new entries) ∙ value_of (eq new.key key) (Some new) (entry_at eq key entries)
 
   -- a use changes no value
   value-used : (now : ℕ) (other : K) (o : Option (Entry K V)) (contents : Contents K V) → entry_at eq other contents.entries ≡ o
@@ -190,13 +229,15 @@ module _ {K V : Type 0} {eq : K → K → Bool} (laws : IsEquivalence eq) (key :
         → value_in (after_put eq cache o new refused).contents.entries ≡ cond (eq new.key key) (Some new.value)
         (value_in cache.contents.entries)
     value-inserted cache None new refused unbounded found =
-        ap (λ limit. value_in (after_verdict eq cache new (victims_of limit cache.sketch new cache.contents) refused).contents.entries)
-        unbounded ∙ (ap (option_map (λ e. e.value))
+        ap (λ limit. value_in (after_new eq cache (windowed_limit limit) new refused).contents.entries) unbounded
+        ∙ (ap (λ limit. value_in (after_verdict eq cache new (victims_of limit cache.sketch new cache.contents.entries) refused).contents.entries)
+        unbounded
+        ∙ (ap (option_map (λ e. e.value))
         (entry_at-push laws key new cache.contents.entries (λ equal. sym (entry_at-equal laws new.key key equal cache.contents.entries)
         ∙ found))
-        ∙ value_of (eq new.key key) (Some new) (entry_at eq key cache.contents.entries))
+        ∙ value_of (eq new.key key) (Some new) (entry_at eq key cache.contents.entries)))
     value-inserted cache (Some old) new refused unbounded found =
-        value-put (record new { key = old.key; hash = old.hash }) cache.contents.entries
+        value-put (record new { key = old.key; hash = old.hash; in_window = old.in_window }) cache.contents.entries
         ∙ ap (λ b. cond b (Some new.value) (value_in cache.contents.entries))
         (sym (laws.congr new.key old.key key (found_key eq new.key old cache.contents.entries found)))
 
@@ -253,13 +294,24 @@ told_by_value (Some e) = refl
 
 module _ {K V S W : Type 0} (eq : K → K → Bool) where
   -- an insert leaves the settings
-  settings-put : (cache : CacheState K V S W) (o : Option (Entry K V)) (new : Entry K V) (refused : Bool)
+  pub settings-put : (cache : CacheState K V S W) (o : Option (Entry K V)) (new : Entry K V) (refused : Bool)
       → (after_put eq cache o new refused).settings ≡ cache.settings
-  settings-put cache None new refused = by (victims_of cache.settings.policy.max_capacity cache.sketch new cache.contents)
+  settings-put cache None new refused = settings-new (windowed_limit cache.settings.policy.max_capacity)
     where
       by : (gone : Option (List (Entry K V))) → (after_verdict eq cache new gone refused).settings ≡ cache.settings
       by None = refl
       by (Some victims) = refl
+
+      standing : (b : Bool) (left : CacheState K V S W) → left.settings ≡ cache.settings
+          → (cond b (after_asking eq refused left) left).settings ≡ cache.settings
+      standing true left same = same
+      standing false left same = same
+
+      settings-new : (limit : Option ℕ) → (after_new eq cache limit new refused).settings ≡ cache.settings
+      settings-new None = by (victims_of cache.settings.policy.max_capacity cache.sketch new cache.contents.entries)
+      settings-new (Some limit) =
+          let contents = after_entering eq (keeps_writes cache.settings.policy) limit cache.sketch new cache.contents in
+          standing (is_some (entry_at eq new.key contents.entries)) (record cache { contents = contents }) refl
   settings-put cache (Some old) new refused = refl
 
 module _ {K V S W : Type 0} (keys : Keys K S) where

@@ -2,7 +2,7 @@
 use Rattle.std.proofs.Common.{◌≡◌, ◌<◌, ◌^◌, ℕ, Bool, not, List, [], ◌∷◌, All, is_some, Option, Some, None, unwrap_or, refl, sym, ap, ◌∙◌}
 use Rattle.std.proofs.Common.{subst, inl, inr}
 use Rattle.std.proofs.lemmas.Bool.{cases_Bool, cond-true, cond-false, false≢true}
-use Rattle.std.proofs.lemmas.List.Elements.{All-filter, All-push, All-head, All-tail, All-from_recursion}
+use Rattle.std.proofs.lemmas.List.Elements.{All-filter, All-head, All-tail, All-from_recursion}
 use Rattle.moka_base.specs.Keys.{Keys}
 use Rattle.moka_base.specs.Policy.{Policy}
 use Rattle.moka_machine.specs.declared.entry.Entry.{Entry}
@@ -10,12 +10,15 @@ use Rattle.moka_machine.specs.Contents.{Contents, entry_at, entry_keys}
 use Rattle.moka_machine.specs.CacheState.{CacheState, new_cache}
 use Rattle.moka_machine.specs.Upkeep.{is_expired, unexpired}
 use Rattle.moka_machine.specs.Lookup.{after_look, after_use, unexpired_at}
-use Rattle.moka_machine.specs.Insert.{after_put, after_verdict, new_entry, victims_of}
+use Rattle.moka_machine.specs.Insert.{after_put, new_entry}
+use Rattle.moka_machine.specs.Window.{windowed_limit}
 use Rattle.moka_machine.specs.Invalidate.{chosen}
 use Rattle.moka_machine.specs.Step.{Answer, IsStep, Request, Runs, Get, ContainsKey, Insert, Invalidate, Remove, InvalidateAll}
 use Rattle.moka_machine.specs.Step.{InvalidateEntriesIf, Iterate, EntryCount, WeightedSize}
 use Rattle.moka_machine.proofs.ContentsLemmas.{All-leaving, All-upkeep}
 use Rattle.moka_laws.specs.Laws.{EntriesAreOwn}
+use Rattle.moka_machine.proofs.WindowLemmas.{All-latest}
+use Rattle.moka_laws.proofs.CandidateLemmas.{All-new}
 use Rattle.moka_laws.proofs.MapLemmas.{settings-step}
 
 -- an entry that is found unexpired is found
@@ -30,7 +33,7 @@ unexpired-found policy now (Some f) e h =
 
 module _ {K V : Type 0} (eq : K → K → Bool) (P : Entry K V → Type 0) where
   -- what holds of all entries holds of the one that is found
-  All-found : (key : K) (e : Entry K V) (entries : List (Entry K V)) → All P entries → entry_at eq key entries ≡ Some e → P e
+  pub All-found : (key : K) (e : Entry K V) (entries : List (Entry K V)) → All P entries → entry_at eq key entries ≡ Some e → P e
   All-found key e [] a h = absurd (false≢true (ap is_some h))
   All-found key e (f ∷ fs) a h =
       elim (cases_Bool (eq key f.key)) [
@@ -50,22 +53,16 @@ module _ {K V S : Type 0} (keys : Keys K S) (state : S) where
       → All IsOwn contents.entries → All IsOwn (after_use keys.eq now o contents).entries
   own-use now key None contents found a = a
   own-use now key (Some e) contents found a =
-      All-push IsOwn _ (record e { accessed = now }) (All-filter (λ f. not (keys.eq e.key f.key)) IsOwn contents.entries a)
+      All-latest IsOwn (record e { accessed = now }) _ (All-filter (λ f. not (keys.eq e.key f.key)) IsOwn contents.entries a)
       (All-found keys.eq IsOwn key e contents.entries a (found e refl))
-
-  own-verdict : {W : Type 0} (cache : CacheState K V S W) (new : Entry K V) (gone : Option (List (Entry K V))) (refused : Bool) → IsOwn new
-      → All IsOwn cache.contents.entries → All IsOwn (after_verdict keys.eq cache new gone refused).contents.entries
-  own-verdict cache new None refused own a = a
-  own-verdict cache new (Some gone) refused own a =
-      All-push IsOwn _ new (All-leaving keys.eq IsOwn (entry_keys gone) cache.contents a) own
 
   own-put : {W : Type 0} (cache : CacheState K V S W) (key : K) (o : Option (Entry K V)) (new : Entry K V) (refused : Bool) → IsOwn new
       → entry_at keys.eq key cache.contents.entries ≡ o
       → All IsOwn cache.contents.entries → All IsOwn (after_put keys.eq cache o new refused).contents.entries
   own-put cache key None new refused own found a =
-      own-verdict cache new (victims_of cache.settings.policy.max_capacity cache.sketch new cache.contents) refused own a
+      All-new keys.eq IsOwn (λ e b own. own) cache (windowed_limit cache.settings.policy.max_capacity) new refused a own
   own-put cache key (Some old) new refused own found a =
-      All-push IsOwn _ (record new { key = old.key; hash = old.hash })
+      All-latest IsOwn (record new { key = old.key; hash = old.hash; in_window = old.in_window }) _
       (All-filter (λ f. not (keys.eq old.key f.key)) IsOwn cache.contents.entries a)
       ((All-found keys.eq IsOwn key old cache.contents.entries a found).0, own.1)
 

@@ -1,14 +1,16 @@
 -- That a cache with room above its limit refuses nothing.
-use Rattle.std.proofs.Common.{◌≡◌, ◌≢◌, ◌∙◌, ◌<◌, ◌≤◌, ℕ, Bool, List, [], ◌∷◌, length}
+use Rattle.std.proofs.Common.{◌≡◌, ◌≢◌, ◌∙◌, ◌<◌, ◌≤◌, ℕ, Bool, true, false, cond, List, [], ◌∷◌, is_some, length}
 use Rattle.std.proofs.Common.{Option, Some, None, inl, inr, refl, sym, ap, subst, arith}
 use Rattle.std.specs.Cmp.{IsEquivalence}
 use Rattle.std.specs.List.{AllByRecursion}
 use Rattle.std.proofs.lemmas.List.Elements.{All-from_recursion, recursion_from_All}
 use Rattle.moka_base.specs.Keys.{Keys}
+use Rattle.moka_base.specs.Settings.{keeps_writes}
 use Rattle.moka_machine.specs.declared.entry.Entry.{Entry}
 use Rattle.moka_machine.specs.CacheState.{CacheState, new_cache}
 use Rattle.moka_machine.specs.Contents.{entry_at}
-use Rattle.moka_machine.specs.Insert.{after_put, after_verdict, new_entry, victims_of}
+use Rattle.moka_machine.specs.Insert.{after_asking, after_entering, after_new, after_put, after_verdict, new_entry}
+use Rattle.moka_machine.specs.Window.{victims_of, windowed_limit}
 use Rattle.moka_machine.specs.Lookup.{after_look}
 use Rattle.moka_machine.specs.Step.{Answer, IsStep, Request, Runs, Get, ContainsKey, Insert, Invalidate, Remove, InvalidateAll}
 use Rattle.moka_machine.specs.Step.{InvalidateEntriesIf, Iterate, EntryCount, WeightedSize, Done, OutOfMemory}
@@ -19,11 +21,22 @@ module _ {K V S W : Type 0} (eq : K → K → Bool) where
   -- an entry that is put leaves the capacity
   capacity-put : (cache : CacheState K V S W) (o : Option (Entry K V)) (new : Entry K V) (refused : Bool)
       → (after_put eq cache o new refused).capacity ≡ cache.capacity
-  capacity-put cache None new refused = by (victims_of cache.settings.policy.max_capacity cache.sketch new cache.contents)
+  capacity-put cache None new refused = capacity-new (windowed_limit cache.settings.policy.max_capacity)
     where
       by : (gone : Option (List (Entry K V))) → (after_verdict eq cache new gone refused).capacity ≡ cache.capacity
       by None = refl
       by (Some victims) = refl
+
+      standing : (b : Bool) (left : CacheState K V S W) → left.capacity ≡ cache.capacity
+          → (cond b (after_asking eq refused left) left).capacity ≡ cache.capacity
+      standing true left same = same
+      standing false left same = same
+
+      capacity-new : (limit : Option ℕ) → (after_new eq cache limit new refused).capacity ≡ cache.capacity
+      capacity-new None = by (victims_of cache.settings.policy.max_capacity cache.sketch new cache.contents.entries)
+      capacity-new (Some limit) =
+          let contents = after_entering eq (keeps_writes cache.settings.policy) limit cache.sketch new cache.contents in
+          standing (is_some (entry_at eq new.key contents.entries)) (record cache { contents = contents }) refl
   capacity-put cache (Some old) new refused = refl
 
 module _ {K V S W : Type 0} (keys : Keys K S) (weighs : W → K → V → ℕ → W → Type 0) where

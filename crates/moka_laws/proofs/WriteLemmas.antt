@@ -1,6 +1,6 @@
 -- Lemmas on the order of writing, which has the entries' keys and moments.
 use Rattle.std.proofs.Common.{◌≡◌, ◌-◌, ℕ, Bool, true, false, cond, not, List, [], ◌∷◌}
-use Rattle.std.proofs.Common.{◌++◌, find, map, take, take_while, Option, Some, None}
+use Rattle.std.proofs.Common.{◌++◌, find, map, take, take_while, is_some, Option, Some, None}
 use Rattle.std.proofs.Common.{option_map, refl, sym, ap, ◌∙◌, subst, inl, inr}
 use Rattle.std.proofs.lemmas.Bool.{cases_Bool, cond-true, cond-false}
 use Rattle.std.proofs.lemmas.List.{map-append}
@@ -9,29 +9,33 @@ use Rattle.std.specs.List.{IsDistinct}
 use Rattle.moka_base.specs.Keys.{Keys}
 use Rattle.moka_base.specs.Policy.{Policy}
 use Rattle.moka_base.specs.Settings.{keeps_writes}
+use Rattle.moka_sketch.specs.Sketch.{Table}
 use Rattle.moka_machine.specs.declared.constants.TheConstants.{EVICTION_BATCH_SIZE}
 use Rattle.moka_machine.specs.declared.entry.Entry.{Entry}
-use Rattle.moka_machine.specs.Contents.{Contents, Write, after_leaving, entry_at, entries_without}
+use Rattle.moka_machine.specs.Contents.{Contents, Write, after_leaving, after_moving, entry_at, entries_without, main_of, window_of}
 use Rattle.moka_machine.specs.Contents.{entry_keys, no_contents, total_weight, without}
 use Rattle.moka_machine.specs.Contents.{write_of, writes_without}
 use Rattle.moka_machine.specs.CacheState.{CacheState, new_cache}
-use Rattle.moka_machine.specs.Upkeep.{after_expiry, after_live_expiry, after_trim, after_upkeep, has_lived, is_idle, least_recent}
+use Rattle.moka_machine.specs.Upkeep.{after_expiry, after_idle, after_live_expiry, after_trim, after_upkeep, has_lived, least_recent}
 use Rattle.moka_machine.specs.Lookup.{after_look, after_use, unexpired_at}
-use Rattle.moka_machine.specs.Insert.{after_entry, after_put, after_update, after_verdict, new_entry, victims_of}
+use Rattle.moka_machine.specs.Insert.{after_asking, after_entering, after_entry, after_new, after_put, after_update, after_verdict, new_entry}
+use Rattle.moka_machine.specs.Window.{after_candidacy, after_candidates, candidates, main_limit, victims_of, windowed_limit}
 use Rattle.moka_machine.specs.Invalidate.{chosen}
 use Rattle.moka_machine.specs.Step.{Answer, IsStep, Request, Runs, Get, ContainsKey, Insert, Invalidate, Remove, InvalidateAll}
 use Rattle.moka_machine.specs.Step.{InvalidateEntriesIf, Iterate, EntryCount, WeightedSize}
-use Rattle.moka_machine.proofs.ContentsLemmas.{absent-leaving, found_key}
+use Rattle.moka_machine.proofs.ContentsLemmas.{absent-leaving, found_key, idle_keys}
 use Rattle.moka_laws.specs.Laws.{AreWritesOf, WritesFollowEntries}
-use Rattle.moka_laws.proofs.KeyLemmas.{StandOnce, entry_at-gone, once-push, once-put, once-remains}
-use Rattle.moka_laws.proofs.MapLemmas.{entry_at-equal, entry_at-other, entry_at-push, entry_at-put, settings-step}
+use Rattle.moka_laws.proofs.KeyLemmas.{StandOnce, entry_at-gone, none_stand, once-candidacy, once-push, once-put, once-remains, once-step}
+use Rattle.moka_laws.proofs.MapLemmas.{entry_at-equal, entry_at-other, entry_at-moved, entry_at-push, entry_at-put, settings-step}
+use Rattle.moka_laws.proofs.RemainLemmas.{remains-upkeep}
+use Rattle.moka_laws.proofs.StandLemmas.{AreCandidates, StandsIn, are-chosen, are-left, stands-left}
 use Rattle.moka_laws.proofs.OwnLemmas.{unexpired-found}
 
 -- ---- writes as entries
 
 -- a write as an entry without a value, so that what holds of entries holds of writes
 abbrev as_entry : {K : Type 0} → Write K → Entry K (Unit {0})
-as_entry w = record { key = w.key; value = tt; hash = 0; weight = 0; accessed = 0; modified = w.modified }
+as_entry w = record { key = w.key; value = tt; hash = 0; weight = 0; accessed = 0; modified = w.modified; in_window = false }
 
 -- the write of an entry as one
 abbrev again : {K V : Type 0} → Entry K V → Entry K (Unit {0})
@@ -97,24 +101,22 @@ module _ {K V : Type 0} (eq : K → K → Bool) (laws : IsEquivalence eq) where
             ],
       )
 
-  match-use : (now : ℕ) (other : K) (o : Option (Entry K V)) (contents : Contents K V)
-      → ((e : Entry K V) → o ≡ Some e → entry_at eq other contents.entries ≡ Some e)
-      → Match contents → Match (after_use eq now o contents)
-  match-use now other None contents found m = m
-  match-use now other (Some e) contents found m =
-      let used : Entry K V = record e { accessed = now } in (
+  match-moved : (now : ℕ) (window : Bool) (other : K) (e : Entry K V) (contents : Contents K V) → entry_at eq other contents.entries ≡ Some e
+      → Match contents → Match (after_moving eq (record e { accessed = now; in_window = window }) contents)
+  match-moved now window other e contents found m =
+      let moved : Entry K V = record e { accessed = now; in_window = window } in (
         m.0,
         λ key. m.1 key
             ∙ (elim (cases_Bool (eq e.key key)) [
               | inl equal ↦
                   ap (option_map again) (sym (entry_at-equal laws e.key key equal contents.entries)
-                  ∙ (sym (entry_at-equal laws other e.key (found_key eq other e contents.entries (found e refl)) contents.entries)
-                  ∙ found e refl))
-                  ∙ sym (ap (option_map again) (cond-true (eq e.key key) (Some used) (entry_at eq key contents.entries) equal))
+                  ∙ (sym (entry_at-equal laws other e.key (found_key eq other e contents.entries found) contents.entries)
+                  ∙ found))
+                  ∙ sym (ap (option_map again) (cond-true (eq e.key key) (Some moved) (entry_at eq key contents.entries) equal))
               | inr differ ↦
-                  sym (ap (option_map again) (cond-false (eq e.key key) (Some used) (entry_at eq key contents.entries) differ))
+                  sym (ap (option_map again) (cond-false (eq e.key key) (Some moved) (entry_at eq key contents.entries) differ))
             ]
-            ∙ sym (ap (option_map again) (entry_at-put laws key used contents.entries))),
+            ∙ sym (ap (option_map again) (entry_at-moved laws key moved contents.entries))),
       )
 
   match-entry : (new : Entry K V) (contents : Contents K V) → entry_at eq new.key contents.entries ≡ None → Match contents
@@ -135,7 +137,7 @@ module _ {K V : Type 0} (eq : K → K → Bool) (laws : IsEquivalence eq) where
   match-update : (old new : Entry K V) (contents : Contents K V) → Match contents → Match (after_update eq true old new contents)
   match-update old new contents m =
       let entries = as_entries contents.written in
-      let put : Entry K V = record new { key = old.key; hash = old.hash } in
+      let put : Entry K V = record new { key = old.key; hash = old.hash; in_window = old.in_window } in
       let grown : as_entries (writes_without eq old.key contents.written ++ write_of put ∷ [])
       ≡ entries_without eq old.key entries ++ again put ∷ [] =
       map-append as_entry (writes_without eq old.key contents.written) (write_of put ∷ [])
@@ -145,7 +147,7 @@ module _ {K V : Type 0} (eq : K → K → Bool) (laws : IsEquivalence eq) where
             ∙ (entry_at-put laws key (again put) entries
             ∙ (ap (cond (eq old.key key) (Some (again put))) (m.1 key)
             ∙ (sym (map-cond again (eq old.key key) (Some put) (entry_at eq key contents.entries))
-            ∙ sym (ap (option_map again) (entry_at-put laws key put contents.entries))))),
+            ∙ sym (ap (option_map again) (entry_at-moved laws key put contents.entries))))),
       )
 
   -- ---- with a time to live, and without
@@ -173,13 +175,15 @@ module _ {K V : Type 0} (eq : K → K → Bool) (laws : IsEquivalence eq) where
   follow-upkeep keeps policy now contents f =
       let lived = after_live_expiry eq policy now EVICTION_BATCH_SIZE contents in
       follow-trim keeps policy.max_capacity (after_expiry eq policy now contents)
-      (follow-leaving keeps (entry_keys (take EVICTION_BATCH_SIZE (take_while (is_idle policy now) lived.entries))) lived
-      (follow-leaving keeps (map (λ w. w.key) (take EVICTION_BATCH_SIZE (take_while (has_lived policy now) contents.written))) contents f))
+      (follow-leaving keeps (idle_keys policy now (main_of lived.entries)) (after_idle eq policy now EVICTION_BATCH_SIZE (window_of lived.entries) lived)
+      (follow-leaving keeps (idle_keys policy now (window_of lived.entries)) lived
+      (follow-leaving keeps (map (λ w. w.key) (take EVICTION_BATCH_SIZE (take_while (has_lived policy now) contents.written))) contents f)))
 
   follow-use : (keeps : Bool) (now : ℕ) (other : K) (o : Option (Entry K V)) (contents : Contents K V)
       → ((e : Entry K V) → o ≡ Some e → entry_at eq other contents.entries ≡ Some e)
       → Follow keeps contents → Follow keeps (after_use eq now o contents)
-  follow-use true now other o contents found f = match-use now other o contents found f
+  follow-use true now other None contents found f = f
+  follow-use true now other (Some e) contents found f = match-moved now e.in_window other e contents (found e refl) f
   follow-use false now other None contents found f = f
   follow-use false now other (Some e) contents found f = f
 
@@ -188,12 +192,43 @@ module _ {K V : Type 0} (eq : K → K → Bool) (laws : IsEquivalence eq) where
   follow-entry true new contents absent f = match-entry new contents absent f
   follow-entry false new contents absent f = f
 
+  -- a candidate's write stays in its place, or leaves with it
+  follow-candidacy : (keeps : Bool) (limit : ℕ) (sketch : Option Table) (e : Entry K V) (contents : Contents K V)
+      → StandOnce eq contents.entries → StandsIn eq laws contents.entries true e → Follow keeps contents
+      → (gone : Option (List (Entry K V))) → victims_of (Some limit) sketch e (main_of contents.entries) ≡ gone
+      → Follow keeps (after_candidacy eq e gone contents)
+  follow-candidacy keeps limit sketch e contents once stands f None is = follow-leaving keeps (e.key ∷ []) contents f
+  follow-candidacy true limit sketch e contents once stands f (Some gone) is =
+      let left = after_leaving eq (entry_keys gone) contents in
+      match-moved e.accessed false e.key e left (stands-left eq laws limit sketch e gone contents once is e stands)
+      (follow-leaving true (entry_keys gone) contents f)
+  follow-candidacy false limit sketch e contents once stands f (Some gone) is = follow-leaving false (entry_keys gone) contents f
+
+  follow-candidates : (keeps : Bool) (limit : ℕ) (sketch : Option Table) (es : List (Entry K V)) (contents : Contents K V)
+      → StandOnce eq contents.entries → AreCandidates eq laws contents es → Follow keeps contents
+      → Follow keeps (after_candidates eq limit sketch es contents)
+  follow-candidates keeps limit sketch [] contents once are f = f
+  follow-candidates keeps limit sketch (e ∷ es) contents once are f =
+      let gone = victims_of (Some (main_limit limit)) sketch e (main_of contents.entries) in
+      follow-candidates keeps limit sketch es (after_candidacy eq e gone contents) (once-candidacy eq laws e gone contents once)
+      (are-left eq laws (main_limit limit) sketch e es contents once are gone refl)
+      (follow-candidacy keeps (main_limit limit) sketch e contents once are.stand.0 f gone refl)
+
+  follow-entering : (keeps : Bool) (limit : ℕ) (sketch : Option Table) (new : Entry K V) (contents : Contents K V)
+      → entry_at eq new.key contents.entries ≡ None → StandOnce eq contents.entries → Follow keeps contents
+      → Follow keeps (after_entering eq keeps limit sketch new contents)
+  follow-entering keeps limit sketch new contents absent once f =
+      let entered = after_entry eq keeps (record new { in_window = true }) contents in
+      let apart = once-push eq laws contents.entries (record new { in_window = true }) absent once in
+      follow-candidates keeps limit sketch (candidates limit entered.entries) entered apart (are-chosen eq laws limit entered apart)
+      (follow-entry keeps (record new { in_window = true }) contents absent f)
+
   follow-update : (keeps : Bool) (old new : Entry K V) (contents : Contents K V) → Follow keeps contents
       → Follow keeps (after_update eq keeps old new contents)
   follow-update true old new contents f = match-update old new contents f
   follow-update false old new contents f = ap (writes_without eq old.key) f
 
-  follow-clear : (keeps : Bool) (contents : Contents K V) → Follow keeps (record contents { entries = []; written = [] })
+  pub follow-clear : (keeps : Bool) (contents : Contents K V) → Follow keeps (record contents { entries = []; written = [] })
   follow-clear true contents = (nothing_stands eq, λ key. refl)
   follow-clear false contents = refl
 
@@ -207,61 +242,81 @@ module _ {K V : Type 0} (eq : K → K → Bool) (laws : IsEquivalence eq) where
         follow-entry keeps new (after_leaving eq (entry_keys gone) cache.contents)
         (absent-leaving eq new.key (entry_keys gone) cache.contents absent) (follow-leaving keeps (entry_keys gone) cache.contents f)
 
+    follow-new : (cache : CacheState K V S W) (limit : Option ℕ) (new : Entry K V) (refused : Bool)
+        → entry_at eq new.key cache.contents.entries ≡ None → StandOnce eq cache.contents.entries
+        → Follow (keeps_writes cache.settings.policy) cache.contents
+        → Follow (keeps_writes cache.settings.policy) (after_new eq cache limit new refused).contents
+    follow-new cache None new refused absent once f =
+        follow-verdict cache new (victims_of cache.settings.policy.max_capacity cache.sketch new cache.contents.entries) refused absent f
+    follow-new cache (Some limit) new refused absent once f =
+        by (is_some (entry_at eq new.key (after_entering eq (keeps_writes cache.settings.policy) limit cache.sketch new cache.contents).entries))
+        (follow-entering (keeps_writes cache.settings.policy) limit cache.sketch new cache.contents absent once f)
+      where
+        contents : Contents K V
+        contents = after_entering eq (keeps_writes cache.settings.policy) limit cache.sketch new cache.contents
+
+        by : (b : Bool) → Follow (keeps_writes cache.settings.policy) contents
+            → Follow (keeps_writes cache.settings.policy)
+            (cond b (after_asking eq refused (record cache { contents = contents })) (record cache { contents = contents })).contents
+        by true f = f
+        by false f = f
+
     follow-put : (cache : CacheState K V S W) (o : Option (Entry K V)) (new : Entry K V) (refused : Bool)
-        → entry_at eq new.key cache.contents.entries ≡ o → Follow (keeps_writes cache.settings.policy) cache.contents
+        → entry_at eq new.key cache.contents.entries ≡ o → StandOnce eq cache.contents.entries → Follow (keeps_writes cache.settings.policy) cache.contents
         → Follow (keeps_writes cache.settings.policy) (after_put eq cache o new refused).contents
-    follow-put cache None new refused absent f =
-        follow-verdict cache new (victims_of cache.settings.policy.max_capacity cache.sketch new cache.contents) refused absent f
-    follow-put cache (Some old) new refused found f = follow-update (keeps_writes cache.settings.policy) old new cache.contents f
+    follow-put cache None new refused absent once f = follow-new cache (windowed_limit cache.settings.policy.max_capacity) new refused absent once f
+    follow-put cache (Some old) new refused found once f = follow-update (keeps_writes cache.settings.policy) old new cache.contents f
 
 -- ---- all calls
 
 module _ {K V S W : Type 0} (keys : Keys K S) (laws : IsEquivalence keys.eq) (weighs : W → K → V → ℕ → W → Type 0) where
   -- the writes of a cache follow its entries
-  abbrev Follows : CacheState K V S W → Type 0
+  abbrev pub Follows : CacheState K V S W → Type 0
   Follows cache = Follow keys.eq laws (keeps_writes cache.settings.policy) cache.contents
 
   follow-look : (cache : CacheState K V S W) (now : ℕ) → Follows cache → Follows (after_look keys cache now)
   follow-look cache now f = follow-upkeep keys.eq laws (keeps_writes cache.settings.policy) cache.settings.policy now cache.contents f
 
   -- and do so after each call
-  follow-step : (old new : CacheState K V S W) (request : Request K V) (answer : Answer K V) → IsStep keys weighs old request answer new
-      → Follows old → Follows new
-  follow-step old new (Get key now) answer step f =
+  pub follow-step : (old new : CacheState K V S W) (request : Request K V) (answer : Answer K V) → IsStep keys weighs old request answer new
+      → StandOnce keys.eq old.contents.entries → Follows old → Follows new
+  follow-step old new (Get key now) answer step once f =
       let kept = (after_look keys old now).contents in
       subst Follows (sym step.1)
       (follow-use keys.eq laws (keeps_writes old.settings.policy) now key (unexpired_at keys.eq old.settings.policy now key kept) kept
       (unexpired-found old.settings.policy now (entry_at keys.eq key kept.entries)) (follow-look old now f))
-  follow-step old new (ContainsKey key now) answer step f = subst Follows (sym step.1) (follow-look old now f)
-  follow-step old new (Insert key value now) answer (inl (done, inserted)) f =
+  follow-step old new (ContainsKey key now) answer step once f = subst Follows (sym step.1) (follow-look old now f)
+  follow-step old new (Insert key value now) answer (inl (done, inserted)) once f =
       let kept = (after_look keys old now).contents in
       let asked : CacheState K V S W = record old { weigher = inserted.weigher; capacity = inserted.capacity; contents = kept } in
       subst (λ s. Follow keys.eq laws (keeps_writes s.policy) new.contents)
       (sym (settings-step keys weighs old new (Insert key value now) answer (inl (done, inserted))))
       (subst (λ c. Follow keys.eq laws (keeps_writes old.settings.policy) c.contents) (sym inserted.step)
       (follow-put keys.eq laws asked (entry_at keys.eq key kept.entries)
-      (new_entry keys old.settings.hash_state key value inserted.weight now) inserted.refused refl (follow-look old now f)))
-  follow-step old new (Insert key value now) answer (inr (refused, same)) f = subst Follows (sym same.same) f
-  follow-step old new (Invalidate key now) answer step f =
+      (new_entry keys old.settings.hash_state key value inserted.weight now) inserted.refused refl
+      (once-remains keys.eq old.contents kept (remains-upkeep keys.eq old.settings.policy now old.contents) once) (follow-look old now f)))
+  follow-step old new (Insert key value now) answer (inr (refused, same)) once f = subst Follows (sym same.same) f
+  follow-step old new (Invalidate key now) answer step once f =
       subst Follows (sym step.1)
       (follow-leaving keys.eq laws (keeps_writes old.settings.policy) (key ∷ []) (after_look keys old now).contents (follow-look old now f))
-  follow-step old new (Remove key now) answer step f =
+  follow-step old new (Remove key now) answer step once f =
       subst Follows (sym step.1)
       (follow-leaving keys.eq laws (keeps_writes old.settings.policy) (key ∷ []) (after_look keys old now).contents (follow-look old now f))
-  follow-step old new InvalidateAll answer step f =
+  follow-step old new InvalidateAll answer step once f =
       subst Follows (sym step.1) (follow-clear keys.eq laws (keeps_writes old.settings.policy) old.contents)
-  follow-step old new (InvalidateEntriesIf answers) answer step f =
+  follow-step old new (InvalidateEntriesIf answers) answer step once f =
       subst Follows (sym step.1)
       (follow-leaving keys.eq laws (keeps_writes old.settings.policy) (entry_keys (chosen answers old.contents.entries)) old.contents f)
-  follow-step old new (Iterate now) answer step f = subst Follows (sym step.1) f
-  follow-step old new EntryCount answer step f = subst Follows (sym step.1) f
-  follow-step old new WeightedSize answer step f = subst Follows (sym step.1) f
+  follow-step old new (Iterate now) answer step once f = subst Follows (sym step.1) f
+  follow-step old new EntryCount answer step once f = subst Follows (sym step.1) f
+  follow-step old new WeightedSize answer step once f = subst Follows (sym step.1) f
 
   follow-runs : (old new : CacheState K V S W) (requests : List (Request K V)) (answers : List (Answer K V))
-      → Runs keys weighs old requests answers new → Follows old → Follows new
-  follow-runs old new [] answers run f = subst Follows (sym run.1) f
-  follow-runs old new (request ∷ requests) answers (answer, rest, next, is, step, run) f =
-      follow-runs next new requests rest run (follow-step old next request answer step f)
+      → Runs keys weighs old requests answers new → StandOnce keys.eq old.contents.entries → Follows old → Follows new
+  follow-runs old new [] answers run once f = subst Follows (sym run.1) f
+  follow-runs old new (request ∷ requests) answers (answer, rest, next, is, step, run) once f =
+      follow-runs next new requests rest run (once-step keys laws weighs old next request answer step once)
+      (follow-step old next request answer step once f)
 
   -- the keys of writes as entries
   keys-written : (written : List (Write K)) → entry_keys (map as_entry written) ≡ map (λ w. w.key) written
@@ -284,7 +339,7 @@ module _ {K V S W : Type 0} (keys : Keys K S) (laws : IsEquivalence keys.eq) (we
   written-twice None = refl
   written-twice (Some e) = refl
 
-  told : (keeps : Bool) (contents : Contents K V) → Follow keys.eq laws keeps contents → AreWritesOf keys.eq keeps contents
+  pub told : (keeps : Bool) (contents : Contents K V) → Follow keys.eq laws keeps contents → AreWritesOf keys.eq keeps contents
   told true contents f = (
     subst (IsDistinct keys.eq) (keys-written contents.written) f.0,
     λ key. sym (written-back (find (λ w. keys.eq key w.key) contents.written))
@@ -296,5 +351,5 @@ module _ {K V S W : Type 0} (keys : Keys K S) (laws : IsEquivalence keys.eq) (we
   pub writes_follow_entries : WritesFollowEntries keys weighs
   writes_follow_entries settings weigher capacity requests answers cache run =
       told (keeps_writes cache.settings.policy) cache.contents
-      (follow-runs (new_cache settings weigher capacity) cache requests answers run
+      (follow-runs (new_cache settings weigher capacity) cache requests answers run (none_stand keys laws weighs)
       (follow-clear keys.eq laws (keeps_writes settings.policy) (no_contents {K = K} {V = V})))

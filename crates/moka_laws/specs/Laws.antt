@@ -1,8 +1,9 @@
 -- What a contract sees of the laws of the cache, which `src/laws.rt` promises, but for those of a plain map.
-use Rattle.std.specs.Prelude.{◌≡◌, ◌≢◌, ◌<◌, ◌≤◌, ◌^◌, ℕ, Bool, true, false, List, [], All, filter, length, map, Some, IsSome, option_map}
+use Rattle.std.specs.Prelude.{◌≡◌, ◌≢◌, ◌<◌, ◌≤◌, ◌^◌, ℕ, Bool, true, false, List, [], ◌++◌, All, filter, length, map, Some, None, IsSome, option_map}
 use Rattle.std.specs.List.{AllByRecursion, IsDistinct, find}
 use Rattle.moka_base.specs.Keys.{Keys}
-use Rattle.moka_machine.specs.Contents.{Contents, entry_at, entry_keys, total_weight, write_of}
+use Rattle.moka_machine.specs.Contents.{Contents, entry_at, entry_keys, main_of, total_weight, window_of, write_of}
+use Rattle.moka_machine.specs.Window.{windowed_limit}
 use Rattle.moka_machine.specs.CacheState.{CacheState, new_cache}
 use Rattle.moka_base.specs.Settings.{Settings, keeps_writes}
 use Rattle.moka_machine.specs.Lookup.{after_look}
@@ -51,6 +52,25 @@ module _ {K V S W : Type 0} (keys : Keys K S) (weighs : W → K → V → ℕ �
       (settings : Settings S) (weigher : W) (capacity : ℕ) (requests : List (Request K V)) (answers : List (Answer K V))
       (cache : CacheState K V S W) →
       Runs keys weighs (new_cache settings weigher capacity) requests answers cache → IsDistinct keys.eq (entry_keys cache.contents.entries)
+
+-- ---- main and the window
+
+module _ {K V S W : Type 0} (keys : Keys K S) (weighs : W → K → V → ℕ → W → Type 0) where
+  -- from a new cache all calls leave the entries of main first, and behind them those of the window
+  abbrev pub WindowStandsBehind : Type 0
+  WindowStandsBehind =
+      (settings : Settings S) (weigher : W) (capacity : ℕ) (requests : List (Request K V)) (answers : List (Answer K V))
+      (cache : CacheState K V S W) →
+      Runs keys weighs (new_cache settings weigher capacity) requests answers cache →
+      cache.contents.entries ≡ main_of cache.contents.entries ++ window_of cache.contents.entries
+
+  -- from a new cache without a limit, or with a lower one than that of a window, no calls lead to an entry in the window
+  abbrev pub WindowStaysEmpty : Type 0
+  WindowStaysEmpty =
+      (settings : Settings S) (weigher : W) (capacity : ℕ) (requests : List (Request K V)) (answers : List (Answer K V))
+      (cache : CacheState K V S W) →
+      windowed_limit settings.policy.max_capacity ≡ None →
+      Runs keys weighs (new_cache settings weigher capacity) requests answers cache → window_of cache.contents.entries ≡ []
 
 -- ---- entries and their writes
 

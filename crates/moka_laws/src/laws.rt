@@ -1,9 +1,9 @@
 //! The laws of the cache as a machine, one a function. A law is its function's clause: there is no code to call.
 ghost use Rattle.moka_base.specs.Keys.{keys_by};
 ghost use Rattle.std.specs.Prelude.{◌≡◌};
-ghost use Rattle.moka_machine.specs.declared.constants.TheConstants.{EVICTION_BATCH_SIZE};
+ghost use Rattle.moka_machine.specs.declared.constants.TheConstants.{EVICTION_BATCH_SIZE, WINDOW_SHARE};
 ghost use Rattle.moka_laws.specs.Laws.{EntriesAreOwn, InvalidationsKeepCounts, KeysStandOnce, LooksChangeNothing};
-ghost use Rattle.moka_laws.specs.Laws.{NeverRefuses, OnlyUpdatesOutgrowLimit, StaysWithinLimit, WritesFollowEntries};
+ghost use Rattle.moka_laws.specs.Laws.{NeverRefuses, OnlyUpdatesOutgrowLimit, StaysWithinLimit, WindowStandsBehind, WindowStaysEmpty, WritesFollowEntries};
 ghost use Rattle.moka_laws.specs.PlainMap.{RunsAsMap, StepsAsMap};
 
 use moka_base::weigh::Weigh;
@@ -38,6 +38,21 @@ pub fn each_key_stands_once<K: Eq + Hash, V, S: BuildHasher, W: Weigh<K, V>>()
 /// With a time to live the order of writing has exactly the entries' keys, each with the moment of its last insert; without one it is empty.
 pub fn writes_follow_entries<K: Eq + Hash, V, S: BuildHasher, W: Weigh<K, V>>()
     ensures { WritesFollowEntries (keys_by K.Hash S.BuildHasher S.Hasher.Hasher) W.weighs }
+{}
+
+/// The entries of main stand before those of the window.
+pub fn the_window_stands_behind<K: Eq + Hash, V, S: BuildHasher, W: Weigh<K, V>>()
+    ensures { WindowStandsBehind (keys_by K.Hash S.BuildHasher S.Hasher.Hasher) W.weighs }
+{}
+
+/// Without a limit, and with one below 100, there is no window: no entry is ever in it.
+pub fn the_window_stays_empty<K: Eq + Hash, V, S: BuildHasher, W: Weigh<K, V>>()
+    ensures { WindowStaysEmpty (keys_by K.Hash S.BuildHasher S.Hasher.Hasher) W.weighs }
+{}
+
+/// The window has a hundredth of a limit, by its digits: definitions name the constant.
+pub fn the_window_has_a_hundredth()
+    ensures { WINDOW_SHARE ≡ 100 }
 {}
 
 /// An entry has its key's hash under the cache's hash state, and a weight of 32 bits.

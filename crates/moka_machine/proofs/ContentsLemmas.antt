@@ -6,8 +6,12 @@ use Rattle.std.proofs.lemmas.List.Elements.{All-filter}
 use Rattle.moka_base.specs.Policy.{Policy}
 use Rattle.moka_machine.specs.declared.constants.TheConstants.{EVICTION_BATCH_SIZE}
 use Rattle.moka_machine.specs.declared.entry.Entry.{Entry}
-use Rattle.moka_machine.specs.Contents.{Contents, after_leaving, entry_at, entries_without, entry_keys, total_weight, without}
-use Rattle.moka_machine.specs.Upkeep.{after_expiry, after_live_expiry, after_trim, after_upkeep, has_lived, is_idle, least_recent}
+use Rattle.moka_machine.specs.Contents.{Contents, after_leaving, entry_at, entries_without, entry_keys, main_of, total_weight, window_of, without}
+use Rattle.moka_machine.specs.Upkeep.{after_expiry, after_idle, after_live_expiry, after_trim, after_upkeep, has_lived, is_idle, least_recent}
+
+-- the keys of a batch of these entries that were idle too long
+abbrev pub idle_keys : {K V : Type 0} → Policy → ℕ → List (Entry K V) → List K
+idle_keys policy now entries = entry_keys (take EVICTION_BATCH_SIZE (take_while (is_idle policy now) entries))
 
 module _ {K V : Type 0} (eq : K → K → Bool) (P : Entry K V → Type 0) where
   -- what holds of all entries holds of those that stay
@@ -26,8 +30,9 @@ module _ {K V : Type 0} (eq : K → K → Bool) (P : Entry K V → Type 0) where
   All-upkeep policy now contents a =
       let lived = after_live_expiry eq policy now EVICTION_BATCH_SIZE contents in
       All-trim policy.max_capacity (after_expiry eq policy now contents)
-      (All-leaving (entry_keys (take EVICTION_BATCH_SIZE (take_while (is_idle policy now) lived.entries))) lived
-      (All-leaving (map (λ w. w.key) (take EVICTION_BATCH_SIZE (take_while (has_lived policy now) contents.written))) contents a))
+      (All-leaving (idle_keys policy now (main_of lived.entries)) (after_idle eq policy now EVICTION_BATCH_SIZE (window_of lived.entries) lived)
+      (All-leaving (idle_keys policy now (window_of lived.entries)) lived
+      (All-leaving (map (λ w. w.key) (take EVICTION_BATCH_SIZE (take_while (has_lived policy now) contents.written))) contents a)))
 
 module _ {K V : Type 0} (eq : K → K → Bool) (key : K) where
   absent-without : (gone : K) (entries : List (Entry K V)) → entry_at eq key entries ≡ None

@@ -1,1 +1,3 @@
 pub mod ContentsLemmas
+pub mod EnteringLemmas
+pub mod WindowLemmas

@@ -1,5 +1,5 @@
 -- What a contract sees of a cache's contents: its entries in order of use, and their writes.
-use Rattle.std.specs.Prelude.{ℕ, ◌-◌, ◌^◌, Bool, not, List, [], sum_by, map, filter, fold, min, Option}
+use Rattle.std.specs.Prelude.{ℕ, ◌-◌, ◌^◌, Bool, ◌&&◌, not, List, [], ◌∷◌, sum_by, map, filter, fold, min, Option, if◌then◌else◌}
 use Rattle.std.specs.List.{find}
 use Rattle.moka_machine.specs.declared.entry.Entry.{Entry}
 
@@ -8,7 +8,8 @@ pub record Write (K : Type 0) : Type 0 where
   pub key : K
   pub modified : ℕ
 
--- the entries in order of use, least recent first; and the writes in their order, which are kept only with a time to live
+-- the entries in two parts, main and behind it the window, each in order of use, least recent first; and the writes in their order, which are kept
+-- only with a time to live
 pub record Contents (K V : Type 0) : Type 0 where
   pub entries : List (Entry K V)
   pub written : List (Write K)
@@ -29,6 +30,19 @@ module _ {K V : Type 0} where
   -- the write of an entry
   abbrev pub write_of : Entry K V → Write K
   write_of entry = record { key = entry.key; modified = entry.modified }
+
+  -- the entries of main
+  abbrev pub main_of : List (Entry K V) → List (Entry K V)
+  main_of entries = filter (λ e. not e.in_window) entries
+
+  -- the entries of the window
+  abbrev pub window_of : List (Entry K V) → List (Entry K V)
+  window_of entries = filter (λ e. e.in_window) entries
+
+  -- the entries with one more, the most recent of its part: one of the window stands behind all, one of main before the first of the window
+  abbrev pub with_latest : Entry K V → List (Entry K V) → List (Entry K V)
+  with_latest entry [] = entry ∷ []
+  with_latest entry (e ∷ entries) = if e.in_window && not entry.in_window then entry ∷ e ∷ entries else e ∷ with_latest entry entries
 
   -- the keys of the entries
   abbrev pub entry_keys : List (Entry K V) → List K
@@ -55,3 +69,7 @@ module _ {K : Type 0} (eq : K → K → Bool) where
     -- the contents once the entries of these keys have left, one after another
     abbrev pub after_leaving : List K → Contents K V → Contents K V
     after_leaving keys contents = fold without contents keys
+
+    -- the contents once an entry, which may be another than the one at its key, is the most recent of its part
+    abbrev pub after_moving : Entry K V → Contents K V → Contents K V
+    after_moving entry contents = record contents { entries = with_latest entry (entries_without entry.key contents.entries) }

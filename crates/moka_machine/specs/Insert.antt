@@ -1,15 +1,15 @@
 -- What an insert leaves.
-use Rattle.std.specs.Prelude.{◌≡◌, ◌<◌, ◌≤◌, ◌^◌, ℕ, Bool, true, false, List, [], ◌∷◌, ◌++◌, length, Option, Some, None, if◌then◌else◌}
-use Rattle.moka_base.specs.Admission.{victims}
+use Rattle.std.specs.Prelude.{◌≡◌, ◌<◌, ◌≤◌, ◌^◌, ℕ, Bool, true, false, List, [], ◌∷◌, ◌++◌, length, is_some, Option, Some, None, if◌then◌else◌}
 use Rattle.moka_sketch.specs.Enabling.{enables_sketch, capacity_asked}
 use Rattle.moka_base.specs.Keys.{Keys}
-use Rattle.moka_sketch.specs.Sketch.{Table, estimate}
+use Rattle.moka_sketch.specs.Sketch.{Table}
 use Rattle.moka_sketch.specs.SketchCapacity.{after_ensure_capacity}
 use Rattle.moka_machine.specs.declared.entry.Entry.{Entry}
-use Rattle.moka_machine.specs.Contents.{Contents, Write, total_weight, entry_keys, entry_at, entries_without, writes_without, after_leaving}
+use Rattle.moka_machine.specs.Contents.{Contents, Write, total_weight, entry_keys, entry_at, writes_without, after_leaving, after_moving}
 use Rattle.moka_machine.specs.CacheState.{CacheState}
 use Rattle.moka_base.specs.Settings.{Settings, keeps_writes}
 use Rattle.moka_machine.specs.Upkeep.{after_upkeep}
+use Rattle.moka_machine.specs.Window.{windowed_limit, candidates, victims_of, after_candidates}
 
 -- the writes with one more, where they are kept
 abbrev pub with_write : {K : Type 0} → Bool → List (Write K) → K → ℕ → List (Write K)
@@ -17,11 +17,10 @@ with_write true written key now = written ++ record { key = key; modified = now 
 with_write false written key now = written
 
 module _ {K V : Type 0} (eq : K → K → Bool) where
-  -- the contents once an entry has another's value, weight and moments: it keeps its key, and is the most recent in both orders
+  -- the contents once an entry has another's value, weight and moments: it keeps its key and its part, and is the most recent there and of the writes
   abbrev pub after_update : Bool → Entry K V → Entry K V → Contents K V → Contents K V
   after_update keeps old new contents =
-      record {
-        entries = entries_without eq old.key contents.entries ++ record new { key = old.key; hash = old.hash } ∷ [];
+      record (after_moving eq (record new { key = old.key; hash = old.hash; in_window = old.in_window }) contents) {
         written = with_write keeps (writes_without eq old.key contents.written) old.key new.modified;
       }
 
@@ -35,10 +34,11 @@ module _ {K V : Type 0} (eq : K → K → Bool) where
   after_admission keeps new None contents = contents
   after_admission keeps new (Some gone) contents = after_entry keeps new (after_leaving eq (entry_keys gone) contents)
 
--- the entries that give way to a new one, or nothing where it is rejected
-abbrev pub victims_of : {K V : Type 0} → Option ℕ → Option Table → Entry K V → Contents K V → Option (List (Entry K V))
-victims_of limit sketch new contents =
-    victims (λ e. e.weight) (λ e. estimate sketch e.hash) limit contents.entries new.weight (estimate sketch new.hash)
+  -- the contents once a new entry entered the window, and what then has to leave it were candidates for main
+  abbrev pub after_entering : Bool → ℕ → Option Table → Entry K V → Contents K V → Contents K V
+  after_entering keeps limit sketch new contents =
+      let entered = after_entry keeps (record new { in_window = true }) contents in
+      after_candidates eq limit sketch (candidates limit entered.entries) entered
 
 -- the sketch once a table was asked for, if these contents ask for one, and whether memory refuses it
 abbrev pub after_enabling : {K V S : Type 0} → Settings S → Option ℕ → Option Table → Contents K V → Bool → Option Table
@@ -63,12 +63,24 @@ module _ {K V S W : Type 0} (eq : K → K → Bool) where
         contents = after_admission eq (keeps_writes cache.settings.policy) new (Some gone) cache.contents;
       })
 
+  -- the cache once a new entry entered the window: it asks whether to turn its sketch on if that entry stands
+  abbrev pub after_standing : CacheState K V S W → Entry K V → Bool → CacheState K V S W
+  after_standing cache new refused =
+      if is_some (entry_at eq new.key cache.contents.entries) then after_asking refused cache else cache
+
+  -- the cache once a new entry was put, where there is a window or none
+  abbrev pub after_new : CacheState K V S W → Option ℕ → Entry K V → Bool → CacheState K V S W
+  after_new cache None new refused =
+      after_verdict cache new (victims_of cache.settings.policy.max_capacity cache.sketch new cache.contents.entries) refused
+  after_new cache (Some limit) new refused =
+      let contents = after_entering eq (keeps_writes cache.settings.policy) limit cache.sketch new cache.contents in
+      after_standing (record cache { contents = contents }) new refused
+
   -- the cache once an entry was put at its key, where one stands or none
   abbrev pub after_put : CacheState K V S W → Option (Entry K V) → Entry K V → Bool → CacheState K V S W
   after_put cache (Some old) new refused =
       record cache { contents = after_update eq (keeps_writes cache.settings.policy) old new cache.contents }
-  after_put cache None new refused =
-      after_verdict cache new (victims_of cache.settings.policy.max_capacity cache.sketch new cache.contents) refused
+  after_put cache None new refused = after_new cache (windowed_limit cache.settings.policy.max_capacity) new refused
 
   -- the cache after an insert that had its room: upkeep, and then the entry is put
   abbrev pub after_insert : CacheState K V S W → Entry K V → ℕ → Bool → CacheState K V S W
@@ -79,7 +91,7 @@ module _ {K V S W : Type 0} (eq : K → K → Bool) where
 -- the entry of a key, as it is written
 abbrev pub new_entry : {K V S : Type 0} → Keys K S → S → K → V → ℕ → ℕ → Entry K V
 new_entry keys state key value weight now =
-    record { key = key; value = value; hash = keys.hash_of state key; weight = weight; accessed = now; modified = now }
+    record { key = key; value = value; hash = keys.hash_of state key; weight = weight; in_window = false; accessed = now; modified = now }
 
 module _ {K V S W : Type 0} where
   -- there was no room for one more entry, and all is as it was, but that there may be another room

@@ -13,6 +13,6 @@ pairs_of entries = map (λ e. (e.key, e.value)) entries
 abbrev pub unexpired_pairs : {K V : Type 0} → Policy → ℕ → List (Entry K V) → List (K × V)
 unexpired_pairs policy now entries = pairs_of (filter (λ e. not (is_expired policy now e)) entries)
 
--- what an iterator gives: the unexpired entries as pairs, in order of use
+-- what an iterator gives: the unexpired entries as pairs, in order of use, those of main first
 abbrev pub pairs_at : {K V S W : Type 0} → CacheState K V S W → ℕ → List (K × V)
 pairs_at cache now = unexpired_pairs cache.settings.policy now cache.contents.entries

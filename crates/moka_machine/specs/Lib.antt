@@ -2,6 +2,7 @@ pub mod Contents
 pub mod CacheState
 pub mod Upkeep
 pub mod Lookup
+pub mod Window
 pub mod Insert
 pub mod Invalidate
 pub mod Iterate

@@ -1,10 +1,10 @@
 -- What look-ups answer and leave.
-use Rattle.std.specs.Prelude.{ℕ, Bool, [], ◌∷◌, ◌++◌, is_some, Option, Some, None, option_map}
+use Rattle.std.specs.Prelude.{ℕ, Bool, is_some, Option, Some, None, option_map}
 use Rattle.moka_base.specs.Keys.{Keys}
 use Rattle.moka_base.specs.Policy.{Policy}
 use Rattle.moka_sketch.specs.Sketch.{after_increment}
 use Rattle.moka_machine.specs.declared.entry.Entry.{Entry}
-use Rattle.moka_machine.specs.Contents.{Contents, entry_at, entries_without}
+use Rattle.moka_machine.specs.Contents.{Contents, entry_at, after_moving}
 use Rattle.moka_machine.specs.CacheState.{CacheState}
 use Rattle.moka_machine.specs.Upkeep.{after_upkeep, unexpired}
 
@@ -16,10 +16,9 @@ module _ {K V : Type 0} (eq : K → K → Bool) where
   -- the contents once an entry was used, or none was found
   abbrev pub after_use : ℕ → Option (Entry K V) → Contents K V → Contents K V
   after_use now None contents = contents
-  after_use now (Some used) contents =
-      record contents { entries = entries_without eq used.key contents.entries ++ record used { accessed = now } ∷ [] }
+  after_use now (Some used) contents = after_moving eq (record used { accessed = now }) contents
 
-  -- the contents once a key was looked for: its unexpired entry becomes the most recent
+  -- the contents once a key was looked for: its unexpired entry becomes the most recent of its part
   abbrev pub after_search : Policy → ℕ → K → Contents K V → Contents K V
   after_search policy now key contents = after_use now (unexpired_at policy now key contents) contents
 
@@ -28,7 +27,7 @@ module _ {K V S W : Type 0} (keys : Keys K S) where
   abbrev pub after_look : CacheState K V S W → ℕ → CacheState K V S W
   after_look cache now = record cache { contents = after_upkeep keys.eq cache.settings.policy now cache.contents }
 
-  -- the cache after a get: upkeep, then the key is counted, and its unexpired entry becomes the most recent
+  -- the cache after a get: upkeep, then the key is counted, and its unexpired entry becomes the most recent of its part
   abbrev pub after_get : CacheState K V S W → K → ℕ → CacheState K V S W
   after_get cache key now =
       record cache {

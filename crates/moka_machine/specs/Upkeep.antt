@@ -6,7 +6,7 @@ use Rattle.moka_base.specs.Prefix.{shortest_prefix}
 use Rattle.moka_base.specs.Settings.{live_nanos, idle_nanos}
 use Rattle.moka_machine.specs.declared.constants.TheConstants.{EVICTION_BATCH_SIZE}
 use Rattle.moka_machine.specs.declared.entry.Entry.{Entry}
-use Rattle.moka_machine.specs.Contents.{Contents, Write, total_weight, entry_keys, after_leaving}
+use Rattle.moka_machine.specs.Contents.{Contents, Write, total_weight, main_of, window_of, entry_keys, after_leaving}
 
 -- whether a key was written too long ago
 abbrev pub has_lived : {K : Type 0} → Policy → ℕ → Write K → Bool
@@ -25,7 +25,7 @@ abbrev pub unexpired : {K V : Type 0} → Policy → ℕ → Option (Entry K V) 
 unexpired policy now None = None
 unexpired policy now (Some e) = if is_expired policy now e then None else Some e
 
--- the least recently used entries that weigh so much together, or all
+-- the first of these entries that weigh so much together, or all
 abbrev pub least_recent : {K V : Type 0} → ℕ → List (Entry K V) → List (Entry K V)
 least_recent enough entries = unwrap_or (shortest_prefix (λ e. e.weight) enough entries) entries
 
@@ -35,12 +35,17 @@ module _ {K V : Type 0} (eq : K → K → Bool) where
   after_live_expiry policy now most contents =
       after_leaving eq (map (λ w. w.key) (take most (take_while (has_lived policy now) contents.written))) contents
 
-  -- the longest beginning of the order of use that was idle too long leaves, but at most so many
+  -- the longest beginning of these entries that was idle too long leaves, but at most so many
+  abbrev pub after_idle : Policy → ℕ → ℕ → List (Entry K V) → Contents K V → Contents K V
+  after_idle policy now most entries contents =
+      after_leaving eq (entry_keys (take most (take_while (is_idle policy now) entries))) contents
+
+  -- such a batch of the window leaves, and then one of main
   abbrev pub after_idle_expiry : Policy → ℕ → ℕ → Contents K V → Contents K V
   after_idle_expiry policy now most contents =
-      after_leaving eq (entry_keys (take most (take_while (is_idle policy now) contents.entries))) contents
+      after_idle policy now most (main_of contents.entries) (after_idle policy now most (window_of contents.entries) contents)
 
-  -- the least recently used entries that weigh as much as the weight above the limit leave, but at most so many
+  -- the first entries, main's before the window's, that weigh as much as the weight above the limit leave, but at most so many
   abbrev pub after_eviction : ℕ → ℕ → Contents K V → Contents K V
   after_eviction limit most contents =
       after_leaving eq (entry_keys (take most (least_recent (total_weight contents.entries - limit) contents.entries))) contents

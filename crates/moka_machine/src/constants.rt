@@ -3,3 +3,7 @@
 /// How many entries one call removes at most for a reason that isn't its own, as expiry: so that no call takes long because of entries that it
 /// doesn't ask for.
 pub const EVICTION_BATCH_SIZE: usize = 100;
+
+/// The window's part of a limit is one in so many, and main has the rest: 1 %, as W-TinyLFU and Caffeine begin with, since new entries need little room
+/// until it is known which of them are used again. A limit below this has no window.
+pub const WINDOW_SHARE: u64 = 100;

@@ -8,6 +8,8 @@ pub struct Entry<K: Drop, V: Drop> {
     pub value: V,
     pub hash: u64,
     pub weight: u32,
+    /// Whether it is in the window and not in main. It takes bytes beside the weight that are free.
+    pub in_window: bool,
     pub accessed: Instant,
     pub modified: Instant,
 }

@@ -1,5 +1,5 @@
 -- What each change of the store's chain and deque is to a contract.
-use Rattle.std.proofs.Common.{◌≡◌, ◌<◌, ◌≤◌, ◌^◌, ◌+◌, ◌-◌, ◌*◌, ℕ, Bool, true, false, nat_eq, List, [], ◌∷◌, ◌++◌, length, Option, Some}
+use Rattle.std.proofs.Common.{◌≡◌, ◌<◌, ◌≤◌, ◌^◌, ◌+◌, ◌-◌, ◌*◌, ℕ, suc, Bool, true, false, cond, nat_eq, List, [], ◌∷◌, ◌++◌, length, Option, Some}
 use Rattle.std.proofs.Common.{None, is_some, option_map, unwrap_or, refl, sym, ap, ◌∙◌, inl, inr, arith, subst}
 use Rattle.std.proofs.lemmas.Bool.{cases_Bool, cond-true, cond-false, eqb-true, false≢true}
 use Rattle.std.proofs.lemmas.List.Elements.{recursion_from_All}
@@ -11,15 +11,17 @@ use Rattle.moka_machine.specs.declared.entry.Entry.{Entry}
 use Rattle.moka_store.specs.declared.deques.Node.{Node}
 use Rattle.moka_machine.specs.Contents.{entry_at, writes_without}
 use Rattle.moka_machine.specs.Insert.{with_write}
-use Rattle.moka_store.specs.Store.{Store, Enters, Removes, Touches, Updates}
-use Rattle.moka_store.specs.Nodes.{capacity_of, entries_under, written_under, IsTied, IsStored, room_after, with_write_last, without_write}
+use Rattle.moka_store.specs.Store.{Store, Enters, Promotes, Relists, Removes, Touches, Updates}
+use Rattle.moka_store.specs.Nodes.{capacity_of, entries_under, promoted, touched, updated, window_share, windowed_weight, with_latest_node, written_under}
+use Rattle.moka_store.specs.Nodes.{IsTied, IsStored, room_after, with_write_last, without_write}
 use Rattle.std.proofs.lemmas.Map.{length-set_value}
-use Rattle.std.proofs.lemmas.List.{length_push}
-use Rattle.moka_deque.proofs.DequeLemmas.{length-remove, lookup-push, nat_eq-same}
+use Rattle.moka_deque.proofs.DequeLemmas.{length-remove, nat_eq-same}
 use Rattle.moka_deque.proofs.IdLemmas.{lookup-rewritten, IsDistinct-rewritten}
 use Rattle.moka_store.proofs.StoreLemmas.{lookup-entries, entries-remove, weight-remove, others, written-left, written-touch}
-use Rattle.moka_store.proofs.StoreLemmas.{written-update, written-enter, written-unkept, entries-rewrite, entries-push, no_writes}
-use Rattle.moka_store.proofs.StoreLemmas.{set-pushed, IsStored-remove, IsStored-rewrite, IsStored-enter, IsStored-unkept, total_bound}
+use Rattle.moka_store.proofs.LatestLemmas.{entries-latest, length-latest, lookup-latest, lookup-relisted, set-latest}
+use Rattle.moka_store.proofs.ShareLemmas.{windowed-latest}
+use Rattle.moka_store.proofs.StoreLemmas.{written-update, written-enter, written-unkept, entries-rewrite, length-entries, no_writes}
+use Rattle.moka_store.proofs.StoreLemmas.{IsStored-remove, IsStored-rewrite, IsStored-enter, IsStored-unkept, total_bound}
 use Rattle.moka_deque.proofs.IdLemmas.{moved-found}
 
 module _ {K V : Type 0} where
@@ -27,25 +29,6 @@ module _ {K V : Type 0} where
   abbrev pub seen : List (ℕ × Node K V) → List (ℕ × ℕ) → Bool → ℕ → ℕ → Store K V
   seen items writes keeps capacity ids =
       record { nodes = entries_under items; written = written_under items writes; keeps_writes = keeps; capacity = capacity; ids = ids }
-
-  -- the node, used at a moment
-  abbrev pub touched : Node K V → ℕ → Node K V
-  touched n now = record n { entry = record n.entry { accessed = now } }
-
-  -- the node with another's value, weight and moments
-  abbrev pub updated : Node K V → Entry K V → Node K V
-  updated n update = record { entry = record update { key = n.entry.key; hash = n.entry.hash }; write = n.write }
-
-  nodes-push : (items : List (ℕ × Node K V)) (p : ℕ × Node K V)
-      → entries_under (items ++ p ∷ []) ≡ entries_under items ++ (p.0, p.1.entry) ∷ []
-  nodes-push [] p = refl
-  nodes-push (q ∷ items) p = ap (λ l. (q.0, q.1.entry) ∷ l) (nodes-push items p)
-
-  nodes-rewrite : (id : ℕ) (n : Node K V) (items : List (ℕ × Node K V))
-      → entries_under (remove_entry (nat_eq id) items ++ (id, n) ∷ [])
-      ≡ remove_entry (nat_eq id) (entries_under items) ++ (id, n.entry) ∷ []
-  nodes-rewrite id n items =
-      nodes-push (remove_entry (nat_eq id) items) (id, n) ∙ ap (λ l. l ++ (id, n.entry) ∷ []) (entries-remove id items)
 
   small_at : (id : ℕ) (n : Node K V) (items : List (ℕ × Node K V)) → AllByRecursion (λ p. p.1.entry.weight < 2 ^ 32) items
       → lookup (nat_eq id) items ≡ Some n → n.entry.weight < 2 ^ 32
@@ -75,11 +58,10 @@ module _ {X : Type 0} where
   capacity_removed false items left old new wroom wmore id x stood left_is same wmore_is = same
 
   -- and once a new one has come, whose write took room
-  pub capacity_pushed : (keeps : Bool) (items pushed : List (ℕ × X)) (old new wroom wless : ℕ) (p : ℕ × X) → pushed ≡ items ++ p ∷ []
+  pub capacity_pushed : (keeps : Bool) (items pushed : List (ℕ × X)) (old new wroom wless : ℕ) → length pushed ≡ suc (length items)
       → new ≡ old → (keeps ≡ true → wroom ≡ wless + 1) → capacity_of keeps pushed new wless ≡ capacity_of keeps items old wroom
-  capacity_pushed true items pushed old new wroom wless p pushed_is same wroom_is =
-      grind (arith, ap length pushed_is, length_push items p, same, wroom_is refl)
-  capacity_pushed false items pushed old new wroom wless p pushed_is same wroom_is = same
+  capacity_pushed true items pushed old new wroom wless longer same wroom_is = grind (arith, longer, same, wroom_is refl)
+  capacity_pushed false items pushed old new wroom wless longer same wroom_is = same
 
   -- and once one is written over where it stands
   pub capacity_set : (keeps : Bool) (items : List (ℕ × X)) (capacity wroom id : ℕ) (x : X)
@@ -87,27 +69,17 @@ module _ {X : Type 0} where
   capacity_set true items capacity wroom id x = grind (arith, length-set_value (nat_eq id) items x)
   capacity_set false items capacity wroom id x = refl
 
-  -- and once one is rewritten and at the back
-  pub capacity_rewritten : (keeps : Bool) (items moved : List (ℕ × X)) (old new wroom wsame id : ℕ) (x y : X)
-      → lookup (nat_eq id) items ≡ Some x
-      → moved ≡ remove_entry (nat_eq id) items ++ (id, y) ∷ [] → new ≡ old → wsame ≡ wroom
-      → capacity_of keeps moved new wsame ≡ capacity_of keeps items old wroom
-  capacity_rewritten true items moved old new wroom wsame id x y stood moved_is same writes_same =
-      grind (
-        arith,
-        ap length moved_is,
-        length_push (remove_entry (nat_eq id) items) (id, y),
-        length-remove id items (ap is_some stood),
-        same,
-        writes_same,
-      )
-  capacity_rewritten false items moved old new wroom wsame id x y stood moved_is same writes_same = same
+  -- and with as many nodes in another order
+  pub capacity_moved : (keeps : Bool) (items moved : List (ℕ × X)) (old new wroom wsame : ℕ) → length moved ≡ length items
+      → new ≡ old → wsame ≡ wroom → capacity_of keeps moved new wsame ≡ capacity_of keeps items old wroom
+  capacity_moved true items moved old new wroom wsame as_many same writes_same = grind (arith, as_many, same, writes_same)
+  capacity_moved false items moved old new wroom wsame as_many same writes_same = same
 
   -- the id of a new node is below the number that all ids are below
-  pub id_below : (items pushed : List (ℕ × X)) (room less id bound old new : ℕ) (p : ℕ × X) → pushed ≡ items ++ p ∷ [] → room ≡ less + 1
+  pub id_below : (items pushed : List (ℕ × X)) (room less id bound old new : ℕ) → length pushed ≡ suc (length items) → room ≡ less + 1
       → id < length pushed + less → length items + room ≤ bound → bound ≡ old → new ≡ old → id < new
-  id_below items pushed room less id bound old new p pushed_is room_is below holds bound_is same =
-      omega (arith, ap length pushed_is, length_push items p, room_is, below, holds, bound_is, same)
+  id_below items pushed room less id bound old new longer room_is below holds bound_is same =
+      omega (arith, longer, room_is, below, holds, bound_is, same)
 
 -- a write that stood gives its room back
 pub room_tied : (keeps : Bool) (writes : List (ℕ × ℕ)) (id room : ℕ) (o : Option ℕ) → IsTied keeps writes id o → keeps ≡ true
@@ -155,33 +127,79 @@ module _ {K V : Type 0} {eq : K → K → Bool} (laws : IsEquivalence eq) {keeps
           ids = same_is;
         }
 
-  module _ (now : ℕ) (moved : List (ℕ × Node K V)) (moved_is : moved ≡ remove_entry (nat_eq id) items ++ (id, touched n now) ∷ []) where
+  -- what a contract sees once the node is another of the same key and write, the latest of its own
+  module _ (m : Node K V) (key : m.entry.key ≡ n.entry.key) (write : m.write ≡ n.write) (fits : m.entry.weight < 2 ^ 32)
+      (moved : List (ℕ × Node K V)) (moved_is : moved ≡ with_latest_node (id, m) (remove_entry (nat_eq id) items)) where
+    pub as_many : length moved ≡ length items
+    as_many =
+        omega (
+          arith,
+          ap length moved_is,
+          length-latest (id, m) (remove_entry (nat_eq id) items),
+          length-remove id items (ap is_some stood),
+        )
+
+    found_at : (v : ℕ) → lookup (nat_eq v) (entries_under moved) ≡ cond (nat_eq id v) (Some m.entry) (lookup (nat_eq v) (entries_under items))
+    found_at v =
+        lookup-entries v moved
+        ∙ (ap (option_map (λ n. n.entry)) (ap (lookup (nat_eq v)) moved_is ∙ lookup-relisted v id m items s.once)
+        ∙ (by (nat_eq id v) (lookup (nat_eq v) items) ∙ ap (cond (nat_eq id v) (Some m.entry)) (sym (lookup-entries v items))))
+      where
+        by : (b : Bool) (o : Option (Node K V))
+            → option_map (λ n. n.entry) (cond b (Some m) o) ≡ cond b (Some m.entry) (option_map (λ n. n.entry) o)
+        by true o = refl
+        by false o = refl
+
+    pub relists_is : (rewritten : List (ℕ × ℕ)) (old new ids same : ℕ) → new ≡ old → same ≡ ids
+        → Relists eq (seen items writes keeps old ids) id n.entry m.entry (seen moved rewritten keeps new same)
+    relists_is rewritten old new ids same capacity same_is =
+        record {
+          stood = lookup-entries id items ∙ ap (option_map (λ n. n.entry)) stood;
+          at = found_at;
+          entries = ap (λ l. values_of (entries_under l)) moved_is ∙ entries-rewrite laws s id n stood m key write fits;
+          keeps = refl;
+          capacity = capacity;
+          len = length-entries moved ∙ (as_many ∙ sym (length-entries items));
+          ids = same_is;
+        }
+
+    -- where its moment of writing and its weight stay, what holds of the lists holds
+    pub relisted_keeps : m.entry.weight ≡ n.entry.weight → IsStored eq keeps moved writes total
+    relisted_keeps weight =
+        rw moved_is (IsStored-rewrite laws s id n stood m key write fits writes total (λ v. refl) s.written_once
+        (grind (arith, weight_in_total, weight)))
+
+    pub written_same : m.entry.modified ≡ n.entry.modified → written_under moved writes ≡ written_under items writes
+    written_same modified = ap (λ l. written_under l writes) moved_is ∙ written-touch laws s id n stood m key write fits modified
+
+  module _ (now : ℕ) (moved : List (ℕ × Node K V)) (moved_is : moved ≡ with_latest_node (id, touched now n) (remove_entry (nat_eq id) items)) where
     pub touch_keeps : IsStored eq keeps moved writes total
-    touch_keeps =
-        rw moved_is (IsStored-rewrite laws s id n stood (touched n now) refl refl weight_small writes total (λ v. refl) s.written_once
-        (grind (arith, weight_in_total)))
+    touch_keeps = relisted_keeps (touched now n) refl refl weight_small moved moved_is refl
 
     pub touch_is : (old new ids same : ℕ) → new ≡ old → same ≡ ids
         → Touches eq (seen items writes keeps old ids) id now (seen moved writes keeps new same)
     touch_is old new ids same capacity same_is =
         record {
           entry = n.entry;
-          stood = lookup-entries id items ∙ ap (option_map (λ n. n.entry)) stood;
-          stands =
-              lookup-entries id moved ∙ ap (option_map (λ n. n.entry))
-              (ap (lookup (nat_eq id)) moved_is
-              ∙ (lookup-rewritten id id (touched n now) items s.once ∙ cond-true (nat_eq id id) _ _ (nat_eq-same id)));
-          entries =
-              ap (λ l. values_of (entries_under l)) moved_is ∙ entries-rewrite laws s id n stood (touched n now) refl refl weight_small;
-          written = ap (λ l. written_under l writes) moved_is ∙ written-touch laws s id n stood (touched n now) refl refl weight_small refl;
-          keeps = refl;
-          capacity = capacity;
-          ids = same_is;
-          nodes = ap entries_under moved_is ∙ nodes-rewrite id (touched n now) items;
+          relists = relists_is (touched now n) refl refl weight_small moved moved_is writes old new ids same capacity same_is;
+          written = written_same (touched now n) refl refl weight_small moved moved_is refl;
+        }
+
+  module _ (moved : List (ℕ × Node K V)) (moved_is : moved ≡ with_latest_node (id, promoted n) (remove_entry (nat_eq id) items)) where
+    pub promote_keeps : IsStored eq keeps moved writes total
+    promote_keeps = relisted_keeps (promoted n) refl refl weight_small moved moved_is refl
+
+    pub promote_is : (old new ids same : ℕ) → new ≡ old → same ≡ ids
+        → Promotes eq (seen items writes keeps old ids) id (seen moved writes keeps new same)
+    promote_is old new ids same capacity same_is =
+        record {
+          entry = n.entry;
+          relists = relists_is (promoted n) refl refl weight_small moved moved_is writes old new ids same capacity same_is;
+          written = written_same (promoted n) refl refl weight_small moved moved_is refl;
         }
 
   module _ (update : Entry K V) (fits : update.weight < 2 ^ 32) (moved : List (ℕ × Node K V))
-      (moved_is : moved ≡ remove_entry (nat_eq id) items ++ (id, updated n update) ∷ []) (rewritten : List (ℕ × ℕ))
+      (moved_is : moved ≡ with_latest_node (id, updated update n) (remove_entry (nat_eq id) items)) (rewritten : List (ℕ × ℕ))
       (rewritten_is : rewritten ≡ with_write_last n.write writes) where
     own_write : (w : ℕ) → n.write ≡ Some w → rewritten ≡ remove_entry (nat_eq w) writes ++ (w, id) ∷ []
     own_write w named =
@@ -208,7 +226,7 @@ module _ {K V : Type 0} {eq : K → K → Bool} (laws : IsEquivalence eq) {keeps
 
     pub update_keeps : (changed : ℕ) → changed ≡ total - n.entry.weight + update.weight → IsStored eq keeps moved rewritten changed
     update_keeps changed is =
-        rw moved_is (IsStored-rewrite laws s id n stood (updated n update) refl refl fits rewritten changed (same_writes n.write refl)
+        rw moved_is (IsStored-rewrite laws s id n stood (updated update n) refl refl fits rewritten changed (same_writes n.write refl)
         (distinct n.write refl) is)
 
     written : (o : Option ℕ) → n.write ≡ o → written_under moved rewritten
@@ -219,8 +237,8 @@ module _ {K V : Type 0} {eq : K → K → Bool} (laws : IsEquivalence eq) {keeps
         ap (written_under moved) (rewritten_is ∙ (ap (λ o. with_write_last o writes) none ∙ empty)) ∙ rw (unkept, empty) refl
     written (Some w) named =
         ap (λ l. written_under l rewritten) moved_is
-        ∙ (ap (written_under (remove_entry (nat_eq id) items ++ (id, updated n update) ∷ [])) (own_write w named)
-        ∙ (written-update laws s id n stood (updated n update) refl refl fits w named
+        ∙ (ap (written_under (with_latest_node (id, updated update n) (remove_entry (nat_eq id) items))) (own_write w named)
+        ∙ (written-update laws s id n stood (updated update n) refl refl fits w named
         ∙ rw ((subst (IsTied keeps writes id) named (s.tied id n stood)).0) refl))
 
     pub update_is : (old new ids same : ℕ) → new ≡ old → same ≡ ids
@@ -228,13 +246,8 @@ module _ {K V : Type 0} {eq : K → K → Bool} (laws : IsEquivalence eq) {keeps
     update_is old new ids same capacity same_is =
         record {
           entry = n.entry;
-          stood = lookup-entries id items ∙ ap (option_map (λ n. n.entry)) stood;
-          entries = ap (λ l. values_of (entries_under l)) moved_is ∙ entries-rewrite laws s id n stood (updated n update) refl refl fits;
+          relists = relists_is (updated update n) refl refl fits moved moved_is rewritten old new ids same capacity same_is;
           written = written n.write refl;
-          keeps = refl;
-          capacity = capacity;
-          ids = same_is;
-          nodes = ap entries_under moved_is ∙ nodes-rewrite id (updated n update) items;
         }
 
 -- the total without a weight is no larger
@@ -251,20 +264,51 @@ module _ {K V : Type 0} where
 
 module _ {K V : Type 0} {eq : K → K → Bool} (laws : IsEquivalence eq) {keeps : Bool} {items : List (ℕ × Node K V)} {writes : List (ℕ × ℕ)}
     {total : ℕ} (s : IsStored eq keeps items writes total) (id : ℕ) (entry : Entry K V) (fresh : lookup (nat_eq id) items ≡ None)
-    (pushed : List (ℕ × Node K V)) (pushed_is : pushed ≡ items ++ (id, new_node entry None) ∷ []) where
+    (pushed : List (ℕ × Node K V)) (pushed_is : pushed ≡ with_latest_node (id, new_node entry None) items) where
   -- it is in the list
   pub is_pushed : lookup (nat_eq id) pushed ≡ Some (new_node entry None)
   is_pushed =
       ap (lookup (nat_eq id)) pushed_is
-      ∙ (lookup-push id id (new_node entry None) items fresh ∙ cond-true (nat_eq id id) _ _ (nat_eq-same id))
+      ∙ (lookup-latest id id (new_node entry None) items fresh ∙ cond-true (nat_eq id id) _ _ (nat_eq-same id))
+
+  pub one_more : length pushed ≡ suc (length items)
+  one_more = ap length pushed_is ∙ length-latest (id, new_node entry None) items
+
+  -- what a contract sees of the new node
+  entered_is : (write : Option ℕ) (entered : List (ℕ × Node K V)) → entered ≡ with_latest_node (id, new_node entry write) items
+      → (written : List (ℕ × ℕ)) → written_under entered written ≡ with_write keeps (written_under items writes) entry.key entry.modified
+      → (old new ids same : ℕ) → new ≡ old → id < same → same ≡ ids
+      → Enters eq (seen items writes keeps old ids) entry id (seen entered written keeps new same)
+  entered_is write entered is written written_is old new ids same capacity below same_is =
+      record {
+        entries = ap (λ l. values_of (entries_under l)) is ∙ entries-latest (id, new_node entry write) items;
+        written = written_is;
+        keeps = refl;
+        capacity = capacity;
+        at = λ v.
+            lookup-entries v entered
+            ∙ (ap (option_map (λ n. n.entry)) (ap (lookup (nat_eq v)) is ∙ lookup-latest v id (new_node entry write) items fresh)
+            ∙ (by (nat_eq id v) (lookup (nat_eq v) items) ∙ ap (cond (nat_eq id v) (Some entry)) (sym (lookup-entries v items))));
+        len =
+            length-entries entered
+            ∙ (ap length is ∙ (length-latest (id, new_node entry write) items ∙ ap suc (sym (length-entries items))));
+        new_id = lookup-entries id items ∙ ap (option_map (λ n. n.entry)) fresh;
+        below = below;
+        ids = same_is;
+      }
+    where
+      by : (b : Bool) (o : Option (Node K V))
+          → option_map (λ n. n.entry) (cond b (Some (new_node entry write)) o) ≡ cond b (Some entry) (option_map (λ n. n.entry) o)
+      by true o = refl
+      by false o = refl
 
   module _ (kept : keeps ≡ true) (w : ℕ) (unused : lookup (nat_eq w) writes ≡ None) (found : Node K V)
       (found_is : lookup (nat_eq id) pushed ≡ Some found) (written : List (ℕ × ℕ)) (written_is : written ≡ writes ++ (w, id) ∷ []) where
-    named_is : set_value (nat_eq id) pushed (new_node found.entry (Some w)) ≡ items ++ (id, new_node entry (Some w)) ∷ []
+    named_is : set_value (nat_eq id) pushed (new_node found.entry (Some w)) ≡ with_latest_node (id, new_node entry (Some w)) items
     named_is =
         ap (λ n. set_value (nat_eq id) pushed (new_node n.entry (Some w))) (ap (λ o. unwrap_or o found) (sym found_is ∙ is_pushed))
         ∙ (ap (λ l. set_value (nat_eq id) l (new_node entry (Some w))) pushed_is
-        ∙ set-pushed id (new_node entry None) (new_node entry (Some w)) items fresh)
+        ∙ set-latest id (new_node entry None) (new_node entry (Some w)) items fresh refl)
 
     pub enter_keeps : entry_at eq entry.key (values_of (entries_under items)) ≡ None → entry.weight < 2 ^ 32 → (sum : ℕ)
         → sum ≡ total + entry.weight
@@ -272,22 +316,18 @@ module _ {K V : Type 0} {eq : K → K → Bool} (laws : IsEquivalence eq) {keeps
     enter_keeps absent fits sum is =
         rw (named_is, written_is, is) (IsStored-enter laws s id (new_node entry (Some w)) fresh absent fits kept w refl unused)
 
+    pub enter_weighs : windowed_weight (set_value (nat_eq id) pushed (new_node found.entry (Some w)))
+        ≡ windowed_weight items + window_share entry.in_window entry.weight
+    enter_weighs = ap windowed_weight named_is ∙ windowed-latest (id, new_node entry (Some w)) items
+
     pub enter_is : (old new ids same : ℕ) → new ≡ old → id < same → same ≡ ids → Enters eq (seen items writes keeps old ids) entry id
         (seen (set_value (nat_eq id) pushed (new_node found.entry (Some w))) written keeps new same)
     enter_is old new ids same capacity below same_is =
-        record {
-          entries = ap (λ l. values_of (entries_under l)) named_is ∙ entries-push items (id, new_node entry (Some w));
-          written =
-              ap (λ l. written_under l written) named_is
-              ∙ (ap (written_under (items ++ (id, new_node entry (Some w)) ∷ [])) written_is
-              ∙ written-enter laws s id (new_node entry (Some w)) fresh kept w);
-          keeps = refl;
-          capacity = capacity;
-          nodes = ap entries_under named_is ∙ nodes-push items (id, new_node entry (Some w));
-          new_id = lookup-entries id items ∙ ap (option_map (λ n. n.entry)) fresh;
-          below = below;
-          ids = same_is;
-        }
+        entered_is (Some w) _ named_is written
+        (ap (λ l. written_under l written) named_is
+        ∙ (ap (written_under (with_latest_node (id, new_node entry (Some w)) items)) written_is
+        ∙ written-enter laws s id (new_node entry (Some w)) fresh kept w))
+        old new ids same capacity below same_is
 
   module _ (unkept : keeps ≡ false) where
     pub unkept_keeps : entry_at eq entry.key (values_of (entries_under items)) ≡ None → entry.weight < 2 ^ 32 → (sum : ℕ)
@@ -297,13 +337,9 @@ module _ {K V : Type 0} {eq : K → K → Bool} (laws : IsEquivalence eq) {keeps
     pub unkept_is : (old new ids same : ℕ) → new ≡ old → id < same → same ≡ ids
         → Enters eq (seen items writes keeps old ids) entry id (seen pushed writes keeps new same)
     unkept_is old new ids same capacity below same_is =
-        record {
-          entries = ap (λ l. values_of (entries_under l)) pushed_is ∙ entries-push items (id, new_node entry None);
-          written = ap (λ l. written_under l writes) pushed_is ∙ written-unkept laws s id (new_node entry None) fresh unkept;
-          keeps = refl;
-          capacity = capacity;
-          nodes = ap entries_under pushed_is ∙ nodes-push items (id, new_node entry None);
-          new_id = lookup-entries id items ∙ ap (option_map (λ n. n.entry)) fresh;
-          below = below;
-          ids = same_is;
-        }
+        entered_is None _ pushed_is writes
+        (ap (λ l. written_under l writes) pushed_is ∙ written-unkept laws s id (new_node entry None) fresh unkept)
+        old new ids same capacity below same_is
+
+  pub unkept_weighs : windowed_weight pushed ≡ windowed_weight items + window_share entry.in_window entry.weight
+  unkept_weighs = ap windowed_weight pushed_is ∙ windowed-latest (id, new_node entry None) items

@@ -13,9 +13,9 @@ use Rattle.moka_index.specs.HashIndex.{HashIndex, candidates, is_candidate, Adds
 use Rattle.moka_machine.specs.declared.entry.Entry.{Entry}
 use Rattle.moka_machine.specs.Contents.{entry_at}
 use Rattle.moka_store.specs.Indexed.{IsIndexed, indexed_capacity}
-use Rattle.moka_store.specs.Store.{Store, Enters, IsFront, IsOldest, Removes, Touches, Updates}
+use Rattle.moka_store.specs.Store.{Store, Enters, IsFront, IsMainFront, IsOldest, IsWindowFront, Promotes, Relists, Removes, Touches, Updates}
 use Rattle.moka_deque.proofs.DequeLemmas.{lookup-push}
-use Rattle.moka_deque.proofs.IdLemmas.{each_found, lookup-removed, lookup-rewritten, not_none, some_parts}
+use Rattle.moka_deque.proofs.IdLemmas.{each_found, lookup-removed, not_none, some_parts}
 use Rattle.moka_deque.proofs.WalkLemmas.{from_first, from_node, from_next, from_none}
 
 -- ---- ids among others
@@ -44,8 +44,8 @@ module _ {K V : Type 0} {nodes : List (ℕ × Entry K V)} {index : HashIndex} (s
   module _ (once : IsDistinct nat_eq (keys_of nodes)) (stood : lookup (nat_eq id) nodes ≡ Some e) where
     -- an entry that is rewritten keeps its hash
     pub IsIndexed-rewrite : (x : Entry K V) → x.hash ≡ e.hash → (moved : List (ℕ × Entry K V))
-        → moved ≡ remove_entry (nat_eq id) nodes ++ (id, x) ∷ [] → IsIndexed moved index
-    IsIndexed-rewrite x same_hash moved is =
+        → ((v : ℕ) → lookup (nat_eq v) moved ≡ cond (nat_eq id v) (Some x) (lookup (nat_eq v) nodes)) → IsIndexed moved index
+    IsIndexed-rewrite x same_hash moved found =
         record {
           listed = λ i y h. by i y (sym (found i) ∙ h);
           standing = λ hash i h.
@@ -53,9 +53,6 @@ module _ {K V : Type 0} {nodes : List (ℕ × Entry K V)} {index : HashIndex} (s
               (cond_both (nat_eq id i) (Some x) (lookup (nat_eq i) nodes) (λ o. IsSome o) (λ _. refl) (λ _. s.standing hash i h));
         }
       where
-        found : (i : ℕ) → lookup (nat_eq i) moved ≡ cond (nat_eq id i) (Some x) (lookup (nat_eq i) nodes)
-        found i = ap (lookup (nat_eq i)) is ∙ lookup-rewritten id i x nodes once
-
         by : (i : ℕ) (y : Entry K V) → cond (nat_eq id i) (Some x) (lookup (nat_eq i) nodes) ≡ Some y
             → is_candidate index y.hash i ≡ true
         by i y h =
@@ -94,9 +91,9 @@ module _ {K V : Type 0} {nodes : List (ℕ × Entry K V)} {index : HashIndex} (s
             ]
 
   -- a new one is a candidate of its hash
-  pub IsIndexed-enter : (new : HashIndex) → Adds index id e.hash new → lookup (nat_eq id) nodes ≡ None → (pushed : List (ℕ × Entry K V))
-      → pushed ≡ nodes ++ (id, e) ∷ [] → IsIndexed pushed new
-  IsIndexed-enter new step fresh pushed is =
+  pub IsIndexed-enter : (new : HashIndex) → Adds index id e.hash new → (pushed : List (ℕ × Entry K V))
+      → ((v : ℕ) → lookup (nat_eq v) pushed ≡ cond (nat_eq id v) (Some e) (lookup (nat_eq v) nodes)) → IsIndexed pushed new
+  IsIndexed-enter new step pushed found =
       record {
         listed = λ i y h. by i y (sym (found i) ∙ h);
         standing = λ hash i h.
@@ -104,9 +101,6 @@ module _ {K V : Type 0} {nodes : List (ℕ × Entry K V)} {index : HashIndex} (s
             (cond_both (nat_eq id i) (Some e) (lookup (nat_eq i) nodes) (λ o. IsSome o) (λ _. refl) (λ other. stands hash i other h));
       }
     where
-      found : (i : ℕ) → lookup (nat_eq i) pushed ≡ cond (nat_eq id i) (Some e) (lookup (nat_eq i) nodes)
-      found i = ap (lookup (nat_eq i)) is ∙ lookup-push i id e nodes fresh
-
       by : (i : ℕ) (y : Entry K V) → cond (nat_eq id i) (Some e) (lookup (nat_eq i) nodes) ≡ Some y → is_candidate new y.hash i ≡ true
       by i y h =
           elim (cases_Bool (nat_eq id i)) [
@@ -222,9 +216,9 @@ module _ {K V : Type 0} (nodes : List (ℕ × Entry K V)) where
         done = s.done ++ (id, e) ∷ [];
         parts = append_assoc s.done ((id, e) ∷ []) (from_node (next_id id nodes) nodes) ∙ parts;
         indexed =
-            IsIndexed-enter s.indexed id e new step
-            (apart_from s.done id e (from_node (next_id id nodes) nodes) (subst (λ l. IsDistinct nat_eq (keys_of l)) (sym parts) once))
-            (s.done ++ (id, e) ∷ []) refl;
+            IsIndexed-enter s.indexed id e new step (s.done ++ (id, e) ∷ [])
+            (λ v. lookup-push v id e s.done
+            (apart_from s.done id e (from_node (next_id id nodes) nodes) (subst (λ l. IsDistinct nat_eq (keys_of l)) (sym parts) once)));
       }
 
   -- it isn't there yet
@@ -277,6 +271,42 @@ module _ {K V : Type 0} where
     shown_front None h = tt
     shown_front (Some id) h = record { entry = h.entry; rest = h.rest; stands = h.stands; first = h.first; alone = h.alone }
 
+    abbrev front_shown : (id : ℕ) → IsFront eq a id → IsFront eq (record a { capacity = m }) id
+    front_shown id h = record { entry = h.entry; rest = h.rest; stands = h.stands; first = h.first; alone = h.alone }
+
+    pub shown_main_front : (o : Option ℕ) → IfSome o (λ id. IsMainFront eq a id) → IfSome o (λ id. IsMainFront eq (record a { capacity = m }) id)
+    shown_main_front None h = tt
+    shown_main_front (Some id) h = record { front = front_shown id h.front; main = h.main }
+
+    pub window_front_shown : (id : ℕ) → IsWindowFront eq a id → IsWindowFront eq (record a { capacity = m }) id
+    window_front_shown id h =
+        record {
+          entry = h.entry;
+          rest = h.rest;
+          stands = h.stands;
+          windowed = h.windowed;
+          first = h.first;
+          alone = h.alone;
+          main = h.main;
+        }
+
+    pub window_front_hidden : (id : ℕ) → IsWindowFront eq (record a { capacity = m }) id → IsWindowFront eq a id
+    window_front_hidden id h =
+        record {
+          entry = h.entry;
+          rest = h.rest;
+          stands = h.stands;
+          windowed = h.windowed;
+          first = h.first;
+          alone = h.alone;
+          main = h.main;
+        }
+
+    pub shown_window_front : (o : Option ℕ) → IfSome o (λ id. IsWindowFront eq a id)
+        → IfSome o (λ id. IsWindowFront eq (record a { capacity = m }) id)
+    shown_window_front None h = tt
+    shown_window_front (Some id) h = window_front_shown id h
+
     pub shown_oldest : (o : Option ℕ) → IfSome o (λ id. IsOldest eq a id) → IfSome o (λ id. IsOldest eq (record a { capacity = m }) id)
     shown_oldest None h = tt
     shown_oldest (Some id) h = record { entry = h.entry; rest = h.rest; stands = h.stands; first = h.first; alone = h.alone }
@@ -296,34 +326,28 @@ module _ {K V : Type 0} where
           ids = h.ids;
         }
 
-    pub shown_touches : (now : ℕ) → n ≡ m → Touches eq a id now b
-        → Touches eq (record a { capacity = m }) id now (record b { capacity = n })
-    shown_touches now same h =
+    shown_relists : {e x : Entry K V} → n ≡ m → Relists eq a id e x b → Relists eq (record a { capacity = m }) id e x (record b { capacity = n })
+    shown_relists same h =
         record {
-          entry = h.entry;
           stood = h.stood;
-          stands = h.stands;
+          at = h.at;
           entries = h.entries;
-          written = h.written;
           keeps = h.keeps;
           capacity = same;
+          len = h.len;
           ids = h.ids;
-          nodes = h.nodes;
         }
+
+    pub shown_touches : (now : ℕ) → n ≡ m → Touches eq a id now b
+        → Touches eq (record a { capacity = m }) id now (record b { capacity = n })
+    shown_touches now same h = record { entry = h.entry; relists = shown_relists same h.relists; written = h.written }
 
     pub shown_updates : (update : Entry K V) → n ≡ m → Updates eq a id update b
         → Updates eq (record a { capacity = m }) id update (record b { capacity = n })
-    shown_updates update same h =
-        record {
-          entry = h.entry;
-          stood = h.stood;
-          entries = h.entries;
-          written = h.written;
-          keeps = h.keeps;
-          capacity = same;
-          ids = h.ids;
-          nodes = h.nodes;
-        }
+    shown_updates update same h = record { entry = h.entry; relists = shown_relists same h.relists; written = h.written }
+
+    pub shown_promotes : n ≡ m → Promotes eq a id b → Promotes eq (record a { capacity = m }) id (record b { capacity = n })
+    shown_promotes same h = record { entry = h.entry; relists = shown_relists same h.relists; written = h.written }
 
     pub shown_enters : (e : Entry K V) → n ≡ m → Enters eq a e id b → Enters eq (record a { capacity = m }) e id (record b { capacity = n })
     shown_enters e same h =
@@ -332,7 +356,8 @@ module _ {K V : Type 0} where
           written = h.written;
           keeps = h.keeps;
           capacity = same;
-          nodes = h.nodes;
+          at = h.at;
+          len = h.len;
           new_id = h.new_id;
           below = h.below;
           ids = h.ids;

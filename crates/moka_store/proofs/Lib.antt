@@ -1,8 +1,13 @@
 pub mod NodeLemmas
+pub mod LatestLemmas
+pub mod OrderLemmas
 pub mod StoreLemmas
+pub mod ShareLemmas
 pub mod FindLemmas
 pub mod ChangeLemmas
 pub mod IndexLemmas
 pub mod TrimLemmas
+pub mod IdleLemmas
 pub mod AdmitLemmas
+pub mod WindowLemmas
 pub mod InvalidateLemmas

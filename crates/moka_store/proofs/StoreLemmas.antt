@@ -3,23 +3,24 @@ use Rattle.std.proofs.Common.{◌≡◌, ◌⊎◌, ◌<◌, ◌≤◌, ◌^◌,
 use Rattle.std.proofs.Common.{◌++◌, All, map, length, Option, Some, None, is_some, IsSome, option_map, unwrap_or, refl, sym, ap, ◌∙◌, inl}
 use Rattle.std.proofs.Common.{inr, arith, subst}
 use Rattle.std.proofs.lemmas.Bool.{cases_Bool, cond_both, cond-true, cond-false, eqb-true, false≢true}
-use Rattle.std.proofs.lemmas.List.Elements.{All-push, All-from_recursion, recursion_from_All, filter_map-append}
-use Rattle.std.proofs.lemmas.List.Sums.{sum_by_push, sum_by-le}
+use Rattle.std.proofs.lemmas.List.Elements.{All-from_recursion, recursion_from_All, filter_map-append}
+use Rattle.std.proofs.lemmas.List.Sums.{sum_by-le}
 use Rattle.std.proofs.lemmas.Map.Entries.{sum_by-remove_entry}
 use Rattle.std.specs.Cmp.{IsEquivalence}
 use Rattle.std.specs.List.{IsDistinct, AllByRecursion, cons_option, filter_map}
 use Rattle.std.specs.Map.{lookup, remove_entry, set_value, keys_of, values_of}
 use Rattle.moka_deque.specs.Deque.{first_id, next_id}
 use Rattle.moka_store.specs.declared.deques.Node.{Node}
-use Rattle.moka_machine.specs.Contents.{entries_without, entry_at, total_weight, Write, write_of, writes_without}
+use Rattle.moka_machine.specs.Contents.{entries_without, entry_at, total_weight, with_latest, Write, write_of, writes_without}
+use Rattle.moka_machine.proofs.WindowLemmas.{total-latest}
 use Rattle.moka_machine.specs.Insert.{with_write}
-use Rattle.moka_store.specs.Nodes.{entries_under, write_under, written_under, IsTied, IsStored, without_write}
+use Rattle.moka_store.specs.Nodes.{entries_under, with_latest_node, write_under, written_under, IsTied, IsStored, without_write}
 use Rattle.moka_deque.proofs.DequeLemmas.{lookup-push, nat_eq-same}
-use Rattle.moka_deque.proofs.IdLemmas.{each_found, lookup-removed, lookup-behind, lookup-rewritten, IsDistinct-removed, IsDistinct-pushed}
-use Rattle.moka_deque.proofs.IdLemmas.{IsDistinct-rewritten}
+use Rattle.moka_deque.proofs.IdLemmas.{each_found, lookup-removed, lookup-behind, IsDistinct-removed, IsDistinct-pushed}
 use Rattle.moka_store.proofs.NodeLemmas.{others_found, filter_map-same, filter_map-without, filter_map-remove}
 use Rattle.moka_deque.proofs.IdLemmas.{not_none, some_parts}
 use Rattle.moka_store.proofs.NodeLemmas.{map-remove}
+use Rattle.moka_store.proofs.LatestLemmas.{All-latest_node, distinct-latest, distinct-relisted, entries-latest, lookup-latest, lookup-relisted}
 
 module _ {K V : Type 0} where
   -- the entries under ids, seen by ids
@@ -52,11 +53,6 @@ module _ {K V : Type 0} where
             ∙ (ap (λ l. (p.0, p.1.entry) ∷ l) (entries-remove id items) ∙ sym (cond-false (nat_eq id p.0) _ _ other))
       ]
 
-  pub entries-push : (items : List (ℕ × Node K V)) (p : ℕ × Node K V)
-      → values_of (entries_under (items ++ p ∷ [])) ≡ values_of (entries_under items) ++ p.1.entry ∷ []
-  entries-push [] p = refl
-  entries-push (q ∷ items) p = ap (λ l. q.1.entry ∷ l) (entries-push items p)
-
   pub length-entries : (items : List (ℕ × Node K V)) → length (entries_under items) ≡ length items
   length-entries [] = refl
   length-entries (p ∷ items) = ap suc (length-entries items)
@@ -81,9 +77,9 @@ module _ {K V : Type 0} where
       (lookup-entries id items ∙ ap (option_map (λ n. n.entry)) h)
       (sum_by-remove_entry (λ e. e.weight) (nat_eq id) (entries_under items)))
 
-  pub weight-push : (p : ℕ × Node K V) (items : List (ℕ × Node K V))
-      → total_weight (values_of (entries_under (items ++ p ∷ []))) ≡ total_weight (values_of (entries_under items)) + p.1.entry.weight
-  weight-push p items = ap total_weight (entries-push items p) ∙ sum_by_push (λ e. e.weight) (values_of (entries_under items)) p.1.entry
+  pub weight-latest : (p : ℕ × Node K V) (items : List (ℕ × Node K V))
+      → total_weight (values_of (entries_under (with_latest_node p items))) ≡ total_weight (values_of (entries_under items)) + p.1.entry.weight
+  weight-latest p items = ap total_weight (entries-latest p items) ∙ total-latest p.1.entry (values_of (entries_under items))
 
   All-remove : (P : ℕ × Node K V → Type 0) (id : ℕ) (items : List (ℕ × Node K V)) → AllByRecursion P items
       → AllByRecursion P (remove_entry (nat_eq id) items)
@@ -339,12 +335,12 @@ module _ {K V : Type 0} {eq : K → K → Bool} (laws : IsEquivalence eq) {keeps
     parts false o p h = inr (refl, some_parts p o (sym h))
 
     -- each node stood before, with the same key and the same write
-    before : (i : ℕ) (p : Node K V) → lookup (nat_eq i) (remove_entry (nat_eq id) items ++ (id, m) ∷ []) ≡ Some p
+    before : (i : ℕ) (p : Node K V) → lookup (nat_eq i) (with_latest_node (id, m) (remove_entry (nat_eq id) items)) ≡ Some p
         → (o : Node K V) × (lookup (nat_eq i) items ≡ Some o) × (p.entry.key ≡ o.entry.key) × (p.write ≡ o.write)
     before i p h = cases (cases_Bool (nat_eq id i))
       where
         found : cond (nat_eq id i) (Some m) (lookup (nat_eq i) items) ≡ Some p
-        found = sym (lookup-rewritten id i m items s.once) ∙ h
+        found = sym (lookup-relisted i id m items s.once) ∙ h
 
         cases : (nat_eq id i ≡ true) ⊎ (nat_eq id i ≡ false)
             → (o : Node K V) × (lookup (nat_eq i) items ≡ Some o) × (p.entry.key ≡ o.entry.key) × (p.write ≡ o.write)
@@ -358,23 +354,23 @@ module _ {K V : Type 0} {eq : K → K → Bool} (laws : IsEquivalence eq) {keeps
         cases (inr other) = (p, sym (cond-false (nat_eq id i) (Some m) (lookup (nat_eq i) items) other) ∙ found, refl, refl)
 
     after : (i : ℕ) (o : Node K V) → lookup (nat_eq i) items ≡ Some o
-        → (p : Node K V) × (lookup (nat_eq i) (remove_entry (nat_eq id) items ++ (id, m) ∷ []) ≡ Some p) × (p.write ≡ o.write)
+        → (p : Node K V) × (lookup (nat_eq i) (with_latest_node (id, m) (remove_entry (nat_eq id) items)) ≡ Some p) × (p.write ≡ o.write)
     after i o h = cases (cases_Bool (nat_eq id i))
       where
         cases : (nat_eq id i ≡ true) ⊎ (nat_eq id i ≡ false)
-            → (p : Node K V) × (lookup (nat_eq i) (remove_entry (nat_eq id) items ++ (id, m) ∷ []) ≡ Some p) × (p.write ≡ o.write)
+            → (p : Node K V) × (lookup (nat_eq i) (with_latest_node (id, m) (remove_entry (nat_eq id) items)) ≡ Some p) × (p.write ≡ o.write)
         cases (inl same) = (
           m,
-          lookup-rewritten id i m items s.once ∙ cond-true (nat_eq id i) _ _ same,
+          lookup-relisted i id m items s.once ∙ cond-true (nat_eq id i) _ _ same,
           write
               ∙ ap (λ x. x.write) (some_parts n o (sym stood ∙ (ap (λ q. lookup (nat_eq q) items) (eqb-true id i same) ∙ h))),
         )
-        cases (inr other) = (o, lookup-rewritten id i m items s.once ∙ (cond-false (nat_eq id i) _ _ other ∙ h), refl)
+        cases (inr other) = (o, lookup-relisted i id m items s.once ∙ (cond-false (nat_eq id i) _ _ other ∙ h), refl)
 
     -- what holds of the lists holds with the node rewritten
     pub IsStored-rewrite : (news : List (ℕ × ℕ)) (changed : ℕ) → ((v : ℕ) → lookup (nat_eq v) news ≡ lookup (nat_eq v) writes)
         → IsDistinct nat_eq (keys_of news) → changed ≡ total - n.entry.weight + m.entry.weight
-        → IsStored eq keeps (remove_entry (nat_eq id) items ++ (id, m) ∷ []) news changed
+        → IsStored eq keeps (with_latest_node (id, m) (remove_entry (nat_eq id) items)) news changed
     IsStored-rewrite news changed same_writes distinct is =
         record {
           apart = λ i j p q hi hj equal. let a =
@@ -384,12 +380,12 @@ module _ {K V : Type 0} {eq : K → K → Bool} (laws : IsEquivalence eq) {keeps
           tied = λ i p h. let a = before i p h in rewrite_tied i p.write (subst (IsTied keeps writes i) (sym a.3) (s.tied i a.0 a.1));
           standing = λ v i h. let found =
               s.standing v i (sym (same_writes v) ∙ h) in let b = after i found.0 found.1 in (b.0, b.1, b.2 ∙ found.2);
-          once = IsDistinct-rewritten id m items s.once;
+          once = distinct-relisted id m items s.once;
           written_once = distinct;
-          small = All-push (λ p. p.1.entry.weight < 2 ^ 32) (remove_entry (nat_eq id) items) (id, m) (small-remove id items s.small) fits;
+          small = All-latest_node (λ p. p.1.entry.weight < 2 ^ 32) (id, m) (remove_entry (nat_eq id) items) fits (small-remove id items s.small);
           sum =
               is ∙ (ap (λ t. t + m.entry.weight) (ap (λ t. t - n.entry.weight) s.sum ∙ by_difference)
-              ∙ sym (weight-push (id, m) (remove_entry (nat_eq id) items)));
+              ∙ sym (weight-latest (id, m) (remove_entry (nat_eq id) items)));
         }
       where
         by_difference : total_weight (values_of (entries_under items)) - n.entry.weight
@@ -401,20 +397,20 @@ module _ {K V : Type 0} {eq : K → K → Bool} (laws : IsEquivalence eq) {keeps
         rewrite_tied i (Some v) t = (t.0, same_writes v ∙ t.1)
 
     -- the entries in order of use
-    pub entries-rewrite : values_of (entries_under (remove_entry (nat_eq id) items ++ (id, m) ∷ []))
-        ≡ entries_without eq n.entry.key (values_of (entries_under items)) ++ m.entry ∷ []
-    entries-rewrite = entries-push (remove_entry (nat_eq id) items) (id, m) ∙ ap (λ l. l ++ m.entry ∷ []) others
+    pub entries-rewrite : values_of (entries_under (with_latest_node (id, m) (remove_entry (nat_eq id) items)))
+        ≡ with_latest m.entry (entries_without eq n.entry.key (values_of (entries_under items)))
+    entries-rewrite = entries-latest (id, m) (remove_entry (nat_eq id) items) ∙ ap (with_latest m.entry) others
 
     -- the writes stay if the node's moment of writing does
     pub written-touch : m.entry.modified ≡ n.entry.modified
-        → written_under (remove_entry (nat_eq id) items ++ (id, m) ∷ []) writes ≡ written_under items writes
+        → written_under (with_latest_node (id, m) (remove_entry (nat_eq id) items)) writes ≡ written_under items writes
     written-touch modified =
-        filter_map-same (write_under (remove_entry (nat_eq id) items ++ (id, m) ∷ [])) (write_under items) writes (each writes)
+        filter_map-same (write_under (with_latest_node (id, m) (remove_entry (nat_eq id) items))) (write_under items) writes (each writes)
       where
-        one : (i : ℕ) → option_map (λ n. write_of n.entry) (lookup (nat_eq i) (remove_entry (nat_eq id) items ++ (id, m) ∷ []))
+        one : (i : ℕ) → option_map (λ n. write_of n.entry) (lookup (nat_eq i) (with_latest_node (id, m) (remove_entry (nat_eq id) items)))
             ≡ option_map (λ n. write_of n.entry) (lookup (nat_eq i) items)
         one i =
-            ap (option_map (λ n. write_of n.entry)) (lookup-rewritten id i m items s.once)
+            ap (option_map (λ n. write_of n.entry)) (lookup-relisted i id m items s.once)
             ∙ elim (cases_Bool (nat_eq id i)) [
               | inl same ↦
                   ap (option_map (λ n. write_of n.entry)) (cond-true (nat_eq id i) (Some m) (lookup (nat_eq i) items) same)
@@ -424,13 +420,13 @@ module _ {K V : Type 0} {eq : K → K → Bool} (laws : IsEquivalence eq) {keeps
             ]
 
         each : (ws : List (ℕ × ℕ))
-            → AllByRecursion (λ w. write_under (remove_entry (nat_eq id) items ++ (id, m) ∷ []) w ≡ write_under items w) ws
+            → AllByRecursion (λ w. write_under (with_latest_node (id, m) (remove_entry (nat_eq id) items)) w ≡ write_under items w) ws
         each [] = tt
         each (w ∷ ws) = (one w.1, each ws)
 
     -- the node's write goes to the back with it
     pub written-update : (w : ℕ) → n.write ≡ Some w
-        → written_under (remove_entry (nat_eq id) items ++ (id, m) ∷ []) (remove_entry (nat_eq w) writes ++ (w, id) ∷ []) ≡ writes_without
+        → written_under (with_latest_node (id, m) (remove_entry (nat_eq id) items)) (remove_entry (nat_eq w) writes ++ (w, id) ∷ []) ≡ writes_without
         eq n.entry.key (written_under items writes) ++ write_of m.entry ∷ []
     written-update w named =
         filter_map-append view (remove_entry (nat_eq w) writes) ((w, id) ∷ [])
@@ -438,18 +434,18 @@ module _ {K V : Type 0} {eq : K → K → Bool} (laws : IsEquivalence eq) {keeps
         (filter_map-same view (write_under (remove_entry (nat_eq id) items)) (remove_entry (nat_eq w) writes)
         (each (remove_entry (nat_eq w) writes) (others_found w writes s.written_once)) ∙ written-remove w named)
         ∙ ap (λ o. writes_without eq n.entry.key (written_under items writes) ++ Rattle.std.specs.List.cons_option
-        (option_map (λ n. write_of n.entry) o) []) (lookup-rewritten id id m items s.once
+        (option_map (λ n. write_of n.entry) o) []) (lookup-relisted id id m items s.once
         ∙ cond-true (nat_eq id id) (Some m) (lookup (nat_eq id) items) (nat_eq-same id)))
       where
         view : ℕ × ℕ → Option (Write K)
-        view = write_under (remove_entry (nat_eq id) items ++ (id, m) ∷ [])
+        view = write_under (with_latest_node (id, m) (remove_entry (nat_eq id) items))
 
         one : (i : ℕ) → nat_eq id i ≡ false
-            → option_map (λ n. write_of n.entry) (lookup (nat_eq i) (remove_entry (nat_eq id) items ++ (id, m) ∷ []))
+            → option_map (λ n. write_of n.entry) (lookup (nat_eq i) (with_latest_node (id, m) (remove_entry (nat_eq id) items)))
             ≡ option_map (λ n. write_of n.entry) (lookup (nat_eq i) (remove_entry (nat_eq id) items))
         one i other =
             ap (option_map (λ n. write_of n.entry))
-            (lookup-rewritten id i m items s.once
+            (lookup-relisted i id m items s.once
             ∙ (cond-false (nat_eq id i) _ _ other ∙ sym (lookup-removed id i items s.once ∙ cond-false (nat_eq id i) _ _ other)))
 
         each : (ws : List (ℕ × ℕ)) → AllByRecursion (λ p. (nat_eq w p.0 ≡ false) × (lookup (nat_eq p.0) writes ≡ Some p.1)) ws
@@ -513,50 +509,47 @@ module _ {K V : Type 0} where
   ids-entries [] = refl
   ids-entries (p ∷ items) = ap (λ l. p.0 ∷ l) (ids-entries items)
 
-  -- a value set at a node that is new
-  pub set-pushed : (id : ℕ) (x y : Node K V) (items : List (ℕ × Node K V)) → lookup (nat_eq id) items ≡ None
-      → set_value (nat_eq id) (items ++ (id, x) ∷ []) y ≡ items ++ (id, y) ∷ []
-  set-pushed id x y [] h = cond-true (nat_eq id id) _ _ (nat_eq-same id)
-  set-pushed id x y (p ∷ items) h =
-      elim (cases_Bool (nat_eq id p.0)) [
-        | inl same ↦ not_none p.1 (sym (cond-true (nat_eq id p.0) (Some p.1) (lookup (nat_eq id) items) same) ∙ h)
-        | inr other ↦
-            cond-false (nat_eq id p.0) _ _ other
-            ∙ ap (λ l. p ∷ l) (set-pushed id x y items (sym (cond-false (nat_eq id p.0) (Some p.1) (lookup (nat_eq id) items) other) ∙ h))
-      ]
-
 module _ {K V : Type 0} {eq : K → K → Bool} (laws : IsEquivalence eq) {keeps : Bool} {items : List (ℕ × Node K V)} {writes : List (ℕ × ℕ)}
     {total : ℕ} (s : IsStored eq keeps items writes total) (id : ℕ) (m : Node K V) (fresh : lookup (nat_eq id) items ≡ None) where
+  -- a node that stood is found as before
+  stays : (i : ℕ) (n : Node K V) → lookup (nat_eq i) items ≡ Some n → lookup (nat_eq i) (with_latest_node (id, m) items) ≡ Some n
+  stays i n found =
+      lookup-latest i id m items fresh
+      ∙ (cond-false (nat_eq id i) _ _ (elim (cases_Bool (nat_eq id i)) [
+        | inl same ↦ not_none n (sym found ∙ (ap (λ q. lookup (nat_eq q) items) (sym (eqb-true id i same)) ∙ fresh))
+        | inr other ↦ other
+      ]) ∙ found)
+
   -- the writes of the nodes that stood
-  written-behind : written_under (items ++ (id, m) ∷ []) writes ≡ written_under items writes
+  written-behind : written_under (with_latest_node (id, m) items) writes ≡ written_under items writes
   written-behind =
-      filter_map-same (write_under (items ++ (id, m) ∷ [])) (write_under items) writes (each writes (each_found writes s.written_once))
+      filter_map-same (write_under (with_latest_node (id, m) items)) (write_under items) writes (each writes (each_found writes s.written_once))
     where
       one : (w i : ℕ) → lookup (nat_eq w) writes ≡ Some i
-          → option_map (λ n. write_of n.entry) (lookup (nat_eq i) (items ++ (id, m) ∷ []))
+          → option_map (λ n. write_of n.entry) (lookup (nat_eq i) (with_latest_node (id, m) items))
           ≡ option_map (λ n. write_of n.entry) (lookup (nat_eq i) items)
       one w i h =
-          let found = s.standing w i h in ap (option_map (λ n. write_of n.entry)) (lookup-behind i found.0 items _ found.1 ∙ sym found.1)
+          let found = s.standing w i h in ap (option_map (λ n. write_of n.entry)) (stays i found.0 found.1 ∙ sym found.1)
 
       each : (ws : List (ℕ × ℕ)) → AllByRecursion (λ w. lookup (nat_eq w.0) writes ≡ Some w.1) ws
-          → AllByRecursion (λ w. write_under (items ++ (id, m) ∷ []) w ≡ write_under items w) ws
+          → AllByRecursion (λ w. write_under (with_latest_node (id, m) items) w ≡ write_under items w) ws
       each [] a = tt
       each (w ∷ ws) a = (one w.0 w.1 a.0, each ws a.1)
 
   -- with the write of the new node
   pub written-enter : keeps ≡ true → (w : ℕ)
-      → written_under (items ++ (id, m) ∷ []) (writes ++ (w, id) ∷ [])
+      → written_under (with_latest_node (id, m) items) (writes ++ (w, id) ∷ [])
       ≡ with_write keeps (written_under items writes) m.entry.key m.entry.modified
   written-enter kept w =
-      filter_map-append (write_under (items ++ (id, m) ∷ [])) writes ((w, id) ∷ [])
-      ∙ (ap (λ l. l ++ filter_map (write_under (items ++ (id, m) ∷ [])) ((w, id) ∷ [])) written-behind
+      filter_map-append (write_under (with_latest_node (id, m) items)) writes ((w, id) ∷ [])
+      ∙ (ap (λ l. l ++ filter_map (write_under (with_latest_node (id, m) items)) ((w, id) ∷ [])) written-behind
       ∙ (ap (λ o. written_under items writes ++ Rattle.std.specs.List.cons_option (option_map (λ n. write_of n.entry) o) [])
-      (lookup-push id id m items fresh ∙ cond-true (nat_eq id id) (Some m) (lookup (nat_eq id) items) (nat_eq-same id))
+      (lookup-latest id id m items fresh ∙ cond-true (nat_eq id id) (Some m) (lookup (nat_eq id) items) (nat_eq-same id))
       ∙ rw kept refl))
 
   -- or as they were
   pub written-unkept : keeps ≡ false
-      → written_under (items ++ (id, m) ∷ []) writes ≡ with_write keeps (written_under items writes) m.entry.key m.entry.modified
+      → written_under (with_latest_node (id, m) items) writes ≡ with_write keeps (written_under items writes) m.entry.key m.entry.modified
   written-unkept unkept = written-behind ∙ rw unkept refl
 
   module _ (absent : entry_at eq m.entry.key (values_of (entries_under items)) ≡ None) (fits : m.entry.weight < 2 ^ 32) where
@@ -565,12 +558,12 @@ module _ {K V : Type 0} {eq : K → K → Bool} (laws : IsEquivalence eq) {keeps
     new_or_old true p o h = inl (refl, some_parts p m (sym h))
     new_or_old false p o h = inr (refl, h)
 
-    found : (i : ℕ) (p : Node K V) → lookup (nat_eq i) (items ++ (id, m) ∷ []) ≡ Some p
+    found : (i : ℕ) (p : Node K V) → lookup (nat_eq i) (with_latest_node (id, m) items) ≡ Some p
         → ((nat_eq id i ≡ true) × (p ≡ m)) ⊎ ((nat_eq id i ≡ false) × (lookup (nat_eq i) items ≡ Some p))
-    found i p h = new_or_old (nat_eq id i) p (lookup (nat_eq i) items) (sym (lookup-push i id m items fresh) ∙ h)
+    found i p h = new_or_old (nat_eq id i) p (lookup (nat_eq i) items) (sym (lookup-latest i id m items fresh) ∙ h)
 
-    stays_apart : (i j : ℕ) (p q : Node K V) → lookup (nat_eq i) (items ++ (id, m) ∷ []) ≡ Some p
-        → lookup (nat_eq j) (items ++ (id, m) ∷ []) ≡ Some q → eq p.entry.key q.entry.key ≡ true → i ≡ j
+    stays_apart : (i j : ℕ) (p q : Node K V) → lookup (nat_eq i) (with_latest_node (id, m) items) ≡ Some p
+        → lookup (nat_eq j) (with_latest_node (id, m) items) ≡ Some q → eq p.entry.key q.entry.key ≡ true → i ≡ j
     stays_apart i j p q hi hj equal = cases (found i p hi) (found j q hj)
       where
         cases : ((nat_eq id i ≡ true) × (p ≡ m)) ⊎ ((nat_eq id i ≡ false) × (lookup (nat_eq i) items ≡ Some p))
@@ -584,21 +577,21 @@ module _ {K V : Type 0} {eq : K → K → Bool} (laws : IsEquivalence eq) {keeps
             ∙ (laws.symm m.entry.key p.entry.key ∙ (ap (λ x. eq p.entry.key x.entry.key) (sym b.1) ∙ equal))))
         cases (inr a) (inr b) = s.apart i j p q a.1 b.1 equal
 
-    total_is : total + m.entry.weight ≡ total_weight (values_of (entries_under (items ++ (id, m) ∷ [])))
-    total_is = ap (λ t. t + m.entry.weight) s.sum ∙ sym (weight-push (id, m) items)
+    total_is : total + m.entry.weight ≡ total_weight (values_of (entries_under (with_latest_node (id, m) items)))
+    total_is = ap (λ t. t + m.entry.weight) s.sum ∙ sym (weight-latest (id, m) items)
 
-    stays_small : All (λ p. p.1.entry.weight < 2 ^ 32) (items ++ (id, m) ∷ [])
-    stays_small = All-push (λ p. p.1.entry.weight < 2 ^ 32) items (id, m) s.small fits
+    stays_small : All (λ p. p.1.entry.weight < 2 ^ 32) (with_latest_node (id, m) items)
+    stays_small = All-latest_node (λ p. p.1.entry.weight < 2 ^ 32) (id, m) items fits s.small
 
     -- what holds of the lists holds with a new node that names its write
     pub IsStored-enter : keeps ≡ true → (w : ℕ) → m.write ≡ Some w → lookup (nat_eq w) writes ≡ None
-        → IsStored eq keeps (items ++ (id, m) ∷ []) (writes ++ (w, id) ∷ []) (total + m.entry.weight)
+        → IsStored eq keeps (with_latest_node (id, m) items) (writes ++ (w, id) ∷ []) (total + m.entry.weight)
     IsStored-enter kept w named unused =
         record {
           apart = stays_apart;
           tied = λ i p h. tie i p (found i p h);
           standing = λ v i h. stand v i h;
-          once = IsDistinct-pushed id m items s.once fresh;
+          once = distinct-latest id m items s.once fresh;
           written_once = IsDistinct-pushed w id writes s.written_once unused;
           small = stays_small;
           sum = total_is;
@@ -623,27 +616,27 @@ module _ {K V : Type 0} {eq : K → K → Bool} (laws : IsEquivalence eq) {keeps
         pieces false i o h = inr (refl, h)
 
         stand : (v i : ℕ) → lookup (nat_eq v) (writes ++ (w, id) ∷ []) ≡ Some i
-            → (n : Node K V) × (lookup (nat_eq i) (items ++ (id, m) ∷ []) ≡ Some n) × (n.write ≡ Some v)
+            → (n : Node K V) × (lookup (nat_eq i) (with_latest_node (id, m) items) ≡ Some n) × (n.write ≡ Some v)
         stand v i h = cases (pieces (nat_eq w v) i (lookup (nat_eq v) writes) (sym (lookup-push v w id writes unused) ∙ h))
           where
             cases : ((nat_eq w v ≡ true) × (i ≡ id)) ⊎ ((nat_eq w v ≡ false) × (lookup (nat_eq v) writes ≡ Some i))
-                → (n : Node K V) × (lookup (nat_eq i) (items ++ (id, m) ∷ []) ≡ Some n) × (n.write ≡ Some v)
+                → (n : Node K V) × (lookup (nat_eq i) (with_latest_node (id, m) items) ≡ Some n) × (n.write ≡ Some v)
             cases (inl a) = (
               m,
-              subst (λ j. lookup (nat_eq j) (items ++ (id, m) ∷ []) ≡ Some m) (sym a.1)
-                  (lookup-push id id m items fresh ∙ cond-true (nat_eq id id) _ _ (nat_eq-same id)),
+              subst (λ j. lookup (nat_eq j) (with_latest_node (id, m) items) ≡ Some m) (sym a.1)
+                  (lookup-latest id id m items fresh ∙ cond-true (nat_eq id id) _ _ (nat_eq-same id)),
               named ∙ ap Some (eqb-true w v a.0),
             )
-            cases (inr a) = let old = s.standing v i a.1 in (old.0, lookup-behind i old.0 items _ old.1, old.2)
+            cases (inr a) = let old = s.standing v i a.1 in (old.0, stays i old.0 old.1, old.2)
 
     -- or with one that names none, where writes aren't kept
-    pub IsStored-unkept : keeps ≡ false → m.write ≡ None → IsStored eq keeps (items ++ (id, m) ∷ []) writes (total + m.entry.weight)
+    pub IsStored-unkept : keeps ≡ false → m.write ≡ None → IsStored eq keeps (with_latest_node (id, m) items) writes (total + m.entry.weight)
     IsStored-unkept unkept none =
         record {
           apart = stays_apart;
           tied = λ i p h. tie i p (found i p h);
-          standing = λ v i h. let old = s.standing v i h in (old.0, lookup-behind i old.0 items _ old.1, old.2);
-          once = IsDistinct-pushed id m items s.once fresh;
+          standing = λ v i h. let old = s.standing v i h in (old.0, stays i old.0 old.1, old.2);
+          once = distinct-latest id m items s.once fresh;
           written_once = s.written_once;
           small = stays_small;
           sum = total_is;

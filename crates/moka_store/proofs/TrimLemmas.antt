@@ -1,6 +1,7 @@
 -- Lemmas on the entries that make up a weight.
 use Rattle.std.proofs.Common.{◌≡◌, ◌<◌, ◌≤◌, ◌+◌, ◌-◌, ℕ, zero, suc, Bool, List, [], ◌∷◌, take, Option, Some, None, option_map, unwrap_or}
-use Rattle.std.proofs.Common.{refl, sym, ap, ◌∙◌, arith, subst}
+use Rattle.std.proofs.Common.{is_some, refl, sym, ap, ◌∙◌, arith, subst}
+use Rattle.std.proofs.lemmas.Bool.{false≢true}
 use Rattle.std.proofs.lemmas.List.Sums.{sum_by-cons}
 use Rattle.moka_base.specs.Prefix.{shortest_prefix}
 use Rattle.moka_machine.specs.declared.entry.Entry.{Entry}
@@ -85,3 +86,9 @@ last_turn eq limit zero contents end h so_far =
     sym (ap (λ l. after_leaving eq (entry_keys l) contents)
     (take_none (least_recent (total_weight contents.entries - limit) contents.entries))) ∙ so_far
 last_turn eq limit (suc n) contents end h so_far = absurd (grind (arith, h))
+
+-- nothing is taken of nothing
+pub take_none_of : {X : Type 0} (xs : List X) → xs ≡ [] → (n : ℕ) → take n xs ≡ []
+take_none_of [] none zero = refl
+take_none_of [] none (suc n) = refl
+take_none_of (x ∷ xs) none n = absurd (false≢true (sym (ap (λ l. is_some (Rattle.std.specs.Prelude.slice_get l 0)) none)))

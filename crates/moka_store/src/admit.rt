@@ -1,19 +1,19 @@
 //! Which entries give way to a new one: the admission policy of TinyLFU, size-aware as in Caffeine.
-ghost use Rattle.std.specs.Prelude.{◌≡◌, ◌<◌, None, is_some, length};
+ghost use Rattle.std.specs.Prelude.{◌≡◌, ◌<◌, ◌^◌, None, is_some, length};
 ghost use Rattle.moka_base.specs.Admission.{outvoted};
 ghost use Rattle.moka_base.specs.Prefix.{shortest_prefix};
 ghost use Rattle.moka_sketch.specs.Sketch.{estimate};
-ghost use Rattle.moka_machine.specs.Contents.{entry_at};
-ghost use Rattle.moka_machine.specs.Insert.{after_admission, victims_of};
+ghost use Rattle.moka_machine.specs.Contents.{entry_at, main_of, total_weight};
+ghost use Rattle.moka_machine.specs.Window.{victims_of};
 ghost use Rattle.moka_store.specs.Store.{entries_of};
-ghost use Rattle.moka_store.specs.Turns.{Continues, IsTurn, after_eviction_of, contents_of, counted};
+ghost use Rattle.moka_store.specs.Turns.{Continues, IsTurn, after_arrival, after_eviction_of, contents_of, counted};
 
 use crate::store::Store;
 use moka_machine::entry::Entry;
 use moka_sketch::frequency_sketch::FrequencySketch;
 use std::alloc::Allocator;
 
-/// Puts a new entry in place of those that give way to it, or drops it where it is rejected. Says whether it was admitted.
+/// Puts a new entry in place of those of main that give way to it, or drops it where it is rejected. Says whether it was admitted.
 pub fn admit<K: Eq + Drop, V: Drop, A: Allocator + Clone + Drop>(
     store: &mut Store<K, V, A>,
     limit: Option<u64>,
@@ -22,9 +22,9 @@ pub fn admit<K: Eq + Drop, V: Drop, A: Allocator + Clone + Drop>(
 ) -> bool
     requires room { length store.old.nodes < store.old.capacity }
     requires absent { entry_at K.eq new.key (entries_of store.old) ≡ None }
-    ensures value { result ≡ is_some (victims_of limit sketch.now new (contents_of store.old)) }
-    ensures step { contents_of store.new ≡ after_admission K.eq store.old.keeps_writes new
-        (victims_of limit sketch.now new (contents_of store.old)) (contents_of store.old) }
+    ensures value { result ≡ is_some (victims_of limit sketch.now new (main_of (entries_of store.old))) }
+    ensures step { contents_of store.new ≡ after_arrival K.eq store.old.keeps_writes new
+        (victims_of limit sketch.now new (main_of (entries_of store.old))) (contents_of store.old) }
     ensures keeps { store.new.keeps_writes ≡ store.old.keeps_writes }
     ensures capacity { store.new.capacity ≡ store.old.capacity }
 {
@@ -36,19 +36,19 @@ pub fn admit<K: Eq + Drop, V: Drop, A: Allocator + Clone + Drop>(
     true
 }
 
-/// How many of the least recently used entries give way to a new one. It is `None` where the new one is rejected.
-fn victim_count<K: Eq + Drop, V: Drop, A: Allocator + Clone + Drop>(
+/// How many of main's least recently used entries give way to another. It is `None` where the other is rejected.
+pub(crate) fn victim_count<K: Eq + Drop, V: Drop, A: Allocator + Clone + Drop>(
     store: &Store<K, V, A>,
     limit: Option<u64>,
     sketch: &FrequencySketch<A>,
     new: &Entry<K, V>,
 ) -> Option<usize>
-    ensures { counted (entries_of store.now) result ≡ victims_of limit sketch.now new.now (contents_of store.now) }
+    ensures { counted (main_of (entries_of store.now)) result ≡ victims_of limit sketch.now new.now (main_of (entries_of store.now)) }
 {
     let Some(limit) = limit else {
         return Some(0);
     };
-    if store.weight() + u128::from(new.weight) <= u128::from(limit) {
+    if main_weight(store) + u128::from(new.weight) <= u128::from(limit) {
         return Some(0);
     }
     if u64::from(new.weight) > limit {
@@ -57,15 +57,23 @@ fn victim_count<K: Eq + Drop, V: Drop, A: Allocator + Clone + Drop>(
     outvoted_count(store, sketch, new)
 }
 
-/// How many of the least recently used entries weigh as much as the new one, where it is used more than all of them together.
+/// What the entries of main weigh together.
+fn main_weight<K: Eq + Drop, V: Drop, A: Allocator + Clone + Drop>(store: &Store<K, V, A>) -> u128
+    ensures value { result ≡ total_weight (main_of (entries_of store.now)) }
+    ensures small { result < 2 ^ 96 }
+{
+    store.weight() - store.window_weight()
+}
+
+/// How many of main's least recently used entries weigh as much as the other one, where it is used more than all of them together.
 fn outvoted_count<K: Eq + Drop, V: Drop, A: Allocator + Clone + Drop>(
     store: &Store<K, V, A>,
     sketch: &FrequencySketch<A>,
     new: &Entry<K, V>,
 ) -> Option<usize>
-    ensures { counted (entries_of store.now) result
+    ensures { counted (main_of (entries_of store.now)) result
         ≡ outvoted (λ e. e.weight) (λ e. estimate sketch.now e.hash) (estimate sketch.now new.now.hash)
-        (shortest_prefix (λ e. e.weight) new.now.weight (entries_of store.now)) }
+        (shortest_prefix (λ e. e.weight) new.now.weight (main_of (entries_of store.now))) }
 {
     let candidate = sketch.frequency(new.hash);
     // There are at most `usize::MAX` entries to count.
@@ -82,6 +90,10 @@ fn outvoted_count<K: Eq + Drop, V: Drop, A: Allocator + Clone + Drop>(
         let Some(victim) = entries.next() else {
             return None;
         };
+        if victim.in_window {
+            // Main ends here.
+            return None;
+        }
         votes += sketch.frequency(victim.hash);
         lacking = lacking.saturating_sub(victim.weight);
         count += 1;
@@ -89,8 +101,8 @@ fn outvoted_count<K: Eq + Drop, V: Drop, A: Allocator + Clone + Drop>(
     None
 }
 
-/// As many of the least recently used entries leave.
-fn evict<K: Eq + Drop, V: Drop, A: Allocator + Clone + Drop>(
+/// As many of main's least recently used entries leave.
+pub(crate) fn evict<K: Eq + Drop, V: Drop, A: Allocator + Clone + Drop>(
     store: &mut Store<K, V, A>,
     count: usize,
 )
@@ -103,7 +115,7 @@ fn evict<K: Eq + Drop, V: Drop, A: Allocator + Clone + Drop>(
     }
 }
 
-/// The least recently used entry leaves, if there is one.
+/// Main's least recently used entry leaves, if there is one.
 fn evict_front<K: Eq + Drop, V: Drop, A: Allocator + Clone + Drop>(
     store: &mut Store<K, V, A>,
 ) -> bool
@@ -111,7 +123,7 @@ fn evict_front<K: Eq + Drop, V: Drop, A: Allocator + Clone + Drop>(
         result (contents_of store.old) (contents_of store.new) }
     ensures kept { Continues store.old store.new }
 {
-    let Some(id) = store.front() else {
+    let Some(id) = store.main_front() else {
         return false;
     };
     store.remove(id);

@@ -1,25 +1,26 @@
 // The entries of a cache in order of use and in order of writing, with the total of their weights.
-ghost use Rattle.std.specs.Prelude.{◌≡◌, ◌≤◌, ◌<◌, ◌+◌, ◌-◌, ◌*◌, ◌^◌, ℕ, [], length, nat_eq};
+ghost use Rattle.std.specs.Prelude.{◌≡◌, ◌≤◌, ◌<◌, ◌+◌, ◌-◌, ◌*◌, ◌^◌, ◌++◌, ℕ, [], length, nat_eq};
 ghost use Rattle.std.specs.Prelude.{IfOk, IsOk, OnOk, IfSome, IsNone, IsSome, None, Some, true};
 ghost use Rattle.std.specs.List.{IsDistinct};
 ghost use Rattle.std.specs.Map.{keys_of, lookup};
 ghost use Rattle.moka_deque.specs.Deque.{IsIn, first_id, next_id};
-ghost use Rattle.moka_store.specs.Nodes.{room_after, with_write_last, without_write};
+ghost use Rattle.moka_store.specs.Nodes.{room_after, window_share, with_write_last, without_write};
 ghost use Rattle.moka_base.specs.Settings.{keeps_writes};
-ghost use Rattle.moka_machine.specs.Contents.{entry_at, no_contents, total_weight, writes_without};
-ghost use Rattle.moka_store.specs.Store.{Enters, IsFront, IsOldest, Removes, Touches, Updates, entries_of};
+ghost use Rattle.moka_machine.specs.Contents.{entry_at, entry_keys, main_of, no_contents, total_weight, window_of, writes_without};
+ghost use Rattle.moka_store.specs.Store.{Enters, IsFront, IsMainFront, IsOldest, IsWindowFront, Promotes, Removes, Touches, Updates, entries_of};
 ghost use Rattle.moka_store.specs.Turns.{contents_of};
 
 mod entries;
+mod order;
 
 pub use entries::Entries;
 use moka_base::error::OutOfMemory;
 use moka_base::policy::Policy;
 use moka_base::time::Instant;
-use moka_deque::chain::Chain;
 use moka_deque::deque::{CacheRegion, Deque, NodeId};
 use moka_deque::link::Link;
 use moka_machine::entry::Entry;
+use order::UseOrder;
 use std::alloc::{AllocError, Allocator, Global};
 use std::marker::Model;
 
@@ -30,18 +31,20 @@ pub(crate) struct Node<K: Drop, V: Drop> {
     write: Link,
 }
 
-/// The entries of a cache in their orders. An entry is found by the id of its node. The nodes lie in a chain, where a use moves a node by links alone.
+/// The entries of a cache in their orders. An entry is found by the id of its node.
 #[derive(Drop)]
 pub(crate) struct Deques<K: Eq + Drop, V: Drop, A: Allocator + Clone + Drop = Global> {
-    order: Chain<Node<K, V>, A>,
+    order: UseOrder<K, V, A>,
     writes: Deque<NodeId, A>,
     keeps_writes: bool,
+    // What all entries weigh together, and those of the window.
     total: u128,
+    window_total: u128,
 }
 
 impl<K: Eq + Drop, V: Drop, A: Allocator + Clone + Drop> Model for Deques<K, V, A> {
     ghost use Rattle.moka_store.specs.Store.{Store as StoreState};
-    ghost use Rattle.moka_store.specs.Nodes.{IsStored, capacity_of, entries_under, written_under};
+    ghost use Rattle.moka_store.specs.Nodes.{IsWeighed, capacity_of, entries_under, written_under};
 
     ghost Value = { StoreState K V };
 
@@ -53,7 +56,7 @@ impl<K: Eq + Drop, V: Drop, A: Allocator + Clone + Drop> Model for Deques<K, V, 
       ids = s.order.ids;
     } };
 
-    ghost invariant = { λ s. IsStored K.eq s.keeps_writes s.order.items s.writes.items s.total };
+    ghost invariant = { λ s. IsWeighed K.eq s.keeps_writes s.order.items s.writes.items s.total s.window_total };
 }
 
 impl<K: Eq + Drop, V: Drop, A: Allocator + Clone + Drop> Deques<K, V, A> {
@@ -63,10 +66,11 @@ impl<K: Eq + Drop, V: Drop, A: Allocator + Clone + Drop> Deques<K, V, A> {
             ≡ record { nodes = []; written = []; keeps_writes = keeps_writes policy; capacity = 0; ids = 0 }) }
     {
         Ok(Deques {
-            order: Chain::new(alloc.clone()?, alloc.clone()?),
+            order: UseOrder::new(alloc.clone()?, alloc.clone()?),
             writes: Deque::new(alloc, CacheRegion::Other),
             keeps_writes: policy.time_to_live().is_some(),
             total: 0,
+            window_total: 0,
         })
     }
 
@@ -95,10 +99,12 @@ impl<K: Eq + Drop, V: Drop, A: Allocator + Clone + Drop> Deques<K, V, A> {
     pub(crate) fn len(&self) -> usize
         ensures len { result ≡ length self.now.nodes }
 
-        // What holds of all deques: no id and no key stands twice, and each write has its entry.
+        // What holds of all deques: no id and no key stands twice, main is before the window, and each write has its entry.
         ensures distinct { IsDistinct nat_eq (keys_of self.now.nodes) }
         ensures alone { (id : ℕ) (e : Entry K V) (key : K) → lookup (nat_eq id) self.now.nodes ≡ Some e
             → K.eq key e.key ≡ true → entry_at K.eq key (entries_of self.now) ≡ Some e }
+        ensures once { IsDistinct K.eq (entry_keys (entries_of self.now)) }
+        ensures arranged { entries_of self.now ≡ main_of (entries_of self.now) ++ window_of (entries_of self.now) }
         ensures unwritten { (key : K) → entry_at K.eq key (entries_of self.now) ≡ None
             → writes_without K.eq key self.now.written ≡ self.now.written }
     {
@@ -115,6 +121,14 @@ impl<K: Eq + Drop, V: Drop, A: Allocator + Clone + Drop> Deques<K, V, A> {
         self.total
     }
 
+    /// What the entries of the window weigh together.
+    pub(crate) fn window_weight(&self) -> u128
+        ensures value { result ≡ total_weight (window_of (entries_of self.now)) }
+        ensures part { result ≤ total_weight (entries_of self.now) }
+    {
+        self.window_total
+    }
+
     /// The entry of a node.
     pub(crate) fn get(&self, id: NodeId) -> &Entry<K, V>
         requires { IsSome (lookup (nat_eq id) self.now.nodes) }
@@ -123,7 +137,7 @@ impl<K: Eq + Drop, V: Drop, A: Allocator + Clone + Drop> Deques<K, V, A> {
         &self.order.get(id).entry
     }
 
-    /// The entries in order of use.
+    /// The entries, main's and then the window's.
     pub(crate) fn iter(&self) -> Entries<'_, K, V, A>
         ensures { result ≡ entries_of self.now }
     {
@@ -132,7 +146,7 @@ impl<K: Eq + Drop, V: Drop, A: Allocator + Clone + Drop> Deques<K, V, A> {
         }
     }
 
-    /// The node of the least recently used entry.
+    /// The node of the first entry, which is main's least recently used one where main has any.
     pub(crate) fn front(&self) -> Option<NodeId>
         ensures found { IfSome result (λ id. IsFront K.eq self.now id) }
         ensures absent { IsNone result → contents_of self.now ≡ no_contents }
@@ -141,7 +155,31 @@ impl<K: Eq + Drop, V: Drop, A: Allocator + Clone + Drop> Deques<K, V, A> {
         self.order.front()
     }
 
-    /// The node of the entry that was used next after this one.
+    /// The node of main's least recently used entry.
+    pub(crate) fn main_front(&self) -> Option<NodeId>
+        ensures found { IfSome result (λ id. IsMainFront K.eq self.now id) }
+        ensures absent { IsNone result → main_of (entries_of self.now) ≡ [] }
+    {
+        // Where the first entry is of the window, all are.
+        let _ = self.order.len();
+        let Some(id) = self.order.front() else {
+            return None;
+        };
+        if self.order.get(id).entry.in_window {
+            return None;
+        }
+        Some(id)
+    }
+
+    /// The node of the window's least recently used entry.
+    pub(crate) fn window_front(&self) -> Option<NodeId>
+        ensures found { IfSome result (λ id. IsWindowFront K.eq self.now id) }
+        ensures absent { IsNone result → window_of (entries_of self.now) ≡ [] }
+    {
+        self.order.window_front()
+    }
+
+    /// The node of the entry behind this one.
     pub(crate) fn next(&self, id: NodeId) -> Option<NodeId>
         requires { IsSome (lookup (nat_eq id) self.now.nodes) }
         ensures value { result ≡ next_id id self.now.nodes }
@@ -158,35 +196,50 @@ impl<K: Eq + Drop, V: Drop, A: Allocator + Clone + Drop> Deques<K, V, A> {
         self.writes.peek_front().copied()
     }
 
-    /// The entry becomes the most recently used one.
+    /// The entry becomes the most recently used one of its own: of main, or of the window.
     pub(crate) fn touch(&mut self, id: NodeId, now: Instant)
         requires { IsSome (lookup (nat_eq id) self.old.nodes) }
         ensures { Touches K.eq self.old id now self.new }
     {
-        self.order.get_mut(id).entry.accessed = now;
-        self.order.move_to_back(id);
+        self.order.touch(id, now);
     }
 
-    /// The entry gets another's value, weight and moments, and becomes the most recent one in both orders. It keeps its key.
+    /// The entry gets another's value, weight and moments, and becomes the most recent one of its own and in the order of writing. It keeps its key.
     pub(crate) fn update(&mut self, id: NodeId, update: Entry<K, V>)
         requires { IsSome (lookup (nat_eq id) self.old.nodes) }
         ensures { Updates K.eq self.old id update self.new }
     {
         let node = self.order.get(id);
-        let (weight, write) = (node.entry.weight, node.write.id());
+        let (in_window, weight, write) = (node.entry.in_window, node.entry.weight, node.write.id());
+        let (gone, come) = (
+            window_share(in_window, weight),
+            window_share(in_window, update.weight),
+        );
         self.total = with_weight(&self.order, self.total - u128::from(weight), update.weight);
-        rewrite(self.order.get_mut(id), update);
-        self.order.move_to_back(id);
+        self.window_total = with_weight(&self.order, self.window_total - u128::from(gone), come);
+        self.order.update(id, update);
         move_write_to_back(&mut self.writes, write);
     }
 
-    /// A new entry, most recent in both orders. There must be room for it, and no entry of its key.
+    /// The window's least recently used entry comes to main, as its most recent one.
+    pub(crate) fn promote(&mut self, id: NodeId)
+        requires { IsWindowFront K.eq self.old id }
+        ensures { Promotes K.eq self.old id self.new }
+    {
+        let weight = self.order.get(id).entry.weight;
+        self.window_total -= u128::from(weight);
+        self.order.promote(id);
+    }
+
+    /// A new entry, most recent of its own and in the order of writing. There must be room for it, and no entry of its key.
     pub(crate) fn enter(&mut self, entry: Entry<K, V>) -> NodeId
         requires room { length self.old.nodes < self.old.capacity }
         requires absent { entry_at K.eq entry.key (entries_of self.old) ≡ None }
         ensures { Enters K.eq self.old entry result self.new }
     {
+        let come = window_share(entry.in_window, entry.weight);
         self.total = with_weight(&self.order, self.total, entry.weight);
+        self.window_total = with_weight(&self.order, self.window_total, come);
         // What is left of the capacity is room, and the new id is below the number that all ids are below.
         let _ = (self.order.len(), self.order.capacity());
         let id = self.order.push_reserved(Node {
@@ -197,7 +250,7 @@ impl<K: Eq + Drop, V: Drop, A: Allocator + Clone + Drop> Deques<K, V, A> {
             let write = self.writes.push_reserved(id);
             // The ids of writes are below their capacity, which is a number.
             let _ = self.writes.capacity();
-            self.order.get_mut(id).write = Link::to(write);
+            self.order.tie(id, Link::to(write));
         }
         id
     }
@@ -209,7 +262,9 @@ impl<K: Eq + Drop, V: Drop, A: Allocator + Clone + Drop> Deques<K, V, A> {
         ensures step { Removes K.eq self.old id self.new }
     {
         let node = self.order.unlink(id);
+        let gone = window_share(node.entry.in_window, node.entry.weight);
         self.total -= u128::from(node.entry.weight);
+        self.window_total -= u128::from(gone);
         unlink_write(&mut self.writes, node.write);
         node.entry
     }
@@ -217,7 +272,7 @@ impl<K: Eq + Drop, V: Drop, A: Allocator + Clone + Drop> Deques<K, V, A> {
 
 /// A total with one more weight. Fewer than 2^64 weights, of 32 bits each, come to less than 2^96.
 fn with_weight<K: Drop, V: Drop, A: Allocator>(
-    order: &Chain<Node<K, V>, A>,
+    order: &UseOrder<K, V, A>,
     total: u128,
     weight: u32,
 ) -> u128
@@ -229,14 +284,11 @@ fn with_weight<K: Drop, V: Drop, A: Allocator>(
     total + u128::from(weight)
 }
 
-/// Gives an entry another's value, weight and moments.
-fn rewrite<K: Drop, V: Drop>(node: &mut Node<K, V>, update: Entry<K, V>)
-    ensures { node.new ≡ record { entry = record update { key = node.old.entry.key; hash = node.old.entry.hash }; write = node.old.write } }
+/// What a weight is of the window's.
+fn window_share(in_window: bool, weight: u32) -> u32
+    ensures { result ≡ window_share in_window weight }
 {
-    node.entry.value = update.value;
-    node.entry.weight = update.weight;
-    node.entry.accessed = update.accessed;
-    node.entry.modified = update.modified;
+    if in_window { weight } else { 0 }
 }
 
 /// Takes a write out of the order of writing, if there is one.

@@ -1,8 +1,10 @@
 //! What each call does first: expired entries leave, in batches, by the order of writing and then by the order of use, and entries above the
 //! limit.
 ghost use Rattle.std.specs.Prelude.{◌≡◌};
+ghost use Rattle.moka_machine.specs.Contents.{main_of};
 ghost use Rattle.moka_machine.specs.Upkeep.{after_expiry, after_idle_expiry, after_live_expiry, after_upkeep, is_expired};
-ghost use Rattle.moka_store.specs.Turns.{Continues, IsTurn, contents_of};
+ghost use Rattle.moka_store.specs.Store.{entries_of};
+ghost use Rattle.moka_store.specs.Turns.{Continues, IsTurn, after_idle_main, after_idle_window, contents_of};
 ghost use Rattle.moka_machine.specs.declared.constants.TheConstants.{EVICTION_BATCH_SIZE};
 
 use crate::store::Store;
@@ -80,6 +82,7 @@ fn expire_oldest<K: Eq + Drop, V: Drop, A: Allocator + Clone + Drop>(
     true
 }
 
+/// A batch of the window, and then one of main.
 fn expire_by_use<K: Eq + Drop, V: Drop, A: Allocator + Clone + Drop>(
     store: &mut Store<K, V, A>,
     limits: &Limits,
@@ -89,23 +92,73 @@ fn expire_by_use<K: Eq + Drop, V: Drop, A: Allocator + Clone + Drop>(
         ≡ after_idle_expiry K.eq limits.now now EVICTION_BATCH_SIZE (contents_of store.old) }
     ensures kept { Continues store.old store.new }
 {
+    expire_window(store, limits, now);
+    expire_main(store, limits, now);
+}
+
+fn expire_window<K: Eq + Drop, V: Drop, A: Allocator + Clone + Drop>(
+    store: &mut Store<K, V, A>,
+    limits: &Limits,
+    now: Instant,
+)
+    ensures step { contents_of store.new
+        ≡ after_idle_window K.eq limits.now now EVICTION_BATCH_SIZE (contents_of store.old) }
+    ensures main { main_of (entries_of store.new) ≡ main_of (entries_of store.old) }
+    ensures kept { Continues store.old store.new }
+{
     let mut left = EVICTION_BATCH_SIZE;
-    while left > 0 && expire_front(store, limits, now) {
+    while left > 0 && expire_window_front(store, limits, now) {
         left -= 1;
     }
 }
 
-/// The least recently used entry leaves, if it has been idle too long.
-fn expire_front<K: Eq + Drop, V: Drop, A: Allocator + Clone + Drop>(
+/// The window's least recently used entry leaves, if it has been idle too long.
+fn expire_window_front<K: Eq + Drop, V: Drop, A: Allocator + Clone + Drop>(
     store: &mut Store<K, V, A>,
     limits: &Limits,
     now: Instant,
 ) -> bool
-    ensures turn { IsTurn (after_idle_expiry K.eq limits.now now)
+    ensures turn { IsTurn (after_idle_window K.eq limits.now now)
+        result (contents_of store.old) (contents_of store.new) }
+    ensures main { main_of (entries_of store.new) ≡ main_of (entries_of store.old) }
+    ensures kept { Continues store.old store.new }
+{
+    let Some(id) = store.window_front() else {
+        return false;
+    };
+    if !limits.is_idle(store.get(id).accessed, now) {
+        return false;
+    }
+    store.remove(id);
+    true
+}
+
+fn expire_main<K: Eq + Drop, V: Drop, A: Allocator + Clone + Drop>(
+    store: &mut Store<K, V, A>,
+    limits: &Limits,
+    now: Instant,
+)
+    ensures step { contents_of store.new
+        ≡ after_idle_main K.eq limits.now now EVICTION_BATCH_SIZE (contents_of store.old) }
+    ensures kept { Continues store.old store.new }
+{
+    let mut left = EVICTION_BATCH_SIZE;
+    while left > 0 && expire_main_front(store, limits, now) {
+        left -= 1;
+    }
+}
+
+/// Main's least recently used entry leaves, if it has been idle too long.
+fn expire_main_front<K: Eq + Drop, V: Drop, A: Allocator + Clone + Drop>(
+    store: &mut Store<K, V, A>,
+    limits: &Limits,
+    now: Instant,
+) -> bool
+    ensures turn { IsTurn (after_idle_main K.eq limits.now now)
         result (contents_of store.old) (contents_of store.new) }
     ensures kept { Continues store.old store.new }
 {
-    let Some(id) = store.front() else {
+    let Some(id) = store.main_front() else {
         return false;
     };
     if !limits.is_idle(store.get(id).accessed, now) {

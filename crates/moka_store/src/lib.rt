@@ -7,3 +7,4 @@ pub mod expire;
 pub mod invalidate;
 pub mod store;
 pub mod trim;
+pub mod window;

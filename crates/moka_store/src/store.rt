@@ -1,14 +1,15 @@
 //! The entries of a cache in order of use and in order of writing, found by the hashes of their keys. Only here is an entry found, added, changed or
 //! removed.
-ghost use Rattle.std.specs.Prelude.{◌≡◌, ◌≤◌, ◌<◌, ◌+◌, ◌^◌, ℕ, [], length, nat_eq, IfOk, IsOk, OnErr, OnOk, IfSome, IsNone, IsSome, None, Some};
+ghost use Rattle.std.specs.Prelude.{◌≡◌, ◌≤◌, ◌<◌, ◌+◌, ◌^◌, ◌++◌, ℕ, [], length, nat_eq, IfOk, IsOk, OnErr, OnOk, IfSome, IsNone, IsSome, None, Some};
 ghost use Rattle.std.specs.List.{IsDistinct};
 ghost use Rattle.std.specs.Map.{keys_of, lookup};
 ghost use Rattle.moka_deque.specs.Deque.{first_id, next_id};
 ghost use Rattle.moka_index.specs.HashIndex.{candidates};
 ghost use Rattle.moka_base.specs.Settings.{keeps_writes};
-ghost use Rattle.moka_machine.specs.Contents.{entry_at, no_contents, total_weight, writes_without};
+ghost use Rattle.moka_machine.specs.Contents.{entry_at, entry_keys, main_of, no_contents, total_weight, window_of, writes_without};
 ghost use Rattle.moka_store.specs.Indexed.{IsIndexed};
-ghost use Rattle.moka_store.specs.Store.{Enters, HasHash, IsFound, IsFront, IsOldest, Removes, Touches, Updates, entries_of};
+ghost use Rattle.moka_store.specs.Store.{Enters, HasHash, IsFound, IsFront, IsMainFront, IsOldest, IsWindowFront, Promotes, Removes, Touches, Updates};
+ghost use Rattle.moka_store.specs.Store.{entries_of};
 ghost use Rattle.moka_store.specs.Turns.{contents_of};
 
 use crate::deques::Deques;
@@ -76,7 +77,13 @@ impl<K: Eq + Drop, V: Drop, A: Allocator + Clone + Drop> Store<K, V, A> {
 
     /// How many entries there are.
     pub fn len(&self) -> usize
-        ensures { result ≡ length self.now.nodes }
+        ensures len { result ≡ length self.now.nodes }
+
+        // What holds of every store: no key stands twice, main is before the window, and each write has its entry.
+        ensures once { IsDistinct K.eq (entry_keys (entries_of self.now)) }
+        ensures arranged { entries_of self.now ≡ main_of (entries_of self.now) ++ window_of (entries_of self.now) }
+        ensures unwritten { (key : K) → entry_at K.eq key (entries_of self.now) ≡ None
+            → writes_without K.eq key self.now.written ≡ self.now.written }
     {
         self.deques.len()
     }
@@ -87,6 +94,14 @@ impl<K: Eq + Drop, V: Drop, A: Allocator + Clone + Drop> Store<K, V, A> {
         ensures small { result < 2 ^ 96 }
     {
         self.deques.weight()
+    }
+
+    /// What the entries of the window weigh together.
+    pub fn window_weight(&self) -> u128
+        ensures value { result ≡ total_weight (window_of (entries_of self.now)) }
+        ensures part { result ≤ total_weight (entries_of self.now) }
+    {
+        self.deques.window_weight()
     }
 
     /// The node of the entry of this key, whose hash it is.
@@ -116,14 +131,14 @@ impl<K: Eq + Drop, V: Drop, A: Allocator + Clone + Drop> Store<K, V, A> {
         self.deques.get(id)
     }
 
-    /// The entries in order of use.
+    /// The entries: main's in order of use, least recent first, and behind them the window's.
     pub fn iter(&self) -> Entries<'_, K, V, A>
         ensures { result ≡ entries_of self.now }
     {
         self.deques.iter()
     }
 
-    /// The node of the least recently used entry.
+    /// The node of the first entry, which is main's least recently used one where main has any.
     pub fn front(&self) -> Option<NodeId>
         ensures found { IfSome result (λ id. IsFront K.eq self.now id) }
         ensures absent { IsNone result → contents_of self.now ≡ no_contents }
@@ -132,7 +147,23 @@ impl<K: Eq + Drop, V: Drop, A: Allocator + Clone + Drop> Store<K, V, A> {
         self.deques.front()
     }
 
-    /// The node of the entry that was used next after this one.
+    /// The node of main's least recently used entry.
+    pub fn main_front(&self) -> Option<NodeId>
+        ensures found { IfSome result (λ id. IsMainFront K.eq self.now id) }
+        ensures absent { IsNone result → main_of (entries_of self.now) ≡ [] }
+    {
+        self.deques.main_front()
+    }
+
+    /// The node of the window's least recently used entry.
+    pub fn window_front(&self) -> Option<NodeId>
+        ensures found { IfSome result (λ id. IsWindowFront K.eq self.now id) }
+        ensures absent { IsNone result → window_of (entries_of self.now) ≡ [] }
+    {
+        self.deques.window_front()
+    }
+
+    /// The node of the entry behind this one.
     pub fn next(&self, id: NodeId) -> Option<NodeId>
         requires { IsSome (lookup (nat_eq id) self.now.nodes) }
         ensures value { result ≡ next_id id self.now.nodes }
@@ -149,7 +180,7 @@ impl<K: Eq + Drop, V: Drop, A: Allocator + Clone + Drop> Store<K, V, A> {
         self.deques.oldest()
     }
 
-    /// The entry becomes the most recently used one.
+    /// The entry becomes the most recently used one of its own: of main, or of the window.
     pub fn touch(&mut self, id: NodeId, now: Instant)
         requires { IsSome (lookup (nat_eq id) self.old.nodes) }
         ensures { Touches K.eq self.old id now self.new }
@@ -159,7 +190,7 @@ impl<K: Eq + Drop, V: Drop, A: Allocator + Clone + Drop> Store<K, V, A> {
         self.deques.touch(id, now);
     }
 
-    /// The entry gets another's value, weight and moments, and becomes the most recent one in both orders. It keeps its key.
+    /// The entry gets another's value, weight and moments, and becomes the most recent one of its own and in the order of writing. It keeps its key.
     pub fn update(&mut self, id: NodeId, update: Entry<K, V>)
         requires { IsSome (lookup (nat_eq id) self.old.nodes) }
         ensures { Updates K.eq self.old id update self.new }
@@ -169,7 +200,17 @@ impl<K: Eq + Drop, V: Drop, A: Allocator + Clone + Drop> Store<K, V, A> {
         self.deques.update(id, update);
     }
 
-    /// A new entry, most recent in both orders. There must be room for it, and no entry of its key.
+    /// The window's least recently used entry, which `window_front` tells, comes to main, as its most recent one. Its write stays where it is.
+    pub fn promote(&mut self, id: NodeId)
+        requires { IsWindowFront K.eq self.old id }
+        ensures { Promotes K.eq self.old id self.new }
+    {
+        // No id stands twice.
+        let _ = self.deques.len();
+        self.deques.promote(id);
+    }
+
+    /// A new entry, most recent of its own and in the order of writing. There must be room for it, and no entry of its key.
     pub fn enter(&mut self, entry: Entry<K, V>)
         requires room { length self.old.nodes < self.old.capacity }
         requires absent { entry_at K.eq entry.key (entries_of self.old) ≡ None }

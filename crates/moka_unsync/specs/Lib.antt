@@ -3,6 +3,7 @@ pub use Rattle.moka_machine.specs.CacheState
 pub mod Builder
 pub use Rattle.moka_machine.specs.Upkeep
 pub use Rattle.moka_machine.specs.Lookup
+pub use Rattle.moka_machine.specs.Window
 pub use Rattle.moka_machine.specs.Insert
 pub use Rattle.moka_machine.specs.Invalidate
 pub use Rattle.moka_machine.specs.Iterate

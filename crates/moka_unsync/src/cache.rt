@@ -1,16 +1,20 @@
 //! The cache for one thread.
-ghost use Rattle.std.specs.Prelude.{◌≡◌, ◌<◌, ◌≤◌, ◌-◌, ◌^◌, Bool, List, [], false, length, min, None, Some, option_copied, IfErr, IfOk, OnErr, OnOk};
+ghost use Rattle.std.specs.Prelude.{◌≡◌, ◌<◌, ◌≤◌, ◌-◌, ◌^◌, Bool, List, [], All, false, length, min, None, Some, option_copied, IfErr, IfOk, OnErr, OnOk};
 ghost use Rattle.std.specs.Borrow.{sem};
 ghost use Rattle.moka_base.specs.Keys.{keys_by};
 ghost use Rattle.moka_sketch.specs.Enabling.{enables_sketch, expected_entries};
 ghost use Rattle.moka_base.specs.Settings.{keeps_writes};
 ghost use Rattle.moka_unsync.specs.Builder.{new_builder};
 ghost use Rattle.moka_machine.specs.CacheState.{new_cache};
-ghost use Rattle.moka_machine.specs.Contents.{total_weight, weighted_size};
+ghost use Rattle.moka_machine.specs.Contents.{entry_at, total_weight, weighted_size};
 ghost use Rattle.moka_machine.specs.Lookup.{after_get, after_look, found_by_get, is_contained};
 ghost use Rattle.moka_machine.specs.Insert.{IsInserted, IsRefused, after_asking};
 ghost use Rattle.moka_machine.specs.Invalidate.{AnswersInTurn, after_invalidate, after_invalidate_all, after_invalidate_if};
 ghost use Rattle.moka_machine.specs.Iterate.{pairs_at};
+ghost use Rattle.moka_machine.specs.Window.{windowed_limit};
+ghost use Rattle.moka_store.specs.Store.{entries_of};
+ghost use Rattle.moka_store.specs.Turns.{contents_of};
+ghost use Rattle.moka_unsync.specs.Cached.{IsPut};
 
 mod debug;
 mod iter;
@@ -29,6 +33,7 @@ use moka_store::admit::admit;
 use moka_store::expire::{is_expired, upkeep};
 use moka_store::invalidate::{clear, remove_key, remove_where, take_key};
 use moka_store::store::Store;
+use moka_store::window::{enter_window, windowed_limit};
 use std::alloc::{Allocator, Global};
 use std::hash::{BuildHasher, Hash};
 use std::marker::Model;
@@ -46,7 +51,8 @@ pub(crate) struct Parts<S: Drop, W: Drop> {
 /// A cache for one thread: a map that forgets, bounded by a number of entries or by their weight, with expiry by time to live and by time to idle.
 ///
 /// A look-up, an insert, an invalidation or a removal of a key first removes expired entries, and the least recently used ones while the weight is
-/// above the limit, each time a batch of `EVICTION_BATCH_SIZE` entries at most. No read gives an expired entry that remained.
+/// above the limit, each time a batch of `EVICTION_BATCH_SIZE` entries at most; by idleness a batch of the window and one of the rest. No read gives an
+/// expired entry that remained.
 ///
 /// ```
 /// let now = Instant::from_secs(0);
@@ -68,6 +74,10 @@ pub(crate) struct Parts<S: Drop, W: Drop> {
 /// When the cache is full, a new entry is admitted only if its estimated frequency exceeds the sum of its victims', which are the least recently
 /// used entries: the size-aware TinyLFU of Caffeine, by Einziger, Friedman and Manes. Weights don't choose the victims.
 ///
+/// From a limit of 100 on, a hundredth of it, rounded down, is for a window, and the rest for the main part. A new entry goes into the window first, and
+/// that question is asked when the window, or all entries together, weigh too much: of the window's least recently used entries, each of which comes to
+/// the main part or leaves. So a key that is asked for again soon after it came is found, though nobody asked for it before. Below 100 there is no window.
+///
 /// # Expiry
 ///
 /// With a time to live an entry expires that long after its last insert, with a time to idle that long after its last `get` or insert, from the very
@@ -81,7 +91,8 @@ pub(crate) struct Parts<S: Drop, W: Drop> {
 /// # Cost
 ///
 /// A look-up takes constant time on average, by an index over the hashes of the keys, as long as these are spread; keys of one hash are compared
-/// one after another. All else in a call takes constant time for each entry that it adds or removes. Only building and inserting allocate. An insert
+/// one after another. All else in a call takes constant time for each entry that it adds, removes or asks about, which with weights may be all of the
+/// window. Only building and inserting allocate. An insert
 /// within the cache's capacity allocates at most the sketch's table, and can't be refused. Beyond it the cache doubles its capacity, without a weigher
 /// up to one above the limit, and rebuilds the index. So a cache without a weigher whose `initial_capacity` is above its limit refuses no insert. A
 /// cache has at most 2^31 entries.
@@ -90,7 +101,8 @@ pub(crate) struct Parts<S: Drop, W: Drop> {
 ///
 /// Moments are handed in. Building and inserting answer a `Result`: want of memory, and a duration of more than 1000 years, are named refusals in
 /// place of an abort or a panic. Counts and weights follow every removal. Keys are looked up by `&K`. `iter` and the predicate of
-/// `invalidate_entries_if` go in order of use, `iter` leaves expired entries out, and `Debug` shows every stored one. `remove` is added.
+/// `invalidate_entries_if` go in order of use, the window last, `iter` leaves expired entries out, and `Debug` shows every stored one. `remove` is added, and
+/// new entries enter a window.
 pub struct Cache<
     K: Eq + Hash + Drop,
     V: Drop,
@@ -296,7 +308,7 @@ impl<
     }
 
     /// Removes the entries at which the predicate answers `true`. It is called once at each entry, expired ones among them, in order of use, least
-    /// recently used first. What was counted of the keys stays. It takes time linear in the number of entries, and no memory.
+    /// recently used first and those of the window last. What was counted of the keys stays. It takes time linear in the number of entries, and no memory.
     pub fn invalidate_entries_if<F: FnMut(&K, &V) -> bool>(&mut self, predicate: F)
         requires { F.IsAlwaysCallable predicate }
         ensures step { (answers : List Bool)
@@ -306,7 +318,8 @@ impl<
         remove_where(&mut self.store, predicate);
     }
 
-    /// The unexpired entries as pairs of key and value, in order of use, least recently used first. It is no use of them, and removes none.
+    /// The unexpired entries as pairs of key and value, in order of use, least recently used first and those of the window last. It is no use of them, and
+    /// removes none.
     pub fn iter(&self, now: Instant) -> Iter<'_, K, V, A>
         ensures value { result ≡ pairs_at self.now now }
         ensures fits { length result < 2 ^ 64 }
@@ -379,7 +392,8 @@ impl<
     A: Allocator + Clone + Drop,
 > Cache<K, V, S, W, A> {
     /// Puts the value at the key, as the most recent entry in both orders. Where the key is there already, its entry keeps the first key object.
-    /// A new entry for which there is no room may be rejected by the admission policy, which is `Ok` as well.
+    /// A new entry for which there is no room may be rejected by the admission policy, which is `Ok` as well. Where there is a window, older entries of it may
+    /// leave too.
     ///
     /// Room is made first, for an update too, which may need none in the end: where memory is refused for it, nothing was expired, evicted, weighed
     /// or stored, an entry at the key keeps its value, and the key and value that were handed in are dropped. The weigher is asked once otherwise.
@@ -401,13 +415,14 @@ impl<
             weight: self.weigher.weigh(&key, &value),
             key,
             value,
+            in_window: false,
             accessed: now,
             modified: now,
         };
         match self.store.find(&entry.key, entry.hash) {
             Some(id) => self.store.update(id, entry),
             None => {
-                if admit(
+                if put_new(
                     &mut self.store,
                     self.limits.max_capacity(),
                     &self.sketch,
@@ -418,6 +433,27 @@ impl<
             }
         }
         Ok(())
+    }
+}
+
+/// Puts a new entry in the store, or drops it where it is rejected: by the window, where the limit has one. Says whether it stays.
+fn put_new<K: Eq + Drop, V: Drop, A: Allocator + Clone + Drop>(
+    store: &mut Store<K, V, A>,
+    limit: Option<u64>,
+    sketch: &FrequencySketch<A>,
+    new: Entry<K, V>,
+) -> bool
+    requires room { length store.old.nodes < store.old.capacity }
+    requires absent { entry_at K.eq new.key (entries_of store.old) ≡ None }
+    requires main { new.in_window ≡ false }
+    requires all_main { windowed_limit limit ≡ None → All (λ e. e.in_window ≡ false) (entries_of store.old) }
+    ensures step { IsPut K.eq store.old.keeps_writes (windowed_limit limit) limit sketch.now new (contents_of store.old) result (contents_of store.new) }
+    ensures keeps { store.new.keeps_writes ≡ store.old.keeps_writes }
+    ensures capacity { store.new.capacity ≡ store.old.capacity }
+{
+    match windowed_limit(limit) {
+        Some(limit) => enter_window(store, limit, sketch, new),
+        None => admit(store, limit, sketch, new),
     }
 }
 

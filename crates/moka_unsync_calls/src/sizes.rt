@@ -28,8 +28,8 @@ fn a_hundred_thousand_keys_are_kept(rt: HostRuntime) -> Result<(), Fail> {
     Ok(())
 }
 
-/// How many of a thousand keys are found, each by its own value, where all have one hash and every third was invalidated. One key more was rejected:
-/// it is as popular as any other, since they share their counters.
+/// How many of a thousand keys are found, each by its own value, where all have one hash and every third was invalidated. One key, the 990th, had to leave
+/// the window and was rejected: it is as popular as any other, since they share their counters. It is one of the thirds, so 332 others are invalidated.
 fn found_of_one_hash(alloc: Global) -> Result<u64, Fail> {
     let mut cache: Cache<u64, u64, Zero> = Cache::builder(alloc)
         .max_capacity(1000)
@@ -51,6 +51,6 @@ fn found_of_one_hash(alloc: Global) -> Result<u64, Fail> {
 
 #[test]
 fn a_thousand_keys_of_one_hash_are_told_apart(rt: HostRuntime) -> Result<(), Fail> {
-    assert_eq!(rt; found_of_one_hash(rt.alloc())?, 667);
+    assert_eq!(rt; found_of_one_hash(rt.alloc())?, 668);
     Ok(())
 }

@@ -1,9 +1,10 @@
-use Rattle.std.proofs.Common.{None, Some, rules, ◌≡◌, refl, ap, ◌∙◌, subst, inl, inr}
+use Rattle.std.proofs.Common.{None, Some, rules, ◌≡◌, ◌++◌, OnOk, option_map, refl, ap, ◌∙◌, subst, inl, inr}
 use Rattle.std.proofs.lemmas.List.{length-map}
 use Rattle.moka_unsync.specs.Insert.{IsInserted}
 use Rattle.moka_unsync.specs.Invalidate.{after_invalidate_if}
+use Rattle.moka_unsync.specs.Lookup.{found_by_get}
 use Rattle.moka_unsync.specs.Step as machine
-use Rattle.moka_script.specs.Reply.{Done, Found, Truth, Number, Pairs, Limits, OutOfMemory}
+use Rattle.moka_script.specs.Reply.{Done, Found, Truth, Number, Pairs, Limits, OutOfMemory, reply_line}
 use Rattle.moka_script.specs.ScriptKeys.{script_keys}
 use Rattle.moka_script.specs.ScriptWeighers.{AnswersRequest}
 use Rattle.moka_script.specs.Stored.{stored_text}
@@ -86,3 +87,11 @@ pub returns-in-Policy-clause-step : goal.returns-in-Policy-clause-step
 returns-in-Policy-clause-step g c =
     replied _ _ _ _ _ _ c.push_reply-in-Policy.result _ _ (Limits c.policy-policy.result) c.from_nanos-now.ensures c.in-Policy.is
     (ap Limits c.policy-policy.ensures, refl) c.push_reply-in-Policy.ensures
+
+pub returns-in-Get-clause-step : goal.returns-in-Get-clause-step
+returns-in-Get-clause-step g c =
+    let sought = found_by_get script_keys c.args.cache.now c.in-Get.key c.from_nanos-now.result in
+    replied _ _ _ _ _ _ c.push_reply-in-Get.result _ _ (Found (option_map (λ s. s.text) sought)) c.from_nanos-now.ensures c.in-Get.is
+    (machine.Found sought, (refl, c.get.follows.holds-at-none), refl)
+    (subst (λ r. OnOk c.push_reply-in-Get.result (c.push_reply-in-Get.new.text.items ≡ c.args.text.now.items ++ reply_line r))
+    (c.found.ensures ∙ ap (λ o. Found (option_map (λ s. s.text) o)) c.get.ensures.value) c.push_reply-in-Get.ensures)

@@ -1,12 +1,12 @@
 use Rattle.std.proofs.Common.{length}
 use Rattle.moka_sketch.specs.Sketch.{estimate}
 use Rattle.moka_store.specs.Store.{entries_of}
-use Rattle.moka_store.proofs.AdmitLemmas.{IsWalk}
+use Rattle.moka_store.proofs.AdmitLemmas.{IsMainWalk}
 use Rattle.moka_store.proofs.admit.outvoted_count.Given as goal
 
 abbrev pub invariant-loop-votes : goal.invariant-loop-votes
 invariant-loop-votes g l =
-    IsWalk (λ e. e.weight) (λ e. estimate l.fn.sketch e.hash) l.fn.new.weight (entries_of l.fn.store) l.entries l.count l.lacking l.votes
+    IsMainWalk (λ e. estimate l.fn.sketch e.hash) l.fn.new.weight (entries_of l.fn.store) l.entries l.count l.lacking l.votes
 
 abbrev pub decreases-loop-votes : goal.decreases-loop-votes
 decreases-loop-votes g l = length l.entries

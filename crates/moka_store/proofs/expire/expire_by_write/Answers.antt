@@ -1,4 +1,4 @@
-use Rattle.std.proofs.Common.{◌≡◌, ◌+◌, ◌-◌, ◌<◌, ◌≤◌, ◌∙◌, suc, ap, sym, length, arith}
+use Rattle.std.proofs.Common.{◌≡◌, ◌-◌, ◌∙◌, suc, ap, sym, arith}
 use Rattle.moka_machine.specs.Upkeep.{after_live_expiry}
 use Rattle.moka_store.specs.Turns.{contents_of}
 use Rattle.moka_store.proofs.expire.expire_by_write.Goals as goal

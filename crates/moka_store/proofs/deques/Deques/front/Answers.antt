@@ -6,7 +6,7 @@ use Rattle.moka_store.proofs.deques.Deques.front.Goals as goal
 pub returns-clause-found : goal.returns-clause-found
 returns-clause-found g c =
     rw (← c.self.view_is)
-    (front_is g.met.K.Eq.laws c.self.inside.order.items c.self.inside.writes.items _ _ c.self.invariant c.front.result c.front.ensures)
+    (front_is g.met.K.Eq.laws c.self.inside.order.items c.self.inside.writes.items _ _ c.self.invariant.stored c.front.result c.front.ensures)
 
 pub returns-clause-absent : goal.returns-clause-absent
 returns-clause-absent g c =

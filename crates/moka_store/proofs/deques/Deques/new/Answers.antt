@@ -4,7 +4,7 @@ use Rattle.moka_store.proofs.StoreLemmas.{IsStored-new}
 use Rattle.moka_store.proofs.deques.Deques.new.Goals as goal
 
 pub invariant_of-result : goal.invariant_of-result
-invariant_of-result g c = rw (c.new.ensures.items, c.new-2.ensures.items) IsStored-new
+invariant_of-result g c = rw (c.new.ensures.items, c.new-2.ensures.items) (record { stored = IsStored-new; share = refl })
 
 pub returns : goal.returns
 returns g c =

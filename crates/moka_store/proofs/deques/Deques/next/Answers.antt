@@ -14,4 +14,4 @@ returns-clause-value g c = rw (← c.self.view_is) (c.next.ensures ∙ sym (next
 
 pub returns-clause-distinct : goal.returns-clause-distinct
 returns-clause-distinct g c =
-    rw (← c.self.view_is) (subst (IsDistinct nat_eq) (sym (ids-entries c.self.inside.order.items)) c.self.invariant.once)
+    rw (← c.self.view_is) (subst (IsDistinct nat_eq) (sym (ids-entries c.self.inside.order.items)) c.self.invariant.stored.once)

@@ -17,4 +17,4 @@ pub invariant_of-self : goal.invariant_of-self
 invariant_of-self g c =
     let step = c.enter-id.ensures in
     let added = subst (λ i. Adds c.self.inside.index i c.args.entry.hash c.add.new.self) c.number.ensures c.add.ensures.step in
-    IsIndexed-enter c.self.invariant c.enter-id.result c.args.entry c.add.new.self added step.new_id _ step.nodes
+    IsIndexed-enter c.self.invariant c.enter-id.result c.args.entry c.add.new.self added _ step.at

@@ -1,4 +1,4 @@
-use Rattle.std.proofs.Common.{◌≡◌, ◌∙◌, ◌<◌, ◌≤◌, ◌+◌, ℕ, None, ap, arith, is_some, length, rules, subst, sym, true}
+use Rattle.std.proofs.Common.{◌≡◌, ◌∙◌, ◌<◌, ◌≤◌, ◌+◌, ℕ, None, ap, arith, false, length, refl, rules, subst, true}
 use Rattle.moka_base.specs.Settings.{keeps_writes}
 use Rattle.moka_machine.specs.CacheState.{CacheState}
 use Rattle.moka_machine.specs.Contents.{entry_at}
@@ -6,13 +6,13 @@ use Rattle.moka_machine.specs.Upkeep.{after_upkeep}
 use Rattle.moka_store.specs.Store.{entries_of}
 use Rattle.moka_base.specs.Keys.{keys_by}
 use Rattle.moka_machine.specs.declared.entry.Entry.{Entry}
-use Rattle.moka_machine.specs.Insert.{after_admission, victims_of}
+use Rattle.moka_machine.specs.Window.{windowed_limit}
 use Rattle.moka_store.specs.Turns.{contents_of}
-use Rattle.moka_unsync.specs.Cached.{IsCached}
-use Rattle.moka_unsync.proofs.CachedLemmas.{IsCached-admission, IsCached-room, IsCached-update, IsCached-upkeep, has_hash, length-entries}
-use Rattle.moka_unsync.proofs.InsertLemmas.{gone, insert_admitted, insert_rejected, kept}
+use Rattle.moka_unsync.specs.Cached.{IsCached, IsPut}
+use Rattle.moka_unsync.proofs.CachedLemmas.{IsCached-put, IsCached-room, IsCached-update, IsCached-upkeep, has_hash, length-entries}
+use Rattle.moka_unsync.proofs.InsertLemmas.{insert_drops, insert_stays, kept}
 use Rattle.moka_unsync.proofs.cache.Cache.insert.Given.{Over}
-use Rattle.moka_unsync.proofs.cache.Cache.insert.Goals.{After-admit, After-upkeep}
+use Rattle.moka_unsync.proofs.cache.Cache.insert.Goals.{After-put_new, After-upkeep}
 use Rattle.moka_unsync.proofs.cache.Cache.insert.Goals as goal
 
 pub find-requires : goal.find-requires
@@ -27,9 +27,9 @@ invariant_of-self-in-Some g c =
     c.upkeep.ensures.kept) c.update.ensures
 
 -- the verdict on the new entry keeps the parts tied
-admitted : (g : Over) (c : After-admit g)
+admitted : (g : Over) (c : After-put_new g)
     → IsCached (keys_by (record { eq = g.K.PartialEq.eq; hash_input = g.K.Hash.hash_input }) g.S.BuildHasher g.S.Hasher.Hasher)
-    c.self.inside.hash_state c.self.inside.limits c.admit.new.store
+    c.self.inside.hash_state c.self.inside.limits c.put_new.new.store
 admitted g c =
     let new : Entry g.row.K.Denot g.row.V.Denot =
     record {
@@ -37,18 +37,28 @@ admitted g c =
       value = c.args.value;
       hash = c.hash_one.result;
       weight = c.weigh.result;
+      in_window = false;
       accessed = c.args.now;
       modified = c.args.now;
     } in
-    IsCached-admission new (victims_of c.max_capacity.result c.self.inside.sketch new (contents_of c.upkeep.new.store))
+    IsCached-put new c.self.inside.sketch c.put_new.result
     (IsCached-upkeep c.args.now (IsCached-room c.self.invariant c.reserve.ensures.unchanged) c.upkeep.ensures.step c.upkeep.ensures.kept)
-    c.hash_one.ensures c.admit.ensures.step c.admit.ensures.keeps
+    c.hash_one.ensures refl
+    (subst (λ l. IsPut g.K.PartialEq.eq c.upkeep.new.store.keeps_writes (windowed_limit l) l c.self.inside.sketch new
+    (contents_of c.upkeep.new.store) c.put_new.result (contents_of c.put_new.new.store)) c.max_capacity.ensures c.put_new.ensures.step)
+    c.put_new.ensures.keeps
 
-pub invariant_of-self-then-admit : goal.invariant_of-self-then-admit
-invariant_of-self-then-admit g c = admitted g (goal.at.invariant_of-self-then-admit g c).After-admit
+pub invariant_of-self-then-put_new : goal.invariant_of-self-then-put_new
+invariant_of-self-then-put_new g c = admitted g (goal.at.invariant_of-self-then-put_new g c).After-put_new
 
-pub invariant_of-self-else-admit : goal.invariant_of-self-else-admit
-invariant_of-self-else-admit g c = admitted g (goal.at.invariant_of-self-else-admit g c).After-admit
+pub invariant_of-self-else-put_new : goal.invariant_of-self-else-put_new
+invariant_of-self-else-put_new g c = admitted g (goal.at.invariant_of-self-else-put_new g c).After-put_new
+
+pub put_new-requires-clause-all_main : goal.put_new-requires-clause-all_main
+put_new-requires-clause-all_main g c =
+    let is = IsCached-upkeep c.args.now (IsCached-room c.self.invariant c.reserve.ensures.unchanged) c.upkeep.ensures.step
+    c.upkeep.ensures.kept in
+    λ none. is.main (ap windowed_limit (Rattle.std.proofs.Common.sym c.max_capacity.ensures) ∙ none)
 
 -- room was made for the entry
 its_room : (g : Over) (c : After-upkeep g) → length (entries_of c.self.inside.store) < c.reserve.new.self.capacity
@@ -81,7 +91,7 @@ returns-in-Some-clause-step g c =
     })
 
 -- the cache with its room and its weigher asked
-abbrev its_cache : (g : Over) (c : After-admit g) → CacheState g.row.K.Denot g.row.V.Denot g.row.S.Denot g.row.W.Denot
+abbrev its_cache : (g : Over) (c : After-put_new g) → CacheState g.row.K.Denot g.row.V.Denot g.row.S.Denot g.row.W.Denot
 its_cache g c = record {
   settings = record { hash_state = c.self.inside.hash_state; policy = c.self.inside.limits; is_weighed = c.self.inside.is_weighed };
   weigher = c.weigh.new.self;
@@ -91,54 +101,57 @@ its_cache g c = record {
 }
 
 -- the entry, with a hash
-abbrev its_entry : (g : Over) (c : After-admit g) → ℕ → Entry g.row.K.Denot g.row.V.Denot
+abbrev its_entry : (g : Over) (c : After-put_new g) → ℕ → Entry g.row.K.Denot g.row.V.Denot
 its_entry g c hash = record {
   key = c.args.key;
   value = c.args.value;
   hash = hash;
   weight = c.weigh.result;
+  in_window = false;
   accessed = c.args.now;
   modified = c.args.now;
 }
 
-abbrev its_hash : (g : Over) (c : After-admit g) → ℕ
+abbrev its_hash : (g : Over) (c : After-put_new g) → ℕ
 its_hash g c =
     (keys_by (record { eq = g.K.PartialEq.eq; hash_input = g.K.Hash.hash_input }) g.S.BuildHasher g.S.Hasher.Hasher).hash_of
     c.self.inside.hash_state c.args.key
 
 -- the contents that upkeep leaves
-its_contents : (g : Over) (c : After-admit g)
+its_contents : (g : Over) (c : After-put_new g)
     → contents_of c.upkeep.new.store ≡ kept g.K.PartialEq.eq (its_cache g c) (its_entry g c (its_hash g c)) c.args.now true
 its_contents g c =
     c.upkeep.ensures.step ∙ ap (λ s. after_upkeep g.K.PartialEq.eq c.self.inside.limits c.args.now (contents_of s))
     c.reserve.ensures.unchanged
 
-its_victims : (g : Over) (c : After-admit g)
-    → victims_of c.max_capacity.result c.self.inside.sketch (its_entry g c c.hash_one.result) (contents_of c.upkeep.new.store)
-    ≡ gone g.K.PartialEq.eq (its_cache g c) (its_entry g c (its_hash g c)) c.args.now true
-its_victims g c = λ i.
-    victims_of (c.max_capacity.ensures i) c.self.inside.sketch (its_entry g c (c.hash_one.ensures i)) (its_contents g c i)
-
-its_absence : (g : Over) (c : After-admit g) → entry_at g.K.PartialEq.eq c.args.key
+its_absence : (g : Over) (c : After-put_new g) → entry_at g.K.PartialEq.eq c.args.key
     (kept g.K.PartialEq.eq (its_cache g c) (its_entry g c (its_hash g c)) c.args.now true).entries ≡ None
 its_absence g c =
     let absent : entry_at g.K.PartialEq.eq c.args.key (entries_of c.upkeep.new.store) ≡ None = search rules in
     subst (λ contents. entry_at g.K.PartialEq.eq c.args.key contents.entries ≡ None) (its_contents g c) absent
 
--- and what the verdict leaves
-its_admission : (g : Over) (c : After-admit g) → contents_of c.admit.new.store
-    ≡ after_admission g.K.PartialEq.eq (keeps_writes c.self.inside.limits) (its_entry g c (its_hash g c))
-    (gone g.K.PartialEq.eq (its_cache g c) (its_entry g c (its_hash g c)) c.args.now true)
-    (kept g.K.PartialEq.eq (its_cache g c) (its_entry g c (its_hash g c)) c.args.now true)
-its_admission g c =
+-- and what the new entry leaves
+its_put : (g : Over) (c : After-put_new g) → IsPut g.K.PartialEq.eq (keeps_writes c.self.inside.limits)
+    (windowed_limit c.self.inside.limits.max_capacity) c.self.inside.limits.max_capacity c.self.inside.sketch (its_entry g c (its_hash g c))
+    (kept g.K.PartialEq.eq (its_cache g c) (its_entry g c (its_hash g c)) c.args.now true) c.put_new.result (contents_of c.put_new.new.store)
+its_put g c =
     let keeps = c.upkeep.ensures.kept.keeps ∙ (ap (λ s. s.keeps_writes) c.reserve.ensures.unchanged ∙ c.self.invariant.keeps) in
-    c.admit.ensures.step
-    ∙ (λ i. after_admission g.K.PartialEq.eq (keeps i) (its_entry g c (c.hash_one.ensures i)) (its_victims g c i) (its_contents g c i))
+    let eq = g.K.PartialEq.eq in
+    let sketch = c.self.inside.sketch in
+    let put = contents_of c.put_new.new.store in
+    subst (λ k. IsPut eq k (windowed_limit c.self.inside.limits.max_capacity) c.self.inside.limits.max_capacity sketch
+    (its_entry g c (its_hash g c)) (kept eq (its_cache g c) (its_entry g c (its_hash g c)) c.args.now true) c.put_new.result put) keeps
+    (subst (λ s. IsPut eq c.upkeep.new.store.keeps_writes (windowed_limit c.self.inside.limits.max_capacity) c.self.inside.limits.max_capacity
+    sketch (its_entry g c (its_hash g c)) s c.put_new.result put) (its_contents g c)
+    (subst (λ h. IsPut eq c.upkeep.new.store.keeps_writes (windowed_limit c.self.inside.limits.max_capacity) c.self.inside.limits.max_capacity
+    sketch (its_entry g c h) (contents_of c.upkeep.new.store) c.put_new.result put) c.hash_one.ensures
+    (subst (λ l. IsPut eq c.upkeep.new.store.keeps_writes (windowed_limit l) l sketch (its_entry g c c.hash_one.result)
+    (contents_of c.upkeep.new.store) c.put_new.result put) c.max_capacity.ensures c.put_new.ensures.step)))
 
-pub returns-then-admit-clause-step : goal.returns-then-admit-clause-step
-returns-then-admit-clause-step g c =
-    let made = (goal.at.returns-then-admit-clause-step g c).After-upkeep in
-    let done = (goal.at.returns-then-admit-clause-step g c).After-admit in
+pub returns-then-put_new-clause-step : goal.returns-then-put_new-clause-step
+returns-then-put_new-clause-step g c =
+    let made = (goal.at.returns-then-put_new-clause-step g c).After-upkeep in
+    let done = (goal.at.returns-then-put_new-clause-step g c).After-put_new in
     rw (← c.self.view_is)
     (record {
       weight = c.weigh.result;
@@ -151,16 +164,15 @@ returns-then-admit-clause-step g c =
       small = search rules;
       step =
           c.enable_sketch.ensures.1
-          ∙ insert_admitted g.K.PartialEq.eq (its_cache g done) (its_entry g done (its_hash g done)) c.args.now c.enable_sketch.ensures.0
-          (its_absence g done) (contents_of c.admit.new.store) c.admit.new.store.capacity (its_admission g done)
-          (c.admit.ensures.capacity ∙ c.upkeep.ensures.kept.capacity)
-          (sym (c.admit.ensures.value ∙ ap is_some (its_victims g done)) ∙ c.if-admit.true);
+          ∙ insert_stays g.K.PartialEq.eq (its_cache g done) (its_entry g done (its_hash g done)) c.args.now c.enable_sketch.ensures.0
+          (its_absence g done) (contents_of c.put_new.new.store) c.put_new.new.store.capacity c.put_new.result (its_put g done)
+          (c.put_new.ensures.capacity ∙ c.upkeep.ensures.kept.capacity) c.if-put_new.true;
     })
 
-pub returns-else-admit-clause-step : goal.returns-else-admit-clause-step
-returns-else-admit-clause-step g c =
-    let made = (goal.at.returns-else-admit-clause-step g c).After-upkeep in
-    let done = (goal.at.returns-else-admit-clause-step g c).After-admit in
+pub returns-else-put_new-clause-step : goal.returns-else-put_new-clause-step
+returns-else-put_new-clause-step g c =
+    let made = (goal.at.returns-else-put_new-clause-step g c).After-upkeep in
+    let done = (goal.at.returns-else-put_new-clause-step g c).After-put_new in
     rw (← c.self.view_is)
     (record {
       weight = c.weigh.result;
@@ -172,8 +184,7 @@ returns-else-admit-clause-step g c =
       weighed = search rules;
       small = search rules;
       step =
-          insert_rejected g.K.PartialEq.eq (its_cache g done) (its_entry g done (its_hash g done)) c.args.now true (its_absence g done)
-          (contents_of c.admit.new.store) c.admit.new.store.capacity (its_admission g done)
-          (c.admit.ensures.capacity ∙ c.upkeep.ensures.kept.capacity)
-          (sym (c.admit.ensures.value ∙ ap is_some (its_victims g done)) ∙ c.if-admit.false);
+          insert_drops g.K.PartialEq.eq (its_cache g done) (its_entry g done (its_hash g done)) c.args.now true (its_absence g done)
+          (contents_of c.put_new.new.store) c.put_new.new.store.capacity c.put_new.result (its_put g done)
+          (c.put_new.ensures.capacity ∙ c.upkeep.ensures.kept.capacity) c.if-put_new.false;
     })

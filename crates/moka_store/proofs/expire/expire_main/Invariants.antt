@@ -1,12 +1,11 @@
 use Rattle.std.proofs.Common.{◌≡◌}
-use Rattle.moka_machine.specs.Upkeep.{after_idle_expiry}
 use Rattle.moka_machine.specs.declared.constants.TheConstants.{EVICTION_BATCH_SIZE}
-use Rattle.moka_store.specs.Turns.{Continues, contents_of}
-use Rattle.moka_store.proofs.expire.expire_by_use.Given as goal
+use Rattle.moka_store.specs.Turns.{Continues, after_idle_main, contents_of}
+use Rattle.moka_store.proofs.expire.expire_main.Given as goal
 
 abbrev pub invariant-loop-left : goal.invariant-loop-left
 invariant-loop-left g l =
-    (after_idle_expiry g.K.PartialEq.eq l.limits l.now l.left (contents_of l.store) ≡ after_idle_expiry g.K.PartialEq.eq l.limits l.now
+    (after_idle_main g.K.PartialEq.eq l.limits l.now l.left (contents_of l.store) ≡ after_idle_main g.K.PartialEq.eq l.limits l.now
     EVICTION_BATCH_SIZE (contents_of l.fn.store)) × Continues l.fn.store l.store
 
 abbrev pub decreases-loop-left : goal.decreases-loop-left

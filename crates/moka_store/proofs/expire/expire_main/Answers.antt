@@ -1,0 +1,16 @@
+use Rattle.std.proofs.Common.{◌∙◌, arith}
+use Rattle.moka_store.specs.Turns.{after_idle_main, contents_of}
+use Rattle.moka_store.proofs.TrimLemmas.{next_turn}
+use Rattle.moka_store.proofs.expire.expire_main.Goals as goal
+
+pub loop-left-preserved : goal.loop-left-preserved
+loop-left-preserved g c =
+    let done = c.if-expire_main_front.ensures in (
+      next_turn (after_idle_main g.K.PartialEq.eq c.args.limits.now c.args.now) c.loop-left.left (contents_of c.loop-left.store)
+          (contents_of c.expire_main_front.new.store) _ c.loop-left-test.true c.loop-left.invariant.0 done.turn,
+      record {
+        keeps = done.kept.keeps ∙ c.loop-left.invariant.1.keeps;
+        capacity = done.kept.capacity ∙ c.loop-left.invariant.1.capacity;
+        fewer = grind (arith, done.kept.fewer, c.loop-left.invariant.1.fewer);
+      },
+    )
