@@ -1,6 +1,7 @@
 // Each way to build a cache: with each of its requests refused in turn, with more room than there can be, and the room that is made.
 use crate::plays::{BOUND, Heap, Play, check};
 use mini_moka::common::{BuildError, FixedState};
+use mini_moka::sync::CountPass;
 use mini_moka::sync::engine::Core;
 use mini_moka::{sync, unsync};
 use moka_refusals::{Refusals, RefusingHeap, for_each_refusal};
@@ -15,6 +16,7 @@ enum Way {
     SyncNew,
     SyncBuild,
     SyncHasher,
+    SyncCounted,
     Core,
     CoreNew,
 }
@@ -44,6 +46,14 @@ fn sync_built(heap: &Heap, way: Way, room: usize) -> Outcome {
     (built.err(), held)
 }
 
+fn counted_built(heap: &Heap, room: usize) -> Outcome {
+    let builder = sync::CacheBuilder::new(heap, 10).initial_capacity(room);
+    let built: Result<(sync::Cache<u64, u64, _, _, _, &Heap>, CountPass), BuildError> =
+        builder.build_counted(FixedState::new());
+    let held = heap.held_bytes();
+    (built.err(), held)
+}
+
 fn core_built(heap: &Heap, way: Way, room: usize) -> Outcome {
     let builder = sync::CacheBuilder::new(heap, 10).initial_capacity(room);
     let built: Result<Core<u64, u64, _, _, &Heap>, BuildError> = match way {
@@ -58,6 +68,7 @@ fn built(heap: &Heap, way: Way, room: usize) -> Outcome {
     match way {
         Way::UnsyncNew | Way::UnsyncBuild | Way::UnsyncHasher => unsync_built(heap, way, room),
         Way::SyncNew | Way::SyncBuild | Way::SyncHasher => sync_built(heap, way, room),
+        Way::SyncCounted => counted_built(heap, room),
         Way::Core | Way::CoreNew => core_built(heap, way, room),
     }
 }
@@ -73,23 +84,24 @@ fn build(heap: &Heap, way: Way) -> Play {
     check(error == refusal, "a build's answer")
 }
 
-const WAYS: [Way; 8] = [
+const WAYS: [Way; 9] = [
     Way::UnsyncNew,
     Way::UnsyncBuild,
     Way::UnsyncHasher,
     Way::SyncNew,
     Way::SyncBuild,
     Way::SyncHasher,
+    Way::SyncCounted,
     Way::Core,
     Way::CoreNew,
 ];
 
 /// How many plays of each way meet a refusal: two for each request.
-const REFUSALS: [u64; 8] = [0, 6, 6, 76, 76, 76, 74, 10];
+const REFUSALS: [u64; 9] = [0, 6, 6, 76, 76, 76, 84, 74, 10];
 
 #[test]
 fn each_request_of_a_build_is_refused(rt: HostRuntime) -> Result<(), Fail> {
-    let mut refusals = [0; 8];
+    let mut refusals = [0; 9];
     for (plays, way) in refusals.iter_mut().zip(&WAYS) {
         *plays = for_each_refusal(rt.alloc(), rt.alloc(), BOUND, |heap| build(heap, *way))?;
     }

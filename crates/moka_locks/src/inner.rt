@@ -74,7 +74,7 @@ pub struct Inner<
     /// What they weighed, at most `u64::MAX`.
     weighted_size: AtomicU64,
     /// The same, one pair after another, where somebody loads them so.
-    counts: Option<Counts>,
+    counts: Option<Counts<A>>,
 }
 
 impl<
@@ -109,7 +109,7 @@ impl<
     pub fn new(
         alloc: A,
         parts: CoreParts<S, W>,
-        publisher: Option<Publisher>,
+        publisher: Option<Publisher<A>>,
     ) -> Result<Self, OutOfMemory>
         requires { IfSome publisher (λ p. p.published ≡ opening ∷ []) }
         ensures { IfOk result (λ inner. inner ≡ new_cache
@@ -418,7 +418,9 @@ impl<
 }
 
 /// The counts of a publisher, if there is one.
-fn counts_of(publisher: &Option<Publisher>) -> Result<Option<Counts>, OutOfMemory>
+fn counts_of<A: Allocator + Drop>(
+    publisher: &Option<Publisher<A>>,
+) -> Result<Option<Counts<A>>, OutOfMemory>
     ensures { IfOk result (λ counts. counts ≡ counts_of publisher.now) }
 {
     match publisher {

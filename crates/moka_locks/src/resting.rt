@@ -14,7 +14,7 @@ use std::sync::Wait;
 #[derive(Drop)]
 pub(crate) struct Resting<A: Allocator + Clone + Drop = Global> {
     working: Box<Working<A>, A>,
-    publisher: Option<Publisher>,
+    publisher: Option<Publisher<A>>,
 }
 
 impl<A: Allocator + Clone + Drop> Model for Resting<A> {
@@ -33,7 +33,7 @@ impl<A: Allocator + Clone + Drop> Model for Resting<A> {
 
 impl<A: Allocator + Clone + Drop> Resting<A> {
     /// This maintenance, with which nothing has been done.
-    pub(crate) fn new(working: Box<Working<A>, A>, publisher: Option<Publisher>) -> Self
+    pub(crate) fn new(working: Box<Working<A>, A>, publisher: Option<Publisher<A>>) -> Self
         requires idle { working.value.working.maintenance.place ≡ Idle }
         requires charged { IfSome publisher (λ p. IsCharged working.value.working.maintenance p.published) }
         ensures { result ≡ working.value }
@@ -45,7 +45,7 @@ impl<A: Allocator + Clone + Drop> Resting<A> {
     pub(crate) fn ended<R: Wait>(
         rt: &R,
         working: Box<Working<A>, A>,
-        publisher: Option<Publisher>,
+        publisher: Option<Publisher<A>>,
     ) -> Self
         requires { working.value.working.maintenance.place ≡ Idle }
         ensures { result ≡ working.value }
@@ -67,7 +67,7 @@ impl<A: Allocator + Clone + Drop> Resting<A> {
     }
 
     /// The maintenance, for the one who has the lock to begin it.
-    pub(crate) fn wake(self) -> (Box<Working<A>, A>, Option<Publisher>)
+    pub(crate) fn wake(self) -> (Box<Working<A>, A>, Option<Publisher<A>>)
         ensures value { result.0.value ≡ self }
         ensures idle { result.0.value.working.maintenance.place ≡ Idle }
     {

@@ -24,7 +24,7 @@ use std::sync::{Mutex, MutexGuard, Wait};
 pub(crate) struct Running<'a, A: Allocator + Clone + Drop> {
     guard: MutexGuard<'a, Option<Resting<A>>>,
     working: Box<Working<A>, A>,
-    publisher: Option<Publisher>,
+    publisher: Option<Publisher<A>>,
 }
 
 impl<'a, A: Allocator + Clone + Drop> Model for Running<'a, A> {

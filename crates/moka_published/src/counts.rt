@@ -3,22 +3,32 @@ ghost use Rattle.std.specs.Prelude.{◌≡◌, [], ◌∷◌, List, IfOk};
 ghost use Rattle.moka_published.specs.Counts.{CountPass as PassValue, Publisher as PublisherValue};
 ghost use Rattle.moka_published.specs.Log.{IsChain, IsSuffix, number_after, opening};
 
+use crate::in_memory::InMemory;
 use crate::rule::{Growing, Known, Published, Publishes, Sees, Tells};
 use crossbeam_utils::atomic::seq_cell::{Pass, RuledSeqCell};
-use std::alloc::{AllocError, Global};
+use std::alloc::{AllocError, Allocator, Global};
 use std::marker::Model;
 use std::sync::{Arc, Wait};
 
 /// The cell with the newest counts.
-type Cell = RuledSeqCell<Published, Known, Growing, 3>;
+type Cell<A> = RuledSeqCell<Published, Known, Growing, 3, A>;
 
 /// The counts, for all who load them. Its clones are the same counts.
-#[derive(Drop)]
-pub struct Counts {
-    cell: Arc<Cell>,
+pub struct Counts<A: Allocator + Drop = Global> {
+    cell: Arc<Cell<A>, A>,
+    size: InMemory<Cell<A>>,
 }
 
-impl Model for Counts {
+// By hand, and not derived: the end of a cell asks for its size too.
+impl<A: Allocator + Drop> Drop for Counts<A> {
+    fn drop(self) {
+        let Counts { cell, size } = self;
+        size.tell();
+        drop(cell);
+    }
+}
+
+impl<A: Allocator + Drop> Model for Counts<A> {
     ghost use Rattle.atomic_table.specs.Seated.{TableId};
     ghost use Rattle.std.specs.Arc.{arc_value};
 
@@ -43,14 +53,28 @@ impl Model for CountPass {
 }
 
 /// The one who publishes.
-#[derive(Drop)]
-pub struct Publisher {
-    cell: Arc<Cell>,
+pub struct Publisher<A: Allocator + Drop = Global> {
+    cell: Arc<Cell<A>, A>,
+    size: InMemory<Cell<A>>,
     pass: Pass<Published, Known>,
     newest: Published,
 }
 
-impl Model for Publisher {
+// By hand, as that of the counts.
+impl<A: Allocator + Drop> Drop for Publisher<A> {
+    fn drop(self) {
+        let Publisher {
+            cell,
+            size,
+            pass: _,
+            newest: _,
+        } = self;
+        size.tell();
+        drop(cell);
+    }
+}
+
+impl<A: Allocator + Drop> Model for Publisher<A> {
     ghost use Rattle.std.specs.Prelude.{◌≡◌, ◌∷◌, true, List};
     ghost use Rattle.std.specs.Arc.{arc_value};
     ghost use Rattle.crossbeam_utils.specs.Seq.{cell_view};
@@ -64,9 +88,9 @@ impl Model for Publisher {
         × ((older : List _) × ((cell_view p.pass).seen ≡ p.newest ∷ older)) };
 }
 
-impl Publisher {
+impl<A: Allocator + Clone + Drop> Publisher<A> {
     /// Counts with nothing published: the opening ones stand in their place.
-    pub fn new(alloc: Global) -> Result<Self, AllocError>
+    pub fn new(alloc: &A) -> Result<Self, AllocError>
         ensures { IfOk result (λ publisher. publisher.published ≡ opening ∷ []) }
     {
         let first = Published {
@@ -74,21 +98,28 @@ impl Publisher {
             count: 0,
             weight: 0,
         };
-        let (cell, pass) = Cell::ruled(alloc, first)?;
-        let cell = Arc::new(alloc, cell)?;
+        let size = InMemory::<Cell<A>>::new()?;
+        let (cell, pass) = Cell::ruled(alloc.clone()?, first)?;
+        let Ok(cell) = Arc::new(alloc.clone()?, cell) else {
+            return Err(AllocError);
+        };
         Ok(Publisher {
             cell,
+            size,
             pass,
             newest: first,
         })
     }
+}
 
+impl<A: Allocator + Drop> Publisher<A> {
     /// The counts, for others to load.
-    pub fn counts(&self) -> Result<Counts, AllocError>
+    pub fn counts(&self) -> Result<Counts<A>, AllocError>
         ensures { IfOk result (λ counts. counts ≡ self.now.counts) }
     {
         Ok(Counts {
             cell: Arc::try_clone(&self.cell)?,
+            size: self.size.again(),
         })
     }
 
@@ -97,6 +128,7 @@ impl Publisher {
         ensures publisher { self.new ≡ self.old }
         ensures pass { result ≡ record { counts = self.old.counts; seen = self.old.published } }
     {
+        self.size.tell();
         CountPass {
             pass: self.cell.split_pass::<Tells>(&mut self.pass),
         }
@@ -113,12 +145,13 @@ impl Publisher {
             count,
             weight,
         };
+        self.size.tell();
         self.cell.swap_as::<Publishes, R>(rt, &mut self.pass, next);
         self.newest = next;
     }
 }
 
-impl Counts {
+impl<A: Allocator + Drop> Counts<A> {
     /// The newest counts, which the pass has seen then: none older than what it had seen.
     pub fn load<R: Wait>(&self, rt: &R, pass: &mut CountPass) -> Published
         requires { pass.old.counts ≡ self.now }
@@ -129,6 +162,7 @@ impl Counts {
         // It is numbered, from the opening counts on.
         ensures chain { IsChain pass.new.seen }
     {
+        self.size.tell();
         self.cell.load_as::<Sees, R>(rt, &mut pass.pass)
     }
 
@@ -137,6 +171,7 @@ impl Counts {
         requires { pass.old.counts ≡ self.now }
         ensures { (pass.new ≡ pass.old) × (result ≡ pass.old) }
     {
+        self.size.tell();
         CountPass {
             pass: self.cell.split_pass::<Tells>(&mut pass.pass),
         }

@@ -2,5 +2,6 @@
 #![tactic(auto)]
 
 pub mod counts;
+mod in_memory;
 pub mod laws;
 pub mod rule;

@@ -264,14 +264,12 @@ impl<
         let (alloc, parts) = self.parts(hash_state)?;
         Ok(Cache::of_parts(alloc, parts, None)?)
     }
-}
 
-impl<K: Eq + Hash + Drop, V: Drop, W: Drop, P: PairRule<K, V>> CacheBuilder<K, V, W, Global, P> {
     /// The cache, with this hash state, and a pass for its published counts. It is refused as `build_with_hasher` is.
     pub fn build_counted<S: BuildHasher + Drop>(
         self,
         hash_state: S,
-    ) -> Result<(Cache<K, V, S, P, W>, CountPass), BuildError>
+    ) -> Result<(Cache<K, V, S, P, W, A>, CountPass), BuildError>
         ensures legal { IfOk result (λ built. IsLegal self) }
         ensures cache { IfOk result (λ built. built.0 ≡ new_cache
             (record { hash_state = hash_state; policy = self.policy; is_weighed = self.is_weighed }) self.weigher (Some built.1.counts)) }
@@ -279,7 +277,7 @@ impl<K: Eq + Hash + Drop, V: Drop, W: Drop, P: PairRule<K, V>> CacheBuilder<K, V
         ensures err { IfErr result (λ error. error ≡ refusal_of self) }
     {
         let (alloc, parts) = self.parts(hash_state)?;
-        let mut publisher = Publisher::new(alloc).map_err(|_| OutOfMemory)?;
+        let mut publisher = Publisher::new(&alloc).map_err(|_| OutOfMemory)?;
         let pass = publisher.pass();
         let cache = Cache::of_parts(alloc, parts, Some(publisher))?;
         Ok((cache, pass))

@@ -175,7 +175,7 @@ impl<
     pub(crate) fn of_parts(
         alloc: A,
         parts: CoreParts<S, W>,
-        publisher: Option<Publisher>,
+        publisher: Option<Publisher<A>>,
     ) -> Result<Self, OutOfMemory>
         requires { IfSome publisher (λ p. p.published ≡ opening ∷ []) }
         ensures { IfOk result (λ cache. cache ≡ new_cache

@@ -3,4 +3,4 @@ use Rattle.moka_published.proofs.LogLemmas.{opens}
 use Rattle.moka_published.proofs.counts.Publisher.new.Goals as goal
 
 pub ruled-requires : goal.ruled-requires
-ruled-requires c = (search rules, (search rules, opens))
+ruled-requires g c = (search rules, (search rules, opens))

@@ -1,0 +1,65 @@
+//! That the values of a type fit in memory, where the proof of a call asks for it.
+ghost use Rattle.std.specs.Prelude.{◌≡◌, IfOk};
+ghost use Rattle.std.specs.Mem.{FitsInMemory};
+
+use std::alloc::AllocError;
+use std::marker::{Model, PhantomData};
+use std::mem::{ManuallyDrop, size_of_val};
+
+/// A type by its name alone.
+pub(crate) trait Named: Drop {
+    // Each of its values takes fewer than 2^63 bytes.
+    ghost fits: { Type 0 };
+}
+
+impl<T> Named for PhantomData<T> {
+    ghost fits = { FitsInMemory T.row };
+}
+
+/// That the values of a type fit in memory, which a proof knows where it has one of these. It has no bytes.
+#[derive(Drop)]
+pub(crate) struct InMemory<T>
+where
+    PhantomData<T>: Named,
+{
+    of: PhantomData<T>,
+}
+
+impl<T> Model for InMemory<T>
+where
+    PhantomData<T>: Named,
+{
+    ghost use Rattle.std.specs.Prelude.{⊤};
+
+    ghost Value = { ⊤ };
+
+    ghost view = { λ _. tt };
+
+    ghost invariant = { λ _. ⟦<PhantomData<T> as Named>⟧.fits };
+}
+
+impl<T> InMemory<T> {
+    /// It is never refused, which is known when it is compiled.
+    pub(crate) fn new() -> Result<Self, AllocError>
+        ensures { IfOk result (λ _. FitsInMemory T.row) }
+    {
+        let none: Option<ManuallyDrop<T>> = None;
+        if size_of_val(&none) <= isize::MAX as usize {
+            Ok(InMemory { of: PhantomData })
+        } else {
+            Err(AllocError)
+        }
+    }
+
+    /// The same once more.
+    pub(crate) fn again(&self) -> Self {
+        InMemory { of: self.of }
+    }
+
+    /// It does nothing, and tells a proof what is known.
+    pub(crate) fn tell(&self)
+        ensures { FitsInMemory T.row }
+    {
+        let _of = &self.of;
+    }
+}
