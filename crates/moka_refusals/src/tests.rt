@@ -4,7 +4,6 @@ use std::alloc::Global;
 use std::rc::Rc;
 use std::sync::Arc;
 use std::test::Fail;
-use std::thread;
 
 /// More plays than any work here has requests.
 const BOUND: u64 = 50;
@@ -75,24 +74,6 @@ fn a_heap_refuses_what_it_is_told(rt: HostRuntime) -> Result<(), Fail> {
             "of {refusals:?}"
         );
     }
-    Ok(())
-}
-
-#[test]
-fn threads_share_the_counts(rt: HostRuntime) -> Result<(), Fail> {
-    let heap = RefusingHeap::new(rt.alloc(), rt.alloc(), Refusals::Never)?;
-    let theirs = heap.clone()?;
-    let block = Arc::new(heap.clone()?, 1u64)?;
-    assert_eq!(rt; (heap.held_blocks(), heap.asked()), (1, 1));
-    heap.refuse(Refusals::Every(2));
-    let other = thread::spawn(&rt, move || {
-        drop(block);
-        refusals_of_six(&theirs).count_ones()
-    })?;
-    let ours = refusals_of_six(&heap).count_ones();
-    let all = ours.saturating_add(other.join(&rt));
-    assert_eq!(rt; (all, heap.refused(), heap.asked()), (6, 6, 12));
-    assert_eq!(rt; (heap.held_blocks(), heap.held_bytes()), (0, 0));
     Ok(())
 }
 

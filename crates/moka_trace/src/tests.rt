@@ -1,11 +1,9 @@
 // Traces, played as a caller in C plays them. Outcomes are worked by hand.
 use crate::constants::{
-    DONE, FILL_AND_EMPTY, FIND, FIND_AND_REPLACE, GET, GET_AND_INSERT, IN_LANES, INSERT, MOVE,
-    READ_THROUGH, REMOVE_AND_INSERT, TAKE_TURNS, UNKNOWN_KIND, UNLIMITED, WORD_BY_WORD,
+    DONE, GET, GET_AND_INSERT, IN_LANES, INSERT, READ_THROUGH, REMOVE_AND_INSERT, UNKNOWN_KIND,
+    UNLIMITED, WORD_BY_WORD,
 };
 use crate::core_player::moka_trace_play_core;
-use crate::index::{moka_trace_index, moka_trace_index_by_map};
-use crate::list::moka_trace_list;
 use crate::operation::Operation;
 use crate::player::Outcome;
 use crate::sketch::{moka_trace_aging, moka_trace_sketch};
@@ -194,32 +192,6 @@ fn traces_have_their_outcomes(rt: HostRuntime) {
 /// What is summed before a call.
 const SUM: u64 = 9;
 
-/// The status and the sum of a load of a list.
-fn told_of_list(alloc: Global, load: u32, picks: &[usize], rounds: usize) -> (u32, u64) {
-    let mut sum = SUM;
-    let status = moka_trace_list(alloc, load, 3, picks, rounds, &mut sum);
-    (status, sum)
-}
-
-// A list takes the last of the nodes that were made ahead first, so 0 and 1 have the ids 2 and 1. They move, and 7 isn't there: two moves, and the order is 2, 0, 1. Of
-// the next load nothing is left, and 0, 1 and 2 were met in each round. In the third each has had its turn, so the order is 0, 1, 2 again.
-#[test]
-fn a_load_of_a_list_is_played(rt: HostRuntime) {
-    let told = [
-        told_of_list(rt.alloc(), MOVE, &[2, 7, 1], 1),
-        told_of_list(rt.alloc(), FILL_AND_EMPTY, &[], 2),
-        told_of_list(rt.alloc(), TAKE_TURNS, &[], 1),
-        told_of_list(rt.alloc(), 3, &[], 1),
-    ];
-    let wanted = [
-        (DONE, 2 + 2 * 31 * 31 + 1),
-        (DONE, 6),
-        (DONE, 3 + 31 + 2),
-        (UNKNOWN_KIND, SUM),
-    ];
-    assert_eq!(rt; told, wanted);
-}
-
 /// The status of two agings of nine words of 15 in each counter, and the sum.
 fn told_of_agings(alloc: Global, load: u32) -> (u32, u64) {
     let mut sum = SUM;
@@ -246,25 +218,4 @@ fn a_table_counts_and_ages(rt: HostRuntime) {
     ];
     let aged = (DONE, 31 * 2_147_483_611 + 1_073_741_769);
     assert_eq!(rt; told, [(DONE, 10), aged, aged, (UNKNOWN_KIND, SUM)]);
-}
-
-/// The statuses of a load of an index and of one of a map, and both sums.
-fn told_of_index(alloc: Global, load: u32) -> [(u32, u64); 2] {
-    let (hashes, sought) = ([5, 6, 7], [7, 5, 9]);
-    let (mut sum, mut by_map) = (SUM, SUM);
-    let status = moka_trace_index(alloc, load, &hashes, &sought, 2, &mut sum);
-    let mapped = moka_trace_index_by_map(alloc, load, &hashes, &sought, 2, &mut by_map);
-    [(status, sum), (mapped, by_map)]
-}
-
-// 7 has the id 2 and 5 the id 0, in each of two rounds. 9 isn't there.
-#[test]
-fn index_and_map_find_the_same(rt: HostRuntime) {
-    let told = [
-        told_of_index(rt.alloc(), FIND),
-        told_of_index(rt.alloc(), FIND_AND_REPLACE),
-        told_of_index(rt.alloc(), UNKNOWN_KIND),
-    ];
-    let wanted = [[(DONE, 4); 2], [(DONE, 4); 2], [(UNKNOWN_KIND, SUM); 2]];
-    assert_eq!(rt; told, wanted);
 }
