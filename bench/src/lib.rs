@@ -1,6 +1,8 @@
 //! The port of the cache for one thread beside the original, by whole traces; its parts beside others, by whole batches; and the caches that threads share, by
 //! lists of calls.
 pub mod hand_lists;
+pub mod hit_plot;
+pub mod hit_traces;
 pub mod loads;
 pub mod machine;
 mod original_sketch;

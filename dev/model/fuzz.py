@@ -156,6 +156,8 @@ def jitter(r, weights):
 # ---------------------------------------------------------------- unsync
 
 def gen_unsync(r):
+    if r.random() < 1 / 3:
+        return WindowScript(r).made()
     x = r.random()
     if x < 0.03:
         return gen_unsync_hundred(r)
@@ -183,6 +185,284 @@ def gen_unsync(r):
             lines.append("%d %s" % (now(), name))
     lines += ["%d iter" % now(), "%d count" % now(), "%d weight" % now()]
     return lines
+
+
+WINDOW_LIMITS = [99, 100, 101, 150, 199, 200, 250, 300, 1000]
+LARGER_LIMITS = [500, 2000, 5000, 12000, 30000, 10**6, U32, U32 + 1, 2**33, U64]
+
+
+class WindowScript:
+    """Limits from 100 on, where new rows first enter the window, and 99, where they don't."""
+
+    def __init__(self, r):
+        self.r = r
+        limit = r.choice(WINDOW_LIMITS) if r.random() < 0.75 else r.choice(LARGER_LIMITS)
+        self.filled = r.randint(100, 500) if r.random() < 0.7 else r.choice([0, 0, 1, 3, 10])
+        self.s = Settings(r, "unsync", limit=limit, weighed=r.random() < 0.6, durations=False)
+        self.times()
+        self.lines = [self.s.first()]
+        self.share = limit // 100
+        self.main = limit - self.share
+        # so much weighs a row where the rows of the fill reach about the limit
+        self.usual = max(1, min(U32, limit // max(self.filled, 3)))
+        self.none = r.choice([0, 0, 0.05, 0.3, 0.8])
+        self.heavy = r.choice([0, 0, 0.03, 0.15])
+        self.near = r.choice([0, 0.1, 0.5])
+        self.key = r.choice([lambda i: i, lambda i: 4 * i, lambda i: U64 - i, lambda i: (i * 0x9e3779b97f4a7c15) % 2**64])
+        self.known = []          # keys that were inserted, the last one last
+        self.made_keys = 0
+        self.texts = r.sample(TEXTS, r.randint(1, 5))
+
+    def times(self):
+        r, s = self.r, self.s
+        self.t = r.choice([0, 0, 50, U64 - 10])
+        self.span = r.choice([1, 3, 10, 40])
+        kind = r.randrange(5)
+        if kind in (1, 3, 4):
+            s.live = "%dns" % (self.span + r.randint(0, 3))
+        if kind in (2, 3, 4):
+            s.idle = "%dns" % (self.span + r.randint(0, 3) if kind != 4 else r.randint(0, self.span))
+        self.steps = r.choice([0, 0.005, 0.02, 0.1])
+        self.jumps = r.choice([0, 0.01, 0.05])
+
+    def now(self):
+        """The next moment: mostly the last one or the one behind it, sometimes one that is far, or that goes back."""
+        r = self.r
+        if r.random() < self.steps:
+            self.t += r.choice([1, 1, 1, 2])
+        if r.random() < self.jumps:
+            self.t += r.choice([self.span // 2, self.span - 1, self.span, self.span + 1, self.span + 3])
+        self.t = min(self.t, U64)
+        if r.random() < self.jumps:
+            return max(0, self.t - r.randint(1, self.span + 2))
+        return self.t
+
+    def say(self, words):
+        self.lines.append("%d %s" % (self.now(), words))
+
+    def weight(self):
+        r = self.r
+        x = r.random()
+        if x < self.none:
+            return 0
+        if x < self.none + self.heavy:
+            return self.heavy_weight()
+        if r.random() < self.near:
+            return min(U32, r.choice([0, 1, 2, max(0, self.share - 1), self.share, self.share + 1, 2 * self.share, 3 * self.share + 1]))
+        return min(U32, r.randint(1, 2 * self.usual))
+
+    def heavy_weight(self):
+        limit = self.s.max
+        some = [limit // 3, limit // 2, limit // 2 + 1, self.main - 1, self.main, self.main + 1, limit, limit + 1, 2 * limit, U32]
+        return min(U32, self.r.choice(some))
+
+    def insert(self, key, weight=None):
+        end = ""
+        if self.s.weighed:
+            end = " %d" % (self.weight() if weight is None else weight)
+        self.say("insert %d %s%s" % (key, self.r.choice(self.texts), end))
+
+    def new(self, weight=None, asked=0):
+        key = self.key(self.made_keys)
+        self.made_keys += 1
+        self.gets(key, asked)
+        self.insert(key, weight)
+        self.known.append(key)
+        return key
+
+    def some(self):
+        """A key: of the last ones, of the first ones, or any; sometimes one that wasn't inserted yet."""
+        r = self.r
+        x = r.random()
+        if not self.known or x < 0.04:
+            return self.key(self.made_keys + r.randint(0, 2))
+        if x < 0.4:
+            return r.choice(self.known[-r.choice([1, 2, 3, 8, 20]):])
+        if x < 0.65:
+            return r.choice(self.known[:r.choice([1, 3, 10])])
+        return r.choice(self.known)
+
+    def look(self):
+        self.say(self.r.choice(["iter", "count", "weight", "count", "weight"]))
+
+    def made(self):
+        r = self.r
+        x = r.random()
+        if x < 0.1:
+            self.begin_half()
+        elif x < 0.15:
+            self.begin_sized()
+        else:
+            self.fill()
+        shares = [("new", 20), ("asked", 12), ("update", 8), ("heavy", 3), ("get", 12), ("gets", 4), ("sweep", 0.5), ("burst", 1), ("nothings", 1.5),
+                  ("has", 4), ("invalidate", 2), ("remove", 2), ("clear", 0.15), ("drop-if", 0.3), ("look", 12), ("policy", 0.1), ("again", 3),
+                  ("rivals", 3), ("above", 1), ("idle", 0.7)]
+        w = jitter(r, shares)
+        for _ in range(r.choice([r.randint(5, 40), r.randint(20, 120), r.randint(100, 250)])):
+            getattr(self, "do_" + pick(r, w).replace("-", "_"))()
+        for words in ("count", "weight", "iter"):
+            self.say(words)
+        for _ in range(5):
+            self.say("has %d" % self.some())
+        return self.lines
+
+    def fill(self):
+        r = self.r
+        for _ in range(self.filled):
+            # rows that are used often, or asked for before they come
+            if r.random() < 0.03:
+                self.say("get %d" % self.some())
+            self.new(asked=1 if r.random() < 0.03 else 0)
+
+    def begin_half(self):
+        """About half of the limit is there, which asks for the sketch's table: a row that was asked for meanwhile comes in by it, or doesn't."""
+        r = self.r
+        most = self.s.max // 2
+        small = r.randint(0, self.share)
+        first = self.new(weight=min(U32, max(0, most - small + r.choice([-1, 0, 0, 1]))))
+        for _ in range(r.randint(1, 3)):
+            weight = r.randint(0, min(U32, small))
+            small -= weight
+            self.new(weight=weight)
+        if r.random() < 0.5:
+            self.insert(r.choice([first, self.known[-1]]))
+        self.new(weight=min(U32, r.choice([small, small, self.main, self.main + 1, self.s.max])))
+        self.new(weight=min(U32, self.main), asked=r.randint(1, 3))
+        self.say("iter")
+
+    def begin_sized(self):
+        """The table is asked for while most rows are in the window, and its length and its sample show in what is counted."""
+        r = self.r
+        heavy = self.new(weight=0)
+        for _ in range(r.randint(100, 400)):
+            self.new(weight=0)
+        if self.s.weighed:
+            self.insert(heavy, min(U32, r.randint(self.s.max // 2, self.main)))
+        for key in self.known[1:]:
+            self.say("get %d" % key)
+        self.new(weight=0)
+        self.gets(self.key(self.made_keys), r.choice([1, 2, 8]))
+        for _ in range(r.choice([300, 900, 1300])):
+            self.say("get %d" % r.randrange(5000, 7000))
+        for weight in (self.main, self.main // 2, 1):
+            self.new(weight=min(U32, weight))
+            self.say("count")
+
+    def do_new(self):
+        self.new()
+
+    def do_asked(self):
+        self.new(asked=self.r.randint(1, 9))
+
+    def do_update(self):
+        self.insert(self.some())
+
+    def do_heavy(self):
+        """An update, mostly of one of the last rows, and new rows behind it."""
+        r = self.r
+        self.insert(self.some() if r.random() < 0.5 or not self.known else self.known[-1], self.heavy_weight())
+        for _ in range(r.choice([0, 1, 2])):
+            r.choice([self.look, self.do_new, self.do_get])()
+
+    def do_get(self):
+        self.say("get %d" % self.some())
+
+    def do_gets(self):
+        self.gets(self.some(), self.r.randint(2, 9))
+
+    def do_sweep(self):
+        """Each of some rows is used."""
+        if self.known:
+            at = self.r.randrange(len(self.known))
+            for key in self.known[at:at + self.r.randint(5, 120)]:
+                self.say("get %d" % key)
+
+    def do_burst(self):
+        for _ in range(self.r.choice([5, 20, 130])):
+            self.new()
+
+    def do_nothings(self):
+        """Rows of no weight, which wait in the window until something weighs too much."""
+        for _ in range(self.r.choice([1, 3, 10, 130])):
+            self.new(weight=0)
+
+    def do_has(self):
+        self.say("has %d" % self.some())
+
+    def do_invalidate(self):
+        self.say("invalidate %d" % self.some())
+
+    def do_remove(self):
+        self.say("remove %d" % self.some())
+
+    def do_clear(self):
+        self.say("clear")
+
+    def do_drop_if(self):
+        self.say("drop-if %s" % self.r.choice(TEXTS))
+
+    def do_look(self):
+        self.look()
+
+    def do_policy(self):
+        self.say("policy")
+
+    def do_rivals(self):
+        """A row of the window is made heavy, and another as heavy comes, which was asked for before: both are candidates at once."""
+        r = self.r
+        some = [self.main // 3, self.main // 2 + 1, self.main - 1, self.main]
+        self.new(weight=r.choice([0, 1]))
+        if r.random() < 0.5:
+            self.gets(self.known[-1], r.randint(1, 12))
+        if self.s.weighed:
+            self.insert(self.known[-1], min(U32, r.choice(some)))
+        self.new(weight=min(U32, r.choice(some)), asked=r.randint(1, 9))
+        self.say(r.choice(["iter", "count", "weight"]))
+
+    def do_above(self):
+        """Main is above its limit, and the window is not: what the whole is too much by takes several candidates."""
+        r = self.r
+        self.fresh()
+        heavy = self.new(weight=min(U32, self.s.max // 2))
+        above = r.randint(0, self.share)
+        if self.s.weighed:
+            self.insert(heavy, min(U32, self.s.max - above))
+        left = above
+        for _ in range(r.randint(1, 4)):
+            weight = r.randint(0, min(U32, left))
+            left -= weight
+            self.gets(self.new(weight=weight), r.choice([0, 0, 1, 3]))
+        if r.random() < 0.2:
+            self.new(weight=min(U32, self.main + r.randint(0, self.share)), asked=r.randint(0, 3))
+        else:
+            self.new(weight=min(U32, r.randint(left, self.share)), asked=r.randint(0, 3))
+        self.say("iter")
+        self.new()
+
+    def do_idle(self):
+        """Many rows of the window, or of main, are idle for too long at once."""
+        r = self.r
+        for _ in range(r.randint(90, 260)):
+            self.new(weight=0)
+        self.t = min(U64, self.t + self.span + r.randint(-1, 4))
+        for _ in range(r.randint(1, 4)):
+            self.say("has %d" % self.some())
+            self.say("count")
+
+    def fresh(self):
+        """Mostly an empty cache."""
+        if self.r.random() < 0.8:
+            self.say("clear")
+
+    def gets(self, key, times):
+        for _ in range(times):
+            self.say("get %d" % key)
+
+    def do_again(self):
+        """A key is removed and comes back."""
+        key = self.some()
+        self.say("%s %d" % (self.r.choice(["invalidate", "remove"]), key))
+        self.insert(key)
 
 
 def gen_unsync_hundred(r):

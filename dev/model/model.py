@@ -323,26 +323,50 @@ def front(q, f, x):
     return None
 
 
+def weight_of(rows):
+    return sum(r.weight for r in rows)
+
+
+WINDOWED = 100               # from this limit on new rows first enter the window
+
+
 class Unsync:
     def __init__(self, o):
         self.o = o
-        self.rows = []           # order of use
-        self.writes = []         # order of writing: the same rows (kept always, used with a time to live)
+        self.main = []           # in order of use
+        self.window = []         # in order of use; always empty where the limit is below 100, or none
+        self.writes = []         # order of writing: the rows of both (kept always, used with a time to live)
         self.table = Table()
 
+    def rows(self):
+        return self.main + self.window
+
     def weight(self):
-        return sum(r.weight for r in self.rows)
+        return weight_of(self.rows())
+
+    def list_of(self, r):
+        return self.window if r in self.window else self.main
 
     def leave(self, rows):
         for r in rows:
-            self.rows.remove(r)
+            self.list_of(r).remove(r)
             self.writes.remove(r)
 
     def row_of(self, key):
-        for r in self.rows:
+        for r in self.rows():
             if r.key == key:
                 return r
         return None
+
+    def used(self, r):
+        """To the back of its own list."""
+        rows = self.list_of(r)
+        if rows is self.window:
+            SEEN["unsync use in the window"] += 1
+            if rows[0] is r and len(rows) > 1:
+                SEEN["unsync use of the window's front, of several"] += 1
+        rows.remove(r)
+        rows.append(r)
 
     def expired(self, r, now):
         return idle_expired(self.o, r, now) or live_expired(self.o, r, now)
@@ -360,65 +384,108 @@ class Unsync:
                 SEEN["unsync live-expired"] += 1
             self.leave(gone[:100])
         if self.o.idle is not None:
-            gone = []
-            for r in self.rows:
-                if not idle_expired(self.o, r, now):
-                    break
-                gone.append(r)
-            if len(gone) > 100:
-                SEEN["unsync over 100 idle-expired"] += 1
-            if gone:
-                SEEN["unsync idle-expired"] += 1
-            self.leave(gone[:100])
+            for place, rows in (("window", self.window), ("main", self.main)):
+                gone = []
+                for r in rows:
+                    if not idle_expired(self.o, r, now):
+                        break
+                    gone.append(r)
+                if len(gone) > 100:
+                    SEEN["unsync over 100 idle-expired in %s" % place] += 1
+                if gone:
+                    SEEN["unsync idle-expired in %s" % place] += 1
+                if any(idle_expired(self.o, r, now) for r in rows[len(gone):]):
+                    SEEN["unsync idle-expired behind a fresh one in %s" % place] += 1
+                self.leave(gone[:100])
 
     def trim(self):
         limit = self.o.max
         if limit is None or self.weight() <= limit:
             return
-        f = front(self.rows, lambda r: r.weight, self.weight() - limit)
+        f = front(self.rows(), lambda r: r.weight, self.weight() - limit)
         SEEN["unsync trimmed"] += 1
         if f is None or len(f) > 100:
             SEEN["unsync trim over 100"] += 1
-            f = self.rows[:100]
+            f = self.rows()[:100]
+        if any(r in self.window for r in f):
+            SEEN["unsync trim of the window"] += 1
         self.leave(f)
 
     def pre(self, now):
         self.expire(now)
         self.trim()
 
-    def enters(self, key, w):
-        limit = self.o.max
-        if limit is None or self.weight() + w <= limit:
+    def main_takes(self, limit, hash_, w, who):
+        """Whether main, of this limit or of none, takes a row of this weight. What gives way to it leaves."""
+        if limit is None or weight_of(self.main) + w <= limit:
             return True
         if w > limit:
-            SEEN["unsync rejected, above the limit"] += 1
+            SEEN["unsync %s rejected, above the limit" % who] += 1
             return False
-        f = front(self.rows, lambda r: r.weight, w)
+        if weight_of(self.main) > limit:
+            SEEN["unsync %s asked where main is above its limit" % who] += 1
+        f = front(self.main, lambda r: r.weight, w)
         if f is None:
-            SEEN["unsync no front"] += 1
+            SEEN["unsync %s without a front" % who] += 1
             return False
-        if self.table.est(key) > sum(self.table.est(r.hash) for r in f):
-            SEEN["unsync admitted over %s" % min(len(f), 2)] += 1
+        if self.table.est(hash_) > sum(self.table.est(r.hash) for r in f):
+            SEEN["unsync %s admitted over %s" % (who, min(len(f), 2))] += 1
             self.leave(f)
             return True
-        SEEN["unsync rejected"] += 1
+        SEEN["unsync %s rejected" % who] += 1
         return False
+
+    def enter(self, new):
+        """A new row comes to the back of the window, and what is too much there then is judged."""
+        limit = self.o.max
+        self.window.append(new)
+        self.writes.append(new)
+        window_limit = limit // 100
+        main_limit = limit - window_limit
+        e = max(weight_of(self.window) - window_limit, self.weight() - limit)
+        if e <= 0:
+            SEEN["unsync window has room"] += 1
+            return
+        candidates = front(self.window, lambda r: r.weight, e)
+        if candidates is None:
+            SEEN["unsync window does not reach what is too much"] += 1
+            candidates = list(self.window)
+        if len(candidates) > 1:
+            SEEN["unsync candidates, several"] += 1
+        if len(candidates) > 100:
+            SEEN["unsync candidates, over 100"] += 1
+        if new in candidates:
+            SEEN["unsync new row is a candidate"] += 1
+        if e > weight_of(self.window) - window_limit:
+            SEEN["unsync the whole weight is too much, and the window's less so"] += 1
+        came = []
+        for c in candidates:
+            if self.main_takes(main_limit, c.hash, c.weight, "candidate"):
+                if any(r not in self.main for r in came):
+                    SEEN["unsync candidate pushed out one of the same insert"] += 1
+                self.window.remove(c)
+                self.main.append(c)
+                came.append(c)
+                SEEN["unsync to main"] += 1
+            else:
+                self.leave([c])
 
     def call(self, now, name, a):
         if name == "policy":
             return policy_text(self.o)
         if name == "count":
-            return str(len(self.rows))
+            return str(len(self.rows()))
         if name == "weight":
             return str(min(self.weight(), U64))
         if name == "iter":
-            return " ".join("%d=%s" % (r.key, r.value) for r in self.rows if not self.expired(r, now)) or "empty"
+            return " ".join("%d=%s" % (r.key, r.value) for r in self.rows() if not self.expired(r, now)) or "empty"
         if name == "clear":
-            self.rows = []
+            self.main = []
+            self.window = []
             self.writes = []
             return "ok"
         if name == "drop-if":
-            self.leave([r for r in self.rows if r.value == a[0]])
+            self.leave([r for r in self.rows() if r.value == a[0]])
             return "ok"
         self.pre(now)
         if name == "get":
@@ -426,8 +493,7 @@ class Unsync:
             r = self.row_of(a[0])
             if r is not None and not self.expired(r, now):
                 r.accessed = now
-                self.rows.remove(r)
-                self.rows.append(r)
+                self.used(r)
                 return "some " + r.value
             if r is not None:
                 SEEN["unsync get of an expired row that remains"] += 1
@@ -438,12 +504,16 @@ class Unsync:
         if name == "invalidate":
             r = self.row_of(a[0])
             if r is not None:
+                if r in self.window:
+                    SEEN["unsync removal from the window"] += 1
                 self.leave([r])
             return "ok"
         if name == "remove":
             r = self.row_of(a[0])
             if r is None:
                 return "none"
+            if r in self.window:
+                SEEN["unsync removal from the window"] += 1
             self.leave([r])
             if self.expired(r, now):
                 SEEN["unsync removal of an expired row that remained"] += 1
@@ -459,15 +529,18 @@ class Unsync:
                 r.weight = w
                 r.accessed = now
                 r.modified = now
-                self.leave([r])
-                self.rows.append(r)
+                self.used(r)
+                self.writes.remove(r)
                 self.writes.append(r)
                 return "ok"
-            if self.enters(key, w):
-                r = Row(key, value, w, now)
-                self.rows.append(r)
-                self.writes.append(r)
-                turning_on(self.table, self.o.max, self.o.weighed, len(self.rows), self.weight())
+            new = Row(key, value, w, now)
+            if self.o.max is not None and self.o.max >= WINDOWED:
+                self.enter(new)
+            elif self.main_takes(self.o.max, new.hash, w, "new row"):
+                self.main.append(new)
+                self.writes.append(new)
+            if self.row_of(key) is not None:
+                turning_on(self.table, self.o.max, self.o.weighed, len(self.rows()), self.weight())
             return "ok"
         raise AssertionError(name)
 

@@ -1,12 +1,20 @@
 //! One script on both sides, line by line.
 use crate::original::{self, Met, Reply, Run};
-use crate::port::Port;
+use crate::program::Program;
 use crate::rules::{End, Rule};
 use crate::script::Script;
+
+/// The port, and the model that stands for the original where the limit has a window.
+pub struct Sides {
+    pub port: Program,
+    pub model: Program,
+}
 
 /// What came of a script.
 #[derive(Default)]
 pub struct Outcome {
+    /// Whether it was compared with the model.
+    pub by_model: bool,
     pub compared: u64,
     pub equal: u64,
     /// The rules by which a line was another than the original's.
@@ -29,19 +37,39 @@ pub struct Difference {
 }
 
 /// Runs the script on both sides.
-pub fn outcome(script: &Script, port: &Port) -> Outcome {
-    let run = original::run(script);
+pub fn outcome(script: &Script, sides: &Sides) -> Outcome {
+    let run = if script.has_window() {
+        of_model(script, &sides.model)
+    } else {
+        original::run(script)
+    };
     let mut outcome = Outcome {
+        by_model: script.has_window(),
         end: run.end,
         met: run.met,
         behind_end: (script.lines.len() + 1 - run.replies.len()) as u64,
         ..Outcome::default()
     };
-    match port.replies(script) {
+    match sides.port.replies(script) {
         Ok(found) => outcome.compare(script, &run, &found),
         Err(error) => outcome.differ(0, "replies".to_string(), error),
     }
     outcome
+}
+
+/// What the model replies. The port's replies must be the same, and pairs in the same order.
+fn of_model(script: &Script, model: &Program) -> Run {
+    let (lines, fault) = match model.replies(script) {
+        Ok(lines) if lines.len() == script.lines.len() + 1 => (lines, None),
+        Ok(lines) => (Vec::new(), Some(format!("the model wrote {} replies", lines.len()))),
+        Err(error) => (Vec::new(), Some(format!("the model: {error}"))),
+    };
+    Run {
+        replies: lines.into_iter().map(|line| Reply::Words(line, None)).collect(),
+        end: None,
+        fault,
+        met: Met::default(),
+    }
 }
 
 impl Outcome {

@@ -1,10 +1,10 @@
-//! Compares the port with the original on random scripts: moka_diff PROGRAM NUMBER_OF_SCRIPTS SEED
+//! Compares the port with the original, or with the model, on random scripts: moka_diff PROGRAM MODEL NUMBER_OF_SCRIPTS SEED
 mod compare;
 mod keys;
 mod make;
 mod original;
 mod panics;
-mod port;
+mod program;
 mod random;
 mod rules;
 mod script;
@@ -13,8 +13,8 @@ mod sketch;
 mod special;
 mod tally;
 
-use crate::compare::{outcome, Difference};
-use crate::port::Port;
+use crate::compare::{outcome, Difference, Sides};
+use crate::program::Program;
 use crate::tally::{Found, Tally};
 use std::path::Path;
 use std::process::ExitCode;
@@ -28,13 +28,13 @@ const PRINTED: usize = 5;
 
 fn main() -> ExitCode {
     let words: Vec<String> = std::env::args().skip(1).collect();
-    let Some((program, scripts, seed)) = arguments(&words) else {
-        eprintln!("usage: moka_diff PROGRAM NUMBER_OF_SCRIPTS SEED");
+    let Some((sides, scripts, seed)) = arguments(&words) else {
+        eprintln!("usage: moka_diff PROGRAM MODEL NUMBER_OF_SCRIPTS SEED");
         return ExitCode::from(2);
     };
     panics::keep_panics();
     println!("seed                    {seed}");
-    let work = Work::new(Port::new(Path::new(program)), scripts, seed);
+    let work = Work::new(sides, scripts, seed);
     std::thread::scope(|scope| {
         for _ in 0..WORKERS {
             scope.spawn(|| work.run());
@@ -43,16 +43,20 @@ fn main() -> ExitCode {
     work.print()
 }
 
-fn arguments(words: &[String]) -> Option<(&str, u64, u64)> {
-    let [program, scripts, seed] = words else {
+fn arguments(words: &[String]) -> Option<(Sides, u64, u64)> {
+    let [program, model, scripts, seed] = words else {
         return None;
     };
-    Some((program, scripts.parse().ok()?, seed.parse().ok()?))
+    let sides = Sides {
+        port: Program::port(Path::new(program)),
+        model: Program::model(Path::new(model)),
+    };
+    Some((sides, scripts.parse().ok()?, seed.parse().ok()?))
 }
 
 /// The scripts, and what came of them so far.
 struct Work {
-    port: Port,
+    sides: Sides,
     scripts: u64,
     seed: u64,
     next: AtomicU64,
@@ -62,9 +66,9 @@ struct Work {
 }
 
 impl Work {
-    fn new(port: Port, scripts: u64, seed: u64) -> Work {
+    fn new(sides: Sides, scripts: u64, seed: u64) -> Work {
         Work {
-            port,
+            sides,
             scripts,
             seed,
             next: AtomicU64::new(0),
@@ -88,7 +92,7 @@ impl Work {
 
     fn run_script(&self, number: u64, tally: &mut Tally) {
         let script = make::script(self.seed, number);
-        let outcome = outcome(&script, &self.port);
+        let outcome = outcome(&script, &self.sides);
         tally.add(&outcome);
         if let Some(difference) = outcome.difference {
             self.found.lock().expect("no worker panics").push((number, difference));
@@ -113,7 +117,7 @@ impl Work {
 
     fn shrunk(&self, number: u64, difference: &Difference) -> Found {
         let script = make::script(self.seed, number);
-        let (script, difference) = shrink::shrunk(&script, difference, &self.port);
+        let (script, difference) = shrink::shrunk(&script, difference, &self.sides);
         Found {
             number,
             script,

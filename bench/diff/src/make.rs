@@ -1,7 +1,7 @@
 //! Makes random scripts.
 use crate::keys;
 use crate::random::Random;
-use crate::script::{Call, Line, Script};
+use crate::script::{Call, Line, Script, WINDOWED};
 use crate::special;
 
 /// The script of this number.
@@ -109,20 +109,22 @@ impl Plan {
         }
     }
 
-    /// A plan by which an update outgrows the limit by more entries than leave in one call.
+    /// A plan by which an update outgrows the limit by more entries than leave in one call. At a limit without a window most weigh nothing.
     fn of_batches(random: &mut Random) -> Plan {
         let count = random.between(110, 350);
-        let most = random.between(1, 2);
+        let has_window = random.one_in(2);
+        let max = if has_window { count } else { random.between(20, WINDOWED - 1) };
+        let most = if has_window { random.between(1, 2) } else { 0 };
         let looks = random.between(0, 50);
         Plan {
-            max: Some(count),
+            max: Some(max),
             weighed: true,
             keys: keys::keys(random, count),
             draws: random.between(1, 2),
             weights: Weights {
                 most,
                 heavy_in: random.between(4, 30),
-                heavy: random.between(100, 2 * count),
+                heavy: random.between(max / 2, 2 * max),
             },
             shares: [100, 100, looks, random.below(20), 0, random.below(5), looks, looks, 5, 1],
             filled: count as usize,

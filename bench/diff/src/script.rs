@@ -1,5 +1,8 @@
 //! A script of the mode `unsync` without durations, and its words.
 
+/// From this limit on new keys of the port wait in a window, which the original hasn't.
+pub const WINDOWED: u64 = 100;
+
 /// A script, and how it is run on the original.
 #[derive(Clone)]
 pub struct Script {
@@ -37,6 +40,11 @@ pub enum Call {
 }
 
 impl Script {
+    /// Whether its limit has a window: such a script is compared with the model.
+    pub fn has_window(&self) -> bool {
+        self.max.is_some_and(|max| max >= WINDOWED)
+    }
+
     /// The script as the port reads it.
     pub fn words(&self) -> String {
         let mut words = self.first_line();

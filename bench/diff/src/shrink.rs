@@ -1,15 +1,14 @@
 //! The shortest script that still differs, as far as dropping lines leads.
-use crate::compare::{outcome, Difference};
-use crate::port::Port;
+use crate::compare::{outcome, Difference, Sides};
 use crate::script::{Line, Script};
 
 /// At most so many shorter scripts are tried.
 const TRIES: u64 = 2000;
 
 /// Drops lines, and the moments of the others, while some unexplained difference stays.
-pub fn shrunk(script: &Script, difference: &Difference, port: &Port) -> (Script, Difference) {
+pub fn shrunk(script: &Script, difference: &Difference, sides: &Sides) -> (Script, Difference) {
     let mut shrinking = Shrinking {
-        port,
+        sides,
         script: script.clone(),
         difference: difference.clone(),
         tries: TRIES,
@@ -28,7 +27,7 @@ pub fn shrunk(script: &Script, difference: &Difference, port: &Port) -> (Script,
 }
 
 struct Shrinking<'a> {
-    port: &'a Port,
+    sides: &'a Sides,
     script: Script,
     difference: Difference,
     tries: u64,
@@ -41,7 +40,7 @@ impl Shrinking<'_> {
             return false;
         }
         self.tries -= 1;
-        let Some(difference) = outcome(&script, self.port).difference else {
+        let Some(difference) = outcome(&script, self.sides).difference else {
             return false;
         };
         self.script = script;

@@ -1,32 +1,34 @@
-//! Scripts that are made to meet faults of the original which chance doesn't meet.
+//! Scripts that are made to meet faults of the original which chance doesn't meet. Their limits are below those that have a window: most entries have
+//! no weight, so that there are many all the same.
 use crate::make::initial;
 use crate::random::Random;
-use crate::script::{Call, Line, Script};
+use crate::script::{Call, Line, Script, WINDOWED};
 use crate::sketch::{asked, asked_in_whole_numbers, index_of, DEPTHS};
 
-/// The words of the table for a limit from 129 to 256.
+/// The words of the table for a capacity from 129 to 256.
 const TABLE_WORDS: u64 = 256;
 /// At each count the best of so many hashes is taken.
 const TRIES: u64 = 150;
 
 /// A script whose gets make most counters of the sketch odd until it ages, so that the original's size underflows.
 pub fn odd_counters(random: &mut Random) -> Script {
-    let max = random.between(129, 140);
-    let mut lines = Vec::new();
-    // Half of the limit turns the sketch on.
-    lines.extend((0..max / 2).map(insert));
+    let max = random.between(2, WINDOWED - 1);
+    let count = random.between(129, 140);
+    let mut lines: Vec<Line> = (1..count).map(weightless).collect();
+    // The last one fills the limit, so the sketch is turned on, for as many entries as there are.
+    lines.push(insert(count, max as u32));
     let mut parities = Parities::new();
     // The sketch ages at ten times its capacity.
-    for _ in 0..10 * max {
+    for _ in 0..10 * count {
         let hash = parities.best(random);
         parities.count(hash);
         lines.push(line(Call::Get(hash)));
     }
-    lines.extend((max..max + 100).map(insert));
+    lines.extend((count + 1..count + 100).map(|key| insert(key, 1)));
     lines.extend([Call::Count, Call::Iter].map(line));
     Script {
         max: Some(max),
-        weighed: false,
+        weighed: true,
         initial: initial(random),
         by_key: false,
         lines,
@@ -36,9 +38,9 @@ pub fn odd_counters(random: &mut Random) -> Script {
 /// A script of a weighed cache that asks for another capacity of the sketch in floating point than in whole numbers.
 pub fn rounded_capacity(random: &mut Random) -> Script {
     let (max, count, last) = rounded(random);
-    let mut lines: Vec<Line> = (1..count).map(insert).collect();
+    let mut lines: Vec<Line> = (1..count).map(weightless).collect();
     lines.push(line(Call::Weight));
-    lines.push(insert_weighed(count, last));
+    lines.push(insert(count, last as u32));
     lines.extend([Call::Count, Call::Weight, Call::Iter].map(line));
     lines.extend((0..50).map(|key| line(Call::Get(key))));
     Script {
@@ -50,23 +52,23 @@ pub fn rounded_capacity(random: &mut Random) -> Script {
     }
 }
 
-/// A limit, a number of entries, and the weight of the last one, which alone reaches half of the limit: the others weigh 1.
-fn rounded(random: &mut Random) -> (u64, u64, u32) {
+/// A limit, a number of entries, and the weight of the last one, which alone reaches half of the limit: the others weigh nothing.
+fn rounded(random: &mut Random) -> (u64, u64, u64) {
     loop {
-        let max = random.between(600, 2000);
-        let count = random.between(260, max / 2 - 1);
+        let max = random.between(3, WINDOWED - 1);
+        let count = random.between(260, 1000);
         let weight = random.between(max / 2, max);
         if asked(true, max, count, weight) != asked_in_whole_numbers(true, max, count, weight) {
-            return (max, count, (weight - (count - 1)) as u32);
+            return (max, count, weight);
         }
     }
 }
 
-fn insert(key: u64) -> Line {
-    insert_weighed(key, 1)
+fn weightless(key: u64) -> Line {
+    insert(key, 0)
 }
 
-fn insert_weighed(key: u64, weight: u32) -> Line {
+fn insert(key: u64, weight: u32) -> Line {
     let text = "a".to_string();
     line(Call::Insert { key, text, weight })
 }

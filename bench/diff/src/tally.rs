@@ -15,6 +15,7 @@ pub struct Found {
 #[derive(Default)]
 pub struct Tally {
     scripts: u64,
+    by_model: u64,
     compared: u64,
     equal: u64,
     allowed: [u64; Rule::ALL.len()],
@@ -26,6 +27,7 @@ pub struct Tally {
 impl Tally {
     pub fn add(&mut self, outcome: &Outcome) {
         self.scripts += 1;
+        self.by_model += u64::from(outcome.by_model);
         self.compared += outcome.compared;
         self.equal += outcome.equal;
         add_met(&mut self.met, &outcome.met);
@@ -42,6 +44,7 @@ impl Tally {
 
     pub fn merge(&mut self, other: &Tally) {
         self.scripts += other.scripts;
+        self.by_model += other.by_model;
         self.compared += other.compared;
         self.equal += other.equal;
         self.behind_end += other.behind_end;
@@ -52,6 +55,7 @@ impl Tally {
 
     pub fn print(&self) {
         println!("scripts                 {}", self.scripts);
+        println!("compared with the model {}", self.by_model);
         println!("lines compared          {}", self.compared);
         println!("lines equal             {}", self.equal);
         println!("lines that a rule allows to be others than the original's, and that are as it says:");
@@ -108,9 +112,13 @@ impl Found {
             self.number,
             self.script.lines.len() + 1
         );
-        println!("  original: {expected}");
+        if self.script.has_window() {
+            println!("  model:    {expected}");
+        } else {
+            println!("  original: {expected}");
+        }
         println!("  port:     {found}");
-        if let Some(initial) = self.script.initial {
+        if let Some(initial) = self.script.initial.filter(|_| !self.script.has_window()) {
             println!("  the original's initial capacity: {initial}");
         }
         print!("{}", self.script.words());

@@ -6,7 +6,6 @@ use moka_trace_bench::timing::{
     clock_nanos, keep_memory, measure, time_original, time_port, time_side, Player,
 };
 use moka_trace_bench::traces::{self, Operation, Settings, Trace};
-use std::process::ExitCode;
 
 const REPEATS: usize = 5;
 const ENTRIES: [u64; 2] = [10_000, 1_000_000];
@@ -19,8 +18,8 @@ fn time_map(settings: &Settings, operations: &[Operation]) -> (f64, Outcome) {
     time_side(rust_sides::map(settings), operations)
 }
 
-/// Prints the row of a trace. Says whether the port gave what the original gave.
-fn print_trace(trace: &Trace, repeats: usize) -> bool {
+/// Prints the row of a trace. The original has no window, so its hits may be others.
+fn print_trace(trace: &Trace, repeats: usize) {
     let settings = &trace.settings;
     let is_plain = !settings.is_weighed && !settings.has_durations() && !settings.is_std_hashed;
     let players: [Option<Player>; 4] = [
@@ -37,14 +36,6 @@ fn print_trace(trace: &Trace, repeats: usize) -> bool {
     let outcome = |at: usize| least[at].map_or(Outcome::default(), |least| least.outcome);
     let (port, original) = (outcome(0), outcome(1));
     let share = |outcome: Outcome| format!("{:.4}", outcome.hits as f64 / trace.counted() as f64);
-    let verdict = if port == original {
-        "the same".to_string()
-    } else if settings.is_std_hashed {
-        // Which hashes share a counter of the sketch is up to the hash state.
-        format!("hits of mini-moka {}", share(original))
-    } else {
-        format!("port {port:?}, original {original:?}")
-    };
     table::print_row(&[
         trace.name.clone(),
         table::number(nanos[0]),
@@ -53,19 +44,18 @@ fn print_trace(trace: &Trace, repeats: usize) -> bool {
         table::number(nanos[3]),
         table::ratio(nanos[0].unwrap_or(0.0), nanos[1].unwrap_or(0.0)),
         share(port),
+        share(original),
         least[2].map_or("-".into(), |least| share(least.outcome)),
-        verdict,
+        format!("{} and {}", port.entries, original.entries),
     ]);
-    port == original || settings.is_std_hashed
 }
 
-fn main() -> ExitCode {
+fn main() {
     keep_memory();
     let part = std::env::args().nth(1).unwrap_or("all".into());
     let repeats = std::env::args().nth(2).map_or(REPEATS, |word| {
         word.parse().expect("the number of repeats is no number")
     });
-    let mut all_same = true;
     println!(
         "Nanoseconds a call, the least of {repeats} repeats; a reading of the clock takes {:.1}.",
         clock_nanos()
@@ -79,29 +69,25 @@ fn main() -> ExitCode {
         "map",
         "port to mini-moka",
         "hits, port",
+        "hits, mini-moka",
         "hits, lru",
-        "hits, values and entries of port and mini-moka",
+        "entries at the end",
     ]);
     if part == "zipf" || part == "all" {
         for trace in traces::read_through_traces() {
-            all_same &= print_trace(&trace, repeats);
+            print_trace(&trace, repeats);
         }
     }
     if part == "single" || part == "all" {
         for entries in ENTRIES {
             for trace in traces::single_calls(entries) {
-                all_same &= print_trace(&trace, repeats);
+                print_trace(&trace, repeats);
             }
         }
     }
     if part == "hashers" {
         for trace in traces::std_hashed_traces() {
-            all_same &= print_trace(&trace, repeats);
+            print_trace(&trace, repeats);
         }
-    }
-    if all_same {
-        ExitCode::SUCCESS
-    } else {
-        ExitCode::FAILURE
     }
 }

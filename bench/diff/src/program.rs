@@ -1,40 +1,51 @@
-//! The port: its program `moka_run`, one process a script.
+//! The programs that read a script and write its replies, one process a script.
 use crate::script::Script;
+use std::ffi::OsString;
 use std::io::{Read, Write};
-use std::path::{Path, PathBuf};
+use std::path::Path;
 use std::process::{Child, Command, Stdio};
 
-/// The port's program.
-pub struct Port {
-    program: PathBuf,
+/// What reads a script on standard input.
+pub struct Program {
+    /// The command and what stands behind it.
+    words: Vec<OsString>,
 }
 
-impl Port {
-    pub fn new(program: &Path) -> Port {
-        Port {
-            program: program.to_path_buf(),
+impl Program {
+    /// The port's program `moka_run`.
+    pub fn port(program: &Path) -> Program {
+        Program {
+            words: vec![program.into()],
         }
     }
 
-    /// The lines that the port replies to a script, or what went wrong.
+    /// The model, which is Python.
+    pub fn model(file: &Path) -> Program {
+        Program {
+            words: vec!["python3".into(), "-I".into(), "-S".into(), file.into()],
+        }
+    }
+
+    /// The lines that it replies to a script, or what went wrong.
     pub fn replies(&self, script: &Script) -> Result<Vec<String>, String> {
         let mut child = self.started()?;
         let replies = talk(&mut child, &script.words());
         let status = child.wait().map_err(|error| error.to_string())?;
         let replies = replies?;
         if !status.success() {
-            return Err(format!("the port ended with {status}, and wrote {replies:?}"));
+            return Err(format!("it ended with {status}, and wrote {replies:?}"));
         }
         Ok(replies.lines().map(str::to_string).collect())
     }
 
     fn started(&self) -> Result<Child, String> {
-        Command::new(&self.program)
+        Command::new(&self.words[0])
+            .args(&self.words[1..])
             .stdin(Stdio::piped())
             .stdout(Stdio::piped())
             .stderr(Stdio::inherit())
             .spawn()
-            .map_err(|error| format!("{}: {error}", self.program.display()))
+            .map_err(|error| format!("{}: {error}", self.words[0].display()))
     }
 }
 

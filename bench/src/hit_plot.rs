@@ -1,0 +1,75 @@
+//! A plot of hit ratios over capacities, a panel for each trace, as SVG.
+
+const COLUMNS: usize = 2;
+const WIDTH: f64 = 400.0;
+const HEIGHT: f64 = 220.0;
+const LEFT: f64 = 50.0;
+const RIGHT: f64 = 20.0;
+const TOP: f64 = 35.0;
+const BOTTOM: f64 = 35.0;
+
+/// A side's colour, and a panel's lines: for each side its hit ratios, in percent, at each capacity.
+pub struct Panel {
+    pub name: String,
+    pub ratios: Vec<Vec<f64>>,
+}
+
+fn text(x: f64, y: f64, anchor: &str, words: &str) -> String {
+    format!("<text x=\"{x:.0}\" y=\"{y:.0}\" text-anchor=\"{anchor}\">{words}</text>\n")
+}
+
+fn panel(panel: &Panel, capacities: &[&str], colours: &[&str], left: f64, top: f64) -> String {
+    let x = |index: usize| {
+        left + LEFT + (WIDTH - LEFT - RIGHT) * index as f64 / (capacities.len() - 1) as f64
+    };
+    let y = |ratio: f64| top + HEIGHT - BOTTOM - (HEIGHT - TOP - BOTTOM) * ratio / 100.0;
+    let mut out = text(left + LEFT, top + TOP - 12.0, "start", &panel.name);
+    for step in [0.0, 25.0, 50.0, 75.0, 100.0] {
+        out += &format!(
+            "<line x1=\"{:.0}\" y1=\"{:.0}\" x2=\"{:.0}\" y2=\"{:.0}\" stroke=\"#ddd\"/>\n",
+            x(0),
+            y(step),
+            x(capacities.len() - 1),
+            y(step)
+        );
+        out += &text(x(0) - 8.0, y(step) + 4.0, "end", &format!("{step:.0}"));
+    }
+    for (index, capacity) in capacities.iter().enumerate() {
+        out += &text(x(index), top + HEIGHT - BOTTOM + 18.0, "middle", capacity);
+    }
+    for (ratios, colour) in panel.ratios.iter().zip(colours) {
+        let points: Vec<String> = ratios
+            .iter()
+            .enumerate()
+            .map(|(index, ratio)| format!("{:.1},{:.1}", x(index), y(*ratio)))
+            .collect();
+        out += &format!(
+            "<polyline points=\"{}\" fill=\"none\" stroke=\"{colour}\" stroke-width=\"2\"/>\n",
+            points.join(" ")
+        );
+    }
+    out
+}
+
+/// The panels, two in a row, and a legend.
+pub fn plot(panels: &[Panel], capacities: &[&str], sides: &[(&str, &str)]) -> String {
+    let colours: Vec<&str> = sides.iter().map(|side| side.1).collect();
+    let rows = panels.len().div_ceil(COLUMNS) as f64;
+    let (width, height) = (WIDTH * COLUMNS as f64, HEIGHT * rows + 40.0);
+    let mut out = format!(
+        "<svg xmlns=\"http://www.w3.org/2000/svg\" width=\"{width}\" height=\"{height}\" font-family=\"sans-serif\" font-size=\"12\">\n\
+         <rect width=\"100%\" height=\"100%\" fill=\"white\"/>\n"
+    );
+    for (index, each) in panels.iter().enumerate() {
+        let (column, row) = (index % COLUMNS, index / COLUMNS);
+        out += &panel(each, capacities, &colours, WIDTH * column as f64, HEIGHT * row as f64);
+    }
+    let mut x = LEFT;
+    for (name, colour) in sides {
+        let y = height - 16.0;
+        out += &format!("<rect x=\"{x:.0}\" y=\"{:.0}\" width=\"14\" height=\"4\" fill=\"{colour}\"/>\n", y - 6.0);
+        out += &text(x + 20.0, y, "start", name);
+        x += 40.0 + 7.0 * name.len() as f64;
+    }
+    out + "</svg>\n"
+}

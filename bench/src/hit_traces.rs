@@ -1,0 +1,115 @@
+//! Traces of which only the hits are counted: the numbers of the keys that are looked for, one after another.
+use crate::traces::Random;
+
+/// How many keys most traces have.
+pub const KEYS: u64 = 100_000;
+
+const CALLS: usize = 1_000_000;
+
+/// How long a set of popular keys stays popular.
+const DRIFT: usize = 100_000;
+
+/// How many calls of a scan, or of what it comes between, follow one another.
+const TURN: usize = 10_000;
+
+/// Within how many calls a key of the recency trace is asked for again.
+const SOON: u64 = 100;
+
+/// Which keys a trace asks for, and its name.
+pub struct HitTrace {
+    pub name: &'static str,
+    pub keys: Vec<u64>,
+}
+
+/// Ranks of a Zipf distribution of this exponent, from 0 on.
+fn zipf(exponent: f64) -> impl FnMut() -> u64 {
+    let mut total = 0.0;
+    let sums: Vec<f64> = (1..=KEYS)
+        .map(|rank| {
+            total += (rank as f64).powf(-exponent);
+            total
+        })
+        .collect();
+    let mut random = Random(1);
+    move || {
+        let at = random.unit() * total;
+        sums.partition_point(|sum| *sum <= at) as u64 % KEYS
+    }
+}
+
+fn zipf_keys(exponent: f64) -> Vec<u64> {
+    let mut rank = zipf(exponent);
+    (0..CALLS).map(|_| rank()).collect()
+}
+
+/// By turns popular keys, and a scan of others that are asked for once in a long time.
+fn scan_mix() -> Vec<u64> {
+    let mut rank = zipf(0.99);
+    let mut scanned = 0;
+    (0..CALLS)
+        .map(|call| {
+            if call / TURN % 2 == 0 {
+                return rank();
+            }
+            scanned += 1;
+            KEYS + scanned % (KEYS / 2)
+        })
+        .collect()
+}
+
+/// Popular keys, which are others after each `DRIFT` calls.
+fn drift() -> Vec<u64> {
+    let mut rank = zipf(0.99);
+    (0..CALLS)
+        .map(|call| {
+            let moved = (call / DRIFT) as u64 * (KEYS / 7);
+            (rank() + moved) % KEYS
+        })
+        .collect()
+}
+
+/// New keys, each of which is asked for three times more, soon after it came, and never again.
+fn recent() -> Vec<u64> {
+    let mut random = Random(3);
+    let mut again = vec![Vec::new(); CALLS];
+    let mut keys = Vec::with_capacity(CALLS);
+    let mut fresh = 0;
+    while keys.len() < CALLS {
+        let call = keys.len();
+        match again[call].pop() {
+            // What else was due now comes next.
+            Some(key) => {
+                let late = std::mem::take(&mut again[call]);
+                if let Some(next) = again.get_mut(call + 1) {
+                    next.extend(late);
+                }
+                keys.push(key);
+            }
+            None => {
+                for _ in 0..3 {
+                    let due = call + 1 + random.below(SOON) as usize;
+                    if let Some(due) = again.get_mut(due) {
+                        due.push(fresh);
+                    }
+                }
+                keys.push(fresh);
+                fresh += 1;
+            }
+        }
+    }
+    keys
+}
+
+/// All traces, in the order of the table.
+pub fn hit_traces() -> Vec<HitTrace> {
+    let trace = |name, keys| HitTrace { name, keys };
+    vec![
+        trace("Zipf 0.8", zipf_keys(0.8)),
+        trace("Zipf 0.99", zipf_keys(0.99)),
+        trace("Zipf 1.1", zipf_keys(1.1)),
+        trace("loop", (0..CALLS as u64).map(|call| call % KEYS).collect()),
+        trace("scan mix", scan_mix()),
+        trace("drifting hot set", drift()),
+        trace("asked soon again", recent()),
+    ]
+}
