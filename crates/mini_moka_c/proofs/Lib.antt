@@ -1,0 +1,3 @@
+pub mod CallLemmas
+pub mod HandleValues
+pub mod LooseValues

@@ -1,0 +1,5 @@
+pub mod NumberKeys
+pub mod Opening
+pub mod Calls
+-- inside
+pub mod Held

@@ -1,0 +1,15 @@
+//! The statuses that calls answer, and the number that sets no limit.
+
+/// The call was made.
+pub const DONE: u32 = 0;
+/// The call was made, and the key has no unexpired entry.
+pub const ABSENT: u32 = 1;
+/// The handle is closed: no call but to open it changes anything.
+pub const CLOSED: u32 = 2;
+/// The handle is open already, and stays as it was.
+pub const ALREADY_OPEN: u32 = 3;
+/// Memory was refused, and the cache has all entries that it had.
+pub const OUT_OF_MEMORY: u32 = 4;
+
+/// The capacity or the duration of a cache that has none. No clock reaches so many nanoseconds: they are more than 584 years.
+pub const UNLIMITED: u64 = u64::MAX;

@@ -1,0 +1,71 @@
+/*
+ * A table of logins: a token is good for half an hour after the login. It reads lines from its input, `login USER` and `who TOKEN` and
+ * `logout TOKEN`, and answers each with a line.
+ */
+#include "mini_moka.h"
+#include <inttypes.h>
+#include <stdio.h>
+#include <string.h>
+#include <time.h>
+
+#define SECOND UINT64_C(1000000000)
+
+/* The logins, user numbers by token, and the last token that was given out. */
+struct logins {
+    struct mini_moka users;
+    uint64_t last_token;
+};
+
+/* The moment of a call. */
+static uint64_t now(void) {
+    struct timespec time;
+    clock_gettime(CLOCK_MONOTONIC, &time);
+    return (uint64_t)time.tv_sec * SECOND + (uint64_t)time.tv_nsec;
+}
+
+/* Opens a table of 100,000 logins at most. */
+static uint32_t logins_open(struct logins *logins) {
+    struct mini_moka_settings settings = {
+        .capacity = 100000,
+        .time_to_live = 30 * 60 * SECOND,
+        .time_to_idle = MINI_MOKA_UNLIMITED,
+        .initial_capacity = 0,
+    };
+    return mini_moka_open(&logins->users, &settings);
+}
+
+/* Answers a line: a token where a user logs in, and the user of a token. Real tokens are random; these are counted. */
+static void answer(struct logins *logins, const char *word, uint64_t number) {
+    uint64_t user;
+    if (strcmp(word, "login") == 0) {
+        uint64_t token = ++logins->last_token;
+        if (mini_moka_insert(&logins->users, token, number, now()) == MINI_MOKA_DONE)
+            printf("token %" PRIu64 "\n", token);
+        else
+            puts("no memory");
+    } else if (strcmp(word, "who") == 0) {
+        if (mini_moka_get(&logins->users, number, now(), &user) == MINI_MOKA_DONE)
+            printf("user %" PRIu64 "\n", user);
+        else
+            puts("nobody");
+    } else if (strcmp(word, "logout") == 0) {
+        if (mini_moka_remove(&logins->users, number, now(), &user) == MINI_MOKA_DONE)
+            printf("user %" PRIu64 " has left\n", user);
+        else
+            puts("nobody");
+    } else {
+        puts("login USER, who TOKEN or logout TOKEN");
+    }
+}
+
+int main(void) {
+    struct logins logins = {0};
+    if (logins_open(&logins) != MINI_MOKA_DONE)
+        return 1;
+    char word[16];
+    uint64_t number;
+    while (scanf("%15s %" SCNu64, word, &number) == 2)
+        answer(&logins, word, number);
+    mini_moka_close(&logins.users);
+    return 0;
+}
