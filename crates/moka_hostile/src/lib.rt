@@ -4,6 +4,8 @@
 #[cfg(test)]
 mod build;
 #[cfg(test)]
+mod heap;
+#[cfg(test)]
 mod one_hash;
 #[cfg(test)]
 mod plays;

@@ -5,8 +5,6 @@ pub mod heap;
 pub mod plays;
 pub mod refusals;
 mod tally;
-#[cfg(test)]
-mod tests;
 
 pub use heap::RefusingHeap;
 pub use plays::{PlayError, for_each_refusal};

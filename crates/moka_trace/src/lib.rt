@@ -13,8 +13,6 @@ mod list;
 mod operation;
 mod player;
 mod sketch;
-#[cfg(test)]
-mod tests;
 mod weigher;
 
 use crate::constants::{DONE, OUT_OF_MEMORY, UNKNOWN_KIND, UNLIMITED};

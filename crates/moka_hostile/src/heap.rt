@@ -1,14 +1,12 @@
 // What a heap refuses and counts, and what a play finds.
-use crate::{PlayError, Refusals, RefusingHeap, for_each_refusal};
-use std::alloc::Global;
+use crate::plays::Heap;
+use moka_refusals::{PlayError, Refusals, RefusingHeap, for_each_refusal};
 use std::rc::Rc;
 use std::sync::Arc;
 use std::test::Fail;
 
 /// More plays than any work here has requests.
 const BOUND: u64 = 50;
-
-type Heap = RefusingHeap<Global>;
 
 /// Whether a list gets a block for its first item, and one for all three.
 fn is_listed(heap: &Heap) -> bool {
