@@ -1,0 +1,78 @@
+//! A table of logins: a token is good for half an hour after the login. It reads lines from its
+//! input, `login NAME`, `who TOKEN` and `logout TOKEN`, and answers each with a line.
+
+use mini_moka_proved::{BuildError, Cache, OutOfMemory};
+use std::error::Error;
+use std::io::{self, BufRead};
+use std::time::Duration;
+
+const HALF_AN_HOUR: Duration = Duration::from_secs(30 * 60);
+
+/// The logins, names by token, and the last token that was given out.
+struct Logins {
+    names: Cache,
+    last_token: u64,
+}
+
+impl Logins {
+    /// A table of 100,000 logins at most.
+    fn new() -> Result<Logins, BuildError> {
+        let names = Cache::builder()
+            .max_capacity(100_000)
+            .time_to_live(HALF_AN_HOUR)
+            .build()?;
+        let last_token = 0;
+        Ok(Logins { names, last_token })
+    }
+
+    /// Logs a user in, and returns the token. Real tokens are random; these are counted.
+    fn log_in(&mut self, name: &str) -> Result<String, OutOfMemory> {
+        self.last_token += 1;
+        let token = self.last_token.to_string();
+        self.names.insert(token.as_bytes(), name.as_bytes())?;
+        Ok(token)
+    }
+
+    /// The name of the user who has the token.
+    fn who(&mut self, token: &str) -> Option<String> {
+        self.names.get(token.as_bytes()).map(text)
+    }
+
+    /// Logs a user out, and returns the name.
+    fn log_out(&mut self, token: &str) -> Result<Option<String>, OutOfMemory> {
+        Ok(self.names.remove(token.as_bytes())?.map(text))
+    }
+
+    /// Answers a line.
+    fn answer(&mut self, line: &str) -> Result<String, OutOfMemory> {
+        let answer = match line.split_once(' ') {
+            Some(("login", name)) => format!("token {}", self.log_in(name)?),
+            Some(("who", token)) => self.who(token).unwrap_or_else(nobody),
+            Some(("logout", token)) => match self.log_out(token)? {
+                Some(name) => format!("{name} has left"),
+                None => nobody(),
+            },
+            _ => "login NAME, who TOKEN or logout TOKEN".to_string(),
+        };
+        Ok(answer)
+    }
+}
+
+fn text(name: Vec<u8>) -> String {
+    String::from_utf8_lossy(&name).into_owned()
+}
+
+fn nobody() -> String {
+    "nobody".to_string()
+}
+
+fn main() -> Result<(), Box<dyn Error>> {
+    let mut logins = Logins::new()?;
+    for line in io::stdin().lock().lines() {
+        match logins.answer(line?.trim()) {
+            Ok(answer) => println!("{answer}"),
+            Err(refused) => println!("{refused}"),
+        }
+    }
+    Ok(())
+}

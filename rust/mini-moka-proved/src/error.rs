@@ -1,0 +1,51 @@
+//! The errors of the calls.
+
+use std::collections::TryReserveError;
+use std::error::Error;
+use std::fmt;
+
+/// Memory was refused, and no entry was written.
+#[derive(Clone, Copy, Debug, PartialEq, Eq)]
+pub struct OutOfMemory;
+
+impl fmt::Display for OutOfMemory {
+    fn fmt(&self, f: &mut fmt::Formatter<'_>) -> fmt::Result {
+        f.write_str("memory was refused")
+    }
+}
+
+impl Error for OutOfMemory {}
+
+impl From<TryReserveError> for OutOfMemory {
+    fn from(_: TryReserveError) -> OutOfMemory {
+        OutOfMemory
+    }
+}
+
+/// Why a cache could not be built.
+#[derive(Clone, Copy, Debug, PartialEq, Eq)]
+pub enum BuildError {
+    /// A duration has 2^64 - 1 nanoseconds or more, which are 584 years.
+    DurationTooLong,
+    /// Memory was refused.
+    OutOfMemory,
+}
+
+impl fmt::Display for BuildError {
+    fn fmt(&self, f: &mut fmt::Formatter<'_>) -> fmt::Result {
+        match self {
+            BuildError::DurationTooLong => {
+                f.write_str("a duration has 2^64 - 1 nanoseconds or more")
+            }
+            BuildError::OutOfMemory => OutOfMemory.fmt(f),
+        }
+    }
+}
+
+impl Error for BuildError {}
+
+impl From<OutOfMemory> for BuildError {
+    fn from(_: OutOfMemory) -> BuildError {
+        BuildError::OutOfMemory
+    }
+}

@@ -1,0 +1,544 @@
+//! The library's calls, and handles on its caches. This is the one module with `unsafe`.
+//!
+//! What is declared here repeats `include/mini_moka.h`, whose rules the comments cite:
+//!
+//! - *Pointers.* A call reads and writes behind its pointers, within the lengths that are passed,
+//!   and keeps none of them. None may be null.
+//! - *Handles.* A handle is all zeros at first. The program neither changes nor copies it, and
+//!   makes one call of it at a time.
+
+use crate::error::OutOfMemory;
+use std::cell::UnsafeCell;
+use std::marker::PhantomData;
+use std::os::raw::c_void;
+use std::ptr::null_mut;
+
+/// The capacity or the duration of a cache that has none.
+pub(crate) const UNLIMITED: u64 = u64::MAX;
+
+// What calls answer. The header's other answers are those of a closed handle, of an open one that
+// is opened, and of one that keeps the other kind, and no handle of this module meets them.
+const DONE: u32 = 0;
+const ABSENT: u32 = 1;
+const OUT_OF_MEMORY: u32 = 4;
+const TOO_SHORT: u32 = 6;
+
+/// The header's `struct mini_moka`.
+#[repr(C)]
+struct RawHandle {
+    at: *mut c_void,
+    is_open: bool,
+}
+
+/// The header's `struct mini_moka_settings`.
+#[repr(C)]
+pub(crate) struct Settings {
+    pub(crate) capacity: u64,
+    pub(crate) time_to_live: u64,
+    pub(crate) time_to_idle: u64,
+    pub(crate) initial_capacity: usize,
+    pub(crate) seed: [u64; 2],
+    pub(crate) is_weighed: bool,
+}
+
+/// The header's `struct mini_moka_u64_settings`.
+#[repr(C)]
+pub(crate) struct NumberSettings {
+    pub(crate) capacity: u64,
+    pub(crate) time_to_live: u64,
+    pub(crate) time_to_idle: u64,
+    pub(crate) initial_capacity: usize,
+}
+
+// The header's `struct mini_moka_statistics`.
+/// What the calls of a cache have met since it was built. Each count stays at `u64::MAX` once it
+/// has reached that.
+#[repr(C)]
+#[derive(Clone, Copy, Debug, Default, PartialEq, Eq)]
+pub struct Statistics {
+    /// Gets that found a value.
+    pub hits: u64,
+    /// Gets that found none.
+    pub misses: u64,
+    /// Inserts that were taken, at a new key or at one that was there.
+    pub inserts: u64,
+    /// By how many the entries became fewer in gets, in `contains_key` and in inserts. An entry
+    /// that gives way to the one that its call inserts makes them no fewer.
+    pub evictions: u64,
+}
+
+/// A look-up of bytes: `mini_moka_get`, `mini_moka_peek` or `mini_moka_remove`.
+type LookUp = unsafe extern "C" fn(
+    handle: *mut RawHandle,
+    key: *const u8,
+    key_length: usize,
+    now: u64,
+    buffer: *mut u8,
+    buffer_length: usize,
+    length: *mut usize,
+) -> u32;
+
+/// A look-up of numbers.
+type NumberLookUp =
+    unsafe extern "C" fn(handle: *mut RawHandle, key: u64, now: u64, value: *mut u64) -> u32;
+
+/// A call that says a number of a cache of either kind.
+type Count = unsafe extern "C" fn(handle: *mut RawHandle, count: *mut u64) -> u32;
+
+extern "C" {
+    fn mini_moka_open(handle: *mut RawHandle, settings: *const Settings) -> u32;
+    fn mini_moka_insert(
+        handle: *mut RawHandle,
+        key: *const u8,
+        key_length: usize,
+        value: *const u8,
+        value_length: usize,
+        now: u64,
+    ) -> u32;
+    fn mini_moka_get(
+        handle: *mut RawHandle,
+        key: *const u8,
+        key_length: usize,
+        now: u64,
+        buffer: *mut u8,
+        buffer_length: usize,
+        length: *mut usize,
+    ) -> u32;
+    fn mini_moka_peek(
+        handle: *mut RawHandle,
+        key: *const u8,
+        key_length: usize,
+        now: u64,
+        buffer: *mut u8,
+        buffer_length: usize,
+        length: *mut usize,
+    ) -> u32;
+    fn mini_moka_remove(
+        handle: *mut RawHandle,
+        key: *const u8,
+        key_length: usize,
+        now: u64,
+        buffer: *mut u8,
+        buffer_length: usize,
+        length: *mut usize,
+    ) -> u32;
+    fn mini_moka_contains(
+        handle: *mut RawHandle,
+        key: *const u8,
+        key_length: usize,
+        now: u64,
+    ) -> u32;
+    fn mini_moka_invalidate(
+        handle: *mut RawHandle,
+        key: *const u8,
+        key_length: usize,
+        now: u64,
+    ) -> u32;
+    fn mini_moka_walk(handle: *mut RawHandle) -> u32;
+    fn mini_moka_next(
+        handle: *mut RawHandle,
+        now: u64,
+        key: *mut u8,
+        key_room: usize,
+        value: *mut u8,
+        value_room: usize,
+        key_length: *mut usize,
+        value_length: *mut usize,
+    ) -> u32;
+    fn mini_moka_statistics(handle: *mut RawHandle, statistics: *mut Statistics) -> u32;
+
+    fn mini_moka_u64_open(handle: *mut RawHandle, settings: *const NumberSettings) -> u32;
+    fn mini_moka_u64_insert(handle: *mut RawHandle, key: u64, value: u64, now: u64) -> u32;
+    fn mini_moka_u64_get(handle: *mut RawHandle, key: u64, now: u64, value: *mut u64) -> u32;
+    fn mini_moka_u64_peek(handle: *mut RawHandle, key: u64, now: u64, value: *mut u64) -> u32;
+    fn mini_moka_u64_remove(handle: *mut RawHandle, key: u64, now: u64, value: *mut u64) -> u32;
+    fn mini_moka_u64_contains(handle: *mut RawHandle, key: u64, now: u64) -> u32;
+    fn mini_moka_u64_invalidate(handle: *mut RawHandle, key: u64, now: u64) -> u32;
+    fn mini_moka_u64_get_or_insert(
+        handle: *mut RawHandle,
+        key: u64,
+        otherwise: u64,
+        now: u64,
+        value: *mut u64,
+    ) -> u32;
+
+    fn mini_moka_close(handle: *mut RawHandle) -> u32;
+    fn mini_moka_invalidate_all(handle: *mut RawHandle) -> u32;
+    fn mini_moka_count(handle: *mut RawHandle, count: *mut u64) -> u32;
+    fn mini_moka_weight(handle: *mut RawHandle, weight: *mut u64) -> u32;
+}
+
+/// The kind of a handle that keeps a cache of bytes.
+pub(crate) enum Bytes {}
+
+/// The kind of a handle that keeps a cache of numbers.
+pub(crate) enum Numbers {}
+
+/// A handle of the library, which is open from the moment it is answered until it is dropped.
+///
+/// The library's handle stays at one address, in a vector of one: a `Box` would abort where memory
+/// is refused. The cell lets the library change it in calls that take `&self`, and keeps a `Handle`
+/// from being shared by threads; so there is one call of it at a time.
+pub(crate) struct Handle<Kind> {
+    place: Vec<UnsafeCell<RawHandle>>,
+    kind: PhantomData<Kind>,
+}
+
+// SAFETY: the cache belongs to its handle alone, and the library keeps nothing by thread. The
+// header allows calls by several threads where there is one at a time.
+unsafe impl<Kind> Send for Handle<Kind> {}
+
+impl<Kind> Handle<Kind> {
+    /// A handle that keeps nothing yet.
+    fn closed() -> Result<Handle<Kind>, OutOfMemory> {
+        let mut place = Vec::new();
+        place.try_reserve_exact(1)?;
+        place.push(UnsafeCell::new(RawHandle {
+            at: null_mut(),
+            is_open: false,
+        }));
+        let kind = PhantomData;
+        Ok(Handle { place, kind })
+    }
+
+    /// Where the library's handle is, for one call of the library.
+    fn at(&self) -> *mut RawHandle {
+        self.place[0].get()
+    }
+
+    /// Counts the entries, expired ones among them that no call has removed yet.
+    pub(crate) fn entry_count(&self) -> u64 {
+        self.count(mini_moka_count)
+    }
+
+    /// What the entries weigh together, at most `u64::MAX`.
+    pub(crate) fn weighted_size(&self) -> u64 {
+        self.count(mini_moka_weight)
+    }
+
+    fn count(&self, call: Count) -> u64 {
+        let mut count = 0;
+        // SAFETY: `at` leads to a handle as the rule wants it, which this `Handle` owns, and
+        // `count` is a variable of this function.
+        let status = unsafe { call(self.at(), &mut count) };
+        expect_done(status);
+        count
+    }
+
+    /// Removes all entries.
+    pub(crate) fn invalidate_all(&self) {
+        // SAFETY: `at` leads to a handle as the rule wants it, and there is no other pointer.
+        let status = unsafe { mini_moka_invalidate_all(self.at()) };
+        expect_done(status);
+    }
+}
+
+impl<Kind> Drop for Handle<Kind> {
+    fn drop(&mut self) {
+        // SAFETY: `at` leads to a handle as the rule wants it, closed or open, and no call comes
+        // after this one.
+        unsafe { mini_moka_close(self.at()) };
+    }
+}
+
+/// What a look-up of bytes found.
+pub(crate) enum Look {
+    /// A value, which is what the buffer has now.
+    Copied,
+    /// No unexpired entry. The buffer is empty.
+    Absent,
+    /// A value of this length, for which the buffer has no room. The buffer is empty.
+    TooLong(usize),
+}
+
+/// What a step of a walk came to.
+pub(crate) enum Step {
+    /// An entry, whose key and value the buffers have now.
+    Copied,
+    /// No entry: each was met. The buffers are empty.
+    Ended,
+    /// An entry with a key and a value of these lengths, for which a buffer has no room. Both are
+    /// empty, and the walk stays where it is.
+    TooLong { key: usize, value: usize },
+}
+
+impl Handle<Bytes> {
+    /// Opens a handle with a new cache of bytes.
+    pub(crate) fn open(settings: &Settings) -> Result<Handle<Bytes>, OutOfMemory> {
+        let handle = Handle::<Bytes>::closed()?;
+        // SAFETY: `at` leads to a handle of zeros, which `handle` owns, and `settings` to a
+        // struct that is laid out as the header's.
+        let status = unsafe { mini_moka_open(handle.at(), settings) };
+        written(status)?;
+        Ok(handle)
+    }
+
+    /// Puts a copy of the value at a copy of the key.
+    pub(crate) fn insert(&self, key: &[u8], value: &[u8], now: u64) -> Result<(), OutOfMemory> {
+        // SAFETY: `at` leads to a handle as the rule wants it. Both slices have as many bytes as
+        // are passed on, their pointers are never null, and the library only reads them.
+        let status = unsafe {
+            mini_moka_insert(
+                self.at(),
+                key.as_ptr(),
+                key.len(),
+                value.as_ptr(),
+                value.len(),
+                now,
+            )
+        };
+        written(status)
+    }
+
+    /// Looks the key up, which is counted and a use of its entry.
+    pub(crate) fn get(
+        &self,
+        key: &[u8],
+        now: u64,
+        buffer: &mut Vec<u8>,
+    ) -> Result<Look, OutOfMemory> {
+        self.look_up(mini_moka_get, key, now, buffer)
+    }
+
+    /// Looks the key up, which is no use of its entry.
+    pub(crate) fn peek(
+        &self,
+        key: &[u8],
+        now: u64,
+        buffer: &mut Vec<u8>,
+    ) -> Result<Look, OutOfMemory> {
+        self.look_up(mini_moka_peek, key, now, buffer)
+    }
+
+    /// Removes the entry of the key. It stays where its value is too long for the buffer.
+    pub(crate) fn remove(
+        &self,
+        key: &[u8],
+        now: u64,
+        buffer: &mut Vec<u8>,
+    ) -> Result<Look, OutOfMemory> {
+        self.look_up(mini_moka_remove, key, now, buffer)
+    }
+
+    /// Makes the call, and lets it write to all that the vector has room for.
+    fn look_up(
+        &self,
+        call: LookUp,
+        key: &[u8],
+        now: u64,
+        buffer: &mut Vec<u8>,
+    ) -> Result<Look, OutOfMemory> {
+        buffer.clear();
+        let mut length = 0;
+        // SAFETY: `at` leads to a handle as the rule wants it. The slice has as many bytes as are
+        // passed on, and the vector owns as many as its capacity, which the library only writes.
+        // Neither pointer is ever null, and `length` is a variable of this function.
+        let status = unsafe {
+            call(
+                self.at(),
+                key.as_ptr(),
+                key.len(),
+                now,
+                buffer.as_mut_ptr(),
+                buffer.capacity(),
+                &mut length,
+            )
+        };
+        match status {
+            DONE => {
+                // SAFETY: the library has written the first `length` bytes of the vector's room,
+                // and answers `DONE` only where the room has that many.
+                unsafe { buffer.set_len(length) };
+                Ok(Look::Copied)
+            }
+            ABSENT => Ok(Look::Absent),
+            TOO_SHORT => Ok(Look::TooLong(length)),
+            OUT_OF_MEMORY => Err(OutOfMemory),
+            other => unexpected(other),
+        }
+    }
+
+    /// Whether the key has an unexpired entry.
+    pub(crate) fn contains(&self, key: &[u8], now: u64) -> Result<bool, OutOfMemory> {
+        // SAFETY: `at` leads to a handle as the rule wants it. The slice has as many bytes as are
+        // passed on, its pointer is never null, and the library only reads it.
+        let status = unsafe { mini_moka_contains(self.at(), key.as_ptr(), key.len(), now) };
+        match status {
+            DONE => Ok(true),
+            ABSENT => Ok(false),
+            OUT_OF_MEMORY => Err(OutOfMemory),
+            other => unexpected(other),
+        }
+    }
+
+    /// Removes the entry of the key, if there is one.
+    pub(crate) fn invalidate(&self, key: &[u8], now: u64) -> Result<(), OutOfMemory> {
+        // SAFETY: as in `contains`.
+        let status = unsafe { mini_moka_invalidate(self.at(), key.as_ptr(), key.len(), now) };
+        written(status)
+    }
+
+    /// Begins a walk through the unexpired entries, which each call ends that may change the cache.
+    pub(crate) fn begin_walk(&self) {
+        // SAFETY: `at` leads to a handle as the rule wants it, and there is no other pointer.
+        let status = unsafe { mini_moka_walk(self.at()) };
+        expect_done(status);
+    }
+
+    /// Makes a step of the walk, and lets it write to all that both vectors have room for.
+    pub(crate) fn step(
+        &self,
+        now: u64,
+        key: &mut Vec<u8>,
+        value: &mut Vec<u8>,
+    ) -> Result<Step, OutOfMemory> {
+        key.clear();
+        value.clear();
+        let (mut key_length, mut value_length) = (0, 0);
+        // SAFETY: `at` leads to a handle as the rule wants it. Each vector owns as many bytes as
+        // its capacity, which the library only writes, and its pointer is never null. Both lengths
+        // are variables of this function.
+        let status = unsafe {
+            mini_moka_next(
+                self.at(),
+                now,
+                key.as_mut_ptr(),
+                key.capacity(),
+                value.as_mut_ptr(),
+                value.capacity(),
+                &mut key_length,
+                &mut value_length,
+            )
+        };
+        match status {
+            DONE => {
+                // SAFETY: the library has written the first bytes of each vector's room, as many
+                // as it tells, and answers `DONE` only where both rooms have that many.
+                unsafe {
+                    key.set_len(key_length);
+                    value.set_len(value_length);
+                }
+                Ok(Step::Copied)
+            }
+            ABSENT => Ok(Step::Ended),
+            TOO_SHORT => Ok(Step::TooLong {
+                key: key_length,
+                value: value_length,
+            }),
+            OUT_OF_MEMORY => Err(OutOfMemory),
+            other => unexpected(other),
+        }
+    }
+
+    /// What the calls have met.
+    pub(crate) fn statistics(&self) -> Statistics {
+        let mut statistics = Statistics::default();
+        // SAFETY: `at` leads to a handle as the rule wants it, and `statistics` is a variable of
+        // this function, laid out as the header's struct.
+        let status = unsafe { mini_moka_statistics(self.at(), &mut statistics) };
+        expect_done(status);
+        statistics
+    }
+}
+
+impl Handle<Numbers> {
+    /// Opens a handle with a new cache of numbers.
+    pub(crate) fn open(settings: &NumberSettings) -> Result<Handle<Numbers>, OutOfMemory> {
+        let handle = Handle::<Numbers>::closed()?;
+        // SAFETY: `at` leads to a handle of zeros, which `handle` owns, and `settings` to a
+        // struct that is laid out as the header's.
+        let status = unsafe { mini_moka_u64_open(handle.at(), settings) };
+        written(status)?;
+        Ok(handle)
+    }
+
+    /// Puts the value at the key.
+    pub(crate) fn insert(&self, key: u64, value: u64, now: u64) -> Result<(), OutOfMemory> {
+        // SAFETY: `at` leads to a handle as the rule wants it, and there is no other pointer.
+        let status = unsafe { mini_moka_u64_insert(self.at(), key, value, now) };
+        written(status)
+    }
+
+    /// Looks the key up, which is counted and a use of its entry.
+    pub(crate) fn get(&self, key: u64, now: u64) -> Option<u64> {
+        self.look_up(mini_moka_u64_get, key, now)
+    }
+
+    /// Looks the key up, which is no use of its entry.
+    pub(crate) fn peek(&self, key: u64, now: u64) -> Option<u64> {
+        self.look_up(mini_moka_u64_peek, key, now)
+    }
+
+    /// Removes the entry of the key.
+    pub(crate) fn remove(&self, key: u64, now: u64) -> Option<u64> {
+        self.look_up(mini_moka_u64_remove, key, now)
+    }
+
+    fn look_up(&self, call: NumberLookUp, key: u64, now: u64) -> Option<u64> {
+        let mut value = 0;
+        // SAFETY: `at` leads to a handle as the rule wants it, and `value` is a variable of this
+        // function.
+        let status = unsafe { call(self.at(), key, now, &mut value) };
+        is_there(status).then_some(value)
+    }
+
+    /// Whether the key has an unexpired entry.
+    pub(crate) fn contains(&self, key: u64, now: u64) -> bool {
+        // SAFETY: `at` leads to a handle as the rule wants it, and there is no other pointer.
+        let status = unsafe { mini_moka_u64_contains(self.at(), key, now) };
+        is_there(status)
+    }
+
+    /// Removes the entry of the key, if there is one.
+    pub(crate) fn invalidate(&self, key: u64, now: u64) {
+        // SAFETY: `at` leads to a handle as the rule wants it, and there is no other pointer.
+        let status = unsafe { mini_moka_u64_invalidate(self.at(), key, now) };
+        expect_done(status);
+    }
+
+    /// Looks the key up, and where that finds nothing inserts `otherwise`.
+    pub(crate) fn get_or_insert(
+        &self,
+        key: u64,
+        otherwise: u64,
+        now: u64,
+    ) -> Result<u64, OutOfMemory> {
+        let mut value = 0;
+        // SAFETY: `at` leads to a handle as the rule wants it, and `value` is a variable of this
+        // function.
+        let status =
+            unsafe { mini_moka_u64_get_or_insert(self.at(), key, otherwise, now, &mut value) };
+        written(status)?;
+        Ok(value)
+    }
+}
+
+/// What a call answers that may be refused memory.
+fn written(status: u32) -> Result<(), OutOfMemory> {
+    match status {
+        DONE => Ok(()),
+        OUT_OF_MEMORY => Err(OutOfMemory),
+        other => unexpected(other),
+    }
+}
+
+/// What a look-up answers that takes no memory.
+fn is_there(status: u32) -> bool {
+    match status {
+        DONE => true,
+        ABSENT => false,
+        other => unexpected(other),
+    }
+}
+
+/// A call that is always made has been.
+fn expect_done(status: u32) {
+    if status != DONE {
+        unexpected(status);
+    }
+}
+
+/// No call answers this, by the header.
+fn unexpected(status: u32) -> ! {
+    panic!("libmini_moka.a isn't the library of this package's header: a call answers {status}")
+}

@@ -1,0 +1,41 @@
+//! What a cache takes is freed with it.
+
+#![cfg(target_os = "linux")]
+
+use mini_moka_proved::{Cache, NumberCache};
+use std::fs;
+
+const MIB: usize = 1 << 20;
+
+/// The memory of this process that is in use, in bytes.
+fn resident() -> usize {
+    let status = fs::read_to_string("/proc/self/status").unwrap();
+    let line = status.lines().find(|line| line.starts_with("VmRSS:"));
+    let number = line.and_then(|line| line.split_whitespace().nth(1));
+    number.unwrap().parse::<usize>().unwrap() * 1024
+}
+
+/// A cache with a value of 1 MiB, and more than 1 MiB of small entries.
+fn fill() {
+    let mut bytes = Cache::builder().build().unwrap();
+    bytes.insert(b"key", &vec![1; MIB]).unwrap();
+    for key in 0..1000u32 {
+        bytes.insert(&key.to_le_bytes(), &[0; 1000]).unwrap();
+    }
+    let mut numbers = NumberCache::builder()
+        .initial_capacity(10_000)
+        .build()
+        .unwrap();
+    numbers.insert(7, 49).unwrap();
+}
+
+#[test]
+fn a_dropped_cache_frees_what_it_has() {
+    fill();
+    let before = resident();
+    for _ in 0..200 {
+        fill();
+    }
+    let after = resident();
+    assert!(after < before + 32 * MIB, "{before} bytes became {after}");
+}

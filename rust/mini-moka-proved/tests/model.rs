@@ -1,0 +1,212 @@
+//! Random calls beside a map that does the same.
+
+use mini_moka_proved::{Cache, NumberCache};
+use std::collections::HashMap;
+use std::time::Duration;
+
+const CALLS: u64 = 100_000;
+const KEYS: u64 = 400;
+const TIME_TO_LIVE: u64 = 3000;
+const TIME_TO_IDLE: u64 = 1000;
+
+/// Numbers that look random: splitmix64.
+struct Random(u64);
+
+impl Random {
+    fn next(&mut self) -> u64 {
+        self.0 = self.0.wrapping_add(0x9e37_79b9_7f4a_7c15);
+        let mixed = (self.0 ^ (self.0 >> 30)).wrapping_mul(0xbf58_476d_1ce4_e5b9);
+        let mixed = (mixed ^ (mixed >> 27)).wrapping_mul(0x94d0_49bb_1331_11eb);
+        mixed ^ (mixed >> 31)
+    }
+
+    fn below(&mut self, limit: u64) -> u64 {
+        self.next() % limit
+    }
+
+    /// A key of 0 to 39 bytes, of which there are `KEYS`.
+    fn key(&mut self) -> Vec<u8> {
+        let key = self.below(KEYS);
+        let length = (key % 40) as usize;
+        key.to_le_bytes().into_iter().cycle().take(length).collect()
+    }
+
+    /// A value of up to 599 bytes, so that some are too long for a first look-up.
+    fn value(&mut self) -> Vec<u8> {
+        let length = self.below(600) as usize;
+        let byte = self.next() as u8;
+        vec![byte; length]
+    }
+}
+
+/// A value, and when it was last written and last used.
+#[derive(Clone)]
+struct Entry {
+    value: Vec<u8>,
+    written: u64,
+    used: u64,
+}
+
+/// A map whose entries expire as those of the cache do.
+#[derive(Default)]
+struct Model {
+    entries: HashMap<Vec<u8>, Entry>,
+    expires: bool,
+}
+
+impl Model {
+    fn live(&mut self, key: &[u8], now: u64) -> Option<&mut Entry> {
+        let expires = self.expires;
+        self.entries.get_mut(key).filter(|entry| {
+            !expires || (now < entry.written + TIME_TO_LIVE && now < entry.used + TIME_TO_IDLE)
+        })
+    }
+
+    fn peek(&mut self, key: &[u8], now: u64) -> Option<Vec<u8>> {
+        self.live(key, now).map(|entry| entry.value.clone())
+    }
+
+    fn get(&mut self, key: &[u8], now: u64) -> Option<Vec<u8>> {
+        let entry = self.live(key, now)?;
+        entry.used = now;
+        Some(entry.value.clone())
+    }
+
+    fn insert(&mut self, key: &[u8], value: &[u8], now: u64) {
+        let entry = Entry {
+            value: value.to_vec(),
+            written: now,
+            used: now,
+        };
+        self.entries.insert(key.to_vec(), entry);
+    }
+
+    fn remove(&mut self, key: &[u8], now: u64) -> Option<Vec<u8>> {
+        let value = self.peek(key, now);
+        self.entries.remove(key);
+        value
+    }
+}
+
+/// Makes one call on both, and compares what they answer.
+fn compare_a_call(random: &mut Random, cache: &mut Cache, model: &mut Model, nanoseconds: u64) {
+    let now = Duration::from_nanos(nanoseconds);
+    let key = random.key();
+    match random.below(10) {
+        0..=2 => {
+            let value = random.value();
+            cache.insert_at(&key, &value, now).unwrap();
+            model.insert(&key, &value, nanoseconds);
+        }
+        3 | 4 => assert_eq!(cache.get_at(&key, now), model.get(&key, nanoseconds)),
+        5 => {
+            let mut buffer = random.value();
+            let found = cache.get_with_at(&key, &mut buffer, now);
+            assert_eq!(found.then_some(buffer), model.get(&key, nanoseconds));
+        }
+        6 => assert_eq!(cache.peek_at(&key, now), model.peek(&key, nanoseconds)),
+        7 => {
+            let is_there = model.live(&key, nanoseconds).is_some();
+            assert_eq!(cache.contains_key_at(&key, now), is_there);
+        }
+        8 => {
+            let value = random.value();
+            let found = cache.get_or_insert_with_at(&key, || value.clone(), now);
+            let known = model.get(&key, nanoseconds);
+            if known.is_none() {
+                model.insert(&key, &value, nanoseconds);
+            }
+            assert_eq!(found.unwrap(), known.unwrap_or(value));
+        }
+        _ if random.below(2) == 0 => {
+            let removed = cache.remove_at(&key, now).unwrap();
+            assert_eq!(removed, model.remove(&key, nanoseconds));
+        }
+        _ => {
+            cache.invalidate_at(&key, now).unwrap();
+            model.remove(&key, nanoseconds);
+        }
+    }
+}
+
+#[test]
+fn a_cache_without_limits_is_a_map() {
+    let mut random = Random(1);
+    let mut cache = Cache::builder().build().unwrap();
+    let mut model = Model::default();
+    for _ in 0..CALLS {
+        compare_a_call(&mut random, &mut cache, &mut model, 0);
+        assert_eq!(cache.entry_count(), model.entries.len() as u64);
+        if random.below(5000) == 0 {
+            cache.invalidate_all();
+            model.entries.clear();
+        }
+    }
+}
+
+#[test]
+fn a_cache_with_durations_is_a_map_whose_entries_expire() {
+    let mut random = Random(2);
+    let builder = Cache::builder()
+        .time_to_live(Duration::from_nanos(TIME_TO_LIVE))
+        .time_to_idle(Duration::from_nanos(TIME_TO_IDLE));
+    let mut cache = builder.build().unwrap();
+    let mut model = Model {
+        expires: true,
+        ..Model::default()
+    };
+    let mut now = 0;
+    for _ in 0..CALLS {
+        now += random.below(5);
+        compare_a_call(&mut random, &mut cache, &mut model, now);
+    }
+}
+
+#[test]
+fn a_full_cache_finds_nothing_but_what_was_last_written() {
+    for capacity in [KEYS / 8, KEYS / 2] {
+        let mut random = Random(capacity);
+        let mut cache = Cache::builder().max_capacity(capacity).build().unwrap();
+        let mut map = HashMap::new();
+        let mut found = 0;
+        for _ in 0..CALLS / 4 {
+            let (key, value) = (random.below(KEYS).to_le_bytes(), random.value());
+            if let Some(known) = cache.get(&key) {
+                assert_eq!(map.get(&key), Some(&known));
+                found += 1;
+            }
+            if random.below(2) == 0 {
+                cache.insert(&key, &value).unwrap();
+                map.insert(key, value);
+            }
+            assert!(cache.entry_count() <= capacity);
+        }
+        assert_eq!(cache.entry_count(), capacity);
+        assert_eq!(cache.statistics().hits, found);
+        assert!(found > 1000);
+    }
+}
+
+#[test]
+fn a_cache_of_numbers_without_limits_is_a_map() {
+    let mut random = Random(3);
+    let mut cache = NumberCache::builder().build().unwrap();
+    let mut map = HashMap::new();
+    for _ in 0..CALLS {
+        let (key, value) = (random.below(KEYS), random.next());
+        match random.below(6) {
+            0 | 1 => {
+                cache.insert(key, value).unwrap();
+                map.insert(key, value);
+            }
+            2 => assert_eq!(cache.get(key), map.get(&key).copied()),
+            3 => assert_eq!(cache.contains_key(key), map.contains_key(&key)),
+            4 => {
+                let known = *map.entry(key).or_insert(value);
+                assert_eq!(cache.get_or_insert(key, value), Ok(known));
+            }
+            _ => assert_eq!(cache.remove(key), map.remove(&key)),
+        }
+        assert_eq!(cache.entry_count(), map.len() as u64);
+    }
+}

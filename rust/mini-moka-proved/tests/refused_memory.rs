@@ -1,0 +1,101 @@
+//! What calls do where Rust's allocator refuses them memory.
+
+use mini_moka_proved::{BuildError, Cache, OutOfMemory};
+use std::alloc::{GlobalAlloc, Layout, System};
+use std::cell::Cell;
+use std::ptr::null_mut;
+
+/// The system's allocator, which refuses a thread what is above its limit.
+struct Limited;
+
+thread_local! {
+    static LIMIT: Cell<usize> = const { Cell::new(usize::MAX) };
+}
+
+// SAFETY: each call is the system allocator's, or refuses.
+unsafe impl GlobalAlloc for Limited {
+    unsafe fn alloc(&self, layout: Layout) -> *mut u8 {
+        if layout.size() > LIMIT.get() {
+            return null_mut();
+        }
+        System.alloc(layout)
+    }
+
+    unsafe fn dealloc(&self, place: *mut u8, layout: Layout) {
+        System.dealloc(place, layout);
+    }
+
+    unsafe fn realloc(&self, place: *mut u8, layout: Layout, size: usize) -> *mut u8 {
+        if size > LIMIT.get() {
+            return null_mut();
+        }
+        System.realloc(place, layout, size)
+    }
+}
+
+#[global_allocator]
+static ALLOCATOR: Limited = Limited;
+
+/// Makes a call that is refused each allocation of more than `limit` bytes.
+fn limited<T>(limit: usize, call: impl FnOnce() -> T) -> T {
+    LIMIT.set(limit);
+    let answer = call();
+    LIMIT.set(usize::MAX);
+    answer
+}
+
+/// A cache with a value of 1000 bytes, and one of 10.
+fn filled() -> Cache {
+    let mut cache = Cache::builder().build().unwrap();
+    cache.insert(b"long", &[1; 1000]).unwrap();
+    cache.insert(b"short", &[1; 10]).unwrap();
+    cache
+}
+
+#[test]
+fn a_cache_is_not_built() {
+    for limit in [0, 16, 255] {
+        let built = limited(limit, || Cache::builder().build());
+        assert_eq!(built.unwrap_err(), BuildError::OutOfMemory);
+    }
+}
+
+#[test]
+fn a_look_up_finds_nothing() {
+    let mut cache = filled();
+    assert_eq!(limited(999, || cache.get(b"long")), None);
+    assert_eq!(limited(999, || cache.peek(b"long")), None);
+    assert_eq!(limited(9, || cache.get(b"short")), None);
+    assert_eq!(cache.get(b"long"), Some(vec![1; 1000]));
+    assert_eq!(cache.get(b"short"), Some(vec![1; 10]));
+}
+
+#[test]
+fn a_buffer_that_cannot_grow_is_left_empty() {
+    let mut cache = filled();
+    let mut buffer = vec![2; 20];
+    assert!(!limited(999, || cache.get_with(b"long", &mut buffer)));
+    assert_eq!(buffer, b"");
+    assert!(limited(0, || cache.get_with(b"short", &mut buffer)));
+    assert_eq!(buffer, [1; 10]);
+}
+
+#[test]
+fn a_removal_leaves_the_entry() {
+    let mut cache = filled();
+    assert_eq!(limited(999, || cache.remove(b"long")), Err(OutOfMemory));
+    assert_eq!(cache.remove(b"long"), Ok(Some(vec![1; 1000])));
+}
+
+#[test]
+fn no_value_is_made() {
+    let mut cache = filled();
+    let mut is_made = false;
+    let make = || {
+        is_made = true;
+        Vec::new()
+    };
+    let found = limited(999, || cache.get_or_insert_with(b"long", make));
+    assert_eq!(found, Err(OutOfMemory));
+    assert!(!is_made);
+}
