@@ -25,13 +25,13 @@ static uint64_t now(void) {
 
 /* Opens a table of 100,000 logins at most. */
 static uint32_t logins_open(struct logins *logins) {
-    struct mini_moka_settings settings = {
+    struct mini_moka_u64_settings settings = {
         .capacity = 100000,
         .time_to_live = 30 * 60 * SECOND,
         .time_to_idle = MINI_MOKA_UNLIMITED,
         .initial_capacity = 0,
     };
-    return mini_moka_open(&logins->users, &settings);
+    return mini_moka_u64_open(&logins->users, &settings);
 }
 
 /* Answers a line: a token where a user logs in, and the user of a token. Real tokens are random; these are counted. */
@@ -39,17 +39,17 @@ static void answer(struct logins *logins, const char *word, uint64_t number) {
     uint64_t user;
     if (strcmp(word, "login") == 0) {
         uint64_t token = ++logins->last_token;
-        if (mini_moka_insert(&logins->users, token, number, now()) == MINI_MOKA_DONE)
+        if (mini_moka_u64_insert(&logins->users, token, number, now()) == MINI_MOKA_DONE)
             printf("token %" PRIu64 "\n", token);
         else
             puts("no memory");
     } else if (strcmp(word, "who") == 0) {
-        if (mini_moka_get(&logins->users, number, now(), &user) == MINI_MOKA_DONE)
+        if (mini_moka_u64_get(&logins->users, number, now(), &user) == MINI_MOKA_DONE)
             printf("user %" PRIu64 "\n", user);
         else
             puts("nobody");
     } else if (strcmp(word, "logout") == 0) {
-        if (mini_moka_remove(&logins->users, number, now(), &user) == MINI_MOKA_DONE)
+        if (mini_moka_u64_remove(&logins->users, number, now(), &user) == MINI_MOKA_DONE)
             printf("user %" PRIu64 " has left\n", user);
         else
             puts("nobody");

@@ -1,6 +1,7 @@
 /* Makes each call of include/mini_moka.h, and compares its status and what it writes. It names the line of each that differs, and fails then. */
 #include "mini_moka.h"
 #include <stdio.h>
+#include <string.h>
 
 static int failures;
 
@@ -14,10 +15,13 @@ static void check(bool holds, const char *what, int line) {
     }
 }
 
-/* What is written before a call, and stays where it isn't done. */
-enum { BEFORE = 99 };
+#define NONE MINI_MOKA_UNLIMITED
 
-static const struct mini_moka_settings PLAIN = {10, MINI_MOKA_UNLIMITED, MINI_MOKA_UNLIMITED, 0};
+/* What is written before a call, and stays where it isn't done. */
+enum { BEFORE = 99, ROOM = 8 };
+
+static const struct mini_moka_settings BYTES = {10, NONE, NONE, 0, {1, 2}, false};
+static const struct mini_moka_u64_settings NUMBERS = {10, NONE, NONE, 0};
 
 /* The number that a count or a weight writes. */
 static uint64_t number_of(uint32_t (*call)(struct mini_moka *, uint64_t *), struct mini_moka *cache) {
@@ -26,77 +30,209 @@ static uint64_t number_of(uint32_t (*call)(struct mini_moka *, uint64_t *), stru
     return number;
 }
 
-/* A closed handle answers that it is, and nothing is written. */
-static void closed_handles_change_nothing(void) {
-    struct mini_moka cache = {0};
-    uint64_t value = BEFORE;
-    CHECK(mini_moka_close(&cache) == MINI_MOKA_CLOSED);
-    CHECK(mini_moka_insert(&cache, 7, 49, 0) == MINI_MOKA_CLOSED);
-    CHECK(mini_moka_get(&cache, 7, 0, &value) == MINI_MOKA_CLOSED);
-    CHECK(mini_moka_contains(&cache, 7, 0) == MINI_MOKA_CLOSED);
-    CHECK(mini_moka_remove(&cache, 7, 0, &value) == MINI_MOKA_CLOSED);
-    CHECK(mini_moka_invalidate(&cache, 7, 0) == MINI_MOKA_CLOSED);
-    CHECK(mini_moka_invalidate_all(&cache) == MINI_MOKA_CLOSED);
-    CHECK(mini_moka_count(&cache, &value) == MINI_MOKA_CLOSED);
-    CHECK(mini_moka_weight(&cache, &value) == MINI_MOKA_CLOSED);
-    CHECK(value == BEFORE);
+/* ---- bytes, as texts */
+
+static uint32_t insert(struct mini_moka *cache, const char *key, const char *value, uint64_t now) {
+    return mini_moka_insert(cache, (const uint8_t *)key, strlen(key), (const uint8_t *)value, strlen(value), now);
 }
 
-/* Opens, inserts, gets, removes, and closes twice. */
-static void entries_come_and_go(void) {
+typedef uint32_t look_up(struct mini_moka *, const uint8_t *, size_t, uint64_t, uint8_t *, size_t, size_t *);
+
+/* Whether a look-up answers this, and finds this text in a buffer of eight bytes, or leaves it where the text is null. */
+static bool finds(look_up *call, struct mini_moka *cache, const char *key, uint64_t now, uint32_t status, const char *text) {
+    uint8_t buffer[ROOM], before[ROOM];
+    size_t length = BEFORE;
+    memset(buffer, BEFORE, ROOM);
+    memset(before, BEFORE, ROOM);
+    if (call(cache, (const uint8_t *)key, strlen(key), now, buffer, ROOM, &length) != status)
+        return false;
+    if (text != NULL)
+        memcpy(before, text, strlen(text));
+    return memcmp(buffer, before, ROOM) == 0 && length == (text == NULL ? BEFORE : strlen(text));
+}
+
+static uint32_t contains(struct mini_moka *cache, const char *key, uint64_t now) {
+    return mini_moka_contains(cache, (const uint8_t *)key, strlen(key), now);
+}
+
+static uint32_t invalidate(struct mini_moka *cache, const char *key, uint64_t now) {
+    return mini_moka_invalidate(cache, (const uint8_t *)key, strlen(key), now);
+}
+
+static void bytes_come_and_go(void) {
+    struct mini_moka cache = {0};
+    CHECK(mini_moka_open(&cache, &BYTES) == MINI_MOKA_DONE);
+    CHECK(mini_moka_open(&cache, &BYTES) == MINI_MOKA_ALREADY_OPEN);
+    CHECK(mini_moka_u64_open(&cache, &NUMBERS) == MINI_MOKA_ALREADY_OPEN);
+    CHECK(finds(mini_moka_get, &cache, "a", 0, MINI_MOKA_ABSENT, NULL));
+    CHECK(insert(&cache, "a", "apple", 0) == MINI_MOKA_DONE);
+    CHECK(insert(&cache, "", "", 0) == MINI_MOKA_DONE);
+    CHECK(insert(&cache, "full", "12345678", 0) == MINI_MOKA_DONE);
+    CHECK(finds(mini_moka_get, &cache, "a", 0, MINI_MOKA_DONE, "apple"));
+    CHECK(finds(mini_moka_get, &cache, "", 0, MINI_MOKA_DONE, ""));
+    CHECK(finds(mini_moka_peek, &cache, "full", 0, MINI_MOKA_DONE, "12345678"));
+    CHECK(finds(mini_moka_peek, &cache, "b", 0, MINI_MOKA_ABSENT, NULL));
+    CHECK(number_of(mini_moka_count, &cache) == 3);
+    CHECK(number_of(mini_moka_weight, &cache) == 3);
+    CHECK(insert(&cache, "a", "pear", 0) == MINI_MOKA_DONE);
+    CHECK(finds(mini_moka_remove, &cache, "a", 0, MINI_MOKA_DONE, "pear"));
+    CHECK(finds(mini_moka_remove, &cache, "a", 0, MINI_MOKA_ABSENT, NULL));
+    CHECK(contains(&cache, "a", 0) == MINI_MOKA_ABSENT && contains(&cache, "", 0) == MINI_MOKA_DONE);
+    CHECK(invalidate(&cache, "", 0) == MINI_MOKA_DONE && contains(&cache, "", 0) == MINI_MOKA_ABSENT);
+    CHECK(mini_moka_invalidate_all(&cache) == MINI_MOKA_DONE && number_of(mini_moka_count, &cache) == 0);
+    CHECK(mini_moka_close(&cache) == MINI_MOKA_DONE && mini_moka_close(&cache) == MINI_MOKA_CLOSED);
+}
+
+/* A value of nine bytes doesn't go into eight: its length is told, and nothing else is done but the look-up. */
+static void long_values_stay(void) {
+    struct mini_moka cache = {0};
+    uint8_t buffer[ROOM] = {BEFORE};
+    size_t length = BEFORE;
+    CHECK(mini_moka_open(&cache, &BYTES) == MINI_MOKA_DONE);
+    CHECK(insert(&cache, "long", "123456789", 0) == MINI_MOKA_DONE);
+    CHECK(mini_moka_get(&cache, (const uint8_t *)"long", 4, 0, buffer, ROOM, &length) == MINI_MOKA_TOO_SHORT && length == 9 && buffer[0] == BEFORE);
+    length = BEFORE;
+    CHECK(mini_moka_peek(&cache, (const uint8_t *)"long", 4, 0, buffer, ROOM, &length) == MINI_MOKA_TOO_SHORT && length == 9 && buffer[0] == BEFORE);
+    length = BEFORE;
+    CHECK(mini_moka_remove(&cache, (const uint8_t *)"long", 4, 0, buffer, ROOM, &length) == MINI_MOKA_TOO_SHORT && length == 9 && buffer[0] == BEFORE);
+    CHECK(contains(&cache, "long", 0) == MINI_MOKA_DONE);
+    CHECK(mini_moka_close(&cache) == MINI_MOKA_DONE);
+}
+
+/* Where it is weighed, 20 bytes are two entries of ten. */
+static void bytes_are_weighed(void) {
+    struct mini_moka cache = {0};
+    struct mini_moka_settings weighed = BYTES;
+    weighed.capacity = 20;
+    weighed.is_weighed = true;
+    CHECK(mini_moka_open(&cache, &weighed) == MINI_MOKA_DONE);
+    CHECK(insert(&cache, "1234", "123456", 0) == MINI_MOKA_DONE && number_of(mini_moka_weight, &cache) == 10);
+    CHECK(insert(&cache, "abcd", "abcdef", 0) == MINI_MOKA_DONE && number_of(mini_moka_weight, &cache) == 20);
+    CHECK(insert(&cache, "new", "", 0) == MINI_MOKA_DONE && contains(&cache, "new", 0) == MINI_MOKA_ABSENT);
+    CHECK(insert(&cache, "much", "123456789012345678901", 0) == MINI_MOKA_DONE && contains(&cache, "much", 0) == MINI_MOKA_ABSENT);
+    CHECK(number_of(mini_moka_count, &cache) == 2);
+    CHECK(mini_moka_close(&cache) == MINI_MOKA_DONE);
+}
+
+/* Two hits, a miss, two inserts, and an entry that expires. */
+static void calls_are_counted(void) {
+    struct mini_moka cache = {0};
+    struct mini_moka_settings settings = BYTES;
+    struct mini_moka_statistics met = {BEFORE, BEFORE, BEFORE, BEFORE};
+    settings.time_to_live = 20;
+    CHECK(mini_moka_open(&cache, &settings) == MINI_MOKA_DONE);
+    CHECK(mini_moka_statistics(&cache, &met) == MINI_MOKA_DONE && met.hits + met.misses + met.inserts + met.evictions == 0);
+    CHECK(insert(&cache, "a", "apple", 0) == MINI_MOKA_DONE && insert(&cache, "a", "pear", 0) == MINI_MOKA_DONE);
+    CHECK(finds(mini_moka_get, &cache, "a", 19, MINI_MOKA_DONE, "pear") && finds(mini_moka_get, &cache, "a", 19, MINI_MOKA_DONE, "pear"));
+    CHECK(finds(mini_moka_peek, &cache, "a", 19, MINI_MOKA_DONE, "pear"));
+    CHECK(finds(mini_moka_get, &cache, "a", 20, MINI_MOKA_ABSENT, NULL));
+    CHECK(mini_moka_statistics(&cache, &met) == MINI_MOKA_DONE);
+    CHECK(met.hits == 2 && met.misses == 1 && met.inserts == 2 && met.evictions == 1);
+    CHECK(mini_moka_close(&cache) == MINI_MOKA_DONE);
+    CHECK(mini_moka_open(&cache, &settings) == MINI_MOKA_DONE);
+    CHECK(mini_moka_statistics(&cache, &met) == MINI_MOKA_DONE && met.hits + met.misses + met.inserts + met.evictions == 0);
+    CHECK(mini_moka_close(&cache) == MINI_MOKA_DONE);
+}
+
+/* The key and the value that a walk comes to, as "key=value" behind what a text has, or the status. */
+static uint32_t walk_on(struct mini_moka *cache, uint64_t now, char *text) {
+    uint8_t key[ROOM], value[ROOM];
+    size_t key_length = BEFORE, value_length = BEFORE;
+    uint32_t status = mini_moka_next(cache, now, key, ROOM, value, ROOM, &key_length, &value_length);
+    if (status == MINI_MOKA_DONE)
+        sprintf(text + strlen(text), "%.*s=%.*s ", (int)key_length, (char *)key, (int)value_length, (char *)value);
+    else
+        CHECK(status == MINI_MOKA_TOO_SHORT || (key_length == BEFORE && value_length == BEFORE));
+    return status;
+}
+
+/* Three entries, of which the first was used last. A walk meets them in order of use, and leaves out what is over; a change ends it. */
+static void walks_meet_each_entry(void) {
+    struct mini_moka cache = {0};
+    struct mini_moka_settings settings = BYTES;
+    uint8_t key[ROOM], value[ROOM];
+    size_t key_length = BEFORE, value_length = BEFORE;
+    char text[100] = "";
+    settings.time_to_live = 20;
+    CHECK(mini_moka_open(&cache, &settings) == MINI_MOKA_DONE);
+    CHECK(walk_on(&cache, 0, text) == MINI_MOKA_CHANGED);
+    CHECK(mini_moka_walk(&cache) == MINI_MOKA_DONE && walk_on(&cache, 0, text) == MINI_MOKA_ABSENT);
+    CHECK(insert(&cache, "a", "apple", 1) == MINI_MOKA_DONE && insert(&cache, "b", "", 0) == MINI_MOKA_DONE && insert(&cache, "", "nothing", 1) == MINI_MOKA_DONE);
+    CHECK(walk_on(&cache, 1, text) == MINI_MOKA_CHANGED && text[0] == 0);
+    CHECK(finds(mini_moka_get, &cache, "a", 1, MINI_MOKA_DONE, "apple") && mini_moka_walk(&cache) == MINI_MOKA_DONE);
+    while (walk_on(&cache, 1, text) == MINI_MOKA_DONE)
+        CHECK(finds(mini_moka_peek, &cache, "b", 1, MINI_MOKA_DONE, ""));
+    CHECK(strcmp(text, "b= =nothing a=apple ") == 0 && walk_on(&cache, 1, text) == MINI_MOKA_ABSENT);
+    text[0] = 0;
+    CHECK(mini_moka_walk(&cache) == MINI_MOKA_DONE && walk_on(&cache, 20, text) == MINI_MOKA_DONE && walk_on(&cache, 20, text) == MINI_MOKA_DONE);
+    CHECK(strcmp(text, "=nothing a=apple ") == 0 && number_of(mini_moka_count, &cache) == 3);
+    CHECK(mini_moka_walk(&cache) == MINI_MOKA_DONE);
+    CHECK(mini_moka_next(&cache, 1, key, ROOM, value, 0, &key_length, &value_length) == MINI_MOKA_DONE && key_length == 1 && value_length == 0);
+    CHECK(mini_moka_next(&cache, 1, key, ROOM, value, 6, &key_length, &value_length) == MINI_MOKA_TOO_SHORT && key_length == 0 && value_length == 7);
+    CHECK(mini_moka_next(&cache, 1, key, ROOM, value, 7, &key_length, &value_length) == MINI_MOKA_DONE && memcmp(value, "nothing", 7) == 0);
+    CHECK(contains(&cache, "a", 1) == MINI_MOKA_DONE && mini_moka_next(&cache, 1, key, ROOM, value, ROOM, &key_length, &value_length) == MINI_MOKA_CHANGED);
+    CHECK(mini_moka_close(&cache) == MINI_MOKA_DONE);
+}
+
+/* ---- numbers */
+
+static void numbers_come_and_go(void) {
     struct mini_moka cache = {0};
     uint64_t value = BEFORE;
-    CHECK(mini_moka_open(&cache, &PLAIN) == MINI_MOKA_DONE);
-    CHECK(mini_moka_get(&cache, 7, 0, &value) == MINI_MOKA_ABSENT && value == BEFORE);
-    CHECK(mini_moka_insert(&cache, 7, 49, 0) == MINI_MOKA_DONE);
-    CHECK(mini_moka_insert(&cache, 8, 64, 0) == MINI_MOKA_DONE);
-    CHECK(mini_moka_open(&cache, &PLAIN) == MINI_MOKA_ALREADY_OPEN);
-    CHECK(mini_moka_get(&cache, 7, 0, &value) == MINI_MOKA_DONE && value == 49);
+    CHECK(mini_moka_u64_open(&cache, &NUMBERS) == MINI_MOKA_DONE);
+    CHECK(mini_moka_u64_get(&cache, 7, 0, &value) == MINI_MOKA_ABSENT && value == BEFORE);
+    CHECK(mini_moka_u64_insert(&cache, 7, 49, 0) == MINI_MOKA_DONE);
+    CHECK(mini_moka_u64_open(&cache, &NUMBERS) == MINI_MOKA_ALREADY_OPEN);
+    CHECK(mini_moka_open(&cache, &BYTES) == MINI_MOKA_ALREADY_OPEN);
+    CHECK(mini_moka_u64_get(&cache, 7, 0, &value) == MINI_MOKA_DONE && value == 49);
+    CHECK(mini_moka_u64_peek(&cache, 8, 0, &value) == MINI_MOKA_ABSENT && value == 49);
+    CHECK(mini_moka_u64_get_or_insert(&cache, 8, 64, 0, &value) == MINI_MOKA_DONE && value == 64);
+    CHECK(mini_moka_u64_get_or_insert(&cache, 8, 65, 0, &value) == MINI_MOKA_DONE && value == 64);
+    CHECK(mini_moka_u64_peek(&cache, 7, 0, &value) == MINI_MOKA_DONE && value == 49);
     CHECK(number_of(mini_moka_count, &cache) == 2);
     CHECK(number_of(mini_moka_weight, &cache) == 2);
-    CHECK(mini_moka_insert(&cache, 7, 50, 0) == MINI_MOKA_DONE);
-    CHECK(mini_moka_remove(&cache, 7, 0, &value) == MINI_MOKA_DONE && value == 50);
-    CHECK(mini_moka_contains(&cache, 7, 0) == MINI_MOKA_ABSENT);
-    CHECK(mini_moka_contains(&cache, 8, 0) == MINI_MOKA_DONE);
-    CHECK(mini_moka_invalidate(&cache, 8, 0) == MINI_MOKA_DONE);
-    CHECK(mini_moka_contains(&cache, 8, 0) == MINI_MOKA_ABSENT);
-    CHECK(mini_moka_insert(&cache, 9, 81, 0) == MINI_MOKA_DONE);
-    CHECK(mini_moka_invalidate_all(&cache) == MINI_MOKA_DONE);
-    CHECK(number_of(mini_moka_count, &cache) == 0);
-    CHECK(mini_moka_close(&cache) == MINI_MOKA_DONE);
-    CHECK(mini_moka_close(&cache) == MINI_MOKA_CLOSED);
-    CHECK(mini_moka_open(&cache, &PLAIN) == MINI_MOKA_DONE);
-    CHECK(mini_moka_get(&cache, 9, 0, &value) == MINI_MOKA_ABSENT);
+    CHECK(mini_moka_u64_insert(&cache, 7, 50, 0) == MINI_MOKA_DONE);
+    CHECK(mini_moka_u64_remove(&cache, 7, 0, &value) == MINI_MOKA_DONE && value == 50);
+    CHECK(mini_moka_u64_remove(&cache, 7, 0, &value) == MINI_MOKA_ABSENT && value == 50);
+    CHECK(mini_moka_u64_contains(&cache, 7, 0) == MINI_MOKA_ABSENT && mini_moka_u64_contains(&cache, 8, 0) == MINI_MOKA_DONE);
+    CHECK(mini_moka_u64_invalidate(&cache, 8, 0) == MINI_MOKA_DONE && mini_moka_u64_contains(&cache, 8, 0) == MINI_MOKA_ABSENT);
+    CHECK(mini_moka_u64_insert(&cache, 9, 81, 0) == MINI_MOKA_DONE);
+    CHECK(mini_moka_invalidate_all(&cache) == MINI_MOKA_DONE && number_of(mini_moka_count, &cache) == 0);
+    CHECK(mini_moka_close(&cache) == MINI_MOKA_DONE && mini_moka_close(&cache) == MINI_MOKA_CLOSED);
+    CHECK(mini_moka_u64_open(&cache, &NUMBERS) == MINI_MOKA_DONE);
+    CHECK(mini_moka_u64_get(&cache, 9, 0, &value) == MINI_MOKA_ABSENT);
     CHECK(mini_moka_close(&cache) == MINI_MOKA_DONE);
 }
 
 /* An entry is there until the end of its time to live, or of its time to idle after a get. */
-static void entries_expire(void) {
+static void numbers_expire(void) {
     struct mini_moka cache = {0};
     uint64_t value = BEFORE;
-    CHECK(mini_moka_open(&cache, &(struct mini_moka_settings){10, 20, MINI_MOKA_UNLIMITED, 10}) == MINI_MOKA_DONE);
-    CHECK(mini_moka_insert(&cache, 7, 49, 0) == MINI_MOKA_DONE);
-    CHECK(mini_moka_get(&cache, 7, 19, &value) == MINI_MOKA_DONE && value == 49);
-    CHECK(mini_moka_get(&cache, 7, 20, &value) == MINI_MOKA_ABSENT);
-    CHECK(mini_moka_insert(&cache, 8, 64, 20) == MINI_MOKA_DONE);
-    CHECK(mini_moka_remove(&cache, 8, 40, &value) == MINI_MOKA_ABSENT);
+    CHECK(mini_moka_u64_open(&cache, &(struct mini_moka_u64_settings){10, 20, NONE, 10}) == MINI_MOKA_DONE);
+    CHECK(mini_moka_u64_insert(&cache, 7, 49, 0) == MINI_MOKA_DONE);
+    CHECK(mini_moka_u64_get(&cache, 7, 19, &value) == MINI_MOKA_DONE && value == 49);
+    CHECK(mini_moka_u64_peek(&cache, 7, 20, &value) == MINI_MOKA_ABSENT && number_of(mini_moka_count, &cache) == 1);
+    CHECK(mini_moka_u64_get(&cache, 7, 20, &value) == MINI_MOKA_ABSENT);
+    CHECK(mini_moka_u64_insert(&cache, 8, 64, 20) == MINI_MOKA_DONE);
+    CHECK(mini_moka_u64_remove(&cache, 8, 40, &value) == MINI_MOKA_ABSENT);
     CHECK(number_of(mini_moka_count, &cache) == 0);
     CHECK(mini_moka_close(&cache) == MINI_MOKA_DONE);
-    CHECK(mini_moka_open(&cache, &(struct mini_moka_settings){MINI_MOKA_UNLIMITED, MINI_MOKA_UNLIMITED, 20, 0}) == MINI_MOKA_DONE);
-    CHECK(mini_moka_insert(&cache, 7, 49, 0) == MINI_MOKA_DONE);
-    CHECK(mini_moka_get(&cache, 7, 19, &value) == MINI_MOKA_DONE);
-    CHECK(mini_moka_contains(&cache, 7, 38) == MINI_MOKA_DONE);
-    CHECK(mini_moka_contains(&cache, 7, 39) == MINI_MOKA_ABSENT);
+    CHECK(mini_moka_u64_open(&cache, &(struct mini_moka_u64_settings){NONE, NONE, 20, 0}) == MINI_MOKA_DONE);
+    CHECK(mini_moka_u64_insert(&cache, 7, 49, 0) == MINI_MOKA_DONE);
+    CHECK(mini_moka_u64_get(&cache, 7, 19, &value) == MINI_MOKA_DONE);
+    CHECK(mini_moka_u64_contains(&cache, 7, 38) == MINI_MOKA_DONE);
+    CHECK(mini_moka_u64_contains(&cache, 7, 39) == MINI_MOKA_ABSENT);
     CHECK(mini_moka_close(&cache) == MINI_MOKA_DONE);
 }
 
-/* A cache stays within its capacity, and two handles are two caches. */
+/* A cache stays within its capacity, and two handles are two caches. A key that is rejected is handed out all the same. */
 static void caches_are_bounded(void) {
     struct mini_moka first = {0}, second = {0};
-    CHECK(mini_moka_open(&first, &PLAIN) == MINI_MOKA_DONE);
-    CHECK(mini_moka_open(&second, &PLAIN) == MINI_MOKA_DONE);
+    CHECK(mini_moka_u64_open(&first, &NUMBERS) == MINI_MOKA_DONE);
+    CHECK(mini_moka_u64_open(&second, &NUMBERS) == MINI_MOKA_DONE);
     for (uint64_t key = 0; key < 1000; key++) {
-        CHECK(mini_moka_insert(&first, key, key, key) == MINI_MOKA_DONE);
+        uint64_t value = BEFORE;
+        CHECK(mini_moka_u64_get_or_insert(&first, key, key * key, key, &value) == MINI_MOKA_DONE && value == key * key);
         CHECK(number_of(mini_moka_count, &first) <= 10);
     }
     CHECK(number_of(mini_moka_count, &second) == 0);
@@ -104,18 +240,67 @@ static void caches_are_bounded(void) {
     CHECK(mini_moka_close(&second) == MINI_MOKA_DONE);
 }
 
+/* ---- refusals */
+
+/* Each call of bytes on this handle has this status, and writes nothing. */
+static void bytes_answer(struct mini_moka *cache, uint32_t status) {
+    struct mini_moka_statistics met = {BEFORE, BEFORE, BEFORE, BEFORE};
+    char text[1] = "";
+    CHECK(insert(cache, "a", "apple", 0) == status);
+    CHECK(finds(mini_moka_get, cache, "a", 0, status, NULL) && finds(mini_moka_peek, cache, "a", 0, status, NULL));
+    CHECK(finds(mini_moka_remove, cache, "a", 0, status, NULL));
+    CHECK(contains(cache, "a", 0) == status && invalidate(cache, "a", 0) == status);
+    CHECK(mini_moka_statistics(cache, &met) == status && met.hits == BEFORE && met.evictions == BEFORE);
+    CHECK(mini_moka_walk(cache) == status && walk_on(cache, 0, text) == status && text[0] == 0);
+}
+
+/* And each call of numbers. */
+static void numbers_answer(struct mini_moka *cache, uint32_t status) {
+    uint64_t value = BEFORE;
+    CHECK(mini_moka_u64_insert(cache, 7, 49, 0) == status && mini_moka_u64_get(cache, 7, 0, &value) == status);
+    CHECK(mini_moka_u64_peek(cache, 7, 0, &value) == status && mini_moka_u64_remove(cache, 7, 0, &value) == status);
+    CHECK(mini_moka_u64_contains(cache, 7, 0) == status && mini_moka_u64_invalidate(cache, 7, 0) == status);
+    CHECK(mini_moka_u64_get_or_insert(cache, 7, 49, 0, &value) == status && value == BEFORE);
+}
+
+/* A closed handle answers that it is, one of the other kind too, and nothing is done. */
+static void calls_are_refused(void) {
+    struct mini_moka cache = {0};
+    uint64_t number = BEFORE;
+    bytes_answer(&cache, MINI_MOKA_CLOSED);
+    numbers_answer(&cache, MINI_MOKA_CLOSED);
+    CHECK(mini_moka_close(&cache) == MINI_MOKA_CLOSED && mini_moka_invalidate_all(&cache) == MINI_MOKA_CLOSED);
+    CHECK(mini_moka_count(&cache, &number) == MINI_MOKA_CLOSED && mini_moka_weight(&cache, &number) == MINI_MOKA_CLOSED && number == BEFORE);
+    CHECK(mini_moka_u64_open(&cache, &NUMBERS) == MINI_MOKA_DONE);
+    bytes_answer(&cache, MINI_MOKA_OTHER_KIND);
+    CHECK(number_of(mini_moka_count, &cache) == 0);
+    CHECK(mini_moka_close(&cache) == MINI_MOKA_DONE);
+    CHECK(mini_moka_open(&cache, &BYTES) == MINI_MOKA_DONE);
+    numbers_answer(&cache, MINI_MOKA_OTHER_KIND);
+    CHECK(number_of(mini_moka_count, &cache) == 0);
+    CHECK(mini_moka_close(&cache) == MINI_MOKA_DONE);
+}
+
 /* More room than there is memory for is refused, and the handle stays closed. */
 static void too_much_room_is_refused(void) {
     struct mini_moka cache = {0};
-    CHECK(mini_moka_open(&cache, &(struct mini_moka_settings){10, MINI_MOKA_UNLIMITED, MINI_MOKA_UNLIMITED, SIZE_MAX}) == MINI_MOKA_OUT_OF_MEMORY);
+    struct mini_moka_settings settings = BYTES;
+    settings.initial_capacity = SIZE_MAX;
+    CHECK(mini_moka_open(&cache, &settings) == MINI_MOKA_OUT_OF_MEMORY);
+    CHECK(mini_moka_u64_open(&cache, &(struct mini_moka_u64_settings){10, NONE, NONE, SIZE_MAX}) == MINI_MOKA_OUT_OF_MEMORY);
     CHECK(mini_moka_close(&cache) == MINI_MOKA_CLOSED);
 }
 
 int main(void) {
-    closed_handles_change_nothing();
-    entries_come_and_go();
-    entries_expire();
+    bytes_come_and_go();
+    long_values_stay();
+    bytes_are_weighed();
+    calls_are_counted();
+    walks_meet_each_entry();
+    numbers_come_and_go();
+    numbers_expire();
     caches_are_bounded();
+    calls_are_refused();
     too_much_room_is_refused();
     return failures != 0;
 }

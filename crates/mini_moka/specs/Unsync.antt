@@ -8,6 +8,7 @@ pub use Rattle.moka_unsync.specs.Window
 pub use Rattle.moka_unsync.specs.Insert
 pub use Rattle.moka_unsync.specs.Invalidate
 pub use Rattle.moka_unsync.specs.Iterate
+pub use Rattle.moka_unsync.specs.GetOrInsert
 pub use Rattle.moka_unsync.specs.Step
 pub use Rattle.moka_unsync.specs.Runs
 pub use Rattle.moka_unsync.specs.Laws

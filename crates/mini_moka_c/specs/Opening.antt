@@ -3,30 +3,55 @@ use Rattle.std.specs.Prelude.{◌≡◌, ◌≤◌, ◌==◌, ℕ, false, Option
 use Rattle.moka_common.specs.Policy.{Policy}
 use Rattle.moka_common.specs.Settings.{live_nanos, idle_nanos}
 use Rattle.moka_unsync.specs.CacheState.{new_cache}
+use Rattle.moka_bytes.specs.declared.cache.ByteCache.{ByteCache}
+use Rattle.moka_bytes.specs.declared.weight.ByteWeight.TheVariants as weight
+use Rattle.moka_bytes.specs.Statistics.{no_statistics}
 use Rattle.mini_moka_c.specs.declared.constants.TheConstants.{ALREADY_OPEN, DONE, OUT_OF_MEMORY, UNLIMITED}
 use Rattle.mini_moka_c.specs.declared.handle.Kept.{Kept}
-use Rattle.mini_moka_c.specs.declared.settings.Settings.{Settings}
+use Rattle.mini_moka_c.specs.declared.handle.Kept.TheVariants.{Bytes, Numbers}
+use Rattle.mini_moka_c.specs.declared.settings.ByteSettings.{ByteSettings}
+use Rattle.mini_moka_c.specs.declared.settings.NumberSettings.{NumberSettings}
 use Rattle.mini_moka_c.specs.NumberKeys.{NumberCache}
 
 -- a capacity or a duration, where it is set
 abbrev pub limit_of : ℕ → Option ℕ
 limit_of number = if number == UNLIMITED then None else Some number
 
--- the policy has the limits of the settings
-pub record HasLimits (policy : Policy) (settings : Settings) : Type 0 where
-  pub max_capacity : policy.max_capacity ≡ limit_of settings.capacity
-  pub time_to_live : live_nanos policy ≡ limit_of settings.time_to_live
-  pub time_to_idle : idle_nanos policy ≡ limit_of settings.time_to_idle
+-- the policy has these limits
+pub record HasLimits (policy : Policy) (capacity live idle : ℕ) : Type 0 where
+  pub max_capacity : policy.max_capacity ≡ limit_of capacity
+  pub time_to_live : live_nanos policy ≡ limit_of live
+  pub time_to_idle : idle_nanos policy ≡ limit_of idle
 
 -- the cache is a new one of the settings, with no entry and no weigher, and at least the room that was asked for
-pub record IsNew (settings : Settings) (cache : NumberCache) : Type 0 where
-  pub limits : HasLimits cache.settings.policy settings
+pub record IsNumbersNew (settings : NumberSettings) (cache : NumberCache) : Type 0 where
+  pub limits : HasLimits cache.settings.policy settings.capacity settings.time_to_live settings.time_to_idle
   pub new : cache ≡ new_cache (record { hash_state = cache.settings.hash_state; policy = cache.settings.policy; is_weighed = false })
       cache.weigher cache.capacity
   pub room : settings.initial_capacity ≤ cache.capacity
 
--- a closed handle keeps a new cache of the settings then, or memory was refused; an open one keeps what it kept
-abbrev pub IsOpening : Settings → Option Kept → ℕ → Option Kept → Type 0
-IsOpening settings (Some kept) status new = (status ≡ ALREADY_OPEN) × (new ≡ Some kept)
-IsOpening settings None status (Some kept) = (status ≡ DONE) × IsNew settings kept.cache
-IsOpening settings None status None = status ≡ OUT_OF_MEMORY
+-- and of bytes, with the key of the hash and the weigher that are set; nothing was counted
+pub record IsBytesNew (settings : ByteSettings) (bytes : ByteCache) : Type 0 where
+  pub limits : HasLimits bytes.cache.settings.policy settings.capacity settings.time_to_live settings.time_to_idle
+  pub new : bytes.cache ≡ new_cache (record {
+    hash_state = record { low = settings.seed_low; high = settings.seed_high };
+    policy = bytes.cache.settings.policy;
+    is_weighed = settings.is_weighed;
+  }) (if settings.is_weighed then weight.Bytes else weight.Entry) bytes.cache.capacity
+  pub room : settings.initial_capacity ≤ bytes.cache.capacity
+  pub counts : bytes.statistics ≡ no_statistics
+
+-- what is kept is such a cache
+abbrev pub IsNumbersKept : NumberSettings → Kept → Type 0
+IsNumbersKept settings (Numbers cache) = IsNumbersNew settings cache
+IsNumbersKept settings (Bytes bytes) = ⊥
+
+abbrev pub IsBytesKept : ByteSettings → Kept → Type 0
+IsBytesKept settings (Numbers cache) = ⊥
+IsBytesKept settings (Bytes bytes) = IsBytesNew settings bytes
+
+-- a closed handle keeps such a cache then, or memory was refused; an open one keeps what it kept
+abbrev pub IsOpening : (Kept → Type 0) → Option Kept → ℕ → Option Kept → Type 0
+IsOpening IsNew (Some kept) status new = (status ≡ ALREADY_OPEN) × (new ≡ Some kept)
+IsOpening IsNew None status (Some kept) = (status ≡ DONE) × IsNew kept
+IsOpening IsNew None status None = status ≡ OUT_OF_MEMORY

@@ -10,6 +10,12 @@ pub const CLOSED: u32 = 2;
 pub const ALREADY_OPEN: u32 = 3;
 /// Memory was refused, and the cache has all entries that it had.
 pub const OUT_OF_MEMORY: u32 = 4;
+/// The handle keeps numbers and the call is one of bytes, or the other way round: nothing was done.
+pub const OTHER_KIND: u32 = 5;
+/// The buffer is shorter than the value that was found. The value's length is written.
+pub const TOO_SHORT: u32 = 6;
+/// No walk was begun, or a call that may change the cache was made since.
+pub const CHANGED: u32 = 7;
 
 /// The capacity or the duration of a cache that has none. No clock reaches so many nanoseconds: they are more than 584 years.
 pub const UNLIMITED: u64 = u64::MAX;

@@ -1,5 +1,5 @@
-// What C keeps of a cache between its calls: a handle, whose memory is C's, on a cache in a box, whose memory is the library's. Raw pointers are only here and
-// in `handle/loose.rt`.
+// What C keeps of a cache between its calls: a handle, whose memory is C's, on a cache in a box, whose memory is the library's. Raw pointers are only here
+// and in `handle/loose.rt`.
 //
 // | Value | Owns |
 // |---|---|
@@ -24,16 +24,18 @@ ghost use Rattle.mini_moka_c.specs.Held.{held};
 mod loose;
 
 use loose::Loose;
+use moka_bytes::cache::ByteCache;
 use moka_unsync::cache::Cache;
 use std::alloc::Global;
 use std::marker::Model;
 use std::mem::replace;
 use std::ptr::null_mut;
 
-/// What a handle keeps.
+/// What a handle keeps: a cache of numbers, or one of bytes.
 #[derive(Drop)]
-pub struct Kept {
-    pub cache: Cache<u64, u64>,
+pub enum Kept {
+    Numbers(Cache<u64, u64>),
+    Bytes(ByteCache),
 }
 
 /// A handle on a cache, or on none. C sets it to zeros at first, and then only passes it on: it neither changes nor copies it.

@@ -1,17 +1,21 @@
 // What a cache is built of.
-ghost use Rattle.std.specs.Prelude.{◌≡◌, false, IfSome};
-ghost use Rattle.mini_moka_c.specs.Opening.{HasLimits, IsNew, limit_of};
+ghost use Rattle.std.specs.Prelude.{◌≡◌, IfSome, None};
+ghost use Rattle.mini_moka_c.specs.Opening.{HasLimits, IsBytesNew, IsNumbersNew, limit_of};
 
 use crate::constants::UNLIMITED;
+use moka_bytes::bytes::Bytes;
+use moka_bytes::cache::ByteCache;
+use moka_bytes::seed::Seed;
+use moka_bytes::weight::ByteWeight;
 use moka_unsync::builder::CacheBuilder;
 use moka_unsync::cache::Cache;
 use std::alloc::Global;
 use std::time::Duration;
 
-/// What a cache is built of. A capacity or a duration, in nanoseconds, that is `UNLIMITED` isn't set.
+/// What a cache of numbers is built of. A capacity or a duration, in nanoseconds, that is `UNLIMITED` isn't set.
 #[repr(C)]
 #[derive(Clone, Copy)]
-pub struct Settings {
+pub struct NumberSettings {
     /// The most entries.
     pub capacity: u64,
     /// How long an entry lives after it was last written.
@@ -22,27 +26,82 @@ pub struct Settings {
     pub initial_capacity: usize,
 }
 
-/// A new cache of the settings, where memory serves. No duration of 64 bits of nanoseconds is too long.
-pub(crate) fn build(alloc: Global, settings: &Settings) -> Option<Cache<u64, u64>>
-    ensures { IfSome result (IsNew settings.now) }
-{
-    builder_of(alloc, settings).build().ok()
+/// What a cache of bytes is built of.
+#[repr(C)]
+#[derive(Clone, Copy)]
+pub struct ByteSettings {
+    /// The most entries, or where it is weighed the most bytes of keys and values.
+    pub capacity: u64,
+    /// As of numbers.
+    pub time_to_live: u64,
+    pub time_to_idle: u64,
+    pub initial_capacity: usize,
+    /// The key of the hash.
+    pub seed_low: u64,
+    pub seed_high: u64,
+    /// Whether an entry weighs its bytes in place of 1.
+    pub is_weighed: bool,
 }
 
-/// A builder with all that is set.
-fn builder_of(alloc: Global, settings: &Settings) -> CacheBuilder<u64, u64>
-    ensures limits { HasLimits result.policy settings.now }
-    ensures weighed { result.is_weighed ≡ false }
-    ensures room { result.initial_capacity ≡ settings.now.initial_capacity }
+/// A new cache of numbers, where memory serves. No duration of 64 bits of nanoseconds is too long.
+pub(crate) fn build_numbers(alloc: Global, settings: &NumberSettings) -> Option<Cache<u64, u64>>
+    ensures { IfSome result (IsNumbersNew settings.now) }
 {
-    let mut builder = CacheBuilder::default(alloc).initial_capacity(settings.initial_capacity);
-    if let Some(max) = limit(settings.capacity) {
+    let builder = CacheBuilder::default(alloc).initial_capacity(settings.initial_capacity);
+    let builder = with_limits(
+        builder,
+        settings.capacity,
+        settings.time_to_live,
+        settings.time_to_idle,
+    );
+    builder.build().ok()
+}
+
+/// A new cache of bytes, where memory serves.
+pub(crate) fn build_bytes(alloc: Global, settings: &ByteSettings) -> Option<ByteCache>
+    ensures { IfSome result (IsBytesNew settings.now) }
+{
+    let weight = if settings.is_weighed {
+        ByteWeight::Bytes
+    } else {
+        ByteWeight::Entry
+    };
+    let builder: CacheBuilder<Bytes, Bytes> = CacheBuilder::default(alloc);
+    let builder = builder
+        .initial_capacity(settings.initial_capacity)
+        .weigher_where(settings.is_weighed, weight);
+    let builder = with_limits(
+        builder,
+        settings.capacity,
+        settings.time_to_live,
+        settings.time_to_idle,
+    );
+    let seed = Seed {
+        low: settings.seed_low,
+        high: settings.seed_high,
+    };
+    ByteCache::build(alloc, builder, seed).ok()
+}
+
+/// A builder that had no limits, with those that are set.
+fn with_limits<K, V, W: Drop>(
+    builder: CacheBuilder<K, V, W>,
+    capacity: u64,
+    time_to_live: u64,
+    time_to_idle: u64,
+) -> CacheBuilder<K, V, W>
+    requires { builder.policy ≡ record { max_capacity = None; time_to_live = None; time_to_idle = None } }
+    ensures limits { HasLimits result.policy capacity time_to_live time_to_idle }
+    ensures same { result ≡ record builder { policy = result.policy } }
+{
+    let mut builder = builder;
+    if let Some(max) = limit(capacity) {
         builder = builder.max_capacity(max);
     }
-    if let Some(live) = limit(settings.time_to_live) {
+    if let Some(live) = limit(time_to_live) {
         builder = builder.time_to_live(Duration::from_nanos(live));
     }
-    if let Some(idle) = limit(settings.time_to_idle) {
+    if let Some(idle) = limit(time_to_idle) {
         builder = builder.time_to_idle(Duration::from_nanos(idle));
     }
     builder

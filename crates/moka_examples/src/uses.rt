@@ -86,6 +86,15 @@ pub fn least_recently_used(alloc: Global) -> Result<Option<u64>, Error> {
     Ok(first)
 }
 
+/// The square of 7, which is made as it isn't there, and what a peek finds then.
+pub fn square_of_seven(alloc: Global) -> Result<[u64; 2], Error> {
+    let now = Instant::from_secs(0);
+    let mut cache: Cache<u64, u64> = Cache::new(alloc, 100)?;
+    let square = cache.get_or_insert_with(7, now, || 7 * 7)?;
+    let found = cache.peek(&7, now).copied().unwrap_or(0);
+    Ok([square, found])
+}
+
 /// How many entries there are after a list of calls, which is what its last call asks.
 pub fn count_after_calls(alloc: Global) -> Result<Option<u64>, Error> {
     let now = Instant::from_secs(0);

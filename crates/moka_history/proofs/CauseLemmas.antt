@@ -25,7 +25,7 @@ use Rattle.moka_machine.specs.Upkeep.{is_expired}
 use Rattle.moka_machine.specs.Insert.{after_entering, after_entry, after_new, after_put, after_verdict, new_entry}
 use Rattle.moka_machine.specs.Window.{after_candidacy, after_candidates, candidates, excess, main_limit, victims_of, windowed_limit}
 use Rattle.moka_machine.specs.Invalidate.{chosen}
-use Rattle.moka_machine.specs.Step.{Answer, IsStep, Request, Get, ContainsKey, Insert, Invalidate, Remove}
+use Rattle.moka_machine.specs.Step.{Answer, IsStep, Request, Get, Peek, ContainsKey, Insert, Invalidate, Remove}
 use Rattle.moka_machine.specs.Step.{InvalidateAll, InvalidateEntriesIf, Iterate, EntryCount, WeightedSize}
 use Rattle.moka_history.specs.Removal.{RemovalCause, Invalidated, Expired, AboveLimit, Displaced, Rejected, entries_from, upkeep_moment}
 use Rattle.moka_history.proofs.HistoryLemmas.{IsSame, any-key, entry_at-leaving, one_of, same-both, same-moved, same-self, something}
@@ -816,6 +816,8 @@ module _ {K V S W : Type 0} (keys : Keys K S) (laws : IsEquivalence keys.eq) (ke
         (λ stands. use-stands keys laws key e now (unexpired_at keys.eq old.settings.policy now other (after_look keys old now).contents)
         (after_look keys old now).contents stands
         (sym (ap (λ c. entry_at keys.eq key c.contents.entries) step.1) ∙ none))
+    step-cause old new (Peek other now) answer step tied once found none =
+        something (sym (ap (λ c. entry_at keys.eq key c.contents.entries) step.1) ∙ none) found
     step-cause old new (ContainsKey other now) answer step tied once found none =
         upkept old new (ContainsKey other now) now refl tied once found
         (λ stands. something (sym (ap (λ c. entry_at keys.eq key c.contents.entries) step.1) ∙ none) stands)

@@ -22,10 +22,10 @@ use Rattle.moka_machine.specs.Insert.{after_entering, after_entry, after_new, af
 use Rattle.moka_machine.specs.Window.{after_candidacy, after_candidates, candidates, main_limit, victims_of, windowed_limit}
 use Rattle.moka_machine.specs.Invalidate.{chosen}
 use Rattle.moka_machine.specs.Iterate.{unexpired_pairs}
-use Rattle.moka_machine.specs.Step.{Answer, IsStep, Request, Get, ContainsKey, Insert, Invalidate, Remove, InvalidateAll}
+use Rattle.moka_machine.specs.Step.{Answer, IsStep, Request, Get, Peek, ContainsKey, Insert, Invalidate, Remove, InvalidateAll}
 use Rattle.moka_machine.specs.Step.{InvalidateEntriesIf, Iterate, EntryCount, WeightedSize, Done, Found, Pairs, Truth}
 use Rattle.moka_history.specs.History.{ContainsAsGet, Exchange, Transition, chosen_keys, exchanges, HitsAreCurrent, IsCurrent}
-use Rattle.moka_history.specs.History.{IsLastInsert, LastWrite, LastWritesAreInserts, Leads, PairsAreCurrent, RemoveAsGet, RunsHaveAHistory}
+use Rattle.moka_history.specs.History.{IsLastInsert, LastWrite, LastWritesAreInserts, Leads, PairsAreCurrent, PeekAsGet, PeeksAreCurrent, RemoveAsGet, RunsHaveAHistory}
 use Rattle.moka_history.specs.History.{is_invalidated, is_over, is_written, known_after, last_write, used_at}
 use Rattle.moka_history.specs.Removal.{last_write_of}
 use Rattle.moka_machine.proofs.ContentsLemmas.{found_key}
@@ -333,6 +333,8 @@ module _ {K V S W : Type 0} (keys : Keys K S) (laws : IsEquivalence keys.eq) whe
             ap (λ a. known_after keys (Get other now) a (chosen_keys (Get other now) old.contents.entries) key (known key)) is
             ∙ told-hit keys laws known (after_look keys old now).contents.entries other now used (told-upkeep known old now told)
             (there used refl) key e h
+    told-step old new (Peek other now) answer known step once told key e h =
+        told key e (sym (ap (λ c. entry_at keys.eq key c.contents.entries) step.1) ∙ h)
     told-step old new (ContainsKey other now) answer known step once told key e h =
         told-upkeep known old now told key e (sym (ap (λ c. entry_at keys.eq key c.contents.entries) step.1) ∙ h)
     told-step old new (Insert other value now) answer known (inl (done, inserted)) once told key e h =
@@ -429,6 +431,27 @@ module _ {K V S W : Type 0} (keys : Keys K S) (laws : IsEquivalence keys.eq) whe
               (fresh used refl),
         )
 
+    pub peeks_are_current : PeeksAreCurrent keys weighs
+    peeks_are_current settings weigher capacity past cache next key now value leads step =
+        by (unexpired_at keys.eq cache.settings.policy now key cache.contents)
+        (found_there cache.settings.policy now (entry_at keys.eq key cache.contents.entries))
+        (found_fresh cache.settings.policy now (entry_at keys.eq key cache.contents.entries))
+        (sym (same_found refl step.0))
+      where
+        by : (o : Option (Entry K V))
+            → ((seen : Entry K V) → o ≡ Some seen → entry_at keys.eq key cache.contents.entries ≡ Some seen)
+            → ((seen : Entry K V) → o ≡ Some seen → is_expired cache.settings.policy now seen ≡ false)
+            → option_map (λ e. e.value) o ≡ Some value
+            → IsCurrent keys settings.policy now (exchanges past) key value
+        by None there fresh is = something {o = None} refl is
+        by (Some seen) there fresh is = (
+          last_write_of seen,
+          told-run settings weigher capacity past cache leads key seen (there seen refl),
+          one_of refl is,
+          subst (λ s. is_over s.policy now (last_write_of seen) ≡ false) (settings-run settings weigher capacity past cache leads)
+              (fresh seen refl),
+        )
+
     pub pairs_are_current : PairsAreCurrent keys weighs
     pairs_are_current settings weigher capacity past cache next now pairs leads step =
         All-from_recursion (λ (p : K × V). IsCurrent keys settings.policy now (exchanges past) p.0 p.1) pairs
@@ -460,6 +483,26 @@ module _ {K V S W : Type 0} (keys : Keys K S) (laws : IsEquivalence keys.eq) whe
                     by es own.1,
                   )
             ]
+
+    pub peek_as_get : PeekAsGet keys weighs
+    peek_as_get cache got key now value step =
+        by (unexpired_at keys.eq cache.settings.policy now key (after_look keys cache now).contents)
+        (found_there cache.settings.policy now (entry_at keys.eq key (after_look keys cache now).contents.entries))
+        (found_fresh cache.settings.policy now (entry_at keys.eq key (after_look keys cache now).contents.entries))
+        (sym (same_found refl step.0))
+      where
+        by : (o : Option (Entry K V))
+            → ((used : Entry K V) → o ≡ Some used → entry_at keys.eq key (after_look keys cache now).contents.entries ≡ Some used)
+            → ((used : Entry K V) → o ≡ Some used → is_expired cache.settings.policy now used ≡ false)
+            → option_map (λ e. e.value) o ≡ Some value
+            → IsStep keys weighs cache (Peek key now) (Found (Some value)) cache
+        by None there fresh is = something {o = None} refl is
+        by (Some used) there fresh is =
+            let stood = found-upkeep laws cache.settings.policy now cache.contents key used (there used refl) in
+            let lives =
+            ap (unexpired cache.settings.policy now) stood
+            ∙ cond-false (is_expired cache.settings.policy now used) None (Some used) (fresh used refl) in
+            (ap Found (sym (ap (option_map (λ e. e.value)) lives ∙ is)), refl)
 
 -- ---- runs
 

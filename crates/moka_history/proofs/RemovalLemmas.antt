@@ -13,7 +13,7 @@ use Rattle.moka_machine.specs.Upkeep.{is_expired, unexpired}
 use Rattle.moka_machine.specs.Insert.{after_entering, after_new, after_put, after_verdict, new_entry}
 use Rattle.moka_machine.specs.Window.{main_limit, victims_of, windowed_limit}
 use Rattle.moka_machine.specs.Invalidate.{chosen}
-use Rattle.moka_machine.specs.Step.{Answer, IsStep, Request, Get, ContainsKey, Insert, Invalidate, Remove, InvalidateAll}
+use Rattle.moka_machine.specs.Step.{Answer, IsStep, Request, Get, Peek, ContainsKey, Insert, Invalidate, Remove, InvalidateAll}
 use Rattle.moka_machine.specs.Step.{InvalidateEntriesIf, Iterate, EntryCount, WeightedSize, Found}
 use Rattle.moka_history.specs.History.{LastWrite, Leads, Transition, chosen_keys, exchanges, is_over, is_written, known_after, last_write}
 use Rattle.moka_history.specs.Removal.{EntriesLeaveForACause, InsertsEnterOrAreRejected, IsMissing}
@@ -74,6 +74,7 @@ module _ {K V S W : Type 0} (keys : Keys K S) (laws : IsEquivalence keys.eq) (we
       → is_written keys request answer key ≡ true → entry_at keys.eq key new.contents.entries ≡ None
       → IsRejected keys weighs (record { before = old; request = request; answer = answer; after = new }) key
   rejected key old new (Get other now) answer step once written none = absurd (false≢true written)
+  rejected key old new (Peek other now) answer step once written none = absurd (false≢true written)
   rejected key old new (ContainsKey other now) answer step once written none = absurd (false≢true written)
   rejected key old new (Insert other value now) answer (inl (done, inserted)) once written none =
       let kept = (after_look keys old now).contents in
@@ -266,6 +267,8 @@ module _ {K V S W : Type 0} (keys : Keys K S) (laws : IsEquivalence keys.eq) (we
       ap (λ c. entry_at keys.eq key c.contents.entries) step.1
       ∙ absent-use now other key (unexpired_at keys.eq old.settings.policy now other kept) kept
       (found_there old.settings.policy now (entry_at keys.eq other kept.entries)) (absent-upkeep old now key none)
+  absent-step key old new (Peek other now) answer step once written none =
+      ap (λ c. entry_at keys.eq key c.contents.entries) step.1 ∙ none
   absent-step key old new (ContainsKey other now) answer step once written none =
       ap (λ c. entry_at keys.eq key c.contents.entries) step.1 ∙ absent-upkeep old now key none
   absent-step key old new (Insert other value now) answer (inl (done, inserted)) once written none =

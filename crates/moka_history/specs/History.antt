@@ -10,7 +10,7 @@ use Rattle.moka_machine.specs.declared.entry.Entry.{Entry}
 use Rattle.moka_machine.specs.Contents.{entry_keys}
 use Rattle.moka_machine.specs.CacheState.{CacheState, new_cache}
 use Rattle.moka_machine.specs.Invalidate.{chosen}
-use Rattle.moka_machine.specs.Step.{Answer, IsStep, Request, Runs, Get, Insert, Invalidate, Remove, InvalidateAll}
+use Rattle.moka_machine.specs.Step.{Answer, IsStep, Request, Runs, Get, Peek, Insert, Invalidate, Remove, InvalidateAll}
 use Rattle.moka_machine.specs.Step.{InvalidateEntriesIf, Iterate, ContainsKey, Done, Found, Pairs, Truth}
 
 -- ---- what the calls tell
@@ -140,12 +140,26 @@ module _ {K V S W : Type 0} (keys : Keys K S) (weighs : W → K → V → ℕ �
       Leads (new_cache settings weigher capacity) past cache → IsStep keys weighs cache (Iterate now) (Pairs pairs) next →
       All (λ p. IsCurrent keys settings.policy now (exchanges past) p.0 p.1) pairs
 
+  -- and so is a value that a peek finds
+  abbrev pub PeeksAreCurrent : Type 0
+  PeeksAreCurrent =
+      (settings : Settings S) (weigher : W) (capacity : ℕ) (past : List (Transition K V S W)) (cache next : CacheState K V S W)
+      (key : K) (now : ℕ) (value : V) →
+      Leads (new_cache settings weigher capacity) past cache → IsStep keys weighs cache (Peek key now) (Found (Some value)) next →
+      IsCurrent keys settings.policy now (exchanges past) key value
+
   -- a key is told to be there exactly where a get would find a value
   abbrev pub ContainsAsGet : Type 0
   ContainsAsGet =
       (cache looked got : CacheState K V S W) (key : K) (now : ℕ) (there : Bool) (found : Option V) →
       IsStep keys weighs cache (ContainsKey key now) (Truth there) looked → IsStep keys weighs cache (Get key now) (Found found) got →
       there ≡ is_some found
+
+  -- a value that a get would find a peek finds, which leaves the cache as it is
+  abbrev pub PeekAsGet : Type 0
+  PeekAsGet =
+      (cache got : CacheState K V S W) (key : K) (now : ℕ) (value : V) →
+      IsStep keys weighs cache (Get key now) (Found (Some value)) got → IsStep keys weighs cache (Peek key now) (Found (Some value)) cache
 
   -- a removal answers what a get in its place answers
   abbrev pub RemoveAsGet : Type 0

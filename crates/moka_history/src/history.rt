@@ -1,7 +1,7 @@
 //! What the calls of a cache tell of its entries, a law a function. A law is its function's clause: there is no code to call.
 ghost use Rattle.moka_base.specs.Keys.{keys_by};
 ghost use Rattle.moka_history.specs.Excluded.{EntriesWithoutCauseStay, ExpiredValuesAreNotCurrent, ReplacedValuesAreNotCurrent};
-ghost use Rattle.moka_history.specs.History.{ContainsAsGet, HitsAreCurrent, LastWritesAreInserts, PairsAreCurrent, RemoveAsGet, RunsHaveAHistory};
+ghost use Rattle.moka_history.specs.History.{ContainsAsGet, HitsAreCurrent, LastWritesAreInserts, PairsAreCurrent, PeekAsGet, PeeksAreCurrent, RemoveAsGet, RunsHaveAHistory};
 ghost use Rattle.moka_history.specs.Removal.{EntriesLeaveForACause, InsertsEnterOrAreRejected, MissesHaveAReason};
 
 use moka_base::weigh::Weigh;
@@ -13,7 +13,12 @@ pub fn hits_are_current<K: Eq + Hash, V, S: BuildHasher, W: Weigh<K, V>>()
     ensures { HitsAreCurrent (keys_by K.Hash S.BuildHasher S.Hasher.Hasher) W.weighs }
 {}
 
-/// So is each pair of an iterator.
+/// So is a value that a peek finds.
+pub fn peeks_are_current<K: Eq + Hash, V, S: BuildHasher, W: Weigh<K, V>>()
+    ensures { PeeksAreCurrent (keys_by K.Hash S.BuildHasher S.Hasher.Hasher) W.weighs }
+{}
+
+/// And each pair of an iterator.
 pub fn pairs_are_current<K: Eq + Hash, V, S: BuildHasher, W: Weigh<K, V>>()
     ensures { PairsAreCurrent (keys_by K.Hash S.BuildHasher S.Hasher.Hasher) W.weighs }
 {}
@@ -43,6 +48,11 @@ pub fn contains_as_get<K: Eq + Hash, V, S: BuildHasher, W: Weigh<K, V>>()
 /// it too.
 pub fn remove_as_get<K: Eq + Hash, V, S: BuildHasher, W: Weigh<K, V>>()
     ensures { RemoveAsGet (keys_by K.Hash S.BuildHasher S.Hasher.Hasher) W.weighs }
+{}
+
+/// `peek` finds what a `get` in its place would, and leaves the cache as it is. It may find more: what the get would have removed first for the limit.
+pub fn peek_as_get<K: Eq + Hash, V, S: BuildHasher, W: Weigh<K, V>>()
+    ensures { PeekAsGet (keys_by K.Hash S.BuildHasher S.Hasher.Hasher) W.weighs }
 {}
 
 /// An entry leaves only when it is invalidated, removed or expired, or to make room.

@@ -18,7 +18,7 @@ use Rattle.moka_machine.specs.Window.{after_candidacy, after_candidates, candida
 use Rattle.moka_laws.specs.Laws.{KeysStandOnce, Remains}
 use Rattle.moka_machine.specs.Lookup.{after_look, after_use, unexpired_at}
 use Rattle.moka_machine.specs.Iterate.{pairs_of}
-use Rattle.moka_machine.specs.Step.{Answer, IsStep, Request, Runs, Get, ContainsKey, Insert, Invalidate, Remove}
+use Rattle.moka_machine.specs.Step.{Answer, IsStep, Request, Runs, Get, Peek, ContainsKey, Insert, Invalidate, Remove}
 use Rattle.moka_machine.specs.Step.{InvalidateAll, InvalidateEntriesIf, Iterate, EntryCount, WeightedSize}
 use Rattle.moka_machine.proofs.ContentsLemmas.{absent-leaving}
 use Rattle.moka_machine.proofs.WindowLemmas.{goes_before}
@@ -233,6 +233,7 @@ module _ {K V S W : Type 0} (keys : Keys K S) (laws : IsEquivalence keys.eq) (we
       subst (λ c. StandOnce keys.eq c.contents.entries) (sym step.1)
       (once-use keys.eq laws now (unexpired_at keys.eq old.settings.policy now key kept) kept
       (once-remains keys.eq old.contents kept (remains-upkeep keys.eq old.settings.policy now old.contents) once))
+  once-step old new (Peek key now) answer step once = subst (λ c. StandOnce keys.eq c.contents.entries) (sym step.1) once
   once-step old new (ContainsKey key now) answer step once =
       once-remains keys.eq old.contents new.contents (looks keys weighs old new (ContainsKey key now) answer tt step).1 once
   once-step old new (Insert key value now) answer (inl (done, inserted)) once =

@@ -8,3 +8,4 @@ pub mod OwnLemmas
 pub mod RoomLemmas
 pub mod WriteLemmas
 pub mod OrderLemmas
+pub mod GetOrInsertLemmas

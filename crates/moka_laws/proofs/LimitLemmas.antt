@@ -24,7 +24,7 @@ use Rattle.moka_machine.specs.Window.{after_candidacy, after_candidates, candida
 use Rattle.moka_machine.specs.Invalidate.{chosen}
 use Rattle.moka_laws.specs.Laws.{IsUpdate, OnlyUpdatesOutgrowLimit, StaysWithinLimit}
 use Rattle.moka_machine.specs.Lookup.{after_search, after_use, unexpired_at}
-use Rattle.moka_machine.specs.Step.{Answer, IsStep, Request, Runs, Get, ContainsKey, Insert, Invalidate, Remove}
+use Rattle.moka_machine.specs.Step.{Answer, IsStep, Request, Runs, Get, Peek, ContainsKey, Insert, Invalidate, Remove}
 use Rattle.moka_machine.specs.Step.{InvalidateAll, InvalidateEntriesIf, Iterate, EntryCount, WeightedSize}
 use Rattle.moka_machine.proofs.ContentsLemmas.{All-leaving, All-upkeep, idle_keys}
 use Rattle.moka_machine.proofs.WindowLemmas.{All-latest, total-latest, total-main_latest, total-split, window-latest}
@@ -451,6 +451,7 @@ module _ {K V S W : Type 0} (keys : Keys K S) (laws : IsEquivalence keys.eq) (we
         total-upkeep keys.eq policy
             now old.contents,
       ))
+  bounded_step old new limit (Peek key now) answer has step = less limit old new old (Peek key now) step.1 (grind (arith))
   bounded_step old new limit (ContainsKey key now) answer has step =
       less limit old new _ (ContainsKey key now) step.1 (total-upkeep keys.eq old.settings.policy now old.contents)
   bounded_step old new limit (Insert key value now) answer has (inl done) = bounded_insert old new limit key value now has done.1
@@ -572,6 +573,7 @@ module _ {K V S W : Type 0} (keys : Keys K S) (laws : IsEquivalence keys.eq) (we
       within_less limit old new _ within step.1 refl
       (ones_search keys.eq policy now key kept (All-upkeep keys.eq (λ e. e.weight ≡ 1) policy now old.contents within.ones))
       (grind (arith, total-search keys.eq laws policy now key kept, total-upkeep keys.eq policy now old.contents))
+  within_step limit old new (Peek key now) answer within step = subst (IsWithin limit) (sym step.1) within
   within_step limit old new (ContainsKey key now) answer within step =
       let policy = old.settings.policy in
       within_less limit old new _ within step.1 refl (All-upkeep keys.eq (λ e. e.weight ≡ 1) policy now old.contents within.ones)

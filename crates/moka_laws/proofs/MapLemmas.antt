@@ -19,12 +19,12 @@ use Rattle.moka_machine.specs.Contents.{Contents, after_leaving, entry_at, entri
 use Rattle.moka_machine.specs.CacheState.{CacheState}
 use Rattle.moka_base.specs.Settings.{idle_nanos, keeps_writes, live_nanos}
 use Rattle.moka_machine.specs.Upkeep.{after_expiry, after_idle, after_idle_expiry, after_trim, after_upkeep, has_lived, is_idle, is_expired, unexpired}
-use Rattle.moka_machine.specs.Lookup.{after_look, after_search, after_use, found_by_get, unexpired_at}
+use Rattle.moka_machine.specs.Lookup.{after_look, after_search, after_use, found_by_get, found_by_peek, unexpired_at}
 use Rattle.moka_machine.specs.Insert.{after_asking, after_entering, after_new, after_put, after_verdict, new_entry}
 use Rattle.moka_machine.specs.Window.{victims_of, windowed_limit}
 use Rattle.moka_machine.specs.Invalidate.{chosen}
 use Rattle.moka_machine.specs.Iterate.{unexpired_pairs, pairs_of}
-use Rattle.moka_machine.specs.Step.{Answer, IsStep, Request, Get, ContainsKey, Insert, Invalidate, Remove, InvalidateAll}
+use Rattle.moka_machine.specs.Step.{Answer, IsStep, Request, Get, Peek, ContainsKey, Insert, Invalidate, Remove, InvalidateAll}
 use Rattle.moka_machine.specs.Step.{InvalidateEntriesIf, Iterate, EntryCount, WeightedSize, Found, Truth, OutOfMemory, Pairs, Number}
 use Rattle.moka_laws.specs.PlainMap.{IsMapAnswer, IsUnbounded, RunsAsMap, StepsAsMap, value_after, value_at}
 use Rattle.moka_machine.proofs.ContentsLemmas.{found_key}
@@ -320,13 +320,19 @@ module _ {K V S W : Type 0} (keys : Keys K S) where
       → (after_look keys cache now).contents ≡ cache.contents
   look-same cache unbounded now = upkeep-same cache.settings.policy unbounded now keys.eq cache.contents
 
-  -- and a get or a removal what a plain map has
+  -- a peek finds what a plain map has
+  seen_in_map : (cache : CacheState K V S W) → IsUnbounded cache.settings.policy → (key : K) (now : ℕ)
+      → found_by_peek keys cache key now ≡ value_at keys key (pairs_of cache.contents.entries)
+  seen_in_map cache unbounded key now =
+      ap (option_map (λ e. e.value)) (unexpired-same cache.settings.policy unbounded now (entry_at keys.eq key cache.contents.entries))
+      ∙ sym (value-pairs keys key cache.contents.entries)
+
+  -- and so does a get or a removal
   found_in_map : (cache : CacheState K V S W) → IsUnbounded cache.settings.policy → (key : K) (now : ℕ)
       → found_by_get keys cache key now ≡ value_at keys key (pairs_of cache.contents.entries)
   found_in_map cache unbounded key now =
       ap (λ c. option_map (λ e. e.value) (unexpired_at keys.eq cache.settings.policy now key c)) (look-same cache unbounded now)
-      ∙ (ap (option_map (λ e. e.value)) (unexpired-same cache.settings.policy unbounded now (entry_at keys.eq key cache.contents.entries))
-      ∙ sym (value-pairs keys key cache.contents.entries))
+      ∙ seen_in_map cache unbounded key now
 
 module _ {K V S W : Type 0} (keys : Keys K S) (weighs : W → K → V → ℕ → W → Type 0) where
   -- each call leaves the settings
@@ -334,6 +340,7 @@ module _ {K V S W : Type 0} (keys : Keys K S) (weighs : W → K → V → ℕ �
       → IsStep keys weighs old request answer new
       → new.settings ≡ old.settings
   settings-step old new (Get other now) answer step = ap (λ c. c.settings) step.1
+  settings-step old new (Peek other now) answer step = ap (λ c. c.settings) step.1
   settings-step old new (ContainsKey other now) answer step = ap (λ c. c.settings) step.1
   settings-step old new (Insert other value now) answer (inl (done, inserted)) =
       let kept = (after_look keys old now).contents in
@@ -357,6 +364,7 @@ module _ {K V S W : Type 0} (keys : Keys K S) (weighs : W → K → V → ℕ �
         → answer ≢ OutOfMemory
         → IsStep keys weighs old request answer new → IsMapAnswer keys (pairs_of old.contents.entries) request answer
     answers_as_map old new (Get other now) answer unbounded known step = step.0 ∙ ap Found (found_in_map keys old unbounded other now)
+    answers_as_map old new (Peek other now) answer unbounded known step = step.0 ∙ ap Found (seen_in_map keys old unbounded other now)
     answers_as_map old new (ContainsKey other now) answer unbounded known step =
         step.0
         ∙ ap Truth (ap (λ c. is_some (unexpired_at keys.eq old.settings.policy now other c)) (look-same keys old unbounded now)
@@ -404,6 +412,7 @@ module _ {K V S W : Type 0} (keys : Keys K S) (weighs : W → K → V → ℕ �
         (unexpired-same old.settings.policy unbounded now (entry_at keys.eq other old.contents.entries))
         ∙ same_value key (after_use keys.eq now (entry_at keys.eq other old.contents.entries) old.contents).entries old.contents.entries
         (value-used laws key now other (entry_at keys.eq other old.contents.entries) old.contents refl)))
+    values_as_map old new (Peek other now) answer unbounded known step key = ap (cached_value key) step.1
     values_as_map old new (ContainsKey other now) answer unbounded known step key =
         ap (cached_value key) step.1 ∙ ap (λ c. value_at keys key (pairs_of c.entries)) (look-same keys old unbounded now)
     values_as_map old new (Insert other value now) answer unbounded known (inl (done, inserted)) key =

@@ -13,7 +13,7 @@ use Rattle.moka_machine.specs.Lookup.{after_look, after_use, unexpired_at}
 use Rattle.moka_machine.specs.Insert.{after_entering, after_entry, after_new, after_put, after_verdict, new_entry}
 use Rattle.moka_machine.specs.Window.{after_candidacy, after_candidates, candidates, main_limit, victims_of, windowed_limit}
 use Rattle.moka_machine.specs.Invalidate.{chosen}
-use Rattle.moka_machine.specs.Step.{Answer, IsStep, Request, Runs, Get, ContainsKey, Insert, Invalidate, Remove, InvalidateAll}
+use Rattle.moka_machine.specs.Step.{Answer, IsStep, Request, Runs, Get, Peek, ContainsKey, Insert, Invalidate, Remove, InvalidateAll}
 use Rattle.moka_machine.specs.Step.{InvalidateEntriesIf, Iterate, EntryCount, WeightedSize}
 use Rattle.moka_machine.proofs.ContentsLemmas.{All-leaving}
 use Rattle.moka_machine.proofs.WindowLemmas.{All-latest, goes_before}
@@ -254,6 +254,7 @@ module _ {K V S W : Type 0} (keys : Keys K S) (weighs : W → K → V → ℕ �
       ordered-use keys.eq looked new now key (unexpired_at keys.eq old.settings.policy now key looked.contents)
       (unexpired-found old.settings.policy now (entry_at keys.eq key looked.contents.entries)) (ap (λ c. c.settings) step.1)
       (ap (λ c. c.contents) step.1) (ordered-look old now ordered)
+  ordered-step old new (Peek key now) answer step ordered = subst IsOrdered (sym step.1) ordered
   ordered-step old new (ContainsKey key now) answer step ordered = subst IsOrdered (sym step.1) (ordered-look old now ordered)
   ordered-step old new (Insert key value now) answer (inl (done, inserted)) ordered =
       let looked = after_look keys old now in

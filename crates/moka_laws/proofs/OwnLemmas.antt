@@ -13,7 +13,7 @@ use Rattle.moka_machine.specs.Lookup.{after_look, after_use, unexpired_at}
 use Rattle.moka_machine.specs.Insert.{after_put, new_entry}
 use Rattle.moka_machine.specs.Window.{windowed_limit}
 use Rattle.moka_machine.specs.Invalidate.{chosen}
-use Rattle.moka_machine.specs.Step.{Answer, IsStep, Request, Runs, Get, ContainsKey, Insert, Invalidate, Remove, InvalidateAll}
+use Rattle.moka_machine.specs.Step.{Answer, IsStep, Request, Runs, Get, Peek, ContainsKey, Insert, Invalidate, Remove, InvalidateAll}
 use Rattle.moka_machine.specs.Step.{InvalidateEntriesIf, Iterate, EntryCount, WeightedSize}
 use Rattle.moka_machine.proofs.ContentsLemmas.{All-leaving, All-upkeep}
 use Rattle.moka_laws.specs.Laws.{EntriesAreOwn}
@@ -83,6 +83,7 @@ module _ {K V S W : Type 0} (keys : Keys K S) (weighs : W → K → V → ℕ �
       subst AreOwn (sym step.1)
       (own-use keys old.settings.hash_state now key (unexpired_at keys.eq old.settings.policy now key kept) kept
       (unexpired-found old.settings.policy now (entry_at keys.eq key kept.entries)) (own-look old now a))
+  own-step old new (Peek key now) answer step a = subst AreOwn (sym step.1) a
   own-step old new (ContainsKey key now) answer step a = subst AreOwn (sym step.1) (own-look old now a)
   own-step old new (Insert key value now) answer (inl (done, inserted)) a =
       let kept = (after_look keys old now).contents in

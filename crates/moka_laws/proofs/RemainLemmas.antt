@@ -11,7 +11,7 @@ use Rattle.moka_machine.specs.Upkeep.{after_expiry, after_idle, after_live_expir
 use Rattle.moka_machine.specs.Invalidate.{chosen}
 use Rattle.moka_machine.proofs.ContentsLemmas.{idle_keys}
 use Rattle.moka_laws.specs.Laws.{InvalidationsKeepCounts, LooksChangeNothing, Remains}
-use Rattle.moka_machine.specs.Step.{Get, ContainsKey, Insert, Invalidate, Remove, InvalidateAll}
+use Rattle.moka_machine.specs.Step.{Get, Peek, ContainsKey, Insert, Invalidate, Remove, InvalidateAll}
 use Rattle.moka_machine.specs.Step.{InvalidateEntriesIf, Iterate, EntryCount, WeightedSize}
 
 module _ {X : Type 0} where
@@ -88,6 +88,7 @@ module _ {K V S W : Type 0} (keys : Keys K S) (weighs : W → K → V → ℕ �
 
   pub looks : LooksChangeNothing keys weighs
   looks old new (Get key now) answer call step = absurd call
+  looks old new (Peek key now) answer call step = kept old new old step.1 refl (remains-all old.contents)
   looks old new (ContainsKey key now) answer call step =
       kept old new _ step.1 refl (remains-upkeep keys.eq old.settings.policy now old.contents)
   looks old new (Insert key value now) answer call step = absurd call
@@ -101,6 +102,7 @@ module _ {K V S W : Type 0} (keys : Keys K S) (weighs : W → K → V → ℕ �
 
   pub invalidations : InvalidationsKeepCounts keys weighs
   invalidations old new (Get key now) answer call step = absurd call
+  invalidations old new (Peek key now) answer call step = absurd call
   invalidations old new (ContainsKey key now) answer call step = absurd call
   invalidations old new (Insert key value now) answer call step = absurd call
   invalidations old new (Invalidate key now) answer call step =

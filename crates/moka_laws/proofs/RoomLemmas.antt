@@ -12,7 +12,7 @@ use Rattle.moka_machine.specs.Contents.{entry_at}
 use Rattle.moka_machine.specs.Insert.{after_asking, after_entering, after_new, after_put, after_verdict, new_entry}
 use Rattle.moka_machine.specs.Window.{victims_of, windowed_limit}
 use Rattle.moka_machine.specs.Lookup.{after_look}
-use Rattle.moka_machine.specs.Step.{Answer, IsStep, Request, Runs, Get, ContainsKey, Insert, Invalidate, Remove, InvalidateAll}
+use Rattle.moka_machine.specs.Step.{Answer, IsStep, Request, Runs, Get, Peek, ContainsKey, Insert, Invalidate, Remove, InvalidateAll}
 use Rattle.moka_machine.specs.Step.{InvalidateEntriesIf, Iterate, EntryCount, WeightedSize, Done, OutOfMemory}
 use Rattle.moka_laws.specs.Laws.{NeverRefuses}
 use Rattle.moka_laws.proofs.LimitLemmas.{IsWithin, total-ones, within_step}
@@ -53,6 +53,7 @@ module _ {K V S W : Type 0} (keys : Keys K S) (weighs : W → K → V → ℕ �
   served_step : (old new : CacheState K V S W) (request : Request K V) (answer : Answer K V) → length old.contents.entries < old.capacity
       → IsStep keys weighs old request answer new → IsServed old new answer
   served_step old new (Get key now) answer room step = served old new _ answer _ (λ e. (cc)) step.0 step.1 refl
+  served_step old new (Peek key now) answer room step = served old new old answer _ (λ e. (cc)) step.0 step.1 refl
   served_step old new (ContainsKey key now) answer room step = served old new _ answer _ (λ e. (cc)) step.0 step.1 refl
   served_step old new (Insert key value now) answer room (inl step) =
       let done = step.1 in

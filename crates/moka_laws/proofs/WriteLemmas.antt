@@ -21,7 +21,7 @@ use Rattle.moka_machine.specs.Lookup.{after_look, after_use, unexpired_at}
 use Rattle.moka_machine.specs.Insert.{after_asking, after_entering, after_entry, after_new, after_put, after_update, after_verdict, new_entry}
 use Rattle.moka_machine.specs.Window.{after_candidacy, after_candidates, candidates, main_limit, victims_of, windowed_limit}
 use Rattle.moka_machine.specs.Invalidate.{chosen}
-use Rattle.moka_machine.specs.Step.{Answer, IsStep, Request, Runs, Get, ContainsKey, Insert, Invalidate, Remove, InvalidateAll}
+use Rattle.moka_machine.specs.Step.{Answer, IsStep, Request, Runs, Get, Peek, ContainsKey, Insert, Invalidate, Remove, InvalidateAll}
 use Rattle.moka_machine.specs.Step.{InvalidateEntriesIf, Iterate, EntryCount, WeightedSize}
 use Rattle.moka_machine.proofs.ContentsLemmas.{absent-leaving, found_key, idle_keys}
 use Rattle.moka_laws.specs.Laws.{AreWritesOf, WritesFollowEntries}
@@ -285,6 +285,7 @@ module _ {K V S W : Type 0} (keys : Keys K S) (laws : IsEquivalence keys.eq) (we
       subst Follows (sym step.1)
       (follow-use keys.eq laws (keeps_writes old.settings.policy) now key (unexpired_at keys.eq old.settings.policy now key kept) kept
       (unexpired-found old.settings.policy now (entry_at keys.eq key kept.entries)) (follow-look old now f))
+  follow-step old new (Peek key now) answer step once f = subst Follows (sym step.1) f
   follow-step old new (ContainsKey key now) answer step once f = subst Follows (sym step.1) (follow-look old now f)
   follow-step old new (Insert key value now) answer (inl (done, inserted)) once f =
       let kept = (after_look keys old now).contents in

@@ -1,5 +1,5 @@
 -- What a contract sees of the laws of the cache, which `src/laws.rt` promises, but for those of a plain map.
-use Rattle.std.specs.Prelude.{◌≡◌, ◌≢◌, ◌<◌, ◌≤◌, ◌^◌, ℕ, Bool, true, false, List, [], ◌++◌, All, filter, length, map, Some, None, IsSome, option_map}
+use Rattle.std.specs.Prelude.{◌≡◌, ◌≢◌, ◌<◌, ◌≤◌, ◌^◌, ℕ, Bool, true, false, List, [], ◌∷◌, ◌++◌, All, filter, length, map, Some, None, IsSome, option_map}
 use Rattle.std.specs.List.{AllByRecursion, IsDistinct, find}
 use Rattle.moka_base.specs.Keys.{Keys}
 use Rattle.moka_machine.specs.Contents.{Contents, entry_at, entry_keys, main_of, total_weight, window_of, write_of}
@@ -7,7 +7,8 @@ use Rattle.moka_machine.specs.Window.{windowed_limit}
 use Rattle.moka_machine.specs.CacheState.{CacheState, new_cache}
 use Rattle.moka_base.specs.Settings.{Settings, keeps_writes}
 use Rattle.moka_machine.specs.Lookup.{after_look}
-use Rattle.moka_machine.specs.Step.{Answer, IsStep, OutOfMemory, Request, Runs, Get, ContainsKey, Insert, Invalidate, Remove}
+use Rattle.moka_machine.specs.GetOrInsert.{IsGot, IsPutBehind, IsRefusedBehind}
+use Rattle.moka_machine.specs.Step.{Answer, IsStep, Done, Found, OutOfMemory, Request, Runs, Get, Peek, ContainsKey, Insert, Invalidate, Remove}
 use Rattle.moka_machine.specs.Step.{InvalidateAll, InvalidateEntriesIf, Iterate, EntryCount, WeightedSize}
 
 -- ---- limits and keys
@@ -104,6 +105,7 @@ module _ {K V : Type 0} where
   -- the call asks something, and is no use of an entry
   abbrev pub IsLook : Request K V → Type 0
   IsLook (Get key now) = ⊥
+  IsLook (Peek key now) = Unit {0}
   IsLook (ContainsKey key now) = Unit {0}
   IsLook (Insert key value now) = ⊥
   IsLook (Invalidate key now) = ⊥
@@ -117,6 +119,7 @@ module _ {K V : Type 0} where
   -- the call is an invalidation or a removal
   abbrev pub IsInvalidation : Request K V → Type 0
   IsInvalidation (Get key now) = ⊥
+  IsInvalidation (Peek key now) = ⊥
   IsInvalidation (ContainsKey key now) = ⊥
   IsInvalidation (Insert key value now) = ⊥
   IsInvalidation (Invalidate key now) = Unit {0}
@@ -147,3 +150,15 @@ module _ {K V S W : Type 0} (keys : Keys K S) (weighs : W → K → V → ℕ �
       (old new : CacheState K V S W) (request : Request K V) (answer : Answer K V) → IsInvalidation request →
       IsStep keys weighs old request answer new →
       (new.sketch ≡ old.sketch) × Remains old.contents new.contents
+
+-- ---- gets or inserts
+
+module _ {K V S W : Type 0} (keys : Keys K S) (weighs : W → K → V → ℕ → W → Type 0) where
+  -- a get or insert is a run: of a get, or of a get that finds nothing and an insert, which may be refused
+  pub record GetsOrInsertsAreRuns : Type 0 where
+    pub got : (old new : CacheState K V S W) (key : K) (value : V) (now : ℕ) → IsGot keys old key now value new
+        → Runs keys weighs old (Get key now ∷ []) (Found (Some value) ∷ []) new
+    pub inserted : (old new : CacheState K V S W) (key : K) (value : V) (now : ℕ) → IsPutBehind keys old key now weighs value new
+        → Runs keys weighs old (Get key now ∷ Insert key value now ∷ []) (Found None ∷ Done ∷ []) new
+    pub refused : (old new : CacheState K V S W) (key : K) (value : V) (now : ℕ) → IsRefusedBehind keys old key now new
+        → Runs keys weighs old (Get key now ∷ Insert key value now ∷ []) (Found None ∷ OutOfMemory ∷ []) new

@@ -7,7 +7,7 @@ use Rattle.moka_base.specs.Policy.{Policy}
 use Rattle.moka_machine.specs.CacheState.{CacheState}
 use Rattle.moka_machine.specs.Invalidate.{chosen}
 use Rattle.moka_machine.specs.Iterate.{pairs_of}
-use Rattle.moka_machine.specs.Step.{Answer, IsStep, Request, Runs, Get, ContainsKey, Insert, Invalidate, Remove, InvalidateAll}
+use Rattle.moka_machine.specs.Step.{Answer, IsStep, Request, Runs, Get, Peek, ContainsKey, Insert, Invalidate, Remove, InvalidateAll}
 use Rattle.moka_machine.specs.Step.{InvalidateEntriesIf, Iterate, EntryCount, WeightedSize, Found, Truth, Done, OutOfMemory, Pairs, Number}
 
 -- there is no limit and no duration
@@ -22,6 +22,7 @@ module _ {K V S : Type 0} (keys : Keys K S) where
   -- what it answers to a call; it has no weight
   abbrev pub IsMapAnswer : List (K × V) → Request K V → Answer K V → Type 0
   IsMapAnswer pairs (Get key now) answer = answer ≡ Found (value_at key pairs)
+  IsMapAnswer pairs (Peek key now) answer = answer ≡ Found (value_at key pairs)
   IsMapAnswer pairs (ContainsKey key now) answer = answer ≡ Truth (is_some (value_at key pairs))
   IsMapAnswer pairs (Insert key value now) answer = answer ≡ Done
   IsMapAnswer pairs (Invalidate key now) answer = answer ≡ Done
@@ -35,6 +36,7 @@ module _ {K V S : Type 0} (keys : Keys K S) where
   -- what it has at a key after the call; a predicate's answers are one for each of the pairs
   abbrev pub value_after : List (K × V) → Request K V → K → Option V
   value_after pairs (Get other now) key = value_at key pairs
+  value_after pairs (Peek other now) key = value_at key pairs
   value_after pairs (ContainsKey other now) key = value_at key pairs
   value_after pairs (Insert other value now) key = if keys.eq other key then Some value else value_at key pairs
   value_after pairs (Invalidate other now) key = if keys.eq other key then None else value_at key pairs

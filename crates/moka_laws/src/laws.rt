@@ -2,7 +2,7 @@
 ghost use Rattle.moka_base.specs.Keys.{keys_by};
 ghost use Rattle.std.specs.Prelude.{◌≡◌};
 ghost use Rattle.moka_machine.specs.declared.constants.TheConstants.{EVICTION_BATCH_SIZE, WINDOW_SHARE};
-ghost use Rattle.moka_laws.specs.Laws.{EntriesAreOwn, InvalidationsKeepCounts, KeysStandOnce, LooksChangeNothing};
+ghost use Rattle.moka_laws.specs.Laws.{EntriesAreOwn, GetsOrInsertsAreRuns, InvalidationsKeepCounts, KeysStandOnce, LooksChangeNothing};
 ghost use Rattle.moka_laws.specs.Laws.{NeverRefuses, OnlyUpdatesOutgrowLimit, StaysWithinLimit, WindowStandsBehind, WindowStaysEmpty, WritesFollowEntries};
 ghost use Rattle.moka_laws.specs.PlainMap.{RunsAsMap, StepsAsMap};
 
@@ -65,7 +65,7 @@ pub fn batches_are_of_a_hundred()
     ensures { EVICTION_BATCH_SIZE ≡ 100 }
 {}
 
-/// `contains_key`, `iter` and the counts are no reads: they count nothing, and set no moment and no order of what remains.
+/// `peek`, `contains_key`, `iter` and the counts are no reads: they count nothing, and set no moment and no order of what remains.
 pub fn looks_change_nothing<K: Eq + Hash, V, S: BuildHasher, W: Weigh<K, V>>()
     ensures { LooksChangeNothing (keys_by K.Hash S.BuildHasher S.Hasher.Hasher) W.weighs }
 {}
@@ -83,4 +83,9 @@ pub fn steps_are_those_of_a_map<K: Eq + Hash, V, S: BuildHasher, W: Weigh<K, V>>
 /// So does any list of calls of which none is refused.
 pub fn runs_are_those_of_a_map<K: Eq + Hash, V, S: BuildHasher, W: Weigh<K, V>>()
     ensures { RunsAsMap (keys_by K.Hash S.BuildHasher S.Hasher.Hasher) W.weighs }
+{}
+
+/// A get or insert is a run of one call or two: a get, and where that finds nothing an insert at the same moment. So each law of runs speaks of it.
+pub fn gets_or_inserts_are_runs<K: Eq + Hash, V, S: BuildHasher, W: Weigh<K, V>>()
+    ensures { GetsOrInsertsAreRuns (keys_by K.Hash S.BuildHasher S.Hasher.Hasher) W.weighs }
 {}

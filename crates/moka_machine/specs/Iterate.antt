@@ -1,5 +1,7 @@
 -- What an iterator gives.
-use Rattle.std.specs.Prelude.{ℕ, not, List, map, filter}
+use Rattle.std.specs.Prelude.{ℕ, Bool, not, List, [], ◌∷◌, map, filter, Option, option_map, if◌then◌else◌}
+use Rattle.std.specs.List.{find}
+use Rattle.moka_base.specs.Keys.{Keys}
 use Rattle.moka_base.specs.Policy.{Policy}
 use Rattle.moka_machine.specs.declared.entry.Entry.{Entry}
 use Rattle.moka_machine.specs.CacheState.{CacheState}
@@ -16,3 +18,17 @@ unexpired_pairs policy now entries = pairs_of (filter (λ e. not (is_expired pol
 -- what an iterator gives: the unexpired entries as pairs, in order of use, those of main first
 abbrev pub pairs_at : {K V S W : Type 0} → CacheState K V S W → ℕ → List (K × V)
 pairs_at cache now = unexpired_pairs cache.settings.policy now cache.contents.entries
+
+-- the entries behind that of a key, if it has one
+abbrev pub entries_behind : {K V : Type 0} → (K → K → Bool) → K → List (Entry K V) → List (Entry K V)
+entries_behind eq key [] = []
+entries_behind eq key (e ∷ entries) = if eq key e.key then entries else entries_behind eq key entries
+
+-- the first of these entries that is not expired
+abbrev pub first_unexpired : {K V : Type 0} → Policy → ℕ → List (Entry K V) → Option (Entry K V)
+first_unexpired policy now entries = find (λ e. not (is_expired policy now e)) entries
+
+-- the pair that an iterator gives behind that of a key
+abbrev pub pair_behind : {K V S W : Type 0} → Keys K S → CacheState K V S W → K → ℕ → Option (K × V)
+pair_behind keys cache key now =
+    option_map (λ e. (e.key, e.value)) (first_unexpired cache.settings.policy now (entries_behind keys.eq key cache.contents.entries))

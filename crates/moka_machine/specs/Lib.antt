@@ -6,4 +6,5 @@ pub mod Window
 pub mod Insert
 pub mod Invalidate
 pub mod Iterate
+pub mod GetOrInsert
 pub mod Step

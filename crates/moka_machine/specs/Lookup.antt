@@ -40,6 +40,10 @@ module _ {K V S W : Type 0} (keys : Keys K S) where
   found_by_get cache key now =
       option_map (λ e. e.value) (unexpired_at keys.eq cache.settings.policy now key (after_look cache now).contents)
 
+  -- what a peek finds: the unexpired value as the cache stands
+  abbrev pub found_by_peek : CacheState K V S W → K → ℕ → Option V
+  found_by_peek cache key now = option_map (λ e. e.value) (unexpired_at keys.eq cache.settings.policy now key cache.contents)
+
   -- whether a key is there, to a call that is no use of it
   abbrev pub is_contained : CacheState K V S W → K → ℕ → Bool
   is_contained cache key now = is_some (unexpired_at keys.eq cache.settings.policy now key (after_look cache now).contents)

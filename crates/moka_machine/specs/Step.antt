@@ -3,7 +3,7 @@ use Rattle.std.specs.Prelude.{◌≡◌, ◌⊎◌, ℕ, Bool, List, [], ◌∷�
 use Rattle.moka_base.specs.Keys.{Keys}
 use Rattle.moka_machine.specs.Contents.{weighted_size}
 use Rattle.moka_machine.specs.CacheState.{CacheState}
-use Rattle.moka_machine.specs.Lookup.{after_get, after_look, found_by_get, is_contained}
+use Rattle.moka_machine.specs.Lookup.{after_get, after_look, found_by_get, found_by_peek, is_contained}
 use Rattle.moka_machine.specs.Insert.{IsInserted, IsRefused}
 use Rattle.moka_machine.specs.Invalidate.{after_invalidate, after_invalidate_all, after_invalidate_if}
 use Rattle.moka_machine.specs.Iterate.{pairs_at}
@@ -11,6 +11,7 @@ use Rattle.moka_machine.specs.Iterate.{pairs_at}
 -- a call, with its moment where it needs one; a conditional invalidation with the answers of its predicate
 pub data Request (K V : Type 0) : Type 0 where
   Get : K → ℕ → Request K V
+  Peek : K → ℕ → Request K V
   ContainsKey : K → ℕ → Request K V
   Insert : K → V → ℕ → Request K V
   Invalidate : K → ℕ → Request K V
@@ -34,6 +35,7 @@ module _ {K V S W : Type 0} (keys : Keys K S) (weighs : W → K → V → ℕ �
   -- what a call may answer, and the cache after it: only an insert that finds no room can be refused, and a predicate answers once an entry
   abbrev pub IsStep : CacheState K V S W → Request K V → Answer K V → CacheState K V S W → Type 0
   IsStep old (Get key now) answer new = (answer ≡ Found (found_by_get keys old key now)) × (new ≡ after_get keys old key now)
+  IsStep old (Peek key now) answer new = (answer ≡ Found (found_by_peek keys old key now)) × (new ≡ old)
   IsStep old (ContainsKey key now) answer new = (answer ≡ Truth (is_contained keys old key now)) × (new ≡ after_look keys old now)
   IsStep old (Insert key value now) answer new =
       ((answer ≡ Done) × IsInserted keys weighs old key value now new) ⊎ ((answer ≡ OutOfMemory) × IsRefused old new)

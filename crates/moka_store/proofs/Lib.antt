@@ -11,3 +11,4 @@ pub mod IdleLemmas
 pub mod AdmitLemmas
 pub mod WindowLemmas
 pub mod InvalidateLemmas
+pub mod BehindLemmas

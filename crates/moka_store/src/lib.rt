@@ -7,4 +7,5 @@ pub mod expire;
 pub mod invalidate;
 pub mod store;
 pub mod trim;
+pub mod walk;
 pub mod window;

@@ -7,6 +7,7 @@ pub use Rattle.moka_machine.specs.Window
 pub use Rattle.moka_machine.specs.Insert
 pub use Rattle.moka_machine.specs.Invalidate
 pub use Rattle.moka_machine.specs.Iterate
+pub use Rattle.moka_machine.specs.GetOrInsert
 pub use Rattle.moka_machine.specs.Step
 pub mod Runs
 pub use Rattle.moka_laws.specs.Laws

@@ -5,7 +5,7 @@ use Rattle.moka_unsync.specs.declared.runs.Call.{Call}
 use Rattle.moka_unsync.specs.declared.runs.Call.TheVariants as call
 use Rattle.moka_unsync.specs.declared.runs.Reply.{Reply}
 use Rattle.moka_unsync.specs.declared.runs.Reply.TheVariants as reply
-use Rattle.moka_machine.specs.Step.{Answer, Request, Get, ContainsKey, Insert, Invalidate, Remove, InvalidateAll}
+use Rattle.moka_machine.specs.Step.{Answer, Request, Get, Peek, ContainsKey, Insert, Invalidate, Remove, InvalidateAll}
 use Rattle.moka_machine.specs.Step.{EntryCount, WeightedSize, Found, Truth, Done, OutOfMemory, Pairs, Number}
 
 -- a reply tells what a get found: it has one more owner of it, or that is refused
@@ -18,6 +18,7 @@ module _ {K V A : Type 0} where
   -- what a call asks
   abbrev pub request_of : Call K V A → Request K (Rc V A)
   request_of (call.Get key now) = Get key now
+  request_of (call.Peek key now) = Peek key now
   request_of (call.Contains key now) = ContainsKey key now
   request_of (call.Insert key value now) = Insert key value now
   request_of (call.Invalidate key now) = Invalidate key now

@@ -127,11 +127,28 @@ impl<K, V, W: Drop, A: Allocator + Clone + Drop> CacheBuilder<K, V, W, A> {
           weigher = weigher;
         } }
     {
+        self.weigher_where(true, weigher)
+    }
+
+    /// A weigher for a program that learns only when it runs whether the capacity is a weight or a number of entries. Where `is_weighed` is false it is the
+    /// latter, as with no weigher, and the weigher has to weigh each entry 1.
+    pub fn weigher_where<N: Weigh<K, V> + Drop>(
+        self,
+        is_weighed: bool,
+        weigher: N,
+    ) -> CacheBuilder<K, V, N, A>
+        ensures { result ≡ record {
+          policy = self.policy;
+          initial_capacity = self.initial_capacity;
+          is_weighed = is_weighed;
+          weigher = weigher;
+        } }
+    {
         CacheBuilder {
             alloc: self.alloc,
             policy: self.policy,
             initial_capacity: self.initial_capacity,
-            is_weighed: true,
+            is_weighed,
             weigher,
             entries: PhantomData,
         }

@@ -1,16 +1,19 @@
 //! The cache for one thread.
-ghost use Rattle.std.specs.Prelude.{◌≡◌, ◌<◌, ◌≤◌, ◌-◌, ◌^◌, Bool, List, [], All, false, length, min, None, Some, option_copied, IfErr, IfOk, OnErr, OnOk};
+ghost use Rattle.std.specs.Prelude.{◌≡◌, ◌⊎◌, ◌<◌, ◌≤◌, ◌-◌, ◌^◌, Bool, List, [], All, false, length, min, None, Some};
+ghost use Rattle.std.specs.Prelude.{IfErr, IfOk, OnErr, OnOk, option_copied, option_map};
 ghost use Rattle.std.specs.Borrow.{sem};
+ghost use Rattle.std.specs.Map.Iter.{deref_pair};
 ghost use Rattle.moka_base.specs.Keys.{keys_by};
 ghost use Rattle.moka_sketch.specs.Enabling.{enables_sketch, expected_entries};
 ghost use Rattle.moka_base.specs.Settings.{keeps_writes};
 ghost use Rattle.moka_unsync.specs.Builder.{new_builder};
 ghost use Rattle.moka_machine.specs.CacheState.{new_cache};
 ghost use Rattle.moka_machine.specs.Contents.{entry_at, total_weight, weighted_size};
-ghost use Rattle.moka_machine.specs.Lookup.{after_get, after_look, found_by_get, is_contained};
+ghost use Rattle.moka_machine.specs.Lookup.{after_get, after_look, found_by_get, found_by_peek, is_contained};
+ghost use Rattle.moka_machine.specs.GetOrInsert.{IsGotOrInserted, IsRefusedBehind};
 ghost use Rattle.moka_machine.specs.Insert.{IsInserted, IsRefused, after_asking};
 ghost use Rattle.moka_machine.specs.Invalidate.{AnswersInTurn, after_invalidate, after_invalidate_all, after_invalidate_if};
-ghost use Rattle.moka_machine.specs.Iterate.{pairs_at};
+ghost use Rattle.moka_machine.specs.Iterate.{pair_behind, pairs_at};
 ghost use Rattle.moka_machine.specs.Window.{windowed_limit};
 ghost use Rattle.moka_store.specs.Store.{entries_of};
 ghost use Rattle.moka_store.specs.Turns.{contents_of};
@@ -33,6 +36,7 @@ use moka_store::admit::admit;
 use moka_store::expire::{is_expired, upkeep};
 use moka_store::invalidate::{clear, remove_key, remove_where, take_key};
 use moka_store::store::Store;
+use moka_store::walk::next_unexpired;
 use moka_store::window::{enter_window, windowed_limit};
 use std::alloc::{Allocator, Global};
 use std::hash::{BuildHasher, Hash};
@@ -258,8 +262,20 @@ impl<
         ensures value { option_copied result
             ≡ found_by_get (keys_by K.Hash S.BuildHasher S.Hasher.Hasher) self.old key.now now }
     {
-        upkeep(&mut self.store, &self.limits, now);
         let hash = self.hash_state.hash_one(key);
+        self.get_hashed(key, hash, now)
+    }
+
+    /// The value of the key, whose hash it is, as `get` answers it.
+    fn get_hashed(&mut self, key: &K, hash: u64, now: Instant) -> Option<&V>
+        requires { hash ≡ (keys_by K.Hash S.BuildHasher S.Hasher.Hasher).hash_of self.old.settings.hash_state key.now }
+        ensures* step { sem 𝓛 (ends_as K.row V.row S.row W.row A.row S.Hasher.row
+            K.Hash S.BuildHasher S.Hasher.Hasher A.Allocator A.Clone self.entry
+            (after_get (keys_by K.Hash S.BuildHasher S.Hasher.Hasher) self.old key.now now)) }
+        ensures value { option_copied result
+            ≡ found_by_get (keys_by K.Hash S.BuildHasher S.Hasher.Hasher) self.old key.now now }
+    {
+        upkeep(&mut self.store, &self.limits, now);
         self.sketch.increment(hash);
         let id = self.store.find(key, hash)?;
         if is_expired(&self.limits, self.store.get(id), now) {
@@ -267,6 +283,21 @@ impl<
         }
         self.store.touch(id, now);
         Some(&self.store.get(id).value)
+    }
+
+    /// The value of the key, if it has an unexpired entry. It is no use of it, the key is not counted, and nothing is removed: so what a `get` would first
+    /// remove for the limit is still found. It takes constant time on average.
+    pub fn peek(&self, key: &K, now: Instant) -> Option<&V>
+        ensures { option_copied result
+            ≡ found_by_peek (keys_by K.Hash S.BuildHasher S.Hasher.Hasher) self.now key.now now }
+    {
+        let hash = self.hash_state.hash_one(key);
+        let id = self.store.find(key, hash)?;
+        let entry = self.store.get(id);
+        if is_expired(&self.limits, entry, now) {
+            return None;
+        }
+        Some(&entry.value)
     }
 
     /// Removes the entry of the key, if there is one. What was counted of the key stays.
@@ -327,6 +358,17 @@ impl<
         // There are at most `usize::MAX` entries to count.
         let _ = self.store.len();
         Iter::new(self.store.iter(), &self.limits, now)
+    }
+
+    /// The unexpired entry behind that of a key, in the order of `iter`: so a walk can be broken off, and go on from the last key that it met. The answer is
+    /// `None` where none is behind it, and where the key has no entry. It is no use of an entry, and takes constant time on average for each that it passes.
+    pub fn next_after(&self, key: &K, now: Instant) -> Option<(&K, &V)>
+        ensures { option_map deref_pair result
+            ≡ pair_behind (keys_by K.Hash S.BuildHasher S.Hasher.Hasher) self.now key.now now }
+    {
+        let hash = self.hash_state.hash_one(key);
+        let entry = next_unexpired(&self.store, &self.limits, key, hash, now)?;
+        Some((&entry.key, &entry.value))
     }
 
     /// Asks for the sketch's table, if the cache is at least half full and has none.
@@ -405,13 +447,33 @@ impl<
         ensures error { IfErr result (λ error. error ≡ InsertError.OutOfMemory) }
         ensures ready { W.ready self.new.weigher }
     {
+        let hash = self.hash_state.hash_one(&key);
+        self.insert_hashed(key, hash, value, now)
+    }
+
+    /// Puts the value at the key, whose hash it is, as `insert` does.
+    fn insert_hashed(
+        &mut self,
+        key: K,
+        hash: u64,
+        value: V,
+        now: Instant,
+    ) -> Result<(), InsertError>
+        requires hashed { hash ≡ (keys_by K.Hash S.BuildHasher S.Hasher.Hasher).hash_of self.old.settings.hash_state key }
+        requires ready { W.ready self.old.weigher }
+        ensures step { OnOk result (IsInserted (keys_by K.Hash S.BuildHasher S.Hasher.Hasher)
+            W.weighs self.old key value now self.new) }
+        ensures err { OnErr result (IsRefused self.old self.new) }
+        ensures error { IfErr result (λ error. error ≡ InsertError.OutOfMemory) }
+        ensures ready { W.ready self.new.weigher }
+    {
         let most = self.most_entries();
         if self.store.reserve(1, most).is_err() {
             return Err(InsertError::OutOfMemory);
         }
         upkeep(&mut self.store, &self.limits, now);
         let entry = Entry {
-            hash: self.hash_state.hash_one(&key),
+            hash,
             weight: self.weigher.weigh(&key, &value),
             key,
             value,
@@ -433,6 +495,62 @@ impl<
             }
         }
         Ok(())
+    }
+}
+
+impl<
+    K: Eq + Hash + Drop,
+    V: Clone + Drop,
+    S: BuildHasher + Drop,
+    W: Weigh<K, V> + Drop,
+    A: Allocator + Clone + Drop,
+> Cache<K, V, S, W, A> {
+    /// A clone of the key's value. Where the key has no unexpired entry, `make` is called, once, and what it gives is inserted, as by `insert`; it is
+    /// answered also where the admission policy rejects the entry. The key is counted, found or not, and its entry is used.
+    ///
+    /// ```
+    /// let square = cache.get_or_insert_with(7, now, || 7 * 7)?;
+    /// let found = cache.peek(&7, now).copied().unwrap_or(0);
+    /// ```
+    ///
+    /// It hashes the key once. Memory can be refused for the clone, or for room: then the key is counted and used, but nothing is inserted, and what was made
+    /// is dropped.
+    pub fn get_or_insert_with<F: FnOnce() -> V>(
+        &mut self,
+        key: K,
+        now: Instant,
+        make: F,
+    ) -> Result<V, InsertError>
+        requires ready { W.ready self.old.weigher }
+        requires make { F.IsAlwaysCallable make }
+        ensures ok { IfOk result (λ copy. (value : V) × V.is_clone value copy
+            × IsGotOrInserted (keys_by K.Hash S.BuildHasher S.Hasher.Hasher) self.old key now W.weighs (F.post make) value self.new) }
+        ensures err { OnErr result (((value : V) × (¬ (V.is_infallible value))
+            × (self.new ≡ after_get (keys_by K.Hash S.BuildHasher S.Hasher.Hasher) self.old key now))
+            ⊎ IsRefusedBehind (keys_by K.Hash S.BuildHasher S.Hasher.Hasher) self.old key now self.new) }
+        ensures error { IfErr result (λ error. error ≡ InsertError.OutOfMemory) }
+        ensures ready { W.ready self.new.weigher }
+    {
+        let hash = self.hash_state.hash_one(&key);
+        if let Some(found) = self.get_hashed(&key, hash, now) {
+            return copy_of(found);
+        }
+        let value = make();
+        let copy = copy_of(&value)?;
+        self.insert_hashed(key, hash, value, now)?;
+        Ok(copy)
+    }
+}
+
+/// A clone of a value.
+fn copy_of<V: Clone>(value: &V) -> Result<V, InsertError>
+    ensures ok { IfOk result (λ copy. V.is_clone value.now copy) }
+    ensures err { OnErr result (¬ (V.is_infallible value.now)) }
+    ensures error { IfErr result (λ error. error ≡ InsertError.OutOfMemory) }
+{
+    match value.clone() {
+        Ok(copy) => Ok(copy),
+        Err(_) => Err(InsertError::OutOfMemory),
     }
 }
 

@@ -19,6 +19,10 @@ pub enum Call<K: Drop, V: Drop, A: Allocator + Drop = Global> {
         key: K,
         now: Instant,
     },
+    Peek {
+        key: K,
+        now: Instant,
+    },
     Contains {
         key: K,
         now: Instant,
@@ -49,7 +53,7 @@ pub enum Reply<V: Drop, A: Allocator + Drop = Global> {
     Bool(bool),
     Done,
     Number(u64),
-    /// Memory was refused: for the room of an insert, which was not made then, or for one more owner of a found value, whose `get` is done.
+    /// Memory was refused: for the room of an insert, which was not made then, or for one more owner of a found value, whose `get` is done, or whose `peek`.
     OutOfMemory,
 }
 
@@ -108,6 +112,7 @@ fn reply_to<
 {
     match call {
         Call::Get { key, now } => try_clone(cache.get(&key, now)),
+        Call::Peek { key, now } => try_clone(cache.peek(&key, now)),
         Call::Contains { key, now } => Reply::Bool(cache.contains_key(&key, now)),
         Call::Insert { key, value, now } => match cache.insert(key, value, now) {
             Ok(()) => Reply::Done,

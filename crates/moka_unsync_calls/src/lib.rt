@@ -17,3 +17,5 @@ mod sketch;
 mod unsync;
 #[cfg(test)]
 mod unsync_insert;
+#[cfg(test)]
+mod unsync_looks;

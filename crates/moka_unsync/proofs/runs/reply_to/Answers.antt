@@ -1,7 +1,7 @@
 use Rattle.std.proofs.Common.{ap, refl, subst}
 use Rattle.moka_base.specs.Keys.{Keys, keys_by}
 use Rattle.moka_unsync.specs.declared.runs.Call.TheVariants as call
-use Rattle.moka_machine.specs.Lookup.{found_by_get}
+use Rattle.moka_machine.specs.Lookup.{found_by_get, found_by_peek}
 use Rattle.moka_unsync.specs.Runs.{TellsFound}
 use Rattle.moka_machine.specs.Step.{Found, Truth, Number}
 use Rattle.moka_unsync.proofs.RunLemmas.{stepped}
@@ -17,6 +17,12 @@ returns-in-Get-clause-step g c =
     stepped (keys g) g.W.Weigh.weighs c.args.cache.now c.get.follows.lender-at-none c.try_clone.result c.args.call
     (call.Get c.in-Get.key c.in-Get.now) (Found (found_by_get (keys g) c.args.cache.now c.in-Get.key c.in-Get.now)) c.in-Get.is
     (refl, c.get.follows.holds-at-none) (subst (λ found. TellsFound found c.try_clone.result) c.get.ensures.value c.try_clone.ensures)
+
+pub returns-in-Peek-clause-step : goal.returns-in-Peek-clause-step
+returns-in-Peek-clause-step g c =
+    stepped (keys g) g.W.Weigh.weighs c.args.cache.now c.args.cache.now c.try_clone-in-Peek.result c.args.call
+    (call.Peek c.in-Peek.key c.in-Peek.now) (Found (found_by_peek (keys g) c.args.cache.now c.in-Peek.key c.in-Peek.now)) c.in-Peek.is
+    (refl, refl) (subst (λ found. TellsFound found c.try_clone-in-Peek.result) c.peek.ensures c.try_clone-in-Peek.ensures)
 
 pub returns-in-Contains-clause-step : goal.returns-in-Contains-clause-step
 returns-in-Contains-clause-step g c =

@@ -1,4 +1,4 @@
-use Rattle.std.proofs.Common.{◌≡◌, ◌∙◌, ap, is_some, nat_eq, subst, sym, refl}
+use Rattle.std.proofs.Common.{◌≡◌, ◌∙◌, ap, is_some, nat_eq, subst, sym}
 use Rattle.std.specs.Map.{remove_entry}
 use Rattle.moka_store.specs.Nodes.{first_windowed, updated, with_latest_node}
 use Rattle.moka_store.proofs.FindLemmas.{lookup-set_same}

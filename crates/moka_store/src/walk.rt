@@ -1,0 +1,35 @@
+//! Steps from one entry of a store to the next.
+ghost use Rattle.std.specs.Prelude.{◌≡◌, option_copied};
+ghost use Rattle.moka_machine.specs.Iterate.{entries_behind, first_unexpired};
+ghost use Rattle.moka_store.specs.Store.{HasHash, entries_of};
+
+use crate::expire::is_expired;
+use crate::store::Store;
+use moka_base::limits::Limits;
+use moka_base::time::Instant;
+use moka_machine::entry::Entry;
+use std::alloc::Allocator;
+
+/// The first unexpired entry behind that of this key, whose hash it is.
+pub fn next_unexpired<'a, K: Eq + Drop, V: Drop, A: Allocator + Clone + Drop>(
+    store: &'a Store<K, V, A>,
+    limits: &Limits,
+    key: &K,
+    hash: u64,
+    now: Instant,
+) -> Option<&'a Entry<K, V>>
+    requires { HasHash K.eq store.now key.now hash }
+    ensures { option_copied result ≡ first_unexpired limits.now now (entries_behind K.eq key.now (entries_of store.now)) }
+{
+    // No key stands twice.
+    let _ = store.len();
+    let mut here = store.next(store.find(key, hash)?);
+    while let Some(id) = here {
+        let entry = store.get(id);
+        if !is_expired(limits, entry, now) {
+            return Some(entry);
+        }
+        here = store.next(id);
+    }
+    None
+}
