@@ -1,5 +1,5 @@
 -- How a call on a handle of bytes tells what the call of its cache answers.
-use Rattle.std.specs.Prelude.{◌≡◌, ◌⊎◌, ◌&&◌, ℕ, List, length, nat_le, Option, Some, None, option_map, if◌then◌else◌}
+use Rattle.std.specs.Prelude.{◌≡◌, ◌⊎◌, ◌&&◌, ℕ, List, is_some, length, nat_le, Option, Some, None, option_map, if◌then◌else◌}
 use Rattle.moka_unsync.specs.Insert.{IsInserted}
 use Rattle.moka_unsync.specs.Invalidate.{after_invalidate}
 use Rattle.moka_unsync.specs.Lookup.{after_get, after_look, found_by_get, found_by_peek, is_contained}
@@ -9,13 +9,14 @@ use Rattle.moka_bytes.specs.ByteKeys.{byte_keys, byte_weighs}
 use Rattle.moka_bytes.specs.declared.walk.Step.{Step}
 use Rattle.moka_bytes.specs.declared.walk.Step.TheVariants as step
 use Rattle.moka_bytes.specs.Walk.{BytePair, fitting, met_after, next_pair, step_of, walk_after}
-use Rattle.moka_bytes.specs.Statistics.{with_calls, with_insert}
+use Rattle.moka_bytes.specs.Statistics.{with_calls, with_get, with_insert}
 use Rattle.mini_moka_c.specs.declared.constants.TheConstants.{ABSENT, CHANGED, DONE, OUT_OF_MEMORY, TOO_SHORT}
 use Rattle.mini_moka_c.specs.Calls.{TellsLength, TellsTruth}
 
--- memory was refused, and all entries are as they were
+-- memory was refused, all entries are as they were, and nothing is counted
 abbrev pub TellsRefusal : ℕ → ByteCache → ByteCache → Type 0
-TellsRefusal status old new = (status ≡ OUT_OF_MEMORY) × (new.cache ≡ record old.cache { capacity = new.cache.capacity })
+TellsRefusal status old new =
+    (status ≡ OUT_OF_MEMORY) × (new.cache ≡ record old.cache { capacity = new.cache.capacity }) × (new.statistics ≡ old.statistics)
 
 -- the pair went in, and is counted; or memory was refused
 abbrev pub TellsBytesInsert : List ℕ → List ℕ → ℕ → ℕ → ByteCache → ByteCache → Type 0
@@ -33,7 +34,8 @@ TellsBytesFound found buffer status filled written =
 abbrev pub TellsBytesGet : List ℕ → ℕ → List ℕ → ℕ → List ℕ → ℕ → ByteCache → ByteCache → Type 0
 TellsBytesGet key now buffer status filled written old new =
     (TellsBytesFound (found_by_get byte_keys old.cache key now) buffer status filled written
-    × (new.cache ≡ after_get byte_keys old.cache key now))
+    × (new.cache ≡ after_get byte_keys old.cache key now)
+    × (new.statistics ≡ with_calls (with_get (is_some (found_by_get byte_keys old.cache key now))) old.cache new.cache old.statistics))
     ⊎ TellsRefusal status old new
 
 -- what a peek finds
@@ -45,7 +47,8 @@ TellsBytesPeek key now buffer status filled written old new =
 -- yes or no
 abbrev pub TellsBytesLook : List ℕ → ℕ → ℕ → ByteCache → ByteCache → Type 0
 TellsBytesLook key now status old new =
-    (TellsTruth (is_contained byte_keys old.cache key now) status × (new.cache ≡ after_look byte_keys old.cache now))
+    (TellsTruth (is_contained byte_keys old.cache key now) status × (new.cache ≡ after_look byte_keys old.cache now)
+    × (new.statistics ≡ with_calls (λ counts. counts) old.cache new.cache old.statistics))
     ⊎ TellsRefusal status old new
 
 -- what a removal finds, unless it is longer than the buffer and stays

@@ -1,5 +1,5 @@
 //! A cache of bytes.
-ghost use Rattle.std.specs.Prelude.{◌≡◌, length, nat_le, IfErr, IfOk, None, OnErr, OnOk, option_copied, option_map};
+ghost use Rattle.std.specs.Prelude.{◌≡◌, length, nat_le, IfErr, IfOk, is_some, None, OnErr, OnOk, option_copied, option_map};
 ghost use Rattle.std.specs.Map.Iter.{deref_pair};
 ghost use Rattle.moka_unsync.specs.Builder.{IsBuilt, refusal_of};
 ghost use Rattle.moka_unsync.specs.Insert.{IsInserted};
@@ -90,7 +90,9 @@ impl ByteCache {
         ensures value { IfOk result (λ found. found ≡ option_map length (found_by_get byte_keys self.old.cache key.now now)) }
         ensures copied { OnOk result (buffer.new ≡ copied_to buffer.old (found_by_get byte_keys self.old.cache key.now now)) }
         ensures step { OnOk result (self.new.cache ≡ after_get byte_keys self.old.cache key.now now) }
-        ensures refused { OnErr result ((self.new.cache ≡ self.old.cache) × (buffer.new ≡ buffer.old)) }
+        ensures counts { OnOk result (self.new.statistics
+            ≡ with_calls (with_get (is_some (found_by_get byte_keys self.old.cache key.now now))) self.old.cache self.new.cache self.old.statistics) }
+        ensures refused { OnErr result ((self.new ≡ self.old) × (buffer.new ≡ buffer.old)) }
     {
         self.sought.set(key)?;
         self.walk = Walk::Ended;
@@ -122,7 +124,8 @@ impl ByteCache {
     pub fn contains(&mut self, key: &[u8], now: Instant) -> Result<bool, OutOfMemory>
         ensures value { IfOk result (λ there. there ≡ is_contained byte_keys self.old.cache key.now now) }
         ensures step { OnOk result (self.new.cache ≡ after_look byte_keys self.old.cache now) }
-        ensures refused { OnErr result (self.new.cache ≡ self.old.cache) }
+        ensures counts { OnOk result (self.new.statistics ≡ with_calls (λ counts. counts) self.old.cache self.new.cache self.old.statistics) }
+        ensures refused { OnErr result (self.new ≡ self.old) }
     {
         self.sought.set(key)?;
         self.walk = Walk::Ended;
