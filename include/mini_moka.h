@@ -125,7 +125,7 @@ uint32_t mini_moka_u64_contains(struct mini_moka *handle, uint64_t key, uint64_t
 uint32_t mini_moka_u64_remove(struct mini_moka *handle, uint64_t key, uint64_t now, uint64_t *value);
 uint32_t mini_moka_u64_invalidate(struct mini_moka *handle, uint64_t key, uint64_t now);
 
-/* A get, and where it finds nothing an insert of `otherwise`. What is written is the value that was found, or `otherwise`, also where its entry was rejected. */
+/* A get, and where it finds nothing an insert of `otherwise`. It writes the value that was found, or `otherwise`, also where its entry was rejected. */
 uint32_t mini_moka_u64_get_or_insert(struct mini_moka *handle, uint64_t key, uint64_t otherwise, uint64_t now, uint64_t *value);
 
 /* ---- either kind */

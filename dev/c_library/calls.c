@@ -157,7 +157,8 @@ static void walks_meet_each_entry(void) {
     CHECK(mini_moka_open(&cache, &settings) == MINI_MOKA_DONE);
     CHECK(walk_on(&cache, 0, text) == MINI_MOKA_CHANGED);
     CHECK(mini_moka_walk(&cache) == MINI_MOKA_DONE && walk_on(&cache, 0, text) == MINI_MOKA_ABSENT);
-    CHECK(insert(&cache, "a", "apple", 1) == MINI_MOKA_DONE && insert(&cache, "b", "", 0) == MINI_MOKA_DONE && insert(&cache, "", "nothing", 1) == MINI_MOKA_DONE);
+    CHECK(insert(&cache, "a", "apple", 1) == MINI_MOKA_DONE && insert(&cache, "b", "", 0) == MINI_MOKA_DONE);
+    CHECK(insert(&cache, "", "nothing", 1) == MINI_MOKA_DONE);
     CHECK(walk_on(&cache, 1, text) == MINI_MOKA_CHANGED && text[0] == 0);
     CHECK(finds(mini_moka_get, &cache, "a", 1, MINI_MOKA_DONE, "apple") && mini_moka_walk(&cache) == MINI_MOKA_DONE);
     while (walk_on(&cache, 1, text) == MINI_MOKA_DONE)

@@ -2,8 +2,8 @@
  * Random calls of include/mini_moka.h beside a plain model: fuzz CALLS SEED. Keys and values of bytes have 0 to 4096; now and then memory is refused in the
  * middle of a call. It is linked with --wrap for malloc and realloc. It names the first difference, and fails then.
  *
- * Without a capacity the model knows what each call has to answer. With one it doesn't know which entries have left, so a look-up may find nothing; what is found
- * has to be the value that was written last, and unexpired, and the capacity has to hold.
+ * Without a capacity the model knows what each call has to answer. With one it doesn't know which entries have left, so a look-up may find nothing; what is
+ * found has to be the value that was written last, and unexpired, and the capacity has to hold.
  */
 #include "mini_moka.h"
 #include <inttypes.h>
@@ -150,12 +150,16 @@ static uint32_t look_up(struct model *model, bytes_call *bytes, numbers_call *nu
 
 static uint32_t contains(struct model *model, uint64_t key) {
     static uint8_t key_at[LONGEST];
-    return model->is_bytes ? mini_moka_contains(&model->cache, key_at, key_bytes(key_at, key), model->now) : mini_moka_u64_contains(&model->cache, key, model->now);
+    if (!model->is_bytes)
+        return mini_moka_u64_contains(&model->cache, key, model->now);
+    return mini_moka_contains(&model->cache, key_at, key_bytes(key_at, key), model->now);
 }
 
 static uint32_t invalidate(struct model *model, uint64_t key) {
     static uint8_t key_at[LONGEST];
-    return model->is_bytes ? mini_moka_invalidate(&model->cache, key_at, key_bytes(key_at, key), model->now) : mini_moka_u64_invalidate(&model->cache, key, model->now);
+    if (!model->is_bytes)
+        return mini_moka_u64_invalidate(&model->cache, key, model->now);
+    return mini_moka_invalidate(&model->cache, key_at, key_bytes(key_at, key), model->now);
 }
 
 /* ---- each call beside the model */
@@ -292,7 +296,8 @@ static void play_walk(struct model *model) {
         is_met[number] = true;
         met++;
         require(key_length == key_bytes(wanted_key, number) && memcmp(key, wanted_key, key_length) == 0, "another key was met");
-        require(value_length == fill(wanted, value_number(number, model->keys[number].version)) && memcmp(value, wanted, value_length) == 0, "another value was met");
+        size_t wanted_length = fill(wanted, value_number(number, model->keys[number].version));
+        require(value_length == wanted_length && memcmp(value, wanted, value_length) == 0, "another value was met");
     } while (status == MINI_MOKA_DONE);
     require(status == MINI_MOKA_ABSENT, "a walk has no end");
     for (size_t i = 0; i < KEYS; i++)
@@ -305,9 +310,15 @@ static void play_walk(struct model *model) {
 static void play_call(struct model *model) {
     uint64_t key = below(KEYS);
     unsigned dice = (unsigned)below(1000);
-    call = dice < 350 ? 0 : dice < 700 ? 1 : dice < 760 ? 2 : dice < 820 ? 3 : dice < 870 ? 4 : dice < 900 ? 5 : dice < 970 ? 6 : dice < 971 ? 7 : dice < 998 || !model->is_bytes ? 8 : 9;
+    /* Which call is made below which throw of the dice, of a thousand. */
+    static const unsigned below_it[] = {350, 700, 760, 820, 870, 900, 970, 971, 998, 1000};
+    for (call = 0; dice >= below_it[call];)
+        call++;
+    /* Bytes have no get or insert, and numbers no walk. */
     if (call == 6 && model->is_bytes)
         call = 1;
+    if (call == 9 && !model->is_bytes)
+        call = 8;
     calls_made++;
     model->now += below(8) == 0 ? below(50) : 0;
     was_refused = false;

@@ -1,6 +1,7 @@
 // The calls of a cache of bytes. Each takes the cache out of its handle, makes one call of it, and puts it back.
 ghost use Rattle.std.specs.Prelude.{◌≡◌, ◌≢◌, IfSome, MatchResult};
-ghost use Rattle.mini_moka_c.specs.ByteCalls.{TellsBytesGet, TellsBytesInsert, TellsBytesLook, TellsBytesPeek, TellsBytesRemove, TellsInvalidate, TellsStep, TellsWalk};
+ghost use Rattle.mini_moka_c.specs.ByteCalls.{TellsBytesGet, TellsBytesInsert, TellsBytesLook, TellsBytesPeek, TellsBytesRemove};
+ghost use Rattle.mini_moka_c.specs.ByteCalls.{TellsInvalidate, TellsStep, TellsWalk};
 ghost use Rattle.moka_bytes.specs.declared.walk.Walk.TheVariants.{AtStart};
 ghost use Rattle.mini_moka_c.specs.Calls.{OnBytes, OnOpen, TellsLength};
 ghost use Rattle.mini_moka_c.specs.Opening.{IsBytesKept, IsOpening};

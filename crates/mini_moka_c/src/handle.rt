@@ -8,8 +8,8 @@
 // | `Handle`, open | the same, at `Kept` |
 // | `Handle`, closed | nothing, whatever its pointer is, so one of zeros is a closed handle |
 //
-// `closed`, `open` and `into_loose` make a handle and take it apart, and are proved by hand; so are `of` and `into_box` of a `Loose`. `take` and `put`, by which
-// every call has the cache, are ordinary code.
+// `closed`, `open` and `into_loose` make a handle and take it apart, and are proved by hand; so are `of` and `into_box` of a `Loose`. `take` and `put`, by
+// which every call has the cache, are ordinary code.
 
 ghost use Rattle.std.specs.Prelude.{◌≡◌};
 ghost use Rattle.std.specs.Option.{MatchOption};
@@ -110,3 +110,10 @@ impl Handle {
         }
     }
 }
+
+/// What a handle keeps may go from thread to thread, one call at a time.
+pub(crate) fn keeps_what_may_be_sent() {
+    may_be_sent::<Kept>();
+}
+
+fn may_be_sent<T: Send>() {}

@@ -151,8 +151,8 @@ fn peek(kept: &Kept, key: u64, now: u64, value: &mut u64) -> u32
     }
 }
 
-/// Looks the key up as `mini_moka_u64_get` does, and where it finds nothing inserts the value at it. What is written is what the key has then, or had, also where
-/// the new entry was rejected.
+/// Looks the key up as `mini_moka_u64_get` does, and where it finds nothing inserts `otherwise` at it. What is written is the value that was found, or
+/// `otherwise`, also where the new entry was rejected.
 #[unsafe(no_mangle)]
 pub extern "C" fn mini_moka_u64_get_or_insert(
     alloc: Global,
