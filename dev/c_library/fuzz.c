@@ -70,6 +70,7 @@ struct model {
     uint64_t capacity, time_to_live, time_to_idle, now, versions;
     struct known keys[KEYS];
     uint64_t hits, misses, inserts;
+    size_t longest_key; /* of those that were looked up, for which the handle has memory */
 };
 
 static const char *calls[] = {"insert", "get", "peek", "contains", "remove", "invalidate", "get or insert", "invalidate all", "counts", "walk", "open"};
@@ -183,6 +184,19 @@ static void meet(struct model *model, struct known *key, uint32_t status) {
         key->is_there = false;
 }
 
+/* The same of a look-up of a key, which may ask for memory only where the key is longer than all before it. */
+static bool is_look_up_refused(struct model *model, uint64_t key, uint32_t status) {
+    static uint8_t key_at[LONGEST];
+    size_t length = model->is_bytes ? key_bytes(key_at, key) : 0;
+    if (is_refused(status)) {
+        require(length > model->longest_key, "a look-up asked for memory that it had");
+        return true;
+    }
+    if (length > model->longest_key)
+        model->longest_key = length;
+    return false;
+}
+
 static void write_down(struct model *model, struct known *key, uint64_t version) {
     *key = (struct known){true, version, model->now, model->now};
 }
@@ -200,7 +214,7 @@ static void play_insert(struct model *model, uint64_t key) {
 static void play_look_up(struct model *model, uint64_t key) {
     bool is_get = call == 1;
     uint32_t status = is_get ? look_up(model, mini_moka_get, mini_moka_u64_get, key) : look_up(model, mini_moka_peek, mini_moka_u64_peek, key);
-    if (is_refused(status))
+    if (is_look_up_refused(model, key, status))
         return;
     meet(model, &model->keys[key], status);
     if (is_get && is_found(status)) {
@@ -213,13 +227,13 @@ static void play_look_up(struct model *model, uint64_t key) {
 
 static void play_contains(struct model *model, uint64_t key) {
     uint32_t status = contains(model, key);
-    if (!is_refused(status))
+    if (!is_look_up_refused(model, key, status))
         meet(model, &model->keys[key], status);
 }
 
 static void play_remove(struct model *model, uint64_t key) {
     uint32_t status = look_up(model, mini_moka_remove, mini_moka_u64_remove, key);
-    if (is_refused(status))
+    if (is_look_up_refused(model, key, status))
         return;
     meet(model, &model->keys[key], status);
     if (status == MINI_MOKA_DONE)
@@ -228,7 +242,7 @@ static void play_remove(struct model *model, uint64_t key) {
 
 static void play_invalidate(struct model *model, uint64_t key) {
     uint32_t status = invalidate(model, key);
-    if (is_refused(status))
+    if (is_look_up_refused(model, key, status))
         return;
     require(status == MINI_MOKA_DONE, "an invalidation was not made");
     model->keys[key].is_there = false;

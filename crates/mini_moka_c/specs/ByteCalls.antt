@@ -1,5 +1,5 @@
 -- How a call on a handle of bytes tells what the call of its cache answers.
-use Rattle.std.specs.Prelude.{◌≡◌, ◌⊎◌, ◌&&◌, ℕ, List, is_some, length, nat_le, Option, Some, None, option_map, if◌then◌else◌}
+use Rattle.std.specs.Prelude.{◌≡◌, ◌⊎◌, ◌&&◌, ℕ, List, is_some, length, nat_le, Option, option_map, if◌then◌else◌}
 use Rattle.moka_unsync.specs.Insert.{IsInserted}
 use Rattle.moka_unsync.specs.Invalidate.{after_invalidate}
 use Rattle.moka_unsync.specs.Lookup.{after_get, after_look, found_by_get, found_by_peek, is_contained}
@@ -7,6 +7,7 @@ use Rattle.moka_bytes.specs.declared.cache.ByteCache.{ByteCache}
 use Rattle.moka_bytes.specs.Buffer.{IsTaken, copied_to}
 use Rattle.moka_bytes.specs.ByteKeys.{byte_keys, byte_weighs}
 use Rattle.moka_bytes.specs.declared.walk.Step.{Step}
+use Rattle.moka_bytes.specs.declared.walk.Walk.TheVariants.{Ended}
 use Rattle.moka_bytes.specs.declared.walk.Step.TheVariants as step
 use Rattle.moka_bytes.specs.Walk.{BytePair, fitting, met_after, next_pair, step_of, walk_after}
 use Rattle.moka_bytes.specs.Statistics.{with_calls, with_get, with_insert}
@@ -22,10 +23,10 @@ TellsRefusal status old new =
 abbrev pub TellsBytesInsert : List ℕ → List ℕ → ℕ → ℕ → ByteCache → ByteCache → Type 0
 TellsBytesInsert key value now status old new =
     ((status ≡ DONE) × IsInserted byte_keys byte_weighs old.cache key value now new.cache
-    × (new.statistics ≡ with_calls with_insert old.cache new.cache old.statistics))
+    × (new.statistics ≡ with_calls with_insert old.cache new.cache old.statistics) × (new.walk ≡ Ended))
     ⊎ TellsRefusal status old new
 
--- what was found is told by its length, and copied where the buffer is long enough; the cache is this then
+-- what was found is told by its length, and copied where the buffer is long enough
 abbrev pub TellsBytesFound : Option (List ℕ) → List ℕ → ℕ → List ℕ → ℕ → Type 0
 TellsBytesFound found buffer status filled written =
     TellsLength (option_map length found) (length buffer) status written × (filled ≡ copied_to buffer found)
@@ -35,32 +36,36 @@ abbrev pub TellsBytesGet : List ℕ → ℕ → List ℕ → ℕ → List ℕ �
 TellsBytesGet key now buffer status filled written old new =
     (TellsBytesFound (found_by_get byte_keys old.cache key now) buffer status filled written
     × (new.cache ≡ after_get byte_keys old.cache key now)
-    × (new.statistics ≡ with_calls (with_get (is_some (found_by_get byte_keys old.cache key now))) old.cache new.cache old.statistics))
+    × (new.statistics ≡ with_calls (with_get (is_some (found_by_get byte_keys old.cache key now))) old.cache new.cache old.statistics)
+    × (new.walk ≡ Ended))
     ⊎ TellsRefusal status old new
 
 -- what a peek finds
 abbrev pub TellsBytesPeek : List ℕ → ℕ → List ℕ → ℕ → List ℕ → ℕ → ByteCache → ByteCache → Type 0
 TellsBytesPeek key now buffer status filled written old new =
-    (TellsBytesFound (found_by_peek byte_keys old.cache key now) buffer status filled written × (new.cache ≡ old.cache))
+    (TellsBytesFound (found_by_peek byte_keys old.cache key now) buffer status filled written
+    × (new ≡ record old { sought = new.sought }))
     ⊎ TellsRefusal status old new
 
 -- yes or no
 abbrev pub TellsBytesLook : List ℕ → ℕ → ℕ → ByteCache → ByteCache → Type 0
 TellsBytesLook key now status old new =
     (TellsTruth (is_contained byte_keys old.cache key now) status × (new.cache ≡ after_look byte_keys old.cache now)
-    × (new.statistics ≡ with_calls (λ counts. counts) old.cache new.cache old.statistics))
+    × (new.statistics ≡ with_calls (λ counts. counts) old.cache new.cache old.statistics) × (new.walk ≡ Ended))
     ⊎ TellsRefusal status old new
 
 -- what a removal finds, unless it is longer than the buffer and stays
 abbrev pub TellsBytesRemove : List ℕ → ℕ → List ℕ → ℕ → List ℕ → ℕ → ByteCache → ByteCache → Type 0
 TellsBytesRemove key now buffer status filled written old new =
-    ((told : Option ℕ) × TellsLength told (length buffer) status written × IsTaken old.cache key now buffer new.cache filled told)
+    ((told : Option ℕ) × TellsLength told (length buffer) status written × IsTaken old.cache key now buffer new.cache filled told
+    × (new.statistics ≡ old.statistics) × (new.walk ≡ Ended))
     ⊎ TellsRefusal status old new
 
 -- the entry of the key left
 abbrev pub TellsInvalidate : List ℕ → ℕ → ℕ → ByteCache → ByteCache → Type 0
 TellsInvalidate key now status old new =
-    ((status ≡ DONE) × (new.cache ≡ after_invalidate byte_keys old.cache key now)) ⊎ TellsRefusal status old new
+    ((status ≡ DONE) × (new.cache ≡ after_invalidate byte_keys old.cache key now) × (new.statistics ≡ old.statistics) × (new.walk ≡ Ended))
+    ⊎ TellsRefusal status old new
 
 -- a walk has ended, each entry was met, or the lengths of the next one are written, and whether buffers of these lengths have it is told
 abbrev pub TellsStep : Step → ℕ → ℕ → ℕ → ℕ → ℕ → Type 0
@@ -78,6 +83,7 @@ pub record IsWalked (keys values filled_keys filled_values : List ℕ) (status k
   pub walk : new.walk ≡ walk_after old.walk (fitting next keys values)
   pub met : new.met ≡ met_after old.met (fitting next keys values)
   pub cache : new.cache ≡ old.cache
+  pub counts : new.statistics ≡ old.statistics
 
 abbrev pub TellsWalk : ℕ → List ℕ → List ℕ → ℕ → List ℕ → List ℕ → ℕ → ℕ → ByteCache → ByteCache → Type 0
 TellsWalk now keys values status filled_keys filled_values key value old new =

@@ -1,5 +1,5 @@
 -- How a call on a handle tells what the call of its cache answers.
-use Rattle.std.specs.Prelude.{◌≡◌, ◌⊎◌, ◌≢◌, ◌≤◌, ℕ, Bool, true, false, List, length, nat_le, Option, Some, None, if◌then◌else◌}
+use Rattle.std.specs.Prelude.{◌≡◌, ◌⊎◌, ℕ, Bool, true, false, length, nat_le, Option, Some, None, if◌then◌else◌}
 use Rattle.moka_common.specs.Weight.{unit_weighs}
 use Rattle.moka_unsync.specs.Contents.{weighted_size}
 use Rattle.moka_unsync.specs.GetOrInsert.{IsGotOrInserted, IsRefusedBehind}

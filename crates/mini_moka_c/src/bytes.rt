@@ -203,6 +203,7 @@ pub extern "C" fn mini_moka_remove(
 ) -> u32
     ensures step { OnOpen handle.old.value result handle.new.value
         (OnBytes result (TellsBytesRemove key.now now buffer.old result buffer.new length.new)) }
+    ensures buffer { result ≢ DONE → buffer.new ≡ buffer.old }
     ensures length { result ≢ DONE → result ≢ TOO_SHORT → length.new ≡ length.old }
 {
     match handle.take(alloc) {
@@ -217,6 +218,7 @@ pub extern "C" fn mini_moka_remove(
 
 fn remove(kept: &mut Kept, key: &[u8], now: u64, buffer: &mut [u8], length: &mut usize) -> u32
     ensures step { OnBytes result (TellsBytesRemove key.now now buffer.old result buffer.new length.new) kept.old kept.new }
+    ensures buffer { result ≢ DONE → buffer.new ≡ buffer.old }
     ensures length { result ≢ DONE → result ≢ TOO_SHORT → length.new ≡ length.old }
 {
     match kept {
@@ -302,6 +304,8 @@ pub extern "C" fn mini_moka_next(
 ) -> u32
     ensures step { OnOpen handle.old.value result handle.new.value
         (OnBytes result (TellsWalk now keys.old values.old result keys.new values.new key_length.new value_length.new)) }
+    ensures keys { result ≢ DONE → keys.new ≡ keys.old }
+    ensures values { result ≢ DONE → values.new ≡ values.old }
     ensures key { result ≢ DONE → result ≢ TOO_SHORT → key_length.new ≡ key_length.old }
     ensures value { result ≢ DONE → result ≢ TOO_SHORT → value_length.new ≡ value_length.old }
 {
@@ -324,6 +328,8 @@ fn next(
     value_length: &mut usize,
 ) -> u32
     ensures step { OnBytes result (TellsWalk now keys.old values.old result keys.new values.new key_length.new value_length.new) kept.old kept.new }
+    ensures keys { result ≢ DONE → keys.new ≡ keys.old }
+    ensures values { result ≢ DONE → values.new ≡ values.old }
     ensures key { result ≢ DONE → result ≢ TOO_SHORT → key_length.new ≡ key_length.old }
     ensures value { result ≢ DONE → result ≢ TOO_SHORT → value_length.new ≡ value_length.old }
 {

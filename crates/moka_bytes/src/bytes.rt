@@ -45,12 +45,13 @@ impl Bytes {
         })
     }
 
-    /// Makes these bytes of it. Where memory is refused it stays as it is.
+    /// Replaces the bytes by these. It allocates only for more than it ever had; where that is refused, it stays as it is.
     pub fn set(&mut self, items: &[u8]) -> Result<(), OutOfMemory>
         ensures ok { OnOk result (self.new ≡ items.now) }
         ensures err { OnErr result (self.new ≡ self.old) }
     {
-        self.items.reserve(items.len())?;
+        self.items
+            .reserve(items.len().saturating_sub(self.items.len()))?;
         self.items.clear();
         self.items.extend_from_slice(items)?;
         Ok(())

@@ -67,6 +67,7 @@ impl ByteCache {
         ensures step { OnOk result (IsInserted byte_keys byte_weighs self.old.cache key.now value.now now self.new.cache) }
         ensures counts { OnOk result (self.new.statistics
             ≡ with_calls with_insert self.old.cache self.new.cache self.old.statistics) }
+        ensures walk { OnOk result (self.new.walk ≡ Ended) }
         ensures refused { OnErr result (self.new.cache ≡ record self.old.cache { capacity = self.new.cache.capacity }) }
         ensures uncounted { OnErr result (self.new.statistics ≡ self.old.statistics) }
         ensures error { IfErr result (λ error. error ≡ InsertError.OutOfMemory) }
@@ -92,6 +93,7 @@ impl ByteCache {
         ensures step { OnOk result (self.new.cache ≡ after_get byte_keys self.old.cache key.now now) }
         ensures counts { OnOk result (self.new.statistics
             ≡ with_calls (with_get (is_some (found_by_get byte_keys self.old.cache key.now now))) self.old.cache self.new.cache self.old.statistics) }
+        ensures walk { OnOk result (self.new.walk ≡ Ended) }
         ensures refused { OnErr result ((self.new ≡ self.old) × (buffer.new ≡ buffer.old)) }
     {
         self.sought.set(key)?;
@@ -112,8 +114,7 @@ impl ByteCache {
     ) -> Result<Option<usize>, OutOfMemory>
         ensures value { IfOk result (λ found. found ≡ option_map length (found_by_peek byte_keys self.old.cache key.now now)) }
         ensures copied { OnOk result (buffer.new ≡ copied_to buffer.old (found_by_peek byte_keys self.old.cache key.now now)) }
-        ensures cache { self.new.cache ≡ self.old.cache }
-        ensures counts { self.new.statistics ≡ self.old.statistics }
+        ensures rest { self.new ≡ record self.old { sought = self.new.sought } }
         ensures refused { OnErr result (buffer.new ≡ buffer.old) }
     {
         self.sought.set(key)?;
@@ -125,6 +126,7 @@ impl ByteCache {
         ensures value { IfOk result (λ there. there ≡ is_contained byte_keys self.old.cache key.now now) }
         ensures step { OnOk result (self.new.cache ≡ after_look byte_keys self.old.cache now) }
         ensures counts { OnOk result (self.new.statistics ≡ with_calls (λ counts. counts) self.old.cache self.new.cache self.old.statistics) }
+        ensures walk { OnOk result (self.new.walk ≡ Ended) }
         ensures refused { OnErr result (self.new ≡ self.old) }
     {
         self.sought.set(key)?;
@@ -135,8 +137,8 @@ impl ByteCache {
         Ok(is_there)
     }
 
-    /// Removes the entry of the key, as `Cache::remove` does, and answers and copies its value as `get` does. A value that is longer than the buffer stays,
-    /// and only its length is told.
+    /// Removes the entry of the key, as `Cache::remove` does, and returns the length of its value, which it copies as `get` does. An entry whose value is
+    /// longer than the buffer stays.
     pub fn remove(
         &mut self,
         key: &[u8],
@@ -144,7 +146,8 @@ impl ByteCache {
         buffer: &mut [u8],
     ) -> Result<Option<usize>, OutOfMemory>
         ensures step { IfOk result (IsTaken self.old.cache key.now now buffer.old self.new.cache buffer.new) }
-        ensures refused { OnErr result ((self.new.cache ≡ self.old.cache) × (buffer.new ≡ buffer.old)) }
+        ensures walk { OnOk result (self.new.walk ≡ Ended) }
+        ensures refused { OnErr result ((self.new ≡ self.old) × (buffer.new ≡ buffer.old)) }
         ensures counts { self.new.statistics ≡ self.old.statistics }
     {
         self.sought.set(key)?;
@@ -162,7 +165,8 @@ impl ByteCache {
     /// Removes the entry of the key, if there is one.
     pub fn invalidate(&mut self, key: &[u8], now: Instant) -> Result<(), OutOfMemory>
         ensures step { OnOk result (self.new.cache ≡ after_invalidate byte_keys self.old.cache key.now now) }
-        ensures refused { OnErr result (self.new.cache ≡ self.old.cache) }
+        ensures walk { OnOk result (self.new.walk ≡ Ended) }
+        ensures refused { OnErr result (self.new ≡ self.old) }
         ensures counts { self.new.statistics ≡ self.old.statistics }
     {
         self.sought.set(key)?;
