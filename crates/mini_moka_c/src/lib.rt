@@ -8,3 +8,4 @@ pub mod constants;
 mod handle;
 mod numbers;
 mod settings;
+mod walk;

@@ -7,7 +7,7 @@ ghost use Rattle.mini_moka.specs.Common.Sketch.{after_increment, estimate};
 ghost use Rattle.mini_moka.specs.Unsync.CacheState.{new_cache};
 ghost use Rattle.mini_moka.specs.Unsync.History.{IsCurrent, Transition, exchanges};
 ghost use Rattle.mini_moka.specs.Unsync.Lookup.{is_contained};
-ghost use Rattle.mini_moka.specs.Unsync.Runs.{request_of};
+ghost use Rattle.mini_moka.specs.Unsync.Runs.{AreServed};
 ghost use Rattle.mini_moka.specs.Unsync.Iterate.{pairs_at};
 ghost use Rattle.mini_moka.specs.Sync.Consistent.{IsTrimmed};
 ghost use Rattle.mini_moka.specs.Sync.CoreCall.{IsAtRest, IsCall, entries_evicted};
@@ -112,8 +112,8 @@ pub fn is_found_after<
 ) -> Result<bool, OutOfMemory>
     requires ready { W.ready cache.old.weigher }
     requires built { cache.old ≡ new_cache cache.old.settings cache.old.weigher cache.old.capacity }
-    ensures { IfOk result (λ found. IsTrue found → (past : List (Transition K (Rc V Global) S W)) × (value : Rc V Global)
-        × (map (λ call. call.request) past ≡ reverse (map request_of calls.items))
+    ensures { IfOk result (λ found. IsTrue found → (past : List (Transition K (Rc V Global) S W)) × (value : Rc V Global) × (replies : _)
+        × AreServed calls.items (reverse (map (λ call. call.request) past)) (reverse (map (λ call. call.answer) past)) replies
         × IsCurrent (keys_by K.Hash S.BuildHasher S.Hasher.Hasher) cache.old.settings.policy now (exchanges past) key.now value) }
 {
     let _replies = unsync::run(alloc, cache, calls)?;

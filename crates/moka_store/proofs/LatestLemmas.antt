@@ -1,7 +1,7 @@
 -- Lemmas on a list of nodes with one more, the latest of its own.
 use Rattle.std.proofs.Common.{◌≡◌, ◌+◌, ℕ, suc, Bool, true, false, not, ◌&&◌, cond, nat_eq, List, [], ◌∷◌, ◌++◌, All, length, sum_by, Some, None}
 use Rattle.std.proofs.Common.{refl, sym, ap, ◌∙◌, inl, inr, arith}
-use Rattle.moka_deque.specs.Deque.{IsIn}
+use Rattle.moka_deque.specs.Deque.{IsIn, moved_to_back}
 use Rattle.std.proofs.lemmas.Bool.{cases_Bool, cond_both, cond-true, cond-false}
 use Rattle.std.proofs.lemmas.List.Elements.{All-from_recursion, recursion_from_All}
 use Rattle.std.proofs.lemmas.List.Sums.{sum_by-cons}
@@ -175,6 +175,14 @@ module _ {K V : Type 0} where
   pub pushed-at : (id : ℕ) (m : Node K V) (items : List (ℕ × Node K V)) → lookup (nat_eq id) items ≡ None
       → lookup (nat_eq id) (items ++ (id, m) ∷ []) ≡ Some m
   pushed-at id m items absent = lookup-push id id m items absent ∙ cond-true (nat_eq id id) _ _ (nat_eq-same id)
+
+  -- a node that was pushed is at the back already
+  pub pushed-last : (id : ℕ) (m : Node K V) (items : List (ℕ × Node K V)) → lookup (nat_eq id) items ≡ None
+      → items ++ (id, m) ∷ [] ≡ moved_to_back id (items ++ (id, m) ∷ [])
+  pushed-last id m items absent =
+      let all = items ++ (id, m) ∷ [] in
+      sym (ap (λ found. option_map_or (λ n. remove_entry (nat_eq id) all ++ (id, n) ∷ []) found all) (pushed-at id m items absent)
+      ∙ ap (λ l. l ++ (id, m) ∷ []) (removed-pushed id m items absent))
 
   pub relisted-pushed : (id : ℕ) (m : Node K V) (items : List (ℕ × Node K V)) → lookup (nat_eq id) items ≡ None
       → relisted (λ n. n) id (items ++ (id, m) ∷ []) ≡ with_latest_node (id, m) items

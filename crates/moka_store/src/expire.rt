@@ -16,7 +16,7 @@ use moka_machine::entry::Entry;
 use std::alloc::Allocator;
 
 /// What each call does first: expired entries leave, and entries above the limit.
-#[inline]
+#[inline(always)]
 pub fn upkeep<K: Eq + Drop, V: Drop, A: Allocator + Clone + Drop>(
     store: &mut Store<K, V, A>,
     limits: &Limits,
@@ -30,7 +30,7 @@ pub fn upkeep<K: Eq + Drop, V: Drop, A: Allocator + Clone + Drop>(
 }
 
 /// A batch leaves by time to live, and a batch by time to idle, where these are set.
-#[inline]
+#[inline(always)]
 fn expire<K: Eq + Drop, V: Drop, A: Allocator + Clone + Drop>(
     store: &mut Store<K, V, A>,
     limits: &Limits,
@@ -47,6 +47,7 @@ fn expire<K: Eq + Drop, V: Drop, A: Allocator + Clone + Drop>(
     }
 }
 
+#[inline(never)]
 fn expire_by_write<K: Eq + Drop, V: Drop, A: Allocator + Clone + Drop>(
     store: &mut Store<K, V, A>,
     limits: &Limits,
@@ -83,6 +84,7 @@ fn expire_oldest<K: Eq + Drop, V: Drop, A: Allocator + Clone + Drop>(
 }
 
 /// A batch of the window, and then one of main.
+#[inline(never)]
 fn expire_by_use<K: Eq + Drop, V: Drop, A: Allocator + Clone + Drop>(
     store: &mut Store<K, V, A>,
     limits: &Limits,

@@ -57,22 +57,32 @@ impl<K: Eq + Drop, V: Drop, A: Allocator + Clone + Drop> Store<K, V, A> {
 
     /// Makes room for `additional` more entries. Where there is too little, there is room for twice as many entries as before then, but for no
     /// more than `most` and no more than an index has ids for, or for those that are there and `additional`, if they are more.
-    #[inline]
+    #[inline(always)]
     pub fn reserve(&mut self, additional: usize, most: usize) -> Result<(), OutOfMemory>
         ensures ok { OnOk result (length self.new.nodes + additional ≤ self.new.capacity) }
         ensures had_room { 0 < additional → length self.old.nodes + additional ≤ self.old.capacity → IsOk result × (self.new ≡ self.old) }
         ensures unchanged { self.new ≡ record self.old { capacity = self.new.capacity; ids = self.new.ids } }
     {
+        if self.deques.len().saturating_add(additional) > self.deques.ids() {
+            return self.grow(additional, most);
+        }
+        self.deques.reserve_exact(additional)?;
+        index_all(&mut self.index, &self.deques, self.deques.ids())
+    }
+
+    /// Makes this room where there is too little. The index grows first, so that the lists are as they were where memory for it is refused.
+    #[cold]
+    #[inline(never)]
+    fn grow(&mut self, additional: usize, most: usize) -> Result<(), OutOfMemory>
+        requires { self.old.ids < length self.old.nodes + additional }
+        ensures ok { OnOk result (length self.new.nodes + additional ≤ self.new.capacity) }
+        ensures unchanged { self.new ≡ record self.old { capacity = self.new.capacity; ids = self.new.ids } }
+    {
         let (len, ids) = (self.deques.len(), self.deques.ids());
         let needed = len.saturating_add(additional);
-        let mut more = additional;
-        if needed > ids {
-            // The index grows first, so that the lists are as they were where memory for it is refused.
-            let target = needed.max(most.min(ids.saturating_mul(2)).min(MOST_IDS));
-            index_all(&mut self.index, &self.deques, target)?;
-            more = additional.max(target - len);
-        }
-        self.deques.reserve_exact(more)?;
+        let target = needed.max(most.min(ids.saturating_mul(2)).min(MOST_IDS));
+        index_all(&mut self.index, &self.deques, target)?;
+        self.deques.reserve_exact(additional.max(target - len))?;
         index_all(&mut self.index, &self.deques, self.deques.ids())
     }
 
@@ -245,7 +255,7 @@ impl<K: Eq + Drop, V: Drop, A: Allocator + Clone + Drop> Store<K, V, A> {
 }
 
 /// Makes room in the index for all ids below this number.
-#[inline]
+#[inline(always)]
 fn index_all<K: Eq + Drop, V: Drop, A: Allocator + Clone + Drop>(
     index: &mut HashIndex<A>,
     deques: &Deques<K, V, A>,
@@ -261,6 +271,23 @@ fn index_all<K: Eq + Drop, V: Drop, A: Allocator + Clone + Drop>(
     if ids <= index.ids() {
         return Ok(());
     }
+    rebuild(index, deques, ids)
+}
+
+/// Makes the index anew, with room for all ids below this number.
+#[cold]
+#[inline(never)]
+fn rebuild<K: Eq + Drop, V: Drop, A: Allocator + Clone + Drop>(
+    index: &mut HashIndex<A>,
+    deques: &Deques<K, V, A>,
+    ids: usize,
+) -> Result<(), OutOfMemory>
+    requires bound { deques.now.ids ≤ ids }
+    requires indexed { IsIndexed deques.now.nodes index.old }
+    ensures indexed { IsIndexed deques.now.nodes index.new }
+    ensures room { OnOk result (ids ≤ index.new.ids) }
+    ensures err { OnErr result (index.new ≡ index.old) }
+{
     index.clear_for(ids)?;
     add_all(index, deques);
     Ok(())

@@ -9,7 +9,7 @@ use moka_machine::constants::EVICTION_BATCH_SIZE;
 use std::alloc::Allocator;
 
 /// A batch leaves where the weight is above a limit.
-#[inline]
+#[inline(always)]
 pub fn trim<K: Eq + Drop, V: Drop, A: Allocator + Clone + Drop>(
     store: &mut Store<K, V, A>,
     limit: Option<u64>,
@@ -24,6 +24,7 @@ pub fn trim<K: Eq + Drop, V: Drop, A: Allocator + Clone + Drop>(
     }
 }
 
+#[inline(never)]
 fn trim_to<K: Eq + Drop, V: Drop, A: Allocator + Clone + Drop>(
     store: &mut Store<K, V, A>,
     limit: u64,

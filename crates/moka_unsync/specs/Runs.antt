@@ -1,5 +1,5 @@
 -- Calls as data: what each asks of the cache's machine, and which reply tells its answer.
-use Rattle.std.specs.Prelude.{◌≡◌, ◌⊎◌, List, [], ◌∷◌, Option, Some, None}
+use Rattle.std.specs.Prelude.{◌≡◌, ◌⊎◌, ◌++◌, ℕ, List, [], ◌∷◌, Option, Some, None}
 use Rattle.std.specs.declared.rc.Rc.{Rc}
 use Rattle.moka_unsync.specs.declared.runs.Call.{Call}
 use Rattle.moka_unsync.specs.declared.runs.Call.TheVariants as call
@@ -8,19 +8,24 @@ use Rattle.moka_unsync.specs.declared.runs.Reply.TheVariants as reply
 use Rattle.moka_machine.specs.Step.{Answer, Request, Get, Peek, ContainsKey, Insert, Invalidate, Remove, InvalidateAll}
 use Rattle.moka_machine.specs.Step.{EntryCount, WeightedSize, Found, Truth, Done, OutOfMemory, Pairs, Number}
 
--- a reply tells what a get found: it has one more owner of it, or that is refused
-abbrev pub TellsFound : {V A : Type 0} → Option (Rc V A) → Reply V A → Type 0
-TellsFound None told = told ≡ reply.Found None
-TellsFound {V = V} {A = A} (Some value) told =
-    (told ≡ reply.OutOfMemory) ⊎ ((copy : Rc V A) × (told ≡ reply.Found (Some copy)) × (copy.value ≡ value.value))
+module _ {V A : Type 0} where
+  -- a reply has one more owner of a value
+  abbrev pub HasOwner : Rc V A → Reply V A → Type 0
+  HasOwner value told = (copy : Rc V A) × (told ≡ reply.Found (Some copy)) × (copy.value ≡ value.value)
+
+  -- a reply tells what a get found: it has one more owner of it, or that is refused
+  abbrev pub TellsFound : Option (Rc V A) → Reply V A → Type 0
+  TellsFound None told = told ≡ reply.Found None
+  TellsFound (Some value) told = (told ≡ reply.OutOfMemory) ⊎ HasOwner value told
 
 module _ {K V A : Type 0} where
-  -- what a call asks
+  -- what a call asks: a get or insert at first a get
   abbrev pub request_of : Call K V A → Request K (Rc V A)
   request_of (call.Get key now) = Get key now
   request_of (call.Peek key now) = Peek key now
   request_of (call.Contains key now) = ContainsKey key now
   request_of (call.Insert key value now) = Insert key value now
+  request_of (call.GetOrInsert key value now) = Get key now
   request_of (call.Invalidate key now) = Invalidate key now
   request_of (call.Remove key now) = Remove key now
   request_of call.InvalidateAll = InvalidateAll
@@ -37,9 +42,30 @@ module _ {K V A : Type 0} where
   Tells request (Pairs pairs) told = ⊥
   Tells request (Number number) told = told ≡ reply.Number number
 
-  -- replies tell answers to requests, one by one
-  abbrev pub AllTell : List (Request K (Rc V A)) → List (Answer K (Rc V A)) → List (Reply V A) → Type 0
-  AllTell [] answers replies = replies ≡ []
-  AllTell (request ∷ requests) [] replies = ⊥
-  AllTell (request ∷ requests) (answer ∷ answers) replies =
-      (told : Reply V A) × (rest : List (Reply V A)) × (replies ≡ told ∷ rest) × Tells request answer told × AllTell requests answers rest
+  -- a get or insert is no more than a get: the reply has one more owner of what that found, or one is refused, of that or of the value at hand
+  abbrev pub IsGetAlone : K → ℕ → List (Request K (Rc V A)) → List (Answer K (Rc V A)) → Reply V A → Type 0
+  IsGetAlone key now asked answers told =
+      (found : Option (Rc V A)) × (asked ≡ Get key now ∷ []) × (answers ≡ Found found ∷ [])
+      × ((told ≡ reply.OutOfMemory) ⊎ ((value : Rc V A) × (found ≡ Some value) × HasOwner value told))
+
+  -- or the get finds nothing, and the value at hand is inserted, or refused its room
+  abbrev pub IsInsertBehind : K → Rc V A → ℕ → List (Request K (Rc V A)) → List (Answer K (Rc V A)) → Reply V A → Type 0
+  IsInsertBehind key value now asked answers told =
+      (asked ≡ Get key now ∷ Insert key value now ∷ [])
+      × (((answers ≡ Found None ∷ Done ∷ []) × HasOwner value told) ⊎ ((answers ≡ Found None ∷ OutOfMemory ∷ []) × (told ≡ reply.OutOfMemory)))
+
+  -- what a call asks of the machine, what is answered, and a reply that tells it: one request, but of a get or insert one or two
+  abbrev pub IsServed : Call K V A → List (Request K (Rc V A)) → List (Answer K (Rc V A)) → Reply V A → Type 0
+  IsServed (call.GetOrInsert key value now) asked answers told =
+      IsGetAlone key now asked answers told ⊎ IsInsertBehind key value now asked answers told
+  IsServed call asked answers told =
+      (answer : Answer K (Rc V A)) × (asked ≡ request_of call ∷ []) × (answers ≡ answer ∷ []) × Tells (request_of call) answer told
+
+  -- the same of a list of calls, one after another
+  abbrev pub AreServed : List (Call K V A) → List (Request K (Rc V A)) → List (Answer K (Rc V A)) → List (Reply V A) → Type 0
+  AreServed [] requests answers replies = (requests ≡ []) × (answers ≡ []) × (replies ≡ [])
+  AreServed (call ∷ calls) requests answers replies =
+      (asked : List (Request K (Rc V A))) × (answered : List (Answer K (Rc V A))) × (told : Reply V A)
+      × (later : List (Request K (Rc V A))) × (later_answers : List (Answer K (Rc V A))) × (rest : List (Reply V A))
+      × (requests ≡ asked ++ later) × (answers ≡ answered ++ later_answers) × (replies ≡ told ∷ rest)
+      × IsServed call asked answered told × AreServed calls later later_answers rest

@@ -1,8 +1,8 @@
 //! Calls as data, and lists of them made in turn.
-ghost use Rattle.std.specs.Prelude.{◌≡◌, List, map, option_copied, IfOk, OnErr};
+ghost use Rattle.std.specs.Prelude.{◌≡◌, List, option_copied, IfOk, OnErr};
 ghost use Rattle.moka_base.specs.Keys.{keys_by};
-ghost use Rattle.moka_unsync.specs.Runs.{AllTell, Tells, TellsFound, request_of};
-ghost use Rattle.moka_machine.specs.Step.{Answer, IsStep, Runs};
+ghost use Rattle.moka_unsync.specs.Runs.{AreServed, IsServed, TellsFound};
+ghost use Rattle.moka_machine.specs.Step.{Answer, Request, Runs};
 
 use crate::cache::Cache;
 use moka_base::error::OutOfMemory;
@@ -32,6 +32,12 @@ pub enum Call<K: Drop, V: Drop, A: Allocator + Drop = Global> {
         value: Rc<V, A>,
         now: Instant,
     },
+    /// As `get_or_insert_with`: the value is what is inserted where the key has none.
+    GetOrInsert {
+        key: K,
+        value: Rc<V, A>,
+        now: Instant,
+    },
     Invalidate {
         key: K,
         now: Instant,
@@ -53,7 +59,8 @@ pub enum Reply<V: Drop, A: Allocator + Drop = Global> {
     Bool(bool),
     Done,
     Number(u64),
-    /// Memory was refused: for the room of an insert, which was not made then, or for one more owner of a found value, whose `get` is done, or whose `peek`.
+    /// Memory was refused: for the room of an insert, which was not made then, or for one more owner of a value that was found, or of one at hand where
+    /// none was: the `get` or `peek` is done then, and nothing is inserted.
     OutOfMemory,
 }
 
@@ -83,9 +90,9 @@ pub fn run<
     calls: Vec<Call<K, V, A>, A>,
 ) -> Result<Vec<Reply<V, A>, A>, OutOfMemory>
     requires ready { W.ready cache.old.weigher }
-    ensures ok { IfOk result (λ replies. (answers : List (Answer K (Rc V A)))
-        × Runs (keys_by K.Hash S.BuildHasher S.Hasher.Hasher) W.weighs cache.old (map request_of calls.items) answers cache.new
-        × AllTell (map request_of calls.items) answers replies.items) }
+    ensures ok { IfOk result (λ replies. (requests : List (Request K (Rc V A))) × (answers : List (Answer K (Rc V A)))
+        × Runs (keys_by K.Hash S.BuildHasher S.Hasher.Hasher) W.weighs cache.old requests answers cache.new
+        × AreServed calls.items requests answers replies.items) }
     ensures err { OnErr result (cache.new ≡ cache.old) }
     ensures ready { W.ready cache.new.weigher }
 {
@@ -105,9 +112,9 @@ fn reply_to<
     A: Allocator + Clone + Drop,
 >(cache: &mut Cache<K, Rc<V, A>, S, W, A>, call: Call<K, V, A>) -> Reply<V, A>
     requires ready { W.ready cache.old.weigher }
-    ensures step { (answer : Answer K (Rc V A))
-        × IsStep (keys_by K.Hash S.BuildHasher S.Hasher.Hasher) W.weighs cache.old (request_of call) answer cache.new
-        × Tells (request_of call) answer result }
+    ensures step { (asked : List (Request K (Rc V A))) × (answers : List (Answer K (Rc V A)))
+        × Runs (keys_by K.Hash S.BuildHasher S.Hasher.Hasher) W.weighs cache.old asked answers cache.new
+        × IsServed call asked answers result }
     ensures ready { W.ready cache.new.weigher }
 {
     match call {
@@ -118,6 +125,12 @@ fn reply_to<
             Ok(()) => Reply::Done,
             Err(_) => Reply::OutOfMemory,
         },
+        Call::GetOrInsert { key, value, now } => {
+            match cache.get_or_insert_with(key, now, || value) {
+                Ok(copy) => Reply::Found(Some(copy)),
+                Err(_) => Reply::OutOfMemory,
+            }
+        }
         Call::Invalidate { key, now } => {
             cache.invalidate(&key, now);
             Reply::Done

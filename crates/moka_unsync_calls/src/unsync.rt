@@ -128,3 +128,41 @@ fn a_run_makes_two_thousand_calls(rt: HostRuntime) -> Result<(), Fail> {
     assert_eq!(rt; (replies.len(), are_well), (2100, true));
     Ok(())
 }
+
+/// A get or insert of 5 at key 1, of 6 there, and of 7 at key 2, which is then looked at; and a count.
+fn gets_or_inserts(alloc: Global) -> Result<Vec<Call<u64, u64>>, OutOfMemory> {
+    let now = start();
+    let mut calls = Vec::new(alloc);
+    for (key, number) in [(1, 5), (1, 6), (2, 7)] {
+        let Ok(value) = Rc::new(alloc, number) else {
+            return Err(OutOfMemory);
+        };
+        calls.push(Call::GetOrInsert { key, value, now })?;
+    }
+    calls.push(Call::Peek { key: 2, now })?;
+    calls.push(Call::EntryCount)?;
+    Ok(calls)
+}
+
+/// A reply as a number: a value that is told, 100 more than a count, and 1000 for any other.
+fn told(reply: &Reply<u64>) -> u64 {
+    match reply {
+        Reply::Found(Some(value)) => **value,
+        Reply::Number(number) => number.saturating_add(100),
+        _ => 1000,
+    }
+}
+
+// There is room for one entry. Key 2 is asked for as often as key 1, so its entry is rejected; what was at hand for it is told.
+#[test]
+fn a_run_gets_or_inserts(rt: HostRuntime) -> Result<(), Fail> {
+    let calls = gets_or_inserts(rt.alloc())?;
+    let mut cache: Cache<u64, Rc<u64>> = Cache::new(rt.alloc(), 1)?;
+    let replies = run(rt.alloc(), &mut cache, calls)?;
+    let mut numbers = [0u64; 5];
+    for (place, reply) in numbers.iter_mut().zip(&replies) {
+        *place = told(reply);
+    }
+    assert_eq!(rt; (replies.len(), numbers), (5, [5, 5, 7, 1000, 101]));
+    Ok(())
+}

@@ -1,4 +1,5 @@
 // Calls of the cache for one thread that no script makes: a peek, a get or insert, and a step of a walk.
+use moka_common::error::InsertError;
 use moka_common::time::Instant;
 use moka_refusals::{RefusingHeap, for_each_refusal};
 use moka_unsync::cache::Cache;
@@ -112,7 +113,7 @@ fn play(heap: &RefusingHeap<Global>) -> Result<(), &'static str> {
     let wanted = if heap.refused() == 0 {
         (Ok(49), 1)
     } else {
-        (made, 0)
+        (Err(InsertError::OutOfMemory), 0)
     };
     if (made, cache.entry_count()) == wanted {
         Ok(())

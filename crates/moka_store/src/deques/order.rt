@@ -2,7 +2,7 @@
 ghost use Rattle.std.specs.Prelude.{◌≡◌, ◌+◌, ◌<◌, ◌≤◌, ◌-◌, ℕ, [], length, nat_eq, IsOk, OnOk, None, Some};
 ghost use Rattle.std.specs.List.{IsDistinct};
 ghost use Rattle.std.specs.Map.{keys_of, lookup, remove_entry, set_value, values_of};
-ghost use Rattle.moka_deque.specs.Deque.{IsIn, first_id, next_id};
+ghost use Rattle.moka_deque.specs.Deque.{IsIn, first_id, moved_to_back, next_id};
 ghost use Rattle.moka_store.specs.Nodes.{IsArranged, first_windowed, promoted, relisted, touched, updated, with_latest_node};
 
 use crate::deques::Node;
@@ -128,7 +128,7 @@ impl<K: Drop, V: Drop, A: Allocator> UseOrder<K, V, A> {
         let _ = self.nodes.len();
         let in_window = node.entry.in_window;
         let id = self.nodes.push_reserved(node);
-        self.window = settle(&mut self.nodes, self.window, id, in_window);
+        self.window = settle_last(&mut self.nodes, self.window, id, in_window);
         id
     }
 
@@ -239,6 +239,34 @@ fn settle<K: Drop, V: Drop, A: Allocator>(
     } else {
         nodes.move_before(id, next);
     }
+    Some(next)
+}
+
+/// As `settle`, of a node that stands behind all others already.
+#[inline]
+fn settle_last<K: Drop, V: Drop, A: Allocator>(
+    nodes: &mut Chain<Node<K, V>, A>,
+    first: Option<NodeId>,
+    id: NodeId,
+    in_window: bool,
+) -> Option<NodeId>
+    requires here { (n : _) × (lookup (nat_eq id) nodes.old.items ≡ Some n) × (n.entry.in_window ≡ in_window) }
+    requires last { nodes.old.items ≡ moved_to_back id nodes.old.items }
+    requires first { first ≡ first_windowed (remove_entry (nat_eq id) nodes.old.items) }
+    ensures items { nodes.new.items ≡ relisted (λ n. n) id nodes.old.items }
+    ensures window { result ≡ first_windowed nodes.new.items }
+    ensures room { nodes.new.room ≡ nodes.old.room }
+    ensures unchanged { nodes.new ≡ record nodes.old { items = nodes.new.items } }
+{
+    // No node comes twice.
+    let _ = nodes.len();
+    let Some(next) = first else {
+        return in_window.then_some(id);
+    };
+    if in_window {
+        return Some(next);
+    }
+    nodes.move_before(id, next);
     Some(next)
 }
 
