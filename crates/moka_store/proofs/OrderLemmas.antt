@@ -117,6 +117,20 @@ module _ {K V : Type 0} where
             ]
       ]
 
+  -- and without a node of main it is the same
+  pub first-besides_main : (id : ℕ) (n : Node K V) (items : List (ℕ × Node K V)) → lookup (nat_eq id) items ≡ Some n → n.entry.in_window ≡ false
+      → first_windowed (remove_entry (nat_eq id) items) ≡ first_windowed items
+  first-besides_main id n [] h main = refl
+  first-besides_main id n (p ∷ items) h main =
+      elim (cases_Bool (nat_eq id p.0)) [
+        | inl same ↦
+            let is : p.1 ≡ n = some_parts p.1 n (sym (cond-true (nat_eq id p.0) (Some p.1) (lookup (nat_eq id) items) same) ∙ h) in
+            ap first_windowed (remove-same id p items same) ∙ sym (first-later p items (ap (λ m. m.entry.in_window) is ∙ main))
+        | inr other ↦
+            ap first_windowed (remove-other id p items other)
+            ∙ ap (λ rest. cond p.1.entry.in_window (Some p.0) rest) (first-besides_main id n items (sym (lookup-other id p items other) ∙ h) main)
+      ]
+
   -- and with no window there is none
   pub first-none : (id : ℕ) (items : List (ℕ × Node K V)) → first_windowed items ≡ None → first_windowed (remove_entry (nat_eq id) items) ≡ None
   first-none id [] h = refl

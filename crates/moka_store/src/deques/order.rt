@@ -1,5 +1,5 @@
 // The nodes of a cache's entries: those of main in order of use, least recent first, and behind them those of the window in theirs.
-ghost use Rattle.std.specs.Prelude.{◌≡◌, ◌+◌, ◌<◌, ◌≤◌, ◌-◌, ℕ, [], length, nat_eq, IsOk, OnOk, None, Some};
+ghost use Rattle.std.specs.Prelude.{◌≡◌, ◌+◌, ◌<◌, ◌≤◌, ◌-◌, ℕ, [], length, nat_eq, IsOk, OnOk, None, Some, false};
 ghost use Rattle.std.specs.List.{IsDistinct};
 ghost use Rattle.std.specs.Map.{keys_of, lookup, remove_entry, set_value, values_of};
 ghost use Rattle.moka_deque.specs.Deque.{IsIn, first_id, moved_to_back, next_id};
@@ -149,6 +149,24 @@ impl<K: Drop, V: Drop, A: Allocator> UseOrder<K, V, A> {
         ensures unchanged { self.new ≡ record self.old { items = self.new.items } }
         ensures distinct { IsDistinct nat_eq (keys_of self.old.items) }
     {
+        // No node comes twice.
+        let _ = self.nodes.len();
+        if self.nodes.get(id).entry.in_window {
+            self.touch_windowed(id, now);
+            return;
+        }
+        self.nodes.get_mut(id).entry.accessed = now;
+        settle_in_main(&mut self.nodes, self.window, id);
+    }
+
+    /// The same, of any entry: one of main by a longer way.
+    #[inline]
+    fn touch_windowed(&mut self, id: NodeId, now: Instant)
+        requires { IsIn self.old.items id }
+        ensures items { self.new.items ≡ relisted (touched now) id self.old.items }
+        ensures unchanged { self.new ≡ record self.old { items = self.new.items } }
+        ensures distinct { IsDistinct nat_eq (keys_of self.old.items) }
+    {
         let first = self.first_without(id);
         let node = self.nodes.get_mut(id);
         node.entry.accessed = now;
@@ -240,6 +258,28 @@ fn settle<K: Drop, V: Drop, A: Allocator>(
         nodes.move_before(id, next);
     }
     Some(next)
+}
+
+/// As `settle`, of a node of main, which leaves the first node of the window as it is.
+#[inline]
+fn settle_in_main<K: Drop, V: Drop, A: Allocator>(
+    nodes: &mut Chain<Node<K, V>, A>,
+    window: Option<NodeId>,
+    id: NodeId,
+)
+    requires here { (n : _) × (lookup (nat_eq id) nodes.old.items ≡ Some n) × (n.entry.in_window ≡ false) }
+    requires window { window ≡ first_windowed nodes.old.items }
+    ensures items { nodes.new.items ≡ relisted (λ n. n) id nodes.old.items }
+    ensures window { window ≡ first_windowed nodes.new.items }
+    ensures room { nodes.new.room ≡ nodes.old.room }
+    ensures unchanged { nodes.new ≡ record nodes.old { items = nodes.new.items } }
+{
+    // No node comes twice.
+    let _ = nodes.len();
+    match window {
+        Some(next) => nodes.move_before(id, next),
+        None => nodes.move_to_back(id),
+    }
 }
 
 /// As `settle`, of a node that stands behind all others already.

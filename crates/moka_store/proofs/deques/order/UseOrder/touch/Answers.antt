@@ -1,36 +1,35 @@
-use Rattle.std.proofs.Common.{◌≡◌, ◌∙◌, ap, is_some, nat_eq, subst, sym, refl}
-use Rattle.std.specs.Map.{remove_entry}
-use Rattle.moka_store.specs.Nodes.{first_windowed, touched}
+use Rattle.std.proofs.Common.{◌∙◌, ap, is_some, refl, sym}
+use Rattle.moka_deque.proofs.IdLemmas.{some_parts}
+use Rattle.moka_store.specs.Nodes.{touched}
 use Rattle.moka_store.proofs.FindLemmas.{lookup-set_same}
 use Rattle.moka_store.proofs.LatestLemmas.{relisted-found, relisted-set}
-use Rattle.moka_store.proofs.NodeLemmas.{remove-set}
-use Rattle.moka_store.proofs.OrderLemmas.{relisted_keeps}
+use Rattle.moka_store.proofs.OrderLemmas.{first-set, relisted_keeps}
 use Rattle.moka_store.proofs.deques.order.UseOrder.touch.Goals as goal
 
-pub settle-self-inside-requires-clause-here : goal.settle-self-inside-requires-clause-here
-settle-self-inside-requires-clause-here g c = (
-  touched c.args.now c.get_mut-node.result.now,
-  lookup-set_same c.args.id (touched c.args.now c.get_mut-node.result.now) c.self.inside.nodes.items (ap is_some c.get_mut-node.ensures.value),
-  refl,
+pub settle_in_main-requires-clause-here : goal.settle_in_main-requires-clause-here
+settle_in_main-requires-clause-here g c = (
+  touched c.args.now c.get_mut.result.now,
+  lookup-set_same c.args.id (touched c.args.now c.get_mut.result.now) c.self.inside.nodes.items (ap is_some c.get_mut.ensures.value),
+  ap (λ n. n.entry.in_window) (some_parts c.get_mut.result.now c.get.result.now (sym c.get_mut.ensures.value ∙ c.get.ensures)) ∙ c.if-get.false,
 )
 
-pub settle-self-inside-requires-clause-first : goal.settle-self-inside-requires-clause-first
-settle-self-inside-requires-clause-first g c =
-    subst (λ v. c.first_without-first.result ≡ first_windowed (remove_entry (nat_eq c.args.id) v.items)) (sym c.self.view_is)
-    c.first_without-first.ensures.value
-    ∙ ap first_windowed (sym (remove-set c.args.id (touched c.args.now c.get_mut-node.result.now) c.self.inside.nodes.items))
+pub settle_in_main-requires-clause-window : goal.settle_in_main-requires-clause-window
+settle_in_main-requires-clause-window g c =
+    c.self.invariant.first
+    ∙ sym (first-set c.args.id c.get_mut.result.now (touched c.args.now c.get_mut.result.now) c.self.inside.nodes.items c.get_mut.ensures.value
+    refl)
 
 pub invariant_of-self : goal.invariant_of-self
 invariant_of-self g c =
-    relisted_keeps c.args.id c.self.inside.nodes.items c.self.inside.window c.self.invariant c.get_mut-node.result.now c.get_mut-node.ensures.value
-    (touched c.args.now c.get_mut-node.result.now) c.settle-self-inside.new.nodes.items c.settle-self-inside.result
-    (c.settle-self-inside.ensures.items
-    ∙ relisted-set c.args.id (touched c.args.now c.get_mut-node.result.now) c.self.inside.nodes.items (ap is_some c.get_mut-node.ensures.value))
-    c.settle-self-inside.ensures.window
+    relisted_keeps c.args.id c.self.inside.nodes.items c.self.inside.window c.self.invariant c.get_mut.result.now c.get_mut.ensures.value
+    (touched c.args.now c.get_mut.result.now) c.settle_in_main.new.nodes.items c.self.inside.window
+    (c.settle_in_main.ensures.items
+    ∙ relisted-set c.args.id (touched c.args.now c.get_mut.result.now) c.self.inside.nodes.items (ap is_some c.get_mut.ensures.value))
+    c.settle_in_main.ensures.window
 
 pub returns-clause-items : goal.returns-clause-items
 returns-clause-items g c =
     rw (← c.self.view_is)
-    (c.settle-self-inside.ensures.items
-    ∙ (relisted-set c.args.id (touched c.args.now c.get_mut-node.result.now) c.self.inside.nodes.items (ap is_some c.get_mut-node.ensures.value)
-    ∙ sym (relisted-found (touched c.args.now) c.args.id c.get_mut-node.result.now c.self.inside.nodes.items c.get_mut-node.ensures.value)))
+    (c.settle_in_main.ensures.items
+    ∙ (relisted-set c.args.id (touched c.args.now c.get_mut.result.now) c.self.inside.nodes.items (ap is_some c.get_mut.ensures.value)
+    ∙ sym (relisted-found (touched c.args.now) c.args.id c.get_mut.result.now c.self.inside.nodes.items c.get_mut.ensures.value)))
