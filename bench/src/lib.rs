@@ -1,10 +1,12 @@
 //! The port of the cache for one thread beside the original, by whole traces; its parts beside others, by whole batches; and the caches that threads share, by
 //! lists of calls.
+pub mod callgrind;
 pub mod hand_lists;
 pub mod hit_plot;
 pub mod hit_traces;
 pub mod loads;
 pub mod machine;
+pub mod memory;
 mod original_sketch;
 pub mod play_program;
 pub mod plot;

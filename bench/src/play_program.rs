@@ -51,7 +51,7 @@ pub struct PlayProgram {
 }
 
 impl PlayProgram {
-    /// Its `malloc` is told to keep what is freed, as that of this process is (`timing::keep_memory`).
+    /// Its `malloc` is told to keep what is freed, as that of this process is (`memory::keep_memory`).
     pub fn start(path: &str) -> io::Result<PlayProgram> {
         let mut child = Command::new(path)
             .env("MALLOC_MMAP_MAX_", "0")

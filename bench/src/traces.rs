@@ -126,7 +126,7 @@ impl Random {
     }
 }
 
-const CALLS: usize = 2_000_000;
+pub const CALLS: usize = 2_000_000;
 const KEYS: usize = 1_000_000;
 const EXPONENT: f64 = 0.99;
 
@@ -253,7 +253,7 @@ pub fn read_through_traces() -> Vec<Trace> {
     };
     let looped: Vec<u64> = (0..CALLS as u64).map(|call| call % 12_500).collect();
     vec![
-        read_through("Zipf 1%", one, &ranks),
+        read_through(ZIPF_ONE, one, &ranks),
         read_through("Zipf 10%", ten, &ranks),
         read_through("Zipf 1%, both durations", one.with_durations(), &ranks),
         read_through("Zipf 10%, both durations", ten.with_durations(), &ranks),
@@ -284,14 +284,19 @@ fn scan_mix(ranks: &[u64]) -> Vec<u64> {
 
 /// One kind of call on a full cache of so many entries.
 pub fn single_calls(entries: u64) -> Vec<Trace> {
+    single_calls_of(entries, CALLS)
+}
+
+/// The same, with so many calls.
+fn single_calls_of(entries: u64, calls: usize) -> Vec<Trace> {
     let single = |name: &str, kind: u32, number: &mut dyn FnMut(u64) -> u64, fits_a_map| {
         let filling = (0..entries).map(|number| operation(INSERT, number));
-        let calls = (0..CALLS as u64).map(|call| operation(kind, number(call)));
+        let counted = (0..calls as u64).map(|call| operation(kind, number(call)));
         Trace {
             name: format!("{name}, {entries}"),
             settings: Settings::with_capacity(entries),
             filling: entries as usize,
-            operations: filling.chain(calls).collect(),
+            operations: filling.chain(counted).collect(),
             fits_a_map,
         }
     };
@@ -327,6 +332,26 @@ pub fn std_hashed_traces() -> Vec<Trace> {
             [trace, hashed]
         })
         .collect()
+}
+
+/// The traces that are played from outside as well, through the library.
+pub const LIBRARY_TRACES: [&str; 4] = [
+    "get hit, 10000",
+    "get miss, 10000",
+    "update, 10000",
+    ZIPF_ONE,
+];
+
+const ZIPF_ONE: &str = "Zipf 1%";
+
+/// One of those traces, with so many calls.
+pub fn library_trace(name: &str, calls: usize) -> Option<Trace> {
+    if name == ZIPF_ONE {
+        let settings = Settings::with_capacity(KEYS as u64 / 100);
+        return Some(read_through(name, settings, &zipf_ranks(calls)));
+    }
+    let single = single_calls_of(10_000, calls);
+    single.into_iter().find(|it| it.name == name)
 }
 
 /// So many inserts, and then some look-ups a key, so that what the full cache holds is held for longest.

@@ -1,5 +1,13 @@
-//! How long a call takes through the package in Rust, beside the original and `lru` in one process: `library [REPEATS]`. Numbers are keys and values of 64
-//! bits; bytes are keys of 16 and values of 64, which the package copies in and out. Each side has its own default hash.
+//! How long a call takes through the package in Rust, beside the original and `lru` in one process: `library INSIDE [REPEATS]`. Numbers are keys and values of
+//! 64 bits; bytes are keys of 16 and values of 64, which the package copies in and out. Each side has its own default hash. INSIDE is the program that plays
+//! a trace of numbers inside of Rattle: two static libraries of Rattle's don't go into one program.
+//!
+//! Each repeat is a process of its own, `library once KIND TRACE`: which pages of memory a process gets decides how much of a cache the processor's caches hold,
+//! and that differs from one to the next by up to a half of a call's time. `library count KIND TRACE CALLS` plays the package alone, to be counted.
+#[path = "../../src/callgrind.rs"]
+mod callgrind;
+#[path = "../../src/memory.rs"]
+mod memory;
 #[allow(dead_code)]
 #[path = "../../src/table.rs"]
 mod table;
@@ -9,73 +17,83 @@ mod traces;
 
 use std::collections::HashMap;
 use std::hint::black_box;
+use std::path::{Path, PathBuf};
+use std::process::Command;
 use std::time::Instant;
 use traces::{Trace, GET, INSERT, READ_THROUGH};
 
 const REPEATS: usize = 5;
-const ENTRIES: u64 = 10_000;
+/// Instructions are those of twice as many calls, less those of so many.
+const COUNTED_CALLS: usize = 100_000;
 
-/// A cache, and the keys of a trace, which are meant by their places.
+/// A key of a trace, and its place among those that differ.
+#[derive(Clone, Copy)]
+struct Key {
+    number: u64,
+    place: usize,
+}
+
+/// A cache. Where keys are bytes, it has those of each place.
 trait Side {
     /// Whether the key is found. Its value is read.
-    fn get(&mut self, place: usize) -> bool;
-    fn insert(&mut self, place: usize);
+    fn get(&mut self, key: Key) -> bool;
+    fn insert(&mut self, key: Key);
 }
 
 type Make = fn(capacity: u64, keys: &[u64]) -> Box<dyn Side>;
 
-struct PackageNumbers(mini_moka_proved::NumberCache, Vec<u64>);
+struct PackageNumbers(mini_moka_proved::NumberCache);
 
 impl Side for PackageNumbers {
-    fn get(&mut self, place: usize) -> bool {
-        black_box(self.0.get(self.1[place])).is_some()
+    fn get(&mut self, key: Key) -> bool {
+        black_box(self.0.get(key.number)).is_some()
     }
 
-    fn insert(&mut self, place: usize) {
+    fn insert(&mut self, key: Key) {
         self.0
-            .insert(self.1[place], place as u64)
+            .insert(key.number, key.number)
             .expect("memory is there");
     }
 }
 
-fn package_numbers(capacity: u64, keys: &[u64]) -> Box<dyn Side> {
+fn package_numbers(capacity: u64, _keys: &[u64]) -> Box<dyn Side> {
     let builder = mini_moka_proved::NumberCache::builder().max_capacity(capacity);
     let cache = builder.build().expect("memory is there");
-    Box::new(PackageNumbers(cache, keys.to_vec()))
+    Box::new(PackageNumbers(cache))
 }
 
-struct OriginalNumbers(mini_moka::unsync::Cache<u64, u64>, Vec<u64>);
+struct OriginalNumbers(mini_moka::unsync::Cache<u64, u64>);
 
 impl Side for OriginalNumbers {
-    fn get(&mut self, place: usize) -> bool {
-        black_box(self.0.get(&self.1[place]).copied()).is_some()
+    fn get(&mut self, key: Key) -> bool {
+        black_box(self.0.get(&key.number).copied()).is_some()
     }
 
-    fn insert(&mut self, place: usize) {
-        self.0.insert(self.1[place], place as u64);
+    fn insert(&mut self, key: Key) {
+        self.0.insert(key.number, key.number);
     }
 }
 
-fn original_numbers(capacity: u64, keys: &[u64]) -> Box<dyn Side> {
+fn original_numbers(capacity: u64, _keys: &[u64]) -> Box<dyn Side> {
     let cache = mini_moka::unsync::Cache::new(capacity);
-    Box::new(OriginalNumbers(cache, keys.to_vec()))
+    Box::new(OriginalNumbers(cache))
 }
 
-struct LruNumbers(lru::LruCache<u64, u64>, Vec<u64>);
+struct LruNumbers(lru::LruCache<u64, u64>);
 
 impl Side for LruNumbers {
-    fn get(&mut self, place: usize) -> bool {
-        black_box(self.0.get(&self.1[place]).copied()).is_some()
+    fn get(&mut self, key: Key) -> bool {
+        black_box(self.0.get(&key.number).copied()).is_some()
     }
 
-    fn insert(&mut self, place: usize) {
-        self.0.put(self.1[place], place as u64);
+    fn insert(&mut self, key: Key) {
+        self.0.put(key.number, key.number);
     }
 }
 
-fn lru_numbers(capacity: u64, keys: &[u64]) -> Box<dyn Side> {
+fn lru_numbers(capacity: u64, _keys: &[u64]) -> Box<dyn Side> {
     let cache = lru::LruCache::new(capacity as usize);
-    Box::new(LruNumbers(cache, keys.to_vec()))
+    Box::new(LruNumbers(cache))
 }
 
 /// The bytes of the keys, and of the one value.
@@ -101,17 +119,17 @@ struct PackageBytes {
 }
 
 impl Side for PackageBytes {
-    fn get(&mut self, place: usize) -> bool {
+    fn get(&mut self, key: Key) -> bool {
         let is_found = self
             .cache
-            .get_with(&self.bytes.keys[place], &mut self.found);
+            .get_with(&self.bytes.keys[key.place], &mut self.found);
         black_box(&self.found);
         is_found
     }
 
-    fn insert(&mut self, place: usize) {
+    fn insert(&mut self, key: Key) {
         self.cache
-            .insert(&self.bytes.keys[place], &self.bytes.value)
+            .insert(&self.bytes.keys[key.place], &self.bytes.value)
             .expect("memory is there");
     }
 }
@@ -128,13 +146,13 @@ fn package_bytes(capacity: u64, keys: &[u64]) -> Box<dyn Side> {
 struct OriginalBytes(mini_moka::unsync::Cache<Vec<u8>, Vec<u8>>, Bytes);
 
 impl Side for OriginalBytes {
-    fn get(&mut self, place: usize) -> bool {
-        black_box(self.0.get(&self.1.keys[place])).is_some()
+    fn get(&mut self, key: Key) -> bool {
+        black_box(self.0.get(&self.1.keys[key.place])).is_some()
     }
 
-    fn insert(&mut self, place: usize) {
+    fn insert(&mut self, key: Key) {
         self.0
-            .insert(self.1.keys[place].clone(), self.1.value.clone());
+            .insert(self.1.keys[key.place].clone(), self.1.value.clone());
     }
 }
 
@@ -146,12 +164,13 @@ fn original_bytes(capacity: u64, keys: &[u64]) -> Box<dyn Side> {
 struct LruBytes(lru::LruCache<Vec<u8>, Vec<u8>>, Bytes);
 
 impl Side for LruBytes {
-    fn get(&mut self, place: usize) -> bool {
-        black_box(self.0.get(&self.1.keys[place])).is_some()
+    fn get(&mut self, key: Key) -> bool {
+        black_box(self.0.get(&self.1.keys[key.place])).is_some()
     }
 
-    fn insert(&mut self, place: usize) {
-        self.0.put(self.1.keys[place].clone(), self.1.value.clone());
+    fn insert(&mut self, key: Key) {
+        self.0
+            .put(self.1.keys[key.place].clone(), self.1.value.clone());
     }
 }
 
@@ -160,10 +179,10 @@ fn lru_bytes(capacity: u64, keys: &[u64]) -> Box<dyn Side> {
     Box::new(LruBytes(cache, Bytes::of(keys)))
 }
 
-/// A trace whose operations mean keys by their places.
+/// A trace by its keys that differ, and its operations by kind and key.
 struct Load {
     keys: Vec<u64>,
-    operations: Vec<(u32, usize)>,
+    operations: Vec<(u32, Key)>,
 }
 
 impl Load {
@@ -171,11 +190,12 @@ impl Load {
         let mut keys = Vec::new();
         let mut places = HashMap::new();
         let operations = trace.operations.iter().map(|operation| {
-            let place = *places.entry(operation.key).or_insert_with(|| {
-                keys.push(operation.key);
+            let number = operation.key;
+            let place = *places.entry(number).or_insert_with(|| {
+                keys.push(number);
                 keys.len() - 1
             });
-            (operation.kind, place)
+            (operation.kind, Key { number, place })
         });
         let operations = operations.collect();
         Load { keys, operations }
@@ -183,17 +203,17 @@ impl Load {
 }
 
 /// Makes an operation. Whether a value is found.
-fn make(side: &mut dyn Side, (kind, place): (u32, usize)) -> bool {
+fn make(side: &mut dyn Side, (kind, key): (u32, Key)) -> bool {
     match kind {
-        GET => side.get(place),
+        GET => side.get(key),
         INSERT => {
-            side.insert(place);
+            side.insert(key);
             false
         }
         READ_THROUGH => {
-            let is_found = side.get(place);
+            let is_found = side.get(key);
             if !is_found {
-                side.insert(place);
+                side.insert(key);
             }
             is_found
         }
@@ -201,68 +221,185 @@ fn make(side: &mut dyn Side, (kind, place): (u32, usize)) -> bool {
     }
 }
 
-/// The nanoseconds of a call, and the share of calls that found a value.
-fn time(make_side: Make, trace: &Trace, load: &Load) -> (f64, f64) {
+/// What a play took, in nanoseconds a call, and the share of calls that found a value.
+struct Played {
+    nanos: f64,
+    hits: f64,
+}
+
+/// Makes operations, and says how many found a value.
+#[inline(never)]
+fn play_counted(side: &mut dyn Side, operations: &[(u32, Key)]) -> usize {
+    operations.iter().filter(|it| make(side, **it)).count()
+}
+
+/// Plays a trace on a new cache.
+fn play(make_side: Make, trace: &Trace) -> Played {
+    let load = Load::of(trace);
     let mut side = make_side(trace.settings.capacity, &load.keys);
     let (filling, counted) = load.operations.split_at(trace.filling);
     for operation in filling {
         make(&mut *side, *operation);
     }
     let start = Instant::now();
-    let hits = counted.iter().filter(|it| make(&mut *side, **it)).count();
+    let hits = play_counted(&mut *side, counted);
     let nanos = start.elapsed().as_nanos() as f64;
     let calls = counted.len() as f64;
-    (nanos / calls, hits as f64 / calls)
+    Played {
+        nanos: nanos / calls,
+        hits: hits as f64 / calls,
+    }
 }
 
-/// Prints the row of a trace: the least of the repeats of each side, which are played in turn.
-fn print_trace(kind: &str, trace: &Trace, sides: &[Make; 3], repeats: usize) {
+/// Keys and values of one kind: how a cache of each side is made.
+struct Kind {
+    name: &'static str,
+    /// The package, the original and `lru`.
+    sides: [Make; 3],
+    /// Whether they are what the program inside plays.
+    is_inside: bool,
+}
+
+const KINDS: [Kind; 2] = [
+    Kind {
+        name: "numbers",
+        sides: [package_numbers, original_numbers, lru_numbers],
+        is_inside: true,
+    },
+    Kind {
+        name: "bytes",
+        sides: [package_bytes, original_bytes, lru_bytes],
+        is_inside: false,
+    },
+];
+
+/// The kind and the trace of these names.
+fn named(kind: &str, trace: &str, calls: usize) -> (&'static Kind, Trace) {
+    let kind = KINDS.iter().find(|it| it.name == kind);
+    let trace = traces::library_trace(trace, calls);
+    kind.zip(trace).expect("no kind or no trace has this name")
+}
+
+/// Has each side play in turn, and prints what the plays took.
+fn play_once(kind: &str, trace: &str) {
+    let (kind, trace) = named(kind, trace, traces::CALLS);
+    memory::keep_memory();
+    for make_side in kind.sides {
+        let played = play(make_side, &trace);
+        println!("{} {}", played.nanos, played.hits);
+    }
+}
+
+/// Has the package play so many calls.
+fn play_package(kind: &str, trace: &str, calls: usize) {
+    let (kind, trace) = named(kind, trace, calls);
+    play(kind.sides[0], &trace);
+}
+
+/// The numbers that a program prints.
+fn numbers_of(command: &mut Command) -> Vec<f64> {
+    let output = command.output().expect("a play can't be started");
+    assert!(output.status.success(), "a play failed");
+    String::from_utf8_lossy(&output.stdout)
+        .split_whitespace()
+        .map(|word| word.parse().expect("a number of a play is none"))
+        .collect()
+}
+
+fn this_program() -> PathBuf {
+    std::env::current_exe().expect("this program isn't found")
+}
+
+/// How many instructions a call has in a function of a program that is told last how many calls to make.
+fn instructions(program: &Path, function: &str, words: &[&str]) -> Option<f64> {
+    let of = |calls: usize| {
+        let calls = calls.to_string();
+        let words = [words, &[calls.as_str()]].concat();
+        callgrind::collected(program, &words, Some(function))
+    };
+    Some((of(2 * COUNTED_CALLS)? - of(COUNTED_CALLS)?) / COUNTED_CALLS as f64)
+}
+
+/// Prints the row of a trace: the least of the repeats of each side, which play in turn.
+fn print_trace(kind: &Kind, trace: &str, inside: &str, repeats: usize) {
     let mut least = [f64::INFINITY; 3];
+    let mut least_inside = kind.is_inside.then_some(f64::INFINITY);
     let mut hits = [0.0; 3];
-    let load = Load::of(trace);
     for _ in 0..repeats {
-        for (place, make_side) in sides.iter().enumerate() {
-            let (nanos, share) = time(*make_side, trace, &load);
-            least[place] = least[place].min(nanos);
-            hits[place] = share;
+        let numbers = numbers_of(Command::new(this_program()).args(["once", kind.name, trace]));
+        for (side, played) in numbers.chunks_exact(2).enumerate() {
+            least[side] = least[side].min(played[0]);
+            hits[side] = played[1];
+        }
+        if let Some(least) = &mut least_inside {
+            let numbers = numbers_of(Command::new(inside).arg(trace));
+            *least = least.min(numbers[0]);
         }
     }
-    let mut cells = vec![format!("{kind}: {}", trace.name)];
-    cells.extend(least.map(|nanos| table::number(Some(nanos))));
-    cells.push(table::ratio(least[0], least[1]));
+    let [package, original, lru] = least;
+    let mut cells = vec![format!("{}: {trace}", kind.name)];
+    let above = least_inside.map(|inside| package - inside);
+    let nanos = [
+        Some(package),
+        least_inside,
+        above,
+        Some(original),
+        Some(lru),
+    ];
+    cells.extend(nanos.map(table::number));
+    cells.push(table::ratio(package, original));
     cells.extend(hits.map(|share| format!("{share:.4}")));
+    let words = ["count", kind.name, trace];
+    let counted = instructions(&this_program(), "*play_counted*", &words);
+    let inside_counts = || instructions(inside.as_ref(), "moka_trace_play", &[trace]);
+    let counted_inside = kind.is_inside.then(inside_counts).flatten();
+    cells.extend([counted, counted_inside].map(table::number));
     table::print_row(&cells);
 }
 
-fn main() {
-    let repeats = std::env::args().nth(1).map_or(REPEATS, |word| {
-        word.parse().expect("the number of repeats is no number")
-    });
-    println!("Nanoseconds a call, the least of {repeats} repeats.\n");
+fn print_table(inside: &str, repeats: usize) {
+    println!(
+        "Nanoseconds a call, the least of {repeats} repeats; instructions a call by callgrind.\n"
+    );
     table::print_head(&[
         "Trace",
         "package",
+        "inside",
+        "package less inside",
         "mini-moka",
         "lru",
         "package to mini-moka",
         "hits, package",
         "hits, mini-moka",
         "hits, lru",
+        "package, instructions",
+        "inside, instructions",
     ]);
-    let kinds: [(&str, [Make; 3]); 2] = [
-        ("numbers", [package_numbers, original_numbers, lru_numbers]),
-        ("bytes", [package_bytes, original_bytes, lru_bytes]),
-    ];
-    for (kind, sides) in kinds {
-        let wanted = ["get hit", "get miss", "update"];
-        let single = traces::single_calls(ENTRIES)
-            .into_iter()
-            .filter(|trace| wanted.iter().any(|name| trace.name.starts_with(name)));
-        let zipf = traces::read_through_traces()
-            .into_iter()
-            .filter(|trace| trace.name == "Zipf 1%");
-        for trace in single.chain(zipf) {
-            print_trace(kind, &trace, &sides, repeats);
+    for kind in &KINDS {
+        for trace in traces::LIBRARY_TRACES {
+            print_trace(kind, trace, inside, repeats);
         }
+    }
+}
+
+fn main() {
+    let words: Vec<String> = std::env::args().skip(1).collect();
+    let words: Vec<&str> = words.iter().map(String::as_str).collect();
+    match words.as_slice() {
+        ["once", kind, trace] => play_once(kind, trace),
+        ["count", kind, trace, calls] => {
+            let calls = calls.parse();
+            play_package(
+                kind,
+                trace,
+                calls.expect("the number of calls is no number"),
+            );
+        }
+        [inside] => print_table(inside, REPEATS),
+        [inside, repeats] => {
+            let repeats = repeats.parse();
+            print_table(inside, repeats.expect("the number of repeats is no number"));
+        }
+        _ => panic!("usage: library INSIDE [REPEATS]"),
     }
 }

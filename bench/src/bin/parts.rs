@@ -1,11 +1,12 @@
 //! How long an operation of a part of the cache takes, beside what it is compared with: `parts PART [REPEATS]`, where PART is `sketch`, `list`
 //! or `index`. Where there is a `valgrind`, its count of instructions stands beside the times.
 //! `parts once PART LOAD SIDE ROUNDS` plays one side, to be watched: LOAD and SIDE are numbers from 0 on.
+use moka_trace_bench::callgrind::collected;
 use moka_trace_bench::loads::{loads_of, Load, Side};
+use moka_trace_bench::memory::keep_memory;
 use moka_trace_bench::table;
-use moka_trace_bench::timing::keep_memory;
 use std::hint::black_box;
-use std::process::{Command, ExitCode};
+use std::process::ExitCode;
 use std::time::Instant;
 
 const REPEATS: usize = 9;
@@ -152,21 +153,13 @@ fn nanos_of(side: &Side, rounds: usize) -> f64 {
 
 /// How many instructions a round has: those of two rounds less those of one.
 fn instructions(part: &str, load: usize, side: usize) -> Option<f64> {
-    Some(collected(part, load, side, 2)? - collected(part, load, side, 1)?)
+    Some(played(part, load, side, 2)? - played(part, load, side, 1)?)
 }
 
-/// What callgrind counts of this program as it plays one side, if there is a `valgrind`.
-fn collected(part: &str, load: usize, side: usize, rounds: usize) -> Option<f64> {
+/// What callgrind counts of this program as it plays one side.
+fn played(part: &str, load: usize, side: usize, rounds: usize) -> Option<f64> {
     let program = std::env::current_exe().ok()?;
     let numbers = [load, side, rounds].map(|number| number.to_string());
-    let output = Command::new("valgrind")
-        .args(["--tool=callgrind", "--callgrind-out-file=/dev/null"])
-        .arg(program)
-        .args(["once", part])
-        .args(&numbers)
-        .output()
-        .ok()?;
-    let told = String::from_utf8_lossy(&output.stderr).into_owned();
-    let (_, count) = told.split_once("Collected : ")?;
-    count.split_whitespace().next()?.parse().ok()
+    let [load, side, rounds] = &numbers;
+    collected(&program, &["once", part, load, side, rounds], None)
 }

@@ -1,10 +1,9 @@
 //! How long a call takes on each side: `speed [PART] [REPEATS]`, where PART is `zipf`, `single`, `hashers` or `all`.
+use moka_trace_bench::memory::keep_memory;
 use moka_trace_bench::port::Outcome;
 use moka_trace_bench::rust_sides;
 use moka_trace_bench::table;
-use moka_trace_bench::timing::{
-    clock_nanos, keep_memory, measure, time_original, time_port, time_side, Player,
-};
+use moka_trace_bench::timing::{clock_nanos, measure, time_original, time_port, time_side, Player};
 use moka_trace_bench::traces::{self, Operation, Settings, Trace};
 
 const REPEATS: usize = 5;

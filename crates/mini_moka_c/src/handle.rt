@@ -101,12 +101,14 @@ impl Handle {
         }
     }
 
-    /// Keeps a value. What was kept before is dropped.
+    /// Keeps a value in a handle that keeps none.
     pub(crate) fn put(&mut self, kept: Box<Kept>)
+        requires { self.old.value ≡ None }
         ensures { self.new.value ≡ Some kept.value }
     {
-        if let Some(loose) = replace(self, Handle::open(Loose::of(kept))).into_loose() {
-            let _before = loose.into_box();
+        match replace(self, Handle::open(Loose::of(kept))).into_loose() {
+            Some(_) => unreachable!(),
+            None => {}
         }
     }
 }

@@ -1,0 +1,27 @@
+//! How long a call takes inside of Rattle, with the hash state that a user gets who names none: `inside TRACE [CALLS]` prints the nanoseconds. It plays a
+//! trace once; the benchmark of the library has it do so in turn with the calls from outside.
+use moka_trace_bench::memory::keep_memory;
+use moka_trace_bench::timing::{measure, time_port};
+use moka_trace_bench::traces::{library_trace, CALLS};
+use std::process::ExitCode;
+
+fn main() -> ExitCode {
+    let words: Vec<String> = std::env::args().skip(1).collect();
+    let Some(name) = words.first() else {
+        eprintln!("usage: inside TRACE [CALLS]");
+        return ExitCode::from(2);
+    };
+    let calls = words.get(1).map_or(CALLS, |word| {
+        word.parse().expect("the number of calls is no number")
+    });
+    let Some(mut trace) = library_trace(name, calls) else {
+        eprintln!("no trace has this name: {name}");
+        return ExitCode::FAILURE;
+    };
+    trace.settings = trace.settings.std_hashed();
+    keep_memory();
+    for least in measure(&trace, &[Some(time_port)], 1).into_iter().flatten() {
+        println!("{}", least.a_call(&trace));
+    }
+    ExitCode::SUCCESS
+}
