@@ -101,14 +101,12 @@ impl Handle {
         }
     }
 
-    /// Keeps a value in a handle that keeps none.
+    /// Keeps a value. What was kept before is dropped.
     pub(crate) fn put(&mut self, kept: Box<Kept>)
-        requires { self.old.value ≡ None }
         ensures { self.new.value ≡ Some kept.value }
     {
-        match replace(self, Handle::open(Loose::of(kept))).into_loose() {
-            Some(_) => unreachable!(),
-            None => {}
+        if let Some(loose) = replace(self, Handle::open(Loose::of(kept))).into_loose() {
+            let _before = loose.into_box();
         }
     }
 }
