@@ -48,7 +48,8 @@ struct mini_moka_settings {
     uint64_t capacity;       /* the most entries; or where is_weighed is set, the most bytes of keys and values */
     uint64_t time_to_live;   /* how long an entry lives after it was last written */
     uint64_t time_to_idle;   /* how long an entry lives after it was last read or written */
-    size_t initial_capacity; /* for how many entries there is room from the start: while there are fewer, an insert asks for the memory of its pair alone */
+    size_t initial_capacity; /* for how many entries there is room from the start: while there are fewer, an insert asks only for the memory of its value, and of a
+                                key of more than 24 bytes */
     uint64_t seed[2];        /* the key of the hash: where strangers choose the cache's keys, 16 bytes that they can't know */
     bool is_weighed;         /* whether an entry weighs its bytes of key and value, in place of 1 */
 };
@@ -69,7 +70,8 @@ uint32_t mini_moka_insert(struct mini_moka *handle, const uint8_t *key, size_t k
 
 /*
  * Looks the key up, and makes its entry the most recently used one. The value is copied to the beginning of the buffer, and its length is written; where the
- * buffer is shorter, MINI_MOKA_TOO_SHORT. Here and below a key is copied into memory that the handle keeps, which grows where it is shorter than the key.
+ * buffer is shorter, MINI_MOKA_TOO_SHORT. Here and below only a key of more than 24 bytes can be refused memory: it is copied into memory that the handle keeps,
+ * which grows where it is shorter than the key.
  */
 uint32_t mini_moka_get(struct mini_moka *handle, const uint8_t *key, size_t key_length, uint64_t now, uint8_t *buffer, size_t buffer_length, size_t *length);
 

@@ -11,7 +11,7 @@
 #include <stdlib.h>
 #include <string.h>
 
-enum { KEYS = 300, LONGEST = 4096, CALLS_OF_A_CACHE = 3000 };
+enum { KEYS = 300, LONGEST = 4096, SHORT_KEY = 24, CALLS_OF_A_CACHE = 3000 };
 
 /* ---- memory that is refused */
 
@@ -184,12 +184,12 @@ static void meet(struct model *model, struct known *key, uint32_t status) {
         key->is_there = false;
 }
 
-/* The same of a look-up of a key, which may ask for memory only where the key is longer than all before it. */
+/* The same of a look-up of a key, which may ask for memory only where the key isn't a short one, and is longer than all before it. */
 static bool is_look_up_refused(struct model *model, uint64_t key, uint32_t status) {
     static uint8_t key_at[LONGEST];
     size_t length = model->is_bytes ? key_bytes(key_at, key) : 0;
     if (is_refused(status)) {
-        require(length > model->longest_key, "a look-up asked for memory that it had");
+        require(length > SHORT_KEY && length > model->longest_key, "a look-up asked for memory that it had");
         return true;
     }
     if (length > model->longest_key)
@@ -288,6 +288,7 @@ static void play_walk(struct model *model) {
     static uint8_t key[LONGEST], value[LONGEST], wanted_key[LONGEST], wanted[LONGEST];
     bool is_met[KEYS] = {false};
     size_t key_length, value_length, met = 0, alive = 0;
+    bool needs_memory = false;
     uint32_t status;
     require(mini_moka_walk(&model->cache) == MINI_MOKA_DONE, "a walk was not begun");
     do {
@@ -299,11 +300,14 @@ static void play_walk(struct model *model) {
         }
         if (is_refused(status)) {
             allocations_left = -1;
+            needs_memory = true;
             status = MINI_MOKA_DONE;
             continue;
         }
         if (status != MINI_MOKA_DONE)
             break;
+        require(!needs_memory || key_length > SHORT_KEY, "a step asked for memory for a short key");
+        needs_memory = false;
         uint64_t number = 0;
         memcpy(&number, key, key_length < 8 ? 0 : 8);
         require(number < KEYS && !is_met[number] && is_alive(model, &model->keys[number]), "an entry was met that isn't there, or twice");

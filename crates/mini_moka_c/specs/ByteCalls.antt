@@ -1,15 +1,16 @@
 -- How a call on a handle of bytes tells what the call of its cache answers.
-use Rattle.std.specs.Prelude.{◌≡◌, ◌⊎◌, ◌&&◌, ℕ, List, is_some, length, nat_le, Option, option_map, if◌then◌else◌}
+use Rattle.std.specs.Prelude.{◌≡◌, ◌<◌, ◌⊎◌, ◌&&◌, ℕ, List, is_some, length, nat_le, Option, option_map, if◌then◌else◌}
 use Rattle.moka_unsync.specs.Insert.{IsInserted}
 use Rattle.moka_unsync.specs.Invalidate.{after_invalidate}
 use Rattle.moka_unsync.specs.Lookup.{after_get, after_look, found_by_get, found_by_peek, is_contained}
 use Rattle.moka_bytes.specs.declared.cache.ByteCache.{ByteCache}
 use Rattle.moka_bytes.specs.Buffer.{IsTaken, copied_to}
 use Rattle.moka_bytes.specs.ByteKeys.{byte_keys, byte_weighs}
+use Rattle.moka_bytes.specs.declared.key.TheConstants.{SHORT_KEY}
 use Rattle.moka_bytes.specs.declared.walk.Step.{Step}
 use Rattle.moka_bytes.specs.declared.walk.Walk.TheVariants.{Ended}
 use Rattle.moka_bytes.specs.declared.walk.Step.TheVariants as step
-use Rattle.moka_bytes.specs.Walk.{BytePair, fitting, met_after, next_pair, step_of, walk_after}
+use Rattle.moka_bytes.specs.Walk.{BytePair, IsLong, fitting, met_after, next_pair, step_of, walk_after}
 use Rattle.moka_bytes.specs.Statistics.{with_calls, with_get, with_insert}
 use Rattle.mini_moka_c.specs.declared.constants.TheConstants.{ABSENT, CHANGED, DONE, OUT_OF_MEMORY, TOO_SHORT}
 use Rattle.mini_moka_c.specs.Calls.{TellsLength, TellsTruth}
@@ -18,6 +19,10 @@ use Rattle.mini_moka_c.specs.Calls.{TellsLength, TellsTruth}
 abbrev pub TellsRefusal : ℕ → ByteCache → ByteCache → Type 0
 TellsRefusal status old new =
     (status ≡ OUT_OF_MEMORY) × (new.cache ≡ record old.cache { capacity = new.cache.capacity }) × (new.statistics ≡ old.statistics)
+
+-- the same of a look-up, whose key is a long one then
+abbrev pub TellsLongRefused : List ℕ → ℕ → ByteCache → ByteCache → Type 0
+TellsLongRefused key status old new = (SHORT_KEY < length key) × TellsRefusal status old new
 
 -- the pair went in, and is counted; or memory was refused
 abbrev pub TellsBytesInsert : List ℕ → List ℕ → ℕ → ℕ → ByteCache → ByteCache → Type 0
@@ -38,34 +43,34 @@ TellsBytesGet key now buffer status filled written old new =
     × (new.cache ≡ after_get byte_keys old.cache key now)
     × (new.statistics ≡ with_calls (with_get (is_some (found_by_get byte_keys old.cache key now))) old.cache new.cache old.statistics)
     × (new.walk ≡ Ended))
-    ⊎ TellsRefusal status old new
+    ⊎ TellsLongRefused key status old new
 
 -- what a peek finds
 abbrev pub TellsBytesPeek : List ℕ → ℕ → List ℕ → ℕ → List ℕ → ℕ → ByteCache → ByteCache → Type 0
 TellsBytesPeek key now buffer status filled written old new =
     (TellsBytesFound (found_by_peek byte_keys old.cache key now) buffer status filled written
     × (new ≡ record old { sought = new.sought }))
-    ⊎ TellsRefusal status old new
+    ⊎ TellsLongRefused key status old new
 
 -- yes or no
 abbrev pub TellsBytesLook : List ℕ → ℕ → ℕ → ByteCache → ByteCache → Type 0
 TellsBytesLook key now status old new =
     (TellsTruth (is_contained byte_keys old.cache key now) status × (new.cache ≡ after_look byte_keys old.cache now)
     × (new.statistics ≡ with_calls (λ counts. counts) old.cache new.cache old.statistics) × (new.walk ≡ Ended))
-    ⊎ TellsRefusal status old new
+    ⊎ TellsLongRefused key status old new
 
 -- what a removal finds, unless it is longer than the buffer and stays
 abbrev pub TellsBytesRemove : List ℕ → ℕ → List ℕ → ℕ → List ℕ → ℕ → ByteCache → ByteCache → Type 0
 TellsBytesRemove key now buffer status filled written old new =
     ((told : Option ℕ) × TellsLength told (length buffer) status written × IsTaken old.cache key now buffer new.cache filled told
     × (new.statistics ≡ old.statistics) × (new.walk ≡ Ended))
-    ⊎ TellsRefusal status old new
+    ⊎ TellsLongRefused key status old new
 
 -- the entry of the key left
 abbrev pub TellsInvalidate : List ℕ → ℕ → ℕ → ByteCache → ByteCache → Type 0
 TellsInvalidate key now status old new =
     ((status ≡ DONE) × (new.cache ≡ after_invalidate byte_keys old.cache key now) × (new.statistics ≡ old.statistics) × (new.walk ≡ Ended))
-    ⊎ TellsRefusal status old new
+    ⊎ TellsLongRefused key status old new
 
 -- a walk has ended, each entry was met, or the lengths of the next one are written, and whether buffers of these lengths have it is told
 abbrev pub TellsStep : Step → ℕ → ℕ → ℕ → ℕ → ℕ → Type 0
@@ -88,4 +93,4 @@ pub record IsWalked (keys values filled_keys filled_values : List ℕ) (status k
 abbrev pub TellsWalk : ℕ → List ℕ → List ℕ → ℕ → List ℕ → List ℕ → ℕ → ℕ → ByteCache → ByteCache → Type 0
 TellsWalk now keys values status filled_keys filled_values key value old new =
     IsWalked keys values filled_keys filled_values status key value old new (next_pair old.walk old.cache old.met now)
-    ⊎ TellsRefusal status old new
+    ⊎ (IsLong (next_pair old.walk old.cache old.met now) × TellsRefusal status old new)

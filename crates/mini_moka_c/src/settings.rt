@@ -3,9 +3,10 @@ ghost use Rattle.std.specs.Prelude.{◌≡◌, IfSome, None};
 ghost use Rattle.mini_moka_c.specs.Opening.{HasLimits, IsBytesNew, IsNumbersNew, limit_of};
 
 use crate::constants::UNLIMITED;
-use moka_bytes::bytes::Bytes;
 use moka_bytes::cache::ByteCache;
+use moka_bytes::key::Key;
 use moka_bytes::seed::Seed;
+use moka_bytes::value::Value;
 use moka_bytes::weight::ByteWeight;
 use moka_unsync::builder::CacheBuilder;
 use moka_unsync::cache::Cache;
@@ -66,7 +67,7 @@ pub(crate) fn build_bytes(alloc: Global, settings: &ByteSettings) -> Option<Byte
     } else {
         ByteWeight::Entry
     };
-    let builder: CacheBuilder<Bytes, Bytes> = CacheBuilder::default(alloc);
+    let builder: CacheBuilder<Key, Value> = CacheBuilder::default(alloc);
     let builder = builder
         .initial_capacity(settings.initial_capacity)
         .weigher_where(settings.is_weighed, weight);

@@ -1,6 +1,7 @@
 -- What a contract sees of a walk.
-use Rattle.std.specs.Prelude.{ℕ, ◌&&◌, List, [], ◌∷◌, length, nat_le, Option, Some, None, if◌then◌else◌}
+use Rattle.std.specs.Prelude.{ℕ, ◌<◌, ◌&&◌, List, [], ◌∷◌, length, nat_le, Option, Some, None, if◌then◌else◌}
 use Rattle.moka_unsync.specs.Iterate.{pair_behind, pairs_at}
+use Rattle.moka_bytes.specs.declared.key.TheConstants.{SHORT_KEY}
 use Rattle.moka_bytes.specs.declared.walk.Step.{Step}
 use Rattle.moka_bytes.specs.declared.walk.Step.TheVariants as step
 use Rattle.moka_bytes.specs.declared.walk.Walk.{Walk}
@@ -45,3 +46,8 @@ walk_after walk (Some pair) = Behind
 abbrev pub met_after : List ℕ → Option BytePair → List ℕ
 met_after met None = met
 met_after met (Some pair) = pair.0
+
+-- there is one, and its key is a long one
+abbrev pub IsLong : Option BytePair → Type 0
+IsLong None = ⊥
+IsLong (Some pair) = SHORT_KEY < length pair.0

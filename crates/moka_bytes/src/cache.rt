@@ -1,5 +1,5 @@
 //! A cache of bytes.
-ghost use Rattle.std.specs.Prelude.{◌≡◌, length, nat_le, IfErr, IfOk, is_some, None, OnErr, OnOk, option_copied, option_map};
+ghost use Rattle.std.specs.Prelude.{◌≡◌, ◌<◌, length, nat_le, IfErr, IfOk, is_some, None, OnErr, OnOk, option_copied, option_map};
 ghost use Rattle.std.specs.Map.Iter.{deref_pair};
 ghost use Rattle.moka_unsync.specs.Builder.{IsBuilt, refusal_of};
 ghost use Rattle.moka_unsync.specs.Insert.{IsInserted};
@@ -7,13 +7,14 @@ ghost use Rattle.moka_unsync.specs.Invalidate.{after_invalidate, after_invalidat
 ghost use Rattle.moka_unsync.specs.Lookup.{after_get, after_look, found_by_get, found_by_peek, is_contained};
 ghost use Rattle.moka_bytes.specs.Buffer.{IsTaken, copied_to};
 ghost use Rattle.moka_bytes.specs.ByteKeys.{byte_keys, byte_weighs};
-ghost use Rattle.moka_bytes.specs.Walk.{fitting, met_after, next_pair, step_of, walk_after};
+ghost use Rattle.moka_bytes.specs.Walk.{IsLong, fitting, met_after, next_pair, step_of, walk_after};
 ghost use Rattle.moka_bytes.specs.declared.walk.Walk.TheVariants.{AtStart, Ended};
 ghost use Rattle.moka_bytes.specs.Statistics.{no_statistics, with_calls, with_get, with_insert, with_left};
 
-use crate::bytes::Bytes;
+use crate::key::{Key, SHORT_KEY};
 use crate::seed::Seed;
 use crate::statistics::Statistics;
+use crate::value::Value;
 use crate::walk::{Step, Walk};
 use crate::weight::ByteWeight;
 use moka_common::error::{BuildError, InsertError, OutOfMemory};
@@ -24,23 +25,24 @@ use std::alloc::Global;
 
 /// A cache for one thread whose keys and values are bytes. It copies in what it is given, and copies out what it finds.
 ///
-/// A look-up copies its key into memory that the cache keeps, so it asks for none once that is long enough; where it is refused, nothing is done.
+/// A look-up of a key of up to `SHORT_KEY` bytes asks for no memory. It copies a longer key into memory that the cache keeps, so it asks for none once that is
+/// long enough; where it is refused, nothing is done.
 #[derive(Drop)]
 pub struct ByteCache {
-    pub cache: Cache<Bytes, Bytes, Seed, ByteWeight>,
+    pub cache: Cache<Key, Value, Seed, ByteWeight>,
     pub statistics: Statistics,
     // The key that is looked for.
-    sought: Bytes,
+    sought: Key,
     walk: Walk,
     // The key that the walk met last.
-    met: Bytes,
+    met: Key,
 }
 
 impl ByteCache {
     /// A cache with what is set, whose hash has this key. It is refused as `CacheBuilder::build` is.
     pub fn build(
         alloc: Global,
-        builder: CacheBuilder<Bytes, Bytes, ByteWeight>,
+        builder: CacheBuilder<Key, Value, ByteWeight>,
         seed: Seed,
     ) -> Result<ByteCache, BuildError>
         ensures ok { IfOk result (λ made. IsBuilt builder seed made.cache) }
@@ -50,9 +52,9 @@ impl ByteCache {
         Ok(ByteCache {
             cache: builder.build_with_hasher(seed)?,
             statistics: Statistics::none(),
-            sought: Bytes::new(alloc),
+            sought: Key::new(alloc),
             walk: Walk::Ended,
-            met: Bytes::new(alloc),
+            met: Key::new(alloc),
         })
     }
 
@@ -95,6 +97,7 @@ impl ByteCache {
             ≡ with_calls (with_get (is_some (found_by_get byte_keys self.old.cache key.now now))) self.old.cache self.new.cache self.old.statistics) }
         ensures walk { OnOk result (self.new.walk ≡ Ended) }
         ensures refused { OnErr result ((self.new ≡ self.old) × (buffer.new ≡ buffer.old)) }
+        ensures short { OnErr result (SHORT_KEY < length key.now) }
     {
         self.sought.set(key)?;
         self.walk = Walk::Ended;
@@ -116,6 +119,7 @@ impl ByteCache {
         ensures copied { OnOk result (buffer.new ≡ copied_to buffer.old (found_by_peek byte_keys self.old.cache key.now now)) }
         ensures rest { self.new ≡ record self.old { sought = self.new.sought } }
         ensures refused { OnErr result (buffer.new ≡ buffer.old) }
+        ensures short { OnErr result (SHORT_KEY < length key.now) }
     {
         self.sought.set(key)?;
         Ok(copied(self.cache.peek(&self.sought, now), buffer))
@@ -128,6 +132,7 @@ impl ByteCache {
         ensures counts { OnOk result (self.new.statistics ≡ with_calls (λ counts. counts) self.old.cache self.new.cache self.old.statistics) }
         ensures walk { OnOk result (self.new.walk ≡ Ended) }
         ensures refused { OnErr result (self.new ≡ self.old) }
+        ensures short { OnErr result (SHORT_KEY < length key.now) }
     {
         self.sought.set(key)?;
         self.walk = Walk::Ended;
@@ -149,6 +154,7 @@ impl ByteCache {
         ensures walk { OnOk result (self.new.walk ≡ Ended) }
         ensures refused { OnErr result ((self.new ≡ self.old) × (buffer.new ≡ buffer.old)) }
         ensures counts { self.new.statistics ≡ self.old.statistics }
+        ensures short { OnErr result (SHORT_KEY < length key.now) }
     {
         self.sought.set(key)?;
         self.walk = Walk::Ended;
@@ -168,6 +174,7 @@ impl ByteCache {
         ensures walk { OnOk result (self.new.walk ≡ Ended) }
         ensures refused { OnErr result (self.new ≡ self.old) }
         ensures counts { self.new.statistics ≡ self.old.statistics }
+        ensures short { OnErr result (SHORT_KEY < length key.now) }
     {
         self.sought.set(key)?;
         self.walk = Walk::Ended;
@@ -209,6 +216,7 @@ impl ByteCache {
         ensures met { OnOk result (self.new.met ≡ met_after self.old.met
             (fitting (next_pair self.old.walk self.old.cache self.old.met now) keys.old values.old)) }
         ensures refused { OnErr result ((self.new ≡ self.old) × (keys.new ≡ keys.old) × (values.new ≡ values.old)) }
+        ensures long { OnErr result (IsLong (next_pair self.old.walk self.old.cache self.old.met now)) }
         ensures cache { self.new.cache ≡ self.old.cache }
         ensures counts { self.new.statistics ≡ self.old.statistics }
     {
@@ -238,11 +246,11 @@ impl ByteCache {
 
 /// The entry that a walk comes to next.
 fn next_of<'a>(
-    cache: &'a Cache<Bytes, Bytes, Seed, ByteWeight>,
+    cache: &'a Cache<Key, Value, Seed, ByteWeight>,
     walk: Walk,
-    met: &Bytes,
+    met: &Key,
     now: Instant,
-) -> Option<(&'a Bytes, &'a Bytes)>
+) -> Option<(&'a Key, &'a Value)>
     ensures { option_map deref_pair result ≡ next_pair walk cache.now met.now now }
 {
     match walk {
@@ -263,18 +271,18 @@ fn end_of(walk: Walk) -> Step
 }
 
 /// Copies of a key and a value.
-fn copies(alloc: Global, key: &[u8], value: &[u8]) -> Result<(Bytes, Bytes), InsertError>
+fn copies(alloc: Global, key: &[u8], value: &[u8]) -> Result<(Key, Value), InsertError>
     ensures ok { IfOk result (λ pair. (pair.0 ≡ key.now) × (pair.1 ≡ value.now)) }
     ensures error { IfErr result (λ error. error ≡ InsertError.OutOfMemory) }
 {
-    match (Bytes::copy_of(alloc, key), Bytes::copy_of(alloc, value)) {
+    match (Key::copy_of(alloc, key), Value::copy_of(alloc, value)) {
         (Ok(key), Ok(value)) => Ok((key, value)),
         _ => Err(InsertError::OutOfMemory),
     }
 }
 
 /// The length of what was found, which is copied to the beginning of the buffer if that is long enough.
-fn copied(found: Option<&Bytes>, buffer: &mut [u8]) -> Option<usize>
+fn copied(found: Option<&Value>, buffer: &mut [u8]) -> Option<usize>
     ensures value { result ≡ option_map length (option_copied found.entry) }
     ensures copied { buffer.new ≡ copied_to buffer.old (option_copied found.entry) }
 {

@@ -2,7 +2,8 @@
 ghost use Rattle.std.specs.Prelude.{◌≡◌, ⊤};
 ghost use Rattle.moka_bytes.specs.Weight.{weight_of};
 
-use crate::bytes::Bytes;
+use crate::key::Key;
+use crate::value::Value;
 use moka_common::constants::UNIT_WEIGHT;
 use moka_common::weigh::Weigh;
 
@@ -13,12 +14,12 @@ pub enum ByteWeight {
     Bytes,
 }
 
-impl Weigh<Bytes, Bytes> for ByteWeight {
+impl Weigh<Key, Value> for ByteWeight {
     ghost ready = { λ _. ⊤ };
 
     ghost weighs = { λ old key value weight new. (weight ≡ weight_of old key value) × (new ≡ old) };
 
-    fn weigh(&mut self, key: &Bytes, value: &Bytes) -> u32 {
+    fn weigh(&mut self, key: &Key, value: &Value) -> u32 {
         match self {
             ByteWeight::Entry => UNIT_WEIGHT,
             ByteWeight::Bytes => {

@@ -59,8 +59,8 @@ impl Builder {
         self
     }
 
-    /// Makes room for so many entries at the start. While there are fewer, an insert allocates its
-    /// key and value alone.
+    /// Makes room for so many entries at the start. While there are fewer, an insert allocates only
+    /// its value, and a key of more than 24 bytes.
     pub fn initial_capacity(mut self, entries: usize) -> Builder {
         self.limits.initial_capacity = entries;
         self

@@ -58,9 +58,10 @@ const SHORT: usize = 256;
 /// # Cost
 ///
 /// A call takes constant time on average, and the time of copying the key and the value. All but
-/// [`peek`](Self::peek) first remove expired entries, a few hundred at most. A look-up copies its
-/// key into memory that the cache keeps, which grows where it is shorter than the key. To drop a
-/// cache takes time linear in the number of its entries.
+/// [`peek`](Self::peek) first remove expired entries, a few hundred at most. A key of up to 24
+/// bytes lies in its entry, and looking it up asks for no memory but that of the value's copy. A
+/// look-up copies a longer key into memory that the cache keeps, which grows where it is shorter
+/// than the key. To drop a cache takes time linear in the number of its entries.
 ///
 /// # Threads
 ///
