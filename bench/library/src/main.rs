@@ -1,6 +1,6 @@
 //! How long a call takes through the package in Rust, beside the original and `lru` in one process: `library INSIDE [REPEATS]`. Numbers are keys and values of
-//! 64 bits; bytes are keys of 16 and values of 64, which the package copies in and out. Each side has its own default hash. INSIDE is the program that plays
-//! a trace of numbers inside of Rattle: two static libraries of Rattle's don't go into one program.
+//! 64 bits; bytes are keys of 16 and values of 64, which the package copies in and out. Each side has its own default hash, and a byte of each value that it
+//! finds is read. INSIDE is the program that plays a trace of numbers inside of Rattle: two static libraries of Rattle's don't go into one program.
 //!
 //! Each repeat is a process of its own, `library once KIND TRACE`: which pages of memory a process gets decides how much of a cache the processor's caches hold,
 //! and that differs from one to the next by up to a half of a call's time. `library count KIND TRACE CALLS` plays the package alone, to be counted.
@@ -15,48 +15,38 @@ mod table;
 #[path = "../../src/traces.rs"]
 mod traces;
 
-use std::collections::HashMap;
 use std::hint::black_box;
 use std::path::{Path, PathBuf};
 use std::process::Command;
 use std::time::Instant;
-use traces::{Trace, GET, INSERT, READ_THROUGH};
+use traces::{Operation, Trace, GET, INSERT, READ_THROUGH};
 
 const REPEATS: usize = 5;
-/// Instructions are those of twice as many calls, less those of so many.
+/// Instructions are those of twice this many calls, less those of this many.
 const COUNTED_CALLS: usize = 100_000;
 
-/// A key of a trace, and its place among those that differ.
-#[derive(Clone, Copy)]
-struct Key {
-    number: u64,
-    place: usize,
-}
-
-/// A cache. Where keys are bytes, it has those of each place.
+/// A cache.
 trait Side {
     /// Whether the key is found. Its value is read.
-    fn get(&mut self, key: Key) -> bool;
-    fn insert(&mut self, key: Key);
+    fn get(&mut self, key: u64) -> bool;
+    fn insert(&mut self, key: u64);
 }
 
-type Make = fn(capacity: u64, keys: &[u64]) -> Box<dyn Side>;
+type Make = fn(capacity: u64) -> Box<dyn Side>;
 
 struct PackageNumbers(mini_moka_proved::NumberCache);
 
 impl Side for PackageNumbers {
-    fn get(&mut self, key: Key) -> bool {
-        black_box(self.0.get(key.number)).is_some()
+    fn get(&mut self, key: u64) -> bool {
+        black_box(self.0.get(key)).is_some()
     }
 
-    fn insert(&mut self, key: Key) {
-        self.0
-            .insert(key.number, key.number)
-            .expect("memory is there");
+    fn insert(&mut self, key: u64) {
+        self.0.insert(key, key).expect("memory is there");
     }
 }
 
-fn package_numbers(capacity: u64, _keys: &[u64]) -> Box<dyn Side> {
+fn package_numbers(capacity: u64) -> Box<dyn Side> {
     let builder = mini_moka_proved::NumberCache::builder().max_capacity(capacity);
     let cache = builder.build().expect("memory is there");
     Box::new(PackageNumbers(cache))
@@ -65,16 +55,16 @@ fn package_numbers(capacity: u64, _keys: &[u64]) -> Box<dyn Side> {
 struct OriginalNumbers(mini_moka::unsync::Cache<u64, u64>);
 
 impl Side for OriginalNumbers {
-    fn get(&mut self, key: Key) -> bool {
-        black_box(self.0.get(&key.number).copied()).is_some()
+    fn get(&mut self, key: u64) -> bool {
+        black_box(self.0.get(&key).copied()).is_some()
     }
 
-    fn insert(&mut self, key: Key) {
-        self.0.insert(key.number, key.number);
+    fn insert(&mut self, key: u64) {
+        self.0.insert(key, key);
     }
 }
 
-fn original_numbers(capacity: u64, _keys: &[u64]) -> Box<dyn Side> {
+fn original_numbers(capacity: u64) -> Box<dyn Side> {
     let cache = mini_moka::unsync::Cache::new(capacity);
     Box::new(OriginalNumbers(cache))
 }
@@ -82,34 +72,43 @@ fn original_numbers(capacity: u64, _keys: &[u64]) -> Box<dyn Side> {
 struct LruNumbers(lru::LruCache<u64, u64>);
 
 impl Side for LruNumbers {
-    fn get(&mut self, key: Key) -> bool {
-        black_box(self.0.get(&key.number).copied()).is_some()
+    fn get(&mut self, key: u64) -> bool {
+        black_box(self.0.get(&key).copied()).is_some()
     }
 
-    fn insert(&mut self, key: Key) {
-        self.0.put(key.number, key.number);
+    fn insert(&mut self, key: u64) {
+        self.0.put(key, key);
     }
 }
 
-fn lru_numbers(capacity: u64, _keys: &[u64]) -> Box<dyn Side> {
+fn lru_numbers(capacity: u64) -> Box<dyn Side> {
     let cache = lru::LruCache::new(capacity as usize);
     Box::new(LruNumbers(cache))
 }
 
-/// The bytes of the keys, and of the one value.
+/// The bytes of a key and of the one value. A key is made of its number in place, so no play waits for the memory of its keys.
 struct Bytes {
-    keys: Vec<Vec<u8>>,
+    key: Vec<u8>,
     value: Vec<u8>,
 }
 
 impl Bytes {
-    fn of(keys: &[u64]) -> Bytes {
-        let key = |number: &u64| [*number, !number].map(u64::to_le_bytes).concat();
+    fn new() -> Bytes {
         Bytes {
-            keys: keys.iter().map(key).collect(),
+            key: vec![0; 16],
             value: vec![7; 64],
         }
     }
+
+    fn set_key(&mut self, number: u64) {
+        self.key[..8].copy_from_slice(&number.to_le_bytes());
+        self.key[8..].copy_from_slice(&(!number).to_le_bytes());
+    }
+}
+
+/// Reads a byte of a value, if one was found, and says whether it was.
+fn read(found: Option<&Vec<u8>>) -> bool {
+    black_box(found.map(|value| value[0])).is_some()
 }
 
 struct PackageBytes {
@@ -119,26 +118,25 @@ struct PackageBytes {
 }
 
 impl Side for PackageBytes {
-    fn get(&mut self, key: Key) -> bool {
-        let is_found = self
-            .cache
-            .get_with(&self.bytes.keys[key.place], &mut self.found);
-        black_box(&self.found);
-        is_found
+    fn get(&mut self, key: u64) -> bool {
+        self.bytes.set_key(key);
+        let is_found = self.cache.get_with(&self.bytes.key, &mut self.found);
+        read(is_found.then_some(&self.found))
     }
 
-    fn insert(&mut self, key: Key) {
+    fn insert(&mut self, key: u64) {
+        self.bytes.set_key(key);
         self.cache
-            .insert(&self.bytes.keys[key.place], &self.bytes.value)
+            .insert(&self.bytes.key, &self.bytes.value)
             .expect("memory is there");
     }
 }
 
-fn package_bytes(capacity: u64, keys: &[u64]) -> Box<dyn Side> {
+fn package_bytes(capacity: u64) -> Box<dyn Side> {
     let builder = mini_moka_proved::Cache::builder().max_capacity(capacity);
     Box::new(PackageBytes {
         cache: builder.build().expect("memory is there"),
-        bytes: Bytes::of(keys),
+        bytes: Bytes::new(),
         found: Vec::with_capacity(64),
     })
 }
@@ -146,65 +144,45 @@ fn package_bytes(capacity: u64, keys: &[u64]) -> Box<dyn Side> {
 struct OriginalBytes(mini_moka::unsync::Cache<Vec<u8>, Vec<u8>>, Bytes);
 
 impl Side for OriginalBytes {
-    fn get(&mut self, key: Key) -> bool {
-        black_box(self.0.get(&self.1.keys[key.place])).is_some()
+    fn get(&mut self, key: u64) -> bool {
+        self.1.set_key(key);
+        read(self.0.get(&self.1.key))
     }
 
-    fn insert(&mut self, key: Key) {
-        self.0
-            .insert(self.1.keys[key.place].clone(), self.1.value.clone());
+    fn insert(&mut self, key: u64) {
+        self.1.set_key(key);
+        self.0.insert(self.1.key.clone(), self.1.value.clone());
     }
 }
 
-fn original_bytes(capacity: u64, keys: &[u64]) -> Box<dyn Side> {
+fn original_bytes(capacity: u64) -> Box<dyn Side> {
     let cache = mini_moka::unsync::Cache::new(capacity);
-    Box::new(OriginalBytes(cache, Bytes::of(keys)))
+    Box::new(OriginalBytes(cache, Bytes::new()))
 }
 
 struct LruBytes(lru::LruCache<Vec<u8>, Vec<u8>>, Bytes);
 
 impl Side for LruBytes {
-    fn get(&mut self, key: Key) -> bool {
-        black_box(self.0.get(&self.1.keys[key.place])).is_some()
+    fn get(&mut self, key: u64) -> bool {
+        self.1.set_key(key);
+        read(self.0.get(&self.1.key))
     }
 
-    fn insert(&mut self, key: Key) {
-        self.0
-            .put(self.1.keys[key.place].clone(), self.1.value.clone());
+    fn insert(&mut self, key: u64) {
+        self.1.set_key(key);
+        self.0.put(self.1.key.clone(), self.1.value.clone());
     }
 }
 
-fn lru_bytes(capacity: u64, keys: &[u64]) -> Box<dyn Side> {
+fn lru_bytes(capacity: u64) -> Box<dyn Side> {
     let cache = lru::LruCache::new(capacity as usize);
-    Box::new(LruBytes(cache, Bytes::of(keys)))
-}
-
-/// A trace by its keys that differ, and its operations by kind and key.
-struct Load {
-    keys: Vec<u64>,
-    operations: Vec<(u32, Key)>,
-}
-
-impl Load {
-    fn of(trace: &Trace) -> Load {
-        let mut keys = Vec::new();
-        let mut places = HashMap::new();
-        let operations = trace.operations.iter().map(|operation| {
-            let number = operation.key;
-            let place = *places.entry(number).or_insert_with(|| {
-                keys.push(number);
-                keys.len() - 1
-            });
-            (operation.kind, Key { number, place })
-        });
-        let operations = operations.collect();
-        Load { keys, operations }
-    }
+    Box::new(LruBytes(cache, Bytes::new()))
 }
 
 /// Makes an operation. Whether a value is found.
-fn make(side: &mut dyn Side, (kind, key): (u32, Key)) -> bool {
-    match kind {
+fn make(side: &mut dyn Side, operation: &Operation) -> bool {
+    let key = operation.key;
+    match operation.kind {
         GET => side.get(key),
         INSERT => {
             side.insert(key);
@@ -229,17 +207,16 @@ struct Played {
 
 /// Makes operations, and says how many found a value.
 #[inline(never)]
-fn play_counted(side: &mut dyn Side, operations: &[(u32, Key)]) -> usize {
-    operations.iter().filter(|it| make(side, **it)).count()
+fn play_counted(side: &mut dyn Side, operations: &[Operation]) -> usize {
+    operations.iter().filter(|it| make(side, it)).count()
 }
 
 /// Plays a trace on a new cache.
 fn play(make_side: Make, trace: &Trace) -> Played {
-    let load = Load::of(trace);
-    let mut side = make_side(trace.settings.capacity, &load.keys);
-    let (filling, counted) = load.operations.split_at(trace.filling);
+    let mut side = make_side(trace.settings.capacity);
+    let (filling, counted) = trace.operations.split_at(trace.filling);
     for operation in filling {
-        make(&mut *side, *operation);
+        make(&mut *side, operation);
     }
     let start = Instant::now();
     let hits = play_counted(&mut *side, counted);
@@ -290,7 +267,7 @@ fn play_once(kind: &str, trace: &str) {
     }
 }
 
-/// Has the package play so many calls.
+/// Has the package play `calls` calls.
 fn play_package(kind: &str, trace: &str, calls: usize) {
     let (kind, trace) = named(kind, trace, calls);
     play(kind.sides[0], &trace);
