@@ -17,5 +17,5 @@ pub const TOO_SHORT: u32 = 6;
 /// No walk was begun, or a call that may change the cache was made since.
 pub const CHANGED: u32 = 7;
 
-/// The capacity or the duration of a cache that has none. No clock reaches so many nanoseconds: they are more than 584 years.
+/// The capacity or the duration of a cache that has none. No clock reaches it: as nanoseconds it is more than 584 years.
 pub const UNLIMITED: u64 = u64::MAX;

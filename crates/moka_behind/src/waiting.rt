@@ -20,7 +20,7 @@ const TIMES_GIVING_WAY: usize = 8;
 /// How often a writer looks whether a full log has got room, before it asks again whether a maintenance is due.
 const ROOM_LOOKS: usize = 16;
 
-/// For how many operations there is to be room then. Where several writers wait, they push by turns of so many, and don't all ask for the lock at
+/// The room, in operations, that a writer waits for. Where several wait, they push in turns of this many, and don't all ask for the lock at
 /// each operation that leaves the log.
 pub(crate) const ROOM_AWAITED: usize = 16;
 

@@ -11,7 +11,7 @@ const REPLIES: &str = "ready\nok\nsome alice\nnone\n";
 /// More calls than any run here makes.
 const MANY: usize = 100;
 
-/// Gives three bytes a call at most, and refuses after so many calls.
+/// Gives three bytes a call at most, and refuses after `calls` calls.
 #[derive(Drop)]
 struct Dripping<'a> {
     left: &'a [u8],
@@ -34,7 +34,7 @@ impl Read for Dripping<'_> {
     }
 }
 
-/// Takes two bytes a call at most, and refuses after so many calls.
+/// Takes two bytes a call at most, and refuses after `calls` calls.
 #[derive(Drop)]
 struct Narrow {
     taken: Vec<u8>,
@@ -66,7 +66,7 @@ impl Narrow {
     }
 }
 
-/// How a run ends whose source refuses after so many calls, and what it writes.
+/// How a run ends whose source refuses after `calls` calls, and what it writes.
 fn run_of_reads(alloc: Global, calls: usize) -> (Result<End, ScriptError>, Vec<u8>) {
     let left = SCRIPT.as_bytes();
     let mut source = FromRead::new(Dripping { left, calls });
@@ -75,7 +75,7 @@ fn run_of_reads(alloc: Global, calls: usize) -> (Result<End, ScriptError>, Vec<u
     (end, sink.into_inner())
 }
 
-/// How a run ends whose sink refuses after so many calls, and what was written till then.
+/// How a run ends whose sink refuses after `calls` calls, and what was written till then.
 fn run_of_writes(alloc: Global, calls: usize) -> (Result<End, ScriptError>, Vec<u8>) {
     let mut source = FromRead::new(SCRIPT.as_bytes());
     let mut sink = FromWrite::new(Narrow::new(alloc, calls));
@@ -83,7 +83,7 @@ fn run_of_writes(alloc: Global, calls: usize) -> (Result<End, ScriptError>, Vec<
     (end, sink.into_inner().taken)
 }
 
-/// Whether the source refuses after so many calls, and then nothing is written. Otherwise all replies are. Anything else is nothing.
+/// Whether the source refuses after `calls` calls, and then nothing is written. Otherwise all replies are. Anything else is nothing.
 fn is_read_refused(alloc: Global, calls: usize) -> Option<bool> {
     let (end, text) = run_of_reads(alloc, calls);
     match end {
@@ -93,7 +93,7 @@ fn is_read_refused(alloc: Global, calls: usize) -> Option<bool> {
     }
 }
 
-/// Whether the sink refuses after so many calls, and has the first replies then, two bytes by each call. Otherwise it has all. Anything else is nothing.
+/// Whether the sink refuses after `calls` calls, and has the first replies then, two bytes by each call. Otherwise it has all. Anything else is nothing.
 fn is_write_refused(alloc: Global, calls: usize) -> Option<bool> {
     let (end, text) = run_of_writes(alloc, calls);
     let replies = REPLIES.as_bytes();

@@ -13,7 +13,8 @@ use Rattle.moka_deque.specs.Deque.{IsIn, first_id, next_id}
 use Rattle.moka_deque.specs.Nodes.{AreApart}
 use Rattle.moka_deque.proofs.CutLemmas.{absent-cut}
 use Rattle.moka_deque.proofs.DequeLemmas.{absent_cons, absent_head, absent_tail, cond_swap, differs, distinct_from_apart, found_tail}
-use Rattle.moka_deque.proofs.DequeLemmas.{length-remove, lookup-other, lookup-remove_other, nat_eq-same, nat_eq_comm, ne_comm, not_both, remove-other, remove-same}
+use Rattle.moka_deque.proofs.DequeLemmas.{length-remove, lookup-other, lookup-remove_other, nat_eq-same, nat_eq_comm, ne_comm, not_both, remove-other}
+use Rattle.moka_deque.proofs.DequeLemmas.{remove-same}
 use Rattle.moka_deque.proofs.IdLemmas.{IsDistinct-removed, lookup-removed, some_parts}
 use Rattle.moka_deque.proofs.WalkLemmas.{next_is_in}
 

@@ -103,7 +103,7 @@ impl<T, A: Allocator> Chain<T, A> {
         self.links.grow(self.slots.capacity())
     }
 
-    /// Whether so many more fit.
+    /// Whether `additional` more fit.
     fn has_room_for(&self, additional: usize) -> bool
         ensures holds_all { IsTrue result ↔ length self.now.items + additional ≤ self.now.capacity }
         ensures room { IsTrue result → additional ≤ self.now.room }
@@ -208,8 +208,8 @@ impl<T, A: Allocator> Chain<T, A> {
         self.links.link_back(number);
     }
 
-    /// Moves the node to right before the node `next`, in constant time: for an owner that keeps its nodes in an order and has found where one belongs. No other
-    /// node moves. Both must be in the chain, which `contains` tells, and be two nodes, which `!=` tells.
+    /// Moves the node to right before the node `next`, in constant time: for an owner that keeps its nodes in an order and has found where one belongs. No
+    /// other node moves. Both must be in the chain, which `contains` tells, and be two nodes, which `!=` tells.
     #[inline]
     pub fn move_before(&mut self, id: NodeId, next: NodeId)
         requires here { IsIn self.old.items id }

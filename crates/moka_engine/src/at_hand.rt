@@ -21,7 +21,7 @@ impl Work {
         self.less(1)
     }
 
-    /// What is left once so many are taken.
+    /// What is left once `count` more are taken.
     pub fn less(self, count: usize) -> Work
         ensures round { result.round ≡ self.round }
         ensures left { result.left ≡ self.left - count }

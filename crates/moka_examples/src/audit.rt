@@ -43,7 +43,7 @@ fn make_calls<R: Wait>(
     Ok(pass)
 }
 
-/// The record of what so many threads have done to one cache, each a hundred calls.
+/// The record of what these threads have done to one cache, each a hundred calls.
 pub fn record_of_threads<R: Wait + Threads + Copy + Send + 'static>(
     rt: R,
     alloc: Global,

@@ -34,8 +34,8 @@ impl Metrics {
     }
 }
 
-/// The most entries that were counted at so many looks, unless a look had the count of one maintenance and the weight of another, which the two would tell,
-/// since each entry weighs 1, or was older than the one before.
+/// The most entries that were counted at these looks, unless a look had the count of one maintenance and the weight of another, which would differ since
+/// each entry weighs 1, or was older than the one before.
 fn watch<R: Wait>(rt: &R, metrics: &mut Metrics, looks: u64) -> Option<u64> {
     let mut number = 0u64;
     let mut most = 0u64;
@@ -50,7 +50,7 @@ fn watch<R: Wait>(rt: &R, metrics: &mut Metrics, looks: u64) -> Option<u64> {
     Some(most)
 }
 
-/// Inserts so many keys, one after another.
+/// Inserts the first `keys` keys, one after another.
 fn insert_all<R: Wait>(rt: &R, cache: &Cache<u64, u64>, keys: u64) -> Result<(), Error> {
     let now = Instant::from_secs(0);
     for key in 0..keys {

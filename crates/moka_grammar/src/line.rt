@@ -207,7 +207,7 @@ pub struct CoreLine<T = Text> {
 /// What is asked of the sketch.
 #[derive(Clone, Copy, Debug, PartialEq, Eq)]
 pub enum SketchLine {
-    /// Counts the hash so many times.
+    /// Counts the hash `times` times.
     Inc { hash: u64, times: u16 },
     /// Estimates how often the hash was counted recently.
     Freq { hash: u64 },

@@ -25,7 +25,8 @@ use Rattle.moka_machine.specs.Iterate.{unexpired_pairs}
 use Rattle.moka_machine.specs.Step.{Answer, IsStep, Request, Get, Peek, ContainsKey, Insert, Invalidate, Remove, InvalidateAll}
 use Rattle.moka_machine.specs.Step.{InvalidateEntriesIf, Iterate, EntryCount, WeightedSize, Done, Found, Pairs, Truth}
 use Rattle.moka_history.specs.History.{ContainsAsGet, Exchange, Transition, chosen_keys, exchanges, HitsAreCurrent, IsCurrent}
-use Rattle.moka_history.specs.History.{IsLastInsert, LastWrite, LastWritesAreInserts, Leads, PairsAreCurrent, PeekAsGet, PeeksAreCurrent, RemoveAsGet, RunsHaveAHistory}
+use Rattle.moka_history.specs.History.{IsLastInsert, LastWrite, LastWritesAreInserts, Leads, PairsAreCurrent, PeekAsGet, PeeksAreCurrent, RemoveAsGet}
+use Rattle.moka_history.specs.History.{RunsHaveAHistory}
 use Rattle.moka_history.specs.History.{is_invalidated, is_over, is_written, known_after, last_write, used_at}
 use Rattle.moka_history.specs.Removal.{last_write_of}
 use Rattle.moka_machine.proofs.ContentsLemmas.{found_key}

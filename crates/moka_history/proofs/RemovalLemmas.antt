@@ -19,7 +19,8 @@ use Rattle.moka_history.specs.History.{LastWrite, Leads, Transition, chosen_keys
 use Rattle.moka_history.specs.Removal.{EntriesLeaveForACause, InsertsEnterOrAreRejected, IsMissing}
 use Rattle.moka_history.specs.Removal.{IsRejected, Leaves, MissesHaveAReason, RemovalCause, last_write_of}
 use Rattle.moka_machine.proofs.ContentsLemmas.{absent-leaving}
-use Rattle.moka_history.proofs.HistoryLemmas.{found-entering, found-upkeep, found_fresh, once-run, one_of, same_found, settings-run, something, told-run, told-upkeep}
+use Rattle.moka_history.proofs.HistoryLemmas.{found-entering, found-upkeep, found_fresh, once-run, one_of, same_found, settings-run, something, told-run}
+use Rattle.moka_history.proofs.HistoryLemmas.{told-upkeep}
 use Rattle.moka_machine.proofs.ContentsLemmas.{found_key}
 use Rattle.moka_laws.proofs.LimitLemmas.{found_there, total-upkeep}
 use Rattle.moka_laws.proofs.MapLemmas.{entry_at-equal, entry_at-moved, entry_at-push}

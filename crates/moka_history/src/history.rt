@@ -1,7 +1,8 @@
-//! What the calls of a cache tell of its entries, a law a function. A law is its function's clause: there is no code to call.
+//! What follows for a cache's entries from the calls that were made, a law a function. A law is its function's clause: there is no code to call.
 ghost use Rattle.moka_base.specs.Keys.{keys_by};
 ghost use Rattle.moka_history.specs.Excluded.{EntriesWithoutCauseStay, ExpiredValuesAreNotCurrent, ReplacedValuesAreNotCurrent};
-ghost use Rattle.moka_history.specs.History.{ContainsAsGet, HitsAreCurrent, LastWritesAreInserts, PairsAreCurrent, PeekAsGet, PeeksAreCurrent, RemoveAsGet, RunsHaveAHistory};
+ghost use Rattle.moka_history.specs.History.{ContainsAsGet, HitsAreCurrent, LastWritesAreInserts, PairsAreCurrent, PeekAsGet, PeeksAreCurrent, RemoveAsGet};
+ghost use Rattle.moka_history.specs.History.{RunsHaveAHistory};
 ghost use Rattle.moka_history.specs.Removal.{EntriesLeaveForACause, InsertsEnterOrAreRejected, MissesHaveAReason};
 
 use moka_base::weigh::Weigh;
@@ -34,7 +35,7 @@ pub fn runs_have_a_history<K: Eq + Hash, V, S: BuildHasher, W: Weigh<K, V>>()
     ensures { RunsHaveAHistory (keys_by K.Hash S.BuildHasher S.Hasher.Hasher) W.weighs }
 {}
 
-/// The last write that a history tells of a key is the last call that concerns the key: an accepted insert.
+/// The last write of a key in a history is the last call that concerns the key: an accepted insert.
 pub fn last_writes_are_inserts<K: Eq + Hash, V, S: BuildHasher>()
     ensures { LastWritesAreInserts (keys_by K.Hash S.BuildHasher S.Hasher.Hasher) V }
 {}

@@ -31,7 +31,7 @@ pub(crate) fn tag_of(hash: u64) -> u32
     (hash.wrapping_mul(SPREAD) >> 32) as u32
 }
 
-/// How many places tags are spread over, in a table with room for so many ids.
+/// How many places tags are spread over, in a table with room for `ids` ids.
 #[inline]
 pub(crate) fn places_of(ids: usize) -> usize
     requires { ids ≤ MOST_IDS }
@@ -41,7 +41,7 @@ pub(crate) fn places_of(ids: usize) -> usize
     ids * 2 - ids / 4
 }
 
-/// The place at which a search for a tag starts, in a table with room for so many ids. Where tags start is in their own order.
+/// The place at which a search for a tag starts, in a table with room for `ids` ids. Where tags start is in their own order.
 #[inline]
 pub(crate) fn home_of(ids: usize, tag: u32) -> usize
     requires { ids ≤ MOST_IDS }

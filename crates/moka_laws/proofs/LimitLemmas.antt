@@ -13,7 +13,8 @@ use Rattle.moka_base.specs.Policy.{Policy}
 use Rattle.moka_sketch.specs.Sketch.{Table}
 use Rattle.moka_machine.specs.declared.entry.Entry.{Entry}
 use Rattle.moka_machine.specs.declared.constants.TheConstants.{EVICTION_BATCH_SIZE, WINDOW_SHARE}
-use Rattle.moka_machine.specs.Contents.{Contents, after_leaving, after_moving, entry_at, entries_without, entry_keys, main_of, total_weight, window_of, with_latest, without}
+use Rattle.moka_machine.specs.Contents.{Contents, after_leaving, after_moving, entry_at, entries_without, entry_keys, main_of, total_weight, window_of}
+use Rattle.moka_machine.specs.Contents.{with_latest, without}
 use Rattle.moka_machine.specs.CacheState.{CacheState, new_cache}
 use Rattle.moka_base.specs.Settings.{keeps_writes}
 use Rattle.moka_machine.specs.Upkeep.{after_expiry, after_idle, after_live_expiry, after_trim, after_upkeep}

@@ -39,7 +39,7 @@ impl Default for Housekeeper {
 }
 
 impl Housekeeper {
-    /// Whether a maintenance is due in a call that finds so many operations in the read log.
+    /// Whether a maintenance is due in a call that finds `len` operations in the read log.
     pub fn should_apply_reads(&self, len: usize, now: Instant) -> bool
         ensures { (due : Option ℕ) × (result ≡ is_due len FLUSH_POINT due now) }
     {
@@ -53,7 +53,7 @@ impl Housekeeper {
         self.should_apply(len, FLUSH_POINT, now)
     }
 
-    /// Whether a maintenance is due in a call that finds so many operations in its log: as many as the flush point or more, or the due moment, if
+    /// Whether a maintenance is due in a call that finds `len` operations in its log: the flush point or more, or the due moment, if
     /// there is one, has come.
     pub fn should_apply(&self, len: usize, flush_point: usize, now: Instant) -> bool
         ensures { (due : Option ℕ) × (result ≡ is_due len flush_point due now) }

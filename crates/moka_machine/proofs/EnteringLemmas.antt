@@ -1,5 +1,6 @@
 -- Lemmas on a new entry that enters the window: to judge the window's old entries first, and only then to let it in or to judge it, leaves the same.
-use Rattle.std.proofs.Common.{◌≡◌, ◌<◌, ◌+◌, ◌-◌, ℕ, zero, suc, Bool, true, false, cond, not, ◌&&◌, List, [], ◌∷◌, ◌++◌, All, filter, length, get_or, drop, sum_by, nat_le}
+use Rattle.std.proofs.Common.{◌≡◌, ◌<◌, ◌+◌, ◌-◌, ℕ, zero, suc, Bool, true, false, cond, not, ◌&&◌, List, [], ◌∷◌, ◌++◌, All, filter, length, get_or, drop}
+use Rattle.std.proofs.Common.{sum_by, nat_le}
 use Rattle.std.proofs.Common.{nat_lt, is_some, IfSome, Option, Some, None, option_map, unwrap_or, append-nil, refl, sym, ap, ◌∙◌, subst, inl, inr, arith}
 use Rattle.std.proofs.lemmas.Bool.{cases_Bool, cond-true, cond-false, false≢true}
 use Rattle.std.proofs.lemmas.List.Elements.{All-cons, All-filter, All-head, All-nil, All-tail, All-weaker, filter-append, filter_passes}

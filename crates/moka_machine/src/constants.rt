@@ -4,6 +4,6 @@
 /// doesn't ask for.
 pub const EVICTION_BATCH_SIZE: usize = 100;
 
-/// The window's part of a limit is one in so many, and main has the rest: 1 %, as W-TinyLFU and Caffeine begin with, since new entries need little room
+/// The window's part of a limit is one in this many, and main has the rest: 1 %, as W-TinyLFU and Caffeine begin with, since new entries need little room
 /// until it is known which of them are used again. A limit below this has no window.
 pub const WINDOW_SHARE: u64 = 100;

@@ -40,7 +40,7 @@ impl<A: Allocator + Drop> PendingOperations<A> {
         })
     }
 
-    /// Makes room for so many more operations, beside that for the caller of whole calls.
+    /// Makes room for `operations` more of them, beside that for the caller of whole calls.
     pub fn reserve(&mut self, operations: usize) -> Result<(), OutOfMemory>
         ensures ok { OnOk result (operations < self.new.room) }
         ensures unchanged { self.new.operations ≡ self.old.operations }

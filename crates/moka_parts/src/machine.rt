@@ -1,7 +1,8 @@
 //! What takes one atomic step at a time: the map, the logs, what is pending and the maintenance, each by itself.
 ghost use Rattle.std.specs.Prelude.{◌≡◌, ◌<◌, ◌↔◌, Bool, [], replicate, IsTrue, slice_index, IfErr, IfOk, OnErr};
 ghost use Rattle.moka_base.specs.Keys.{keys_by};
-ghost use Rattle.moka_parts.specs.Machine.{FindsFor, InsertsFor, IsUntouched, KeepsAllButMap, KeepsRoom, RefusesFor, RefusesInsertFor, RemovesFor, TakesFor, refusal_reply};
+ghost use Rattle.moka_parts.specs.Machine.{FindsFor, InsertsFor, IsUntouched, KeepsAllButMap, KeepsRoom, RefusesFor, RefusesInsertFor, RemovesFor};
+ghost use Rattle.moka_parts.specs.Machine.{TakesFor, refusal_reply};
 ghost use Rattle.moka_map.specs.Pending.{HasRoomFor};
 ghost use Rattle.moka_engine.specs.CoreCall.{IsAtRest};
 ghost use Rattle.moka_engine.specs.CoreState.{IsNew, new_core, new_maintenance};

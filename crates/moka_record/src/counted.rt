@@ -16,7 +16,7 @@ use std::alloc::{Allocator, Global};
 use std::hash::{BuildHasher, Hash};
 use std::marker::{Model, PhantomData};
 
-/// A record that replays, with as many calls as the passes have made.
+/// A record that replays, and whose length is the number of calls that the passes have made.
 #[derive(Drop)]
 pub(crate) struct Counted<
     K: Eq + Hash + Drop,
@@ -106,7 +106,7 @@ impl<
     Q: WeightRule<K, V>,
     A: Allocator + Clone + Drop,
 > Counted<K, V, S, W, Q, A> {
-    /// The record, if each pass is there once and has made as many calls as it says.
+    /// The record, if each pass is there once and has made the number of calls that it says.
     pub(crate) fn close(self, passes: &[CallPass]) -> Result<Record<K, V, S, W, A>, CloseError>
         ensures replays { IfOk result (λ kept. Replays (keys_by K.Hash S.BuildHasher S.Hasher.Hasher) Q.weighs kept.state) }
         ensures made { IfOk result (λ kept. length kept.state.calls ≡ made_by passes.now) }

@@ -1,4 +1,4 @@
-//! A heap for tests that refuses requests as it is told.
+//! A heap for tests that refuses the requests which a test chooses.
 #![tactic(auto)]
 
 pub mod heap;

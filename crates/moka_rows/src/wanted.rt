@@ -166,7 +166,7 @@ fn repeated(line: &str) -> (u64, &str) {
     }
 }
 
-/// Adds a line in which `#` is a number, and `#*` with digits behind it so many times the number.
+/// Adds a line in which `#` is a number, and `#*` with digits behind it the product of both.
 fn push_numbered(
     alloc: Global,
     text: &mut String,

@@ -302,7 +302,7 @@ fn rows_of<A: Allocator + Clone + Drop>(
     }
 }
 
-/// How the answer to a step is told. No step of a line is answered by pairs or counts: copies are told by `list`, and counts by `charged`.
+/// What a line writes for the answer to a step. No step of a line is answered by pairs or counts: `list` writes copies, and `charged` counts.
 fn told<A: Allocator + Clone + Drop>(reply: &ScriptReply<A>) -> ReplyValue<'_>
     ensures { reply_of result ≡ told reply.now }
 {
@@ -319,7 +319,7 @@ fn told<A: Allocator + Clone + Drop>(reply: &ScriptReply<A>) -> ReplyValue<'_>
     }
 }
 
-/// How a weight is told: beyond 64 bits as the largest number that they tell.
+/// The weight that is written: beyond 64 bits, their largest number.
 fn told_weight(weight: u128) -> u128
     ensures { result ≡ min weight (2 ^ 64 - 1) }
 {
@@ -327,7 +327,7 @@ fn told_weight(weight: u128) -> u128
     if largest < weight { largest } else { weight }
 }
 
-/// How it is told whether there was something to do.
+/// What a line writes for whether there was something to do.
 fn told_if(done: bool) -> ReplyValue<'static>
     ensures { reply_of result ≡ told_if done }
 {

@@ -131,7 +131,7 @@ fn asked_of<T>(request: &Request<T>) -> Asked
     }
 }
 
-/// How the answer of a record is told.
+/// What a line writes for the answer of a record.
 fn told<A: Allocator + Clone + Drop>(
     asked: Asked,
     answer: &Result<ScriptAnswer<A>, NotRecorded>,

@@ -62,7 +62,7 @@ fn reply_to<A: Allocator + Clone + Drop>(
     }
 }
 
-/// Counts the hash so many times.
+/// Counts the hash `times` times.
 fn count<A: Allocator + Clone + Drop>(sketch: &mut FrequencySketch<A>, hash: u64, times: u16)
     ensures step { sketch.new ≡ iterate (λ s. after_increment s hash) times sketch.old }
     ensures table { table_len sketch.new ≡ table_len sketch.old }

@@ -7,7 +7,7 @@ use crate::constants::{
 use moka_common::deque::{CacheRegion, Deque, NodeId};
 use std::alloc::Global;
 
-/// Makes a list with room for so many elements, plays a load on it `rounds` times over, and drops it. A load of moves goes through all of `picks`,
+/// Makes a list with room for `nodes` elements, plays a load on it `rounds` times over, and drops it. A load of moves goes through all of `picks`,
 /// which are numbers of nodes; the others take as many turns as there is room for elements. What was met is summed up in `sum`, modulo 2^64, where
 /// the answer is `DONE`.
 #[unsafe(no_mangle)]
@@ -76,7 +76,7 @@ fn fill_and_empty(list: &mut Deque<u64>, nodes: usize) -> u64 {
     sum
 }
 
-/// Takes the first element out and puts it in at the back, so many times, and sums them up.
+/// Takes the first element out and puts it in at the back, `turns` times, and sums them up.
 fn take_turns(list: &mut Deque<u64>, turns: usize) -> u64 {
     let mut sum = 0u64;
     for _ in 0..turns {

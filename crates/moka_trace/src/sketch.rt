@@ -7,7 +7,7 @@ use moka_common::frequency_sketch::FrequencySketch;
 use moka_sketch::{age, age_plain, aged_size};
 use std::alloc::Global;
 
-/// Makes a sketch for so many entries, counts all hashes `counts` times over, and then reads their frequencies `reads` times over. The sum of what
+/// Makes a sketch for `capacity` entries, counts all hashes `counts` times over, and then reads their frequencies `reads` times over. The sum of what
 /// was read, modulo 2^64, is in `sum` where the answer is `DONE`.
 #[unsafe(no_mangle)]
 pub extern "C" fn moka_trace_sketch(
@@ -52,7 +52,7 @@ fn sum_of(sketch: &FrequencySketch, hashes: &[u64]) -> u64 {
     sum
 }
 
-/// Makes a table of these words, and ages it so many times over. The sizes that follow from how many counters were odd, the first from `u32::MAX`, are
+/// Makes a table of these words, and ages it `agings` times over. The sizes that follow from how many counters were odd, the first from `u32::MAX`, are
 /// summed up by their order in `sum`, modulo 2^64, where the answer is `DONE`.
 #[unsafe(no_mangle)]
 pub extern "C" fn moka_trace_aging(

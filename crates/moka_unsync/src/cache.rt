@@ -575,7 +575,7 @@ fn put_new<K: Eq + Drop, V: Drop, A: Allocator + Clone + Drop>(
     }
 }
 
-/// A store without entries, with room for so many.
+/// A store without entries, with this room.
 fn empty_store<K: Eq + Drop, V: Drop, A: Allocator + Clone + Drop>(
     alloc: &A,
     policy: Policy,

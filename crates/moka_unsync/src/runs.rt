@@ -59,8 +59,8 @@ pub enum Reply<V: Drop, A: Allocator + Drop = Global> {
     Bool(bool),
     Done,
     Number(u64),
-    /// Memory was refused: for the room of an insert, which was not made then, or for one more owner of a value that was found, or of one at hand where
-    /// none was: the `get` or `peek` is done then, and nothing is inserted.
+    /// Memory was refused: for the room of an insert, which was not made then, or for one more owner of a value that was found, or of the call's own
+    /// value where none was: the `get` or `peek` is done then, and nothing is inserted.
     OutOfMemory,
 }
 

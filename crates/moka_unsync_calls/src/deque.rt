@@ -13,8 +13,8 @@ fn steps(list: &mut Deque<char>) -> [Option<char>; 4] {
     steps
 }
 
-/// The steps in a list: while it is empty, once it has three elements, once the second has moved to the back when the cursor had passed the first, and once that
-/// at the cursor has left.
+/// The steps in a list: while it is empty, once it has three elements, once the second has moved to the back when the cursor had passed the first, and once
+/// that at the cursor has left.
 fn walks(list: &mut Deque<char>) -> Result<[[Option<char>; 4]; 4], char> {
     let empty = steps(list);
     list.push_back('a')?;

@@ -9,7 +9,7 @@ fn start() -> Instant {
     Instant::from_nanos(0)
 }
 
-/// A cache with so many entries.
+/// A cache with this number of entries.
 fn filled(alloc: Global, number: u64) -> Result<Cache<u64, u64>, Fail> {
     let mut cache: Cache<u64, u64> = Cache::builder(alloc).build()?;
     for key in 0..number {

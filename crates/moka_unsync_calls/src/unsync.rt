@@ -144,7 +144,7 @@ fn gets_or_inserts(alloc: Global) -> Result<Vec<Call<u64, u64>>, OutOfMemory> {
     Ok(calls)
 }
 
-/// A reply as a number: a value that is told, 100 more than a count, and 1000 for any other.
+/// A reply as a number: the value that is found, 100 more than a count, and 1000 for any other.
 fn told(reply: &Reply<u64>) -> u64 {
     match reply {
         Reply::Found(Some(value)) => **value,
@@ -153,7 +153,7 @@ fn told(reply: &Reply<u64>) -> u64 {
     }
 }
 
-// There is room for one entry. Key 2 is asked for as often as key 1, so its entry is rejected; what was at hand for it is told.
+// There is room for one entry. Key 2 is asked for as often as key 1, so its entry is rejected; the reply is the value that was to be inserted.
 #[test]
 fn a_run_gets_or_inserts(rt: HostRuntime) -> Result<(), Fail> {
     let calls = gets_or_inserts(rt.alloc())?;

@@ -13,9 +13,8 @@ use std::rc::Rc;
 use std::test::Fail;
 use std::time::Clock;
 
-// What is remembered is found; a text is found until its time is over; what is invalidated is gone; the first pair is of the least recently used entry; a list of calls
-// is made in turn; a text weighs its bytes; and a
-// square is made and found.
+// What is remembered is found; a text is found until its time is over; what is invalidated is gone; the first pair is of the least recently used entry; a list
+// of calls is made in turn; a text weighs its bytes; and a square is made and found.
 #[test]
 fn examples_for_one_thread_give_what_they_say(rt: HostRuntime) -> Result<(), Fail> {
     let alloc = rt.alloc();

@@ -26,7 +26,7 @@ fn counts(cache: &Numbers) -> [u64; 2] {
     [cache.entry_count(), cache.weighted_size()]
 }
 
-/// What a maintenance with this number has published of so many entries that weigh 1 each.
+/// What the maintenance with this number has published, where there are `count` entries that weigh 1 each.
 fn published(number: u64, count: u64) -> Published {
     Published {
         number,

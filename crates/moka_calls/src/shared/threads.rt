@@ -42,7 +42,7 @@ fn insert_all<R: Wait>(rt: &R, cache: &Cache<u64, u64>, keys: u64) -> bool {
     true
 }
 
-/// Whether a snapshot has so many pairs, each of a key with itself. By the contract of `iter` their keys are different ones.
+/// Whether a snapshot has `keys` pairs, each of a key with itself. By the contract of `iter` their keys are different ones.
 fn is_whole<R: Wait>(rt: &R, cache: &Cache<u64, u64>, keys: u64) -> bool {
     let Ok(pairs) = cache.iter(rt, start()) else {
         return false;

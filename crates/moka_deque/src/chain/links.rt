@@ -62,7 +62,7 @@ impl<A: Allocator> LinkTable<A> {
         self.links[id].next
     }
 
-    /// Makes room for the links of so many nodes in all. Those that are new have no neighbours.
+    /// Makes room for the links of `len` nodes in all. Those that are new have no neighbours.
     pub(crate) fn grow(&mut self, len: usize) -> Result<(), AllocError>
         requires { IsNumbered self.old }
         ensures ok { OnOk result (len ≤ length self.new.links.items) }

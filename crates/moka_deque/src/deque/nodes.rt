@@ -316,7 +316,7 @@ impl<T, A: Allocator> Nodes<T, A> {
         self.make_spares(missing)
     }
 
-    // How many spare nodes are missing for so many elements more.
+    // How many spare nodes are missing for `additional` more elements.
     fn missing(&self, additional: usize) -> usize
         requires { IsTied self.now }
         ensures { result ≡ additional - room_of self.now }
@@ -324,7 +324,7 @@ impl<T, A: Allocator> Nodes<T, A> {
         additional.saturating_sub(self.slots.len() - self.len)
     }
 
-    // Makes so many spare nodes. Where one is refused, those before it stay.
+    // Makes `count` spare nodes. Where one is refused, those before it stay.
     fn make_spares(&mut self, count: usize) -> Result<(), AllocError>
         requires tied { IsTied self.old }
         requires slots { HasRoomFor self.old.slots count }

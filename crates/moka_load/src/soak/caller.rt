@@ -43,7 +43,7 @@ impl Caller {
         })
     }
 
-    /// Makes so many calls, and tells what came of them.
+    /// Makes `calls` calls, and returns what came of them.
     pub(crate) fn run<R: Wait>(&mut self, rt: &R, calls: u64) -> Tally {
         for _ in 0..calls {
             let now = self.moments.next(&mut self.draws);

@@ -32,7 +32,7 @@ impl Look {
         self.left.is_within(&self.counted) && self.counted.weight <= LIMIT
     }
 
-    /// Whether what is left is what is counted, and has so many entries.
+    /// Whether what is left is what is counted, and has this number of entries.
     pub fn agrees_on(&self, entries: u64) -> bool
         ensures { IsTrue result ↔ AgreesOn entries self.now }
     {

@@ -14,7 +14,7 @@ use std::alloc::Global;
 use std::sync::Wait;
 use std::thread::{Builder, Threads};
 
-/// Makes so many calls from eight threads on one cache, and looks at it afterwards. Which calls are made is up to the seed, and what they give
+/// Makes `calls` calls from eight threads on one cache, and looks at it afterwards. Which calls are made is up to the seed, and what they give
 /// also to the order in which the threads come.
 pub fn soak<R: Wait + Threads + Copy + Send + 'static>(
     rt: R,

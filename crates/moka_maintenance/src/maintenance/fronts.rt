@@ -105,7 +105,7 @@ fn send_if_absent<A: Allocator + Clone + Drop>(orders: &mut Orders<A>, id: NodeI
     next
 }
 
-/// Of so many nodes from the front on, those that a scan has marked as absent go to the back, one after another.
+/// Of the first `count` nodes, those that a scan has marked as absent go to the back, one after another.
 pub(crate) fn send_absent_back<A: Allocator + Clone + Drop>(orders: &mut Orders<A>, count: usize)
     requires { count ≤ length orders.old.nodes }
     ensures { orders_of orders.new ≡ all_used (absent_of (first_seen count orders.old.nodes)) (orders_of orders.old) }

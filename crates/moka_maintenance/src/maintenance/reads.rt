@@ -23,7 +23,7 @@ use moka_orders::orders::Orders;
 use moka_sketch::frequency_sketch::FrequencySketch;
 use std::alloc::Allocator;
 
-/// The stage after an operation, where so many reads are left.
+/// The stage after an operation, where this is left of the reads.
 fn reads_or_on(work: Work) -> Stage
     requires { work.round ≤ MAX_ROUNDS }
     ensures { IsPlain result (reads_or_on work) }

@@ -24,7 +24,7 @@ use moka_engine::ticket::Ticket;
 use moka_logs::logs::WriteLog;
 use std::alloc::Allocator;
 
-/// The stage after an operation, where so many writes are left.
+/// The stage after an operation, where this is left of the writes.
 pub(crate) fn writes_or_on(work: Work) -> Stage
     requires { work.round ≤ MAX_ROUNDS }
     ensures { IsPlain result (writes_or_on work) }

@@ -24,7 +24,7 @@ const LOWER_BYTES: u64 = 0x00ff_00ff_00ff_00ff;
 const LANES: usize = 8;
 
 /// How many words are aged before their odd counters are added up. A lane counts them in counters of four bits, so it can take 15 words at most. It
-/// takes 12, since the compiler unrolls a loop of so many steps, and none of 15.
+/// takes 12, since the compiler unrolls a loop of 12 steps, and none of 15.
 const BLOCK_LEN: usize = 12 * LANES;
 
 /// Halves every counter, rounded down. Returns how many were odd.

@@ -15,7 +15,7 @@ const SEEDS: [u64; DEPTHS] = [
     0xcbf29ce484222325,
 ];
 
-/// The place of a hash at a depth, in a table of so many words. It multiplies once.
+/// The place of a hash at a depth, in a table of `len` words. It multiplies once.
 pub fn index_of(len: usize, hash: u64, depth: usize) -> usize
     requires len { IsPowerOfTwo len }
     requires depth { depth < DEPTHS }
