@@ -2,13 +2,21 @@
  * A cache that a program keeps between calls: mini-moka's cache for one thread, proved. Keys and values are bytes of any length, or numbers of 64 bits, which
  * take no memory of their own. docs/LIBRARY.md says how the library is built and linked.
  *
- * No pointer may be null, that of no bytes either. A handle is all zeros at first, which is a closed one: struct mini_moka cache = {0};
- * From then on a program only passes its address on. It neither changes nor copies a handle, and makes one call of it at a time: where threads share one, the
- * program holds a lock of its own for each call.
- *
  * Moments and durations are nanoseconds. Moments count from a start of the program's choice, as by CLOCK_MONOTONIC; one may be before an earlier call's. Each
- * call answers a mini_moka_status, and none aborts. Where a call writes through a pointer, it does so where the answer is MINI_MOKA_DONE; else what is there
- * stays as it was, but for a length at MINI_MOKA_TOO_SHORT.
+ * call returns a mini_moka_status, and none aborts. A call writes through a pointer only if it returns MINI_MOKA_DONE, and a length at MINI_MOKA_TOO_SHORT too.
+ *
+ * What a program owes, since no proof sees it:
+ *
+ * - A handle is all zeros at first, which is a closed one: struct mini_moka cache = {0}; From then on the program only passes its address on. It neither changes
+ *   nor copies a handle, and closes it in the end.
+ * - One call of a handle is made at a time. Threads that share one hold a lock of the program's for each call.
+ * - No pointer is null, not even one to no bytes.
+ * - What a call writes to (the handle, a buffer, a length, a value, a count, statistics) overlaps nothing else that the call gets. So the two lengths of
+ *   mini_moka_next are two places. The key and the value of an insert, which are only read, may overlap each other. What is only written, buffers among it, needn't
+ *   be initialised.
+ * - Memory is that of malloc, realloc and free. A program that replaces them replaces all three, before it opens a handle.
+ * - No call is made from a signal handler.
+ * - A child of fork may use its copies of the handles, if no other thread was in a call of them at the fork.
  */
 #ifndef MINI_MOKA_H
 #define MINI_MOKA_H
@@ -32,7 +40,7 @@ enum mini_moka_status {
     MINI_MOKA_OUT_OF_MEMORY = 4, /* memory was refused, and no entry was written */
     MINI_MOKA_OTHER_KIND = 5,    /* the handle keeps numbers and the call is one of bytes, or the other way round: nothing was done */
     MINI_MOKA_TOO_SHORT = 6,     /* a buffer is shorter than what was found, whose length is written */
-    MINI_MOKA_CHANGED = 7,       /* a walk was not begun, or can't go on, since a call that may change the cache was made */
+    MINI_MOKA_CHANGED = 7,       /* no walk was begun, or a call that may change the cache has ended it */
 };
 
 /* A handle on a cache of either kind. Its fields are the library's. */
@@ -92,7 +100,7 @@ uint32_t mini_moka_invalidate(struct mini_moka *handle, const uint8_t *key, size
 
 /*
  * Begins a walk through the unexpired entries, in order of use, least recently used first. mini_moka_peek, mini_moka_count, mini_moka_weight and
- * mini_moka_statistics may be called within it; each other call that is made ends it.
+ * mini_moka_statistics may be called within it. Each other call ends it, unless it returns MINI_MOKA_OUT_OF_MEMORY: then the walk goes on.
  */
 uint32_t mini_moka_walk(struct mini_moka *handle);
 

@@ -1,6 +1,7 @@
 /*
  * Random calls of include/mini_moka.h beside a plain model: fuzz CALLS SEED. Keys and values of bytes have 0 to 4096; now and then memory is refused in the
- * middle of a call. It is linked with --wrap for malloc and realloc. It names the first difference, and fails then.
+ * middle of a call. Keys, values and buffers adjoin each other, in blocks of just their length. It is linked with --wrap for malloc and realloc. It names the first
+ * difference, and fails then.
  *
  * Without a capacity the model knows what each call has to answer. With one it doesn't know which entries have left, so a look-up may find nothing; what is
  * found has to be the value that was written last, and unexpired, and the capacity has to hold.
@@ -120,20 +121,45 @@ static uint64_t value_number(uint64_t key, uint64_t version) {
 
 /* ---- calls, of either kind */
 
+/* A key in a block of its own with this many bytes right behind it, so that AddressSanitizer sees a byte that is read or written beside them. */
+static uint8_t *block_of(uint64_t key, size_t *key_length, size_t behind) {
+    static uint8_t key_at[LONGEST];
+    *key_length = key_bytes(key_at, key);
+    uint8_t *block = __real_malloc(*key_length + behind + (*key_length + behind == 0));
+    if (block == NULL)
+        abort();
+    memcpy(block, key_at, *key_length);
+    return block;
+}
+
+/* The value adjoins the key. */
 static uint32_t insert(struct model *model, uint64_t key, uint64_t version) {
-    static uint8_t key_at[LONGEST], value_at[LONGEST];
+    static uint8_t value_at[LONGEST];
     if (!model->is_bytes)
         return mini_moka_u64_insert(&model->cache, key, value_number(key, version), model->now);
-    size_t key_length = key_bytes(key_at, key), value_length = fill(value_at, value_number(key, version));
-    return mini_moka_insert(&model->cache, key_at, key_length, value_at, value_length, model->now);
+    size_t key_length, value_length = fill(value_at, value_number(key, version));
+    uint8_t *pair = block_of(key, &key_length, value_length);
+    memcpy(pair + key_length, value_at, value_length);
+    uint32_t status = mini_moka_insert(&model->cache, pair, key_length, pair + key_length, value_length, model->now);
+    free(pair);
+    return status;
 }
 
 typedef uint32_t bytes_call(struct mini_moka *, const uint8_t *, size_t, uint64_t, uint8_t *, size_t, size_t *);
 typedef uint32_t numbers_call(struct mini_moka *, uint64_t, uint64_t, uint64_t *);
 
-/* A look-up, with what it finds compared. A buffer may be too short. */
+/* A room for a value of this length: just that, more, or any, which may be too short. */
+static size_t some_room(size_t length) {
+    switch (below(4)) {
+    case 0: return below(LONGEST + 1);
+    case 1: return LONGEST;
+    default: return length;
+    }
+}
+
+/* A look-up, with what it finds compared. The buffer adjoins the key, and has not been written to. */
 static uint32_t look_up(struct model *model, bytes_call *bytes, numbers_call *numbers, uint64_t key) {
-    static uint8_t key_at[LONGEST], wanted[LONGEST], buffer[LONGEST];
+    static uint8_t wanted[LONGEST];
     uint64_t version = model->keys[key].version;
     if (!model->is_bytes) {
         uint64_t value = 0;
@@ -141,11 +167,13 @@ static uint32_t look_up(struct model *model, bytes_call *bytes, numbers_call *nu
         require(status != MINI_MOKA_DONE || value == value_number(key, version), "another value was found");
         return status;
     }
-    size_t length = SIZE_MAX, room = below(4) == 0 ? below(LONGEST + 1) : LONGEST, wanted_length = fill(wanted, value_number(key, version));
-    uint32_t status = bytes(&model->cache, key_at, key_bytes(key_at, key), model->now, buffer, room, &length);
+    size_t key_length, length = SIZE_MAX, wanted_length = fill(wanted, value_number(key, version)), room = some_room(wanted_length);
+    uint8_t *at = block_of(key, &key_length, room), *buffer = at + key_length;
+    uint32_t status = bytes(&model->cache, at, key_length, model->now, buffer, room, &length);
     require(status != MINI_MOKA_DONE || (length == wanted_length && length <= room && memcmp(buffer, wanted, length) == 0), "other bytes were found");
     require(status != MINI_MOKA_TOO_SHORT || (length == wanted_length && length > room), "another length was told");
     require(status == MINI_MOKA_DONE || status == MINI_MOKA_TOO_SHORT || length == SIZE_MAX, "a length was written");
+    free(at);
     return status;
 }
 
@@ -283,6 +311,18 @@ static void play_counts(struct model *model) {
     require(met.hits == model->hits && met.misses == model->misses && met.inserts == model->inserts, "other statistics");
 }
 
+/* An insert that is refused memory doesn't end a walk. */
+static void refuse_insert(struct model *model) {
+    static uint8_t key_at[LONGEST];
+    size_t key_length = key_bytes(key_at, below(KEYS));
+    int left_before = allocations_left;
+    bool refused_before = was_refused;
+    allocations_left = 0;
+    require(mini_moka_insert(&model->cache, key_at, key_length, key_at, LONGEST, model->now) == MINI_MOKA_OUT_OF_MEMORY, "no memory was asked for");
+    allocations_left = left_before;
+    was_refused = refused_before;
+}
+
 /* Walks through all entries: each that is there is met once, with its value, and nothing else. A call that may change the cache ends a walk. */
 static void play_walk(struct model *model) {
     static uint8_t key[LONGEST], value[LONGEST], wanted_key[LONGEST], wanted[LONGEST];
@@ -293,6 +333,8 @@ static void play_walk(struct model *model) {
     require(mini_moka_walk(&model->cache) == MINI_MOKA_DONE, "a walk was not begun");
     do {
         size_t room = below(4) == 0 ? below(64) : LONGEST;
+        if (below(16) == 0)
+            refuse_insert(model);
         status = mini_moka_next(&model->cache, model->now, key, LONGEST, value, room, &key_length, &value_length);
         if (status == MINI_MOKA_TOO_SHORT) {
             require(value_length > room, "the buffer was long enough");

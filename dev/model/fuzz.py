@@ -1,6 +1,6 @@
 """fuzz.py --program P --seed N --count N --jobs J --mode all|unsync|core|recorded|sync|sketch
 
-Makes random scripts, runs `P < script`, and compares stdout and exit status with the model.
+Makes random scripts, runs `P < script`, and compares stdout and exit status with the model. The status is 1 if a script differs, or if none was compared.
 """
 import argparse
 import multiprocessing
@@ -1682,7 +1682,7 @@ def main():
     p.add_argument("--program")
     p.add_argument("--seed", type=int, default=1)
     p.add_argument("--count", type=int, default=100)
-    p.add_argument("--jobs", type=int, default=1)
+    p.add_argument("--jobs", type=int, default=os.cpu_count())
     p.add_argument("--mode", default="all", choices=("all",) + MODES)
     p.add_argument("--malformed", action="store_true", help="puts faults into all scripts, and not into one in eight")
     a = p.parse_args()
@@ -1701,11 +1701,13 @@ def main():
                 print("... %d in %.0f s" % (q + 1, time.time() - start), flush=True)
     for (mode, what), n in sorted(results.items()):
         print("%s %s: %d" % (mode, what, n))
-    print("compared:", sum(n for (_, what), n in results.items() if what in ("same", "differs")))
+    same, differ = (sum(n for (_, what), n in results.items() if what == kind) for kind in ("same", "differs"))
+    print("compared:", same + differ)
     print("scripts that met:")
     for k, v in sorted(seen.items()):
         print("  %s: %d" % (k, v))
+    return 1 if differ or a.program and not same else 0
 
 
 if __name__ == "__main__":
-    main()
+    sys.exit(main())

@@ -7,4 +7,4 @@ pub use moka_sync::counts::{CountPass, Published};
 pub use moka_sync::iter::Iter;
 pub use moka_sync::mapref::EntryRef;
 pub use moka_sync::rule::{AnyPair, PairRule};
-pub use moka_sync::{constants, engine, housekeeper, laws, step_laws, steps};
+pub use moka_sync::{constants, count_laws, engine, housekeeper, laws, step_laws, steps};

@@ -15,10 +15,9 @@ use Rattle.moka_bytes.specs.Statistics.{with_calls, with_get, with_insert}
 use Rattle.mini_moka_c.specs.declared.constants.TheConstants.{ABSENT, CHANGED, DONE, OUT_OF_MEMORY, TOO_SHORT}
 use Rattle.mini_moka_c.specs.Calls.{TellsLength, TellsTruth}
 
--- memory was refused, all entries are as they were, and nothing is counted
+-- memory was refused: all entries are as they were, nothing is counted, and a walk stands where it stood
 abbrev pub TellsRefusal : ℕ → ByteCache → ByteCache → Type 0
-TellsRefusal status old new =
-    (status ≡ OUT_OF_MEMORY) × (new.cache ≡ record old.cache { capacity = new.cache.capacity }) × (new.statistics ≡ old.statistics)
+TellsRefusal status old new = (status ≡ OUT_OF_MEMORY) × (new ≡ record old { cache = record old.cache { capacity = new.cache.capacity } })
 
 -- the same of a look-up, whose key is a long one then
 abbrev pub TellsLongRefused : List ℕ → ℕ → ByteCache → ByteCache → Type 0

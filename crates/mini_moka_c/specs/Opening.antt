@@ -4,6 +4,7 @@ use Rattle.moka_common.specs.Policy.{Policy}
 use Rattle.moka_common.specs.Settings.{live_nanos, idle_nanos}
 use Rattle.moka_unsync.specs.CacheState.{new_cache}
 use Rattle.moka_bytes.specs.declared.cache.ByteCache.{ByteCache}
+use Rattle.moka_bytes.specs.declared.walk.Walk.TheVariants.{Ended}
 use Rattle.moka_bytes.specs.declared.weight.ByteWeight.TheVariants as weight
 use Rattle.moka_bytes.specs.Statistics.{no_statistics}
 use Rattle.mini_moka_c.specs.declared.constants.TheConstants.{ALREADY_OPEN, DONE, OUT_OF_MEMORY, UNLIMITED}
@@ -30,7 +31,7 @@ pub record IsNumbersNew (settings : NumberSettings) (cache : NumberCache) : Type
       cache.weigher cache.capacity
   pub room : settings.initial_capacity ≤ cache.capacity
 
--- and of bytes, with the key of the hash and the weigher that are set; nothing was counted
+-- and of bytes, with the key of the hash and the weigher that are set; nothing was counted, and no walk was begun
 pub record IsBytesNew (settings : ByteSettings) (bytes : ByteCache) : Type 0 where
   pub limits : HasLimits bytes.cache.settings.policy settings.capacity settings.time_to_live settings.time_to_idle
   pub new : bytes.cache ≡ new_cache (record {
@@ -40,6 +41,7 @@ pub record IsBytesNew (settings : ByteSettings) (bytes : ByteCache) : Type 0 whe
   }) (if settings.is_weighed then weight.Bytes else weight.Entry) bytes.cache.capacity
   pub room : settings.initial_capacity ≤ bytes.cache.capacity
   pub counts : bytes.statistics ≡ no_statistics
+  pub walk : bytes.walk ≡ Ended
 
 -- what is kept is such a cache
 abbrev pub IsNumbersKept : NumberSettings → Kept → Type 0

@@ -11,7 +11,6 @@ use Rattle.moka_base.specs.Settings.{Settings}
 use Rattle.moka_base.specs.declared.error.InsertError.{InsertError}
 use Rattle.moka_base.specs.declared.error.InsertError.TheVariants as name
 use Rattle.moka_base.specs.declared.error.OutOfMemory.{OutOfMemory as MemoryError}
-use Rattle.moka_engine.specs.declared.constants.TheConstants.{NO_TICKET}
 use Rattle.moka_engine.specs.declared.ticket.Ticket.{Ticket}
 use Rattle.moka_engine.specs.Entry.{Entry, entry_at}
 use Rattle.moka_engine.specs.Parts.{ShardState}
@@ -21,7 +20,7 @@ use Rattle.moka_shard.specs.ShardStep.{IsInvalidation}
 use Rattle.moka_behind.specs.Permitted.{ContainsIn, FindsIn, InsertsIn, InvalidatesIn, IsPermitted, TakesIn, first_of_ok}
 use Rattle.moka_behind.specs.RuledTake.{IsTakeBy, counted_value}
 use Rattle.moka_engine.specs.Reply.{IsHanded}
-use Rattle.moka_behind.specs.RuledInsert.{IsInsertBy, IsSomeInsert}
+use Rattle.moka_behind.specs.RuledInsert.{IsInsertBy}
 
 module _ {K V S : Type 0} (keys : Keys K S) (holds : K → V → Type 0) where
   -- a shard that has no entries
@@ -163,50 +162,23 @@ module _ {K V S : Type 0} (keys : Keys K S) (holds : K → V → Type 0) where
   )
 
   module _ (weighs : K → V → ℕ → Type 0) (state : S) (key : K) (value : V) (now : ℕ) where
-    inserts : (old new : ShardState K V S) → IsPermitted keys holds old → (answer : Result Ticket InsertError)
-        → IsSomeInsert keys weighs old (keys.hash_of state key) key value now answer new
-        → InsertsIn keys holds weighs state key value now answer
-    inserts old new permitted answer step = record {
-      old = old;
-      new = new;
-      permitted = permitted;
-      weight = step.weight;
-      refused = step.refused;
-      weighed = step.weighed;
-      step = step.step;
-    }
-
-    -- an insert that was done
+    -- an insert by this hash, which is the key's by this state
     pub inserts_in : (old new : ShardState K V S) → IsPermitted keys holds old → (hash : ℕ) → hash ≡ keys.hash_of state key
-        → (told : Result (Option Ticket) InsertError) → IsInsertBy keys weighs old hash key value now told new → (ticket : Ticket)
-        → told ≡ Ok (Some ticket) → InsertsIn keys holds weighs state key value now (Ok ticket)
-    inserts_in old new permitted hash its told step ticket is =
-        inserts old new permitted (Ok ticket)
-        (subst (λ r. IsInsertBy keys weighs old (keys.hash_of state key) key value now r new) is
-        (subst (λ h. IsInsertBy keys weighs old h key value now told new) its step))
+        → (answer : Result Ticket InsertError) → IsInsertBy keys weighs old hash key value now answer new
+        → InsertsIn keys holds weighs state key value now answer
+    inserts_in old new permitted hash its answer by =
+        let step = subst (λ h. IsInsertBy keys weighs old h key value now answer new) its by in
+        record {
+          old = old;
+          new = new;
+          permitted = permitted;
+          weight = step.weight;
+          refused = step.refused;
+          weighed = step.weighed;
+          step = step.step;
+        }
 
-    -- or was refused
-    pub refuses_in : (old new : ShardState K V S) → IsPermitted keys holds old → (hash : ℕ) → hash ≡ keys.hash_of state key
-        → (told : Result (Option Ticket) InsertError) → IsInsertBy keys weighs old hash key value now told new → (error : InsertError)
-        → told ≡ Err error → InsertsIn keys holds weighs state key value now (Err error)
-    refuses_in old new permitted hash its told step error is =
-        inserts old new permitted (Err error)
-        (subst (λ r. IsInsertBy keys weighs old (keys.hash_of state key) key value now r new) is
-        (subst (λ h. IsInsertBy keys weighs old h key value now told new) its step))
-
-    -- a shard whose tickets are used up refuses it
-    pub used_up_in : InsertsIn keys holds weighs state key value now (Err name.TicketsUsedUp)
-    used_up_in = record {
-      old = no_entries 0 NO_TICKET state;
-      new = no_entries 0 NO_TICKET state;
-      permitted = none_permitted 0 NO_TICKET state;
-      weight = 0;
-      refused = false;
-      weighed = tt;
-      step = (refl, refl);
-    }
-
-    -- any does, where memory is refused
+    -- some shard refuses it for want of memory
     pub no_memory_in : InsertsIn keys holds weighs state key value now (Err name.OutOfMemory)
     no_memory_in = record {
       old = no_entries 0 0 state;

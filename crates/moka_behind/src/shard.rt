@@ -14,7 +14,7 @@ ghost use Rattle.moka_behind.specs.LockedTurn.{IsTurn};
 ghost use Rattle.moka_shard.specs.ShardTurn.{TurnsOnShard};
 ghost use Rattle.moka_behind.specs.Permitted.{IsPermitted};
 ghost use Rattle.moka_behind.specs.Rule.{PairsMeet};
-ghost use Rattle.moka_behind.specs.RuledInsert.{IsInsertBy, told_ticket};
+ghost use Rattle.moka_behind.specs.RuledInsert.{IsInsertBy};
 ghost use Rattle.moka_behind.specs.RuledTake.{IsTakeBy, counted_value};
 ghost use Rattle.moka_engine.specs.Reply.{IsHanded};
 ghost use Rattle.moka_maintenance.specs.Taken.{TakesWrite, having_taken_write};
@@ -22,6 +22,7 @@ ghost use Rattle.moka_shard.specs.Shard.{entries_in, entry_in, state_of, unexpir
 ghost use Rattle.moka_shard.specs.ShardStep.{IsInvalidation, pairs_at};
 
 use crate::rule::PairRule;
+use crate::waiting::wait_forever;
 use moka_base::error::{InsertError, OutOfMemory};
 use moka_base::shared::Shared;
 use moka_base::time::Instant;
@@ -33,6 +34,7 @@ use moka_shard::shard::Shard;
 use std::alloc::{Allocator, Global};
 use std::hash::{BuildHasher, Hash};
 use std::marker::{Model, PhantomData};
+use std::sync::Wait;
 
 /// A shard whose pairs meet the rule.
 #[derive(Drop)]
@@ -137,16 +139,18 @@ impl<
         self.shard.counts(slot, settings, valid_after, now)
     }
 
-    /// Puts the value at the key. The answer is the entry's ticket; or nothing, where the hash isn't the key's or belongs to another shard, and then nothing
-    /// is done. An entry is added once the key is hashed again, since nothing that a lock keeps says whose hash this is.
-    pub fn insert<W: WeighShared<K, V>>(
+    /// Puts the value at the key, and returns the ticket of its entry. A key that isn't there is hashed again, since no lock's type says whose hash this is. If
+    /// that gives another hash, or one of another shard, the call never returns. Nothing proves that this can't happen; it doesn't in a cache, whose shards share its
+    /// hash state.
+    pub fn insert<W: WeighShared<K, V>, R: Wait>(
         &mut self,
+        rt: &R,
         hash: u64,
         key: Shared<K, A>,
         value: Shared<V, A>,
         weigher: &W,
         now: Instant,
-    ) -> Result<Option<Ticket>, InsertError>
+    ) -> Result<Ticket, InsertError>
         requires ruled { P.holds key value }
         requires ready { W.ready weigher.now }
         ensures permitted { IsPermitted (keys_by K.Hash S.BuildHasher S.Hasher.Hasher) P.holds (state_of self.old) }
@@ -156,12 +160,12 @@ impl<
         // What holds of every shard.
         let _ = self.shard.len();
         if let Some(slot) = self.shard.find(key.get(), hash) {
-            return told_ticket(self.shard.update(slot, key, value, weigher, now));
+            return self.shard.update(slot, key, value, weigher, now);
         }
         if hash != self.shard.hash_of(key.get()) || !self.shard.is_of(hash) {
-            return Ok(None);
+            wait_forever(rt);
         }
-        told_ticket(self.shard.add(hash, key, value, weigher, now))
+        self.shard.add(hash, key, value, weigher, now)
     }
 
     /// Takes out the entry of a key, found by its hash. The answer is its ticket.
@@ -308,15 +312,5 @@ fn try_clone_of<V: Clone>(value: Option<&V>) -> Result<Option<V>, OutOfMemory>
     match value {
         Some(value) => Ok(Some(value.clone()?)),
         None => Ok(None),
-    }
-}
-
-/// The answer of an insert that was done.
-fn told_ticket(answer: Result<Ticket, InsertError>) -> Result<Option<Ticket>, InsertError>
-    ensures { result ≡ told_ticket answer }
-{
-    match answer {
-        Ok(ticket) => Ok(Some(ticket)),
-        Err(error) => Err(error),
     }
 }

@@ -24,6 +24,14 @@ const ROOM_LOOKS: usize = 16;
 /// each operation that leaves the log.
 pub(crate) const ROOM_AWAITED: usize = 16;
 
+/// Never returns. It stands where a case can't come and no type says so: any answer would be a wrong one.
+#[cold]
+#[inline(never)]
+pub(crate) fn wait_forever<R: Wait>(rt: &R) -> ! {
+    for _ in rt.forever() {}
+    unreachable!()
+}
+
 /// Takes a lock.
 #[inline]
 pub fn lock<'a, T, R: Wait>(rt: &R, part: &'a Mutex<T>) -> MutexGuard<'a, T> {

@@ -47,6 +47,7 @@ impl ByteCache {
     ) -> Result<ByteCache, BuildError>
         ensures ok { IfOk result (λ made. IsBuilt builder seed made.cache) }
         ensures counts { IfOk result (λ made. made.statistics ≡ no_statistics) }
+        ensures walk { IfOk result (λ made. made.walk ≡ Ended) }
         ensures err { IfErr result (λ error. error ≡ refusal_of builder) }
     {
         Ok(ByteCache {
@@ -58,7 +59,8 @@ impl ByteCache {
         })
     }
 
-    /// Puts a copy of the value at a copy of the key, as `Cache::insert` does. Where memory is refused, for the copies or for room, no entry was changed.
+    /// Puts a copy of the value at a copy of the key, as `Cache::insert` does. If memory is refused, for the copies or for room, no entry changes and a walk goes
+    /// on.
     pub fn insert(
         &mut self,
         alloc: Global,
@@ -70,14 +72,13 @@ impl ByteCache {
         ensures counts { OnOk result (self.new.statistics
             ≡ with_calls with_insert self.old.cache self.new.cache self.old.statistics) }
         ensures walk { OnOk result (self.new.walk ≡ Ended) }
-        ensures refused { OnErr result (self.new.cache ≡ record self.old.cache { capacity = self.new.cache.capacity }) }
-        ensures uncounted { OnErr result (self.new.statistics ≡ self.old.statistics) }
+        ensures refused { OnErr result (self.new ≡ record self.old { cache = record self.old.cache { capacity = self.new.cache.capacity } }) }
         ensures error { IfErr result (λ error. error ≡ InsertError.OutOfMemory) }
     {
         let (key, value) = copies(alloc, key, value)?;
-        self.walk = Walk::Ended;
         let before = self.cache.entry_count();
         self.cache.insert(key, value, now)?;
+        self.walk = Walk::Ended;
         self.statistics.count_insert();
         self.statistics.count_left(before, self.cache.entry_count());
         Ok(())
@@ -118,7 +119,7 @@ impl ByteCache {
         ensures value { IfOk result (λ found. found ≡ option_map length (found_by_peek byte_keys self.old.cache key.now now)) }
         ensures copied { OnOk result (buffer.new ≡ copied_to buffer.old (found_by_peek byte_keys self.old.cache key.now now)) }
         ensures rest { self.new ≡ record self.old { sought = self.new.sought } }
-        ensures refused { OnErr result (buffer.new ≡ buffer.old) }
+        ensures refused { OnErr result ((self.new ≡ self.old) × (buffer.new ≡ buffer.old)) }
         ensures short { OnErr result (SHORT_KEY < length key.now) }
     {
         self.sought.set(key)?;
@@ -190,8 +191,8 @@ impl ByteCache {
         self.cache.invalidate_all();
     }
 
-    /// Begins a walk through the unexpired entries, in the order of `Cache::iter`. Each call that may change the cache ends it: all but `peek` and the looks at
-    /// counts.
+    /// Begins a walk through the unexpired entries, in the order of `Cache::iter`. Each call that may change the cache ends it, unless it is refused memory: all
+    /// but `peek` and the looks at counts.
     pub fn begin_walk(&mut self)
         ensures { self.new ≡ record self.old { walk = AtStart } }
     {

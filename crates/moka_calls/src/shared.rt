@@ -1,6 +1,9 @@
 // The cache that threads share: what no type of a lock says. Some tests run several threads, which end by themselves with one answer.
+mod held_up;
 mod meeting;
+mod meeting_point;
 mod one_thread;
+mod races;
 mod recorded;
 mod threads;
 

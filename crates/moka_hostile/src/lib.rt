@@ -4,6 +4,8 @@
 #[cfg(test)]
 mod build;
 #[cfg(test)]
+mod hashers;
+#[cfg(test)]
 mod heap;
 #[cfg(test)]
 mod one_hash;
@@ -11,6 +13,8 @@ mod one_hash;
 mod plays;
 #[cfg(test)]
 mod runs;
+#[cfg(test)]
+mod scripts;
 #[cfg(test)]
 mod steps;
 #[cfg(test)]

@@ -381,12 +381,7 @@ impl<
     {
         let hash = self.hash_of(key.get());
         let mut shard = lock(rt, self.shard(hash));
-        match shard.insert(hash, key, value, &self.weigher, now) {
-            Ok(Some(ticket)) => Ok(ticket),
-            // Not proved: read in the code. It never comes here: all shards share the cache's hash state, and a key's shard is chosen by its hash.
-            Ok(None) => Err(InsertError::TicketsUsedUp),
-            Err(error) => Err(error),
-        }
+        shard.insert(rt, hash, key, value, &self.weigher, now)
     }
 }
 

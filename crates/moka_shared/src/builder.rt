@@ -42,7 +42,7 @@ use std::time::Duration;
 /// ```
 ///
 /// `pair_rule` sets a rule that each pair of the cache meets (`PairRule`). `build_with_hasher` takes a hash state of the caller's; `build_counted` takes
-/// one too, and gives a pass beside the cache, by which the counts of one maintenance are loaded together (`Cache::published`); `build_core` gives the
+/// one too, and gives a pass beside the cache, by which a count and its weight are loaded together (`Cache::published`); `build_core` gives the
 /// cache's core, which has no locks.
 ///
 /// A builder takes no memory. Each way to build refuses a duration of more than 1000 years, the time to live first, an initial capacity that passes

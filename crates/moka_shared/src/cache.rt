@@ -204,9 +204,9 @@ impl<
         self.inner.get().weighted_size()
     }
 
-    /// The count and the weight that were published last, of one maintenance, with the number of the publication, from 1 on; before the first, three zeros.
-    /// The pass must be of this cache, and has seen them then: none of them is older than what it had seen. No lock is taken but where a publication
-    /// comes between.
+    /// Returns the count and the weight that were published last, with the number of the publication, from 1 on; before the first, three zeros.
+    ///
+    /// The pass must be of this cache. It has seen them then, and none is older than what it had seen. No lock is taken, unless a publication comes between.
     pub fn published<R: Wait>(&self, rt: &R, pass: &mut CountPass) -> Published
         requires { self.now.counted ≡ Some pass.old.counts }
         ensures counts { pass.new.counts ≡ pass.old.counts }

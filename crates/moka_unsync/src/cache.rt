@@ -522,7 +522,7 @@ impl<
         make: F,
     ) -> Result<V, InsertError>
         requires ready { W.ready self.old.weigher }
-        requires make { F.IsAlwaysCallable make }
+        requires make { found_by_get (keys_by K.Hash S.BuildHasher S.Hasher.Hasher) self.old key now ≡ None → F.pre make }
         ensures ok { IfOk result (λ copy. (value : V) × V.is_clone value copy
             × IsGotOrInserted (keys_by K.Hash S.BuildHasher S.Hasher.Hasher) self.old key now W.weighs (F.post make) value self.new) }
         ensures err { OnErr result (((value : V) × (¬ (V.is_infallible value))

@@ -6,8 +6,6 @@ mod chain;
 #[cfg(test)]
 mod deque;
 #[cfg(test)]
-mod hashers;
-#[cfg(test)]
 mod list;
 #[cfg(test)]
 mod sizes;

@@ -4,6 +4,7 @@ use moka_common::time::Instant;
 use moka_refusals::{RefusingHeap, for_each_refusal};
 use moka_unsync::cache::Cache;
 use std::alloc::Global;
+use std::cell::Cell;
 use std::test::Fail;
 use std::time::Duration;
 
@@ -101,6 +102,23 @@ fn a_get_or_insert_makes_what_is_not_there(rt: HostRuntime) -> Result<(), Fail> 
         (made, cache.contains_key(&9, at(10)), cache.entry_count()),
         (81, false, 4)
     );
+    Ok(())
+}
+
+#[test]
+fn a_get_or_insert_makes_nothing_at_a_hit(rt: HostRuntime) -> Result<(), Fail> {
+    let mut cache = squares(rt.alloc())?;
+    let calls = Cell::new(0u64);
+    let make = || {
+        calls.set(calls.get().wrapping_add(1));
+        100
+    };
+    let found = [
+        cache.get_or_insert_with(3, at(4), &make)?,
+        cache.get_or_insert_with(0, at(10), &make)?,
+        cache.get_or_insert_with(0, at(10), &make)?,
+    ];
+    assert_eq!(rt; (found, calls.get()), ([9, 100, 100], 1));
     Ok(())
 }
 

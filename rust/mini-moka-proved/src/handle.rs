@@ -378,7 +378,7 @@ impl Handle<Bytes> {
         written(status)
     }
 
-    /// Begins a walk through the unexpired entries, which each call ends that may change the cache.
+    /// Begins a walk through the unexpired entries, which each call ends that may change the cache; an insert that is refused doesn't.
     pub(crate) fn begin_walk(&self) {
         // SAFETY: `at` leads to a handle as the rule wants it, and there is no other pointer.
         let status = unsafe { mini_moka_walk(self.at()) };

@@ -122,6 +122,17 @@ fn carriers<R: Wait>(rt: &R, cache: &Cache<u64, u64>, key: u64) -> Option<u64> {
     Some(count)
 }
 
+/// Inserts 500 keys that no other thread has.
+fn insert_own<R: Wait>(rt: &R, cache: &Cache<u64, u64>, first: u64) -> bool {
+    let from = first.wrapping_mul(1000);
+    for key in from..from.saturating_add(500) {
+        if cache.insert(rt, key, key, start()).is_err() {
+            return false;
+        }
+    }
+    true
+}
+
 /// What one of several threads does with the cache that all share.
 #[derive(Clone, Copy)]
 enum Task {
@@ -129,6 +140,7 @@ enum Task {
     Look,
     KeepThreeOfFour,
     CarryAll,
+    InsertOwn,
 }
 
 impl Task {
@@ -139,6 +151,7 @@ impl Task {
             Task::Look => is_whole(rt, cache, 1024),
             Task::KeepThreeOfFour => keep_three_of_four(rt, cache, first),
             Task::CarryAll => carry_all(rt, cache, first),
+            Task::InsertOwn => insert_own(rt, cache, first),
         }
     }
 }
@@ -232,5 +245,14 @@ fn are_removed_once<R: Wait + Threads + Copy + Send + 'static>(
 #[test]
 fn each_value_is_removed_by_one_thread(rt: HostRuntime) -> Result<(), Fail> {
     assert!(rt; are_removed_once(rt, rt.alloc())?);
+    Ok(())
+}
+
+#[test]
+fn each_insert_of_four_threads_is_charged(rt: HostRuntime) -> Result<(), Fail> {
+    let cache: Cache<u64, u64> = Cache::builder(rt.alloc()).build()?;
+    assert!(rt; are_well_done(rt, rt.alloc(), &cache, &[Task::InsertOwn; 4])?);
+    cache.sync(&rt, start());
+    assert_eq!(rt; cache.entry_count(), 2000);
     Ok(())
 }

@@ -10,6 +10,7 @@ pub enum Kind {
     ContainsKey,
     Insert,
     Invalidate,
+    Remove,
     InvalidateAll,
     Iter,
     Sync,
@@ -30,11 +31,12 @@ pub struct Call {
 
 /// How many of the calls are of each kind, out of `OUT_OF`; what is left are look-ups. An invalidation of all is seldom, or entries would neither expire nor be
 /// too much.
-const SHARES: [(Kind, u64); 10] = [
+const SHARES: [(Kind, u64); 11] = [
     (Kind::Insert, OUT_OF / 20 * 6),
     (Kind::GetIfPresent, OUT_OF / 10),
     (Kind::ContainsKey, OUT_OF / 10),
-    (Kind::Invalidate, OUT_OF / 20),
+    (Kind::Invalidate, OUT_OF / 40),
+    (Kind::Remove, OUT_OF / 40),
     (Kind::Counts, OUT_OF / 25),
     (Kind::Policy, OUT_OF / 50),
     (Kind::Clone, OUT_OF / 50),

@@ -74,6 +74,10 @@ impl Caller {
                 }
             }
             Kind::Invalidate => self.cache.invalidate(rt, &call.key, call.now),
+            Kind::Remove => {
+                let removed = remove(rt, &self.cache, call);
+                self.tally.note_found(call.key, removed);
+            }
             Kind::InvalidateAll => self.cache.invalidate_all(call.now),
             Kind::Iter => self.look_over(rt, call.now),
             Kind::Sync => self.cache.sync(rt, call.now),
@@ -135,6 +139,13 @@ fn get_if_present<R: Wait>(
     ensures { IfOk result (λ found. IfSome found (λ stamp. stamp.key ≡ call.key)) }
 {
     cache.get_if_present(rt, &call.key, call.now)
+}
+
+/// Takes the value of a key out.
+fn remove<R: Wait>(rt: &R, cache: &SoakedCache, call: Call) -> Result<Option<Stamp>, OutOfMemory>
+    ensures { IfOk result (λ removed. IfSome removed (λ stamp. stamp.key ≡ call.key)) }
+{
+    cache.remove(rt, &call.key, call.now)
 }
 
 /// Inserts a value that names its key.

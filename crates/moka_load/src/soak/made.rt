@@ -9,6 +9,7 @@ pub struct Made {
     pub looks_for_keys: u64,
     pub inserts: u64,
     pub invalidations: u64,
+    pub removals: u64,
     pub invalidations_of_all: u64,
     pub snapshots: u64,
     pub syncs: u64,
@@ -25,6 +26,7 @@ impl Made {
         looks_for_keys: 0,
         inserts: 0,
         invalidations: 0,
+        removals: 0,
         invalidations_of_all: 0,
         snapshots: 0,
         syncs: 0,
@@ -41,6 +43,7 @@ impl Made {
             Kind::ContainsKey => add_one(&mut self.looks_for_keys),
             Kind::Insert => add_one(&mut self.inserts),
             Kind::Invalidate => add_one(&mut self.invalidations),
+            Kind::Remove => add_one(&mut self.removals),
             Kind::InvalidateAll => add_one(&mut self.invalidations_of_all),
             Kind::Iter => add_one(&mut self.snapshots),
             Kind::Sync => add_one(&mut self.syncs),
@@ -58,6 +61,7 @@ impl Made {
             looks_for_keys: self.looks_for_keys.saturating_add(other.looks_for_keys),
             inserts: self.inserts.saturating_add(other.inserts),
             invalidations: self.invalidations.saturating_add(other.invalidations),
+            removals: self.removals.saturating_add(other.removals),
             invalidations_of_all: self
                 .invalidations_of_all
                 .saturating_add(other.invalidations_of_all),
@@ -70,13 +74,14 @@ impl Made {
     }
 
     /// Each kind's name with its number.
-    pub fn rows(&self) -> [(&'static str, u64); 11] {
+    pub fn rows(&self) -> [(&'static str, u64); 12] {
         [
             ("get", self.gets),
             ("get_if_present", self.gets_if_present),
             ("contains_key", self.looks_for_keys),
             ("insert", self.inserts),
             ("invalidate", self.invalidations),
+            ("remove", self.removals),
             ("invalidate_all", self.invalidations_of_all),
             ("iter", self.snapshots),
             ("sync", self.syncs),
