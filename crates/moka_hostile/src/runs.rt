@@ -84,7 +84,7 @@ fn run_calls(heap: &Heap) -> Play {
 #[test]
 fn a_list_of_calls_is_refused_before_the_first(rt: HostRuntime) -> Result<(), Fail> {
     let plays = for_each_refusal(rt.alloc(), rt.alloc(), BOUND, |heap| run_calls(heap))?;
-    assert_eq!(rt; plays, 20);
+    assert_eq!(rt; plays, 18);
     Ok(())
 }
 

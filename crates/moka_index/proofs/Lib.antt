@@ -1,3 +1,8 @@
-pub mod CandidateLemmas
-pub mod IdsLemmas
-pub mod ProbeLemmas
+pub mod ChosenLemmas
+pub mod RestLemmas
+pub mod StandsLemmas
+pub mod StepLemmas
+pub mod CountLemmas
+pub mod PutLemmas
+pub mod FreeLemmas
+pub mod WayLemmas

@@ -1,64 +1,116 @@
 -- How ids lie in the table of an index. No public clause cites this module.
-use Rattle.std.specs.Prelude.{◌≡◌, ◌≢◌, ℕ, ◌+◌, ◌<◌, ◌≤◌, Bool, true, false, nat_eq, List, length, slice_index_or}
-use Rattle.moka_index.specs.declared.constants.TheConstants.{MOST_IDS, NONE}
-use Rattle.moka_index.specs.declared.slot.Slot.{Slot}
-use Rattle.moka_index.specs.HashIndex.{home_of, places_of, tag_of}
+use Rattle.std.specs.Prelude.{◌≡◌, ◌≢◌, ℕ, zero, suc, ◌+◌, ◌-◌, ◌*◌, ◌/◌, ◌%◌, ◌<◌, ◌≤◌, Bool, true, false, nat_eq, nat_lt, nat_le, if◌then◌else◌, min}
+use Rattle.std.specs.Int.{bit_at}
+use Rattle.std.specs.List.{list_any}
+use Rattle.std.specs.Prelude.{List, ◌∷◌, ◌^◌, length, replicate, slice_index_or, slice_set}
+use Rattle.moka_index.specs.declared.constants.TheConstants.{FAR, PLACES, SHARE}
+use Rattle.moka_index.specs.declared.group.Group.{Group}
+use Rattle.moka_index.specs.HashIndex.{chosen, group_at, home_of, places_of, tag_of}
 
--- a slot without an id
-abbrev pub FREE : Slot
-FREE = record { tag = 0; id = NONE }
+-- a group without ids
+abbrev pub FREE : Group
+FREE = record { marks = replicate 20 0; passed = 0; ids = replicate 10 0 }
 
--- the slot at a place; past the table's end all are free
-abbrev pub slot_at : List Slot → ℕ → Slot
-slot_at slots at = slice_index_or slots at FREE
+-- the lowest of some places of a group, as bits, and what is left without it
+pub record TakesFirst (bits : ℕ) (ids : List ℕ) (place : ℕ) : Type 0 where
+  pub within : place < PLACES
+  pub least : 2 ^ place ≤ bits
+  pub set : bit_at bits place ≡ 1
+  pub is : chosen bits ids ≡ slice_index_or ids place 0 ∷ chosen (bits - 2 ^ place) ids
+  pub rest : (other : ℕ) → bit_at (bits - 2 ^ place) other ≡ 1 → bit_at bits other ≡ 1
 
-abbrev pub id_at : List Slot → ℕ → ℕ
-id_at slots at = (slot_at slots at).id
+-- the id stands at one of some places of a group, as bits
+abbrev pub is_among : ℕ → ℕ → List ℕ → Bool
+is_among id bits ids = list_any (nat_eq id) (chosen bits ids)
 
-abbrev pub tag_at : List Slot → ℕ → ℕ
-tag_at slots at = (slot_at slots at).tag
+-- the id stands at a place of a group, with this tag and this distance
+pub record HasAt (group : Group) (tag distance id place : ℕ) : Type 0 where
+  pub within : place < PLACES
+  pub set : bit_at (places_of group tag distance) place ≡ 1
+  pub is : slice_index_or group.ids place 0 ≡ id
+
+-- a group with an id at a place
+abbrev pub with_id : Group → ℕ → ℕ → ℕ → ℕ → Group
+with_id group place tag distance id =
+    record { marks = slice_set (slice_set group.marks place tag) (PLACES + place) distance; passed = group.passed; ids = slice_set group.ids place id }
+
+-- a group with a place freed
+abbrev pub without : Group → ℕ → Group
+without group place = record { marks = slice_set group.marks place 0; passed = group.passed; ids = group.ids }
+
+-- places are numbered through: place k of group q is q * PLACES + k
+abbrev pub tag_at : List Group → ℕ → ℕ
+tag_at groups cell = slice_index_or (group_at groups (cell / PLACES)).marks (cell % PLACES) 0
+
+-- the distance of the id at a place: how many groups lead from its home to where it stands, or FAR
+abbrev pub distance_at : List Group → ℕ → ℕ
+distance_at groups cell = slice_index_or (group_at groups (cell / PLACES)).marks (PLACES + cell % PLACES) 0
+
+abbrev pub id_at : List Group → ℕ → ℕ
+id_at groups cell = slice_index_or (group_at groups (cell / PLACES)).ids (cell % PLACES) 0
 
 -- no id stands at the place
-abbrev pub is_free : List Slot → ℕ → Bool
-is_free slots at = nat_eq (id_at slots at) NONE
+abbrev pub is_free : List Group → ℕ → Bool
+is_free groups cell = nat_eq (tag_at groups cell) 0
 
--- an id stands somewhere with a tag
-pub record Has (slots : List Slot) (tag id : ℕ) : Type 0 where
-  pub at : ℕ
-  pub is_id : id_at slots at ≡ id
-  pub is_tag : tag_at slots at ≡ tag
-  pub taken : is_free slots at ≡ false
+-- how many steps lead from one group on to another, of so many
+abbrev pub steps : ℕ → ℕ → ℕ → ℕ
+steps count from to = if nat_le from to then to - from else count + to - from
 
--- what holds of the ids wherever they stand: each stands once, with the tag of some hash, at the home of that or behind it
-pub record AreListed (slots : List Slot) (ids : ℕ) : Type 0 where
-  pub once : (at other : ℕ) → is_free slots at ≡ false → is_free slots other ≡ false → id_at slots at ≡ id_at slots other → at ≡ other
-  pub below : (at : ℕ) → is_free slots at ≡ false → id_at slots at < ids
-  pub hashed : (at : ℕ) → is_free slots at ≡ false → (hash : ℕ) × (tag_at slots at ≡ tag_of hash)
-  pub homed : (at : ℕ) → is_free slots at ≡ false → home_of ids (tag_at slots at) ≤ at
-  pub len : length slots ≡ places_of ids + ids
-  pub most : ids ≤ MOST_IDS
+-- an id with this tag and this distance has passed the group from which so many steps lead to it, and is counted there
+abbrev pub passing : ℕ → ℕ → ℕ → Bool
+passing tag distance way =
+    if nat_eq tag 0 then false else if nat_eq distance FAR then false else if nat_lt 0 way then nat_le way distance else false
 
--- between the home of each id and its place no slot is free
-abbrev pub AreReached : List Slot → ℕ → Type 0
-AreReached slots ids =
-    (at place : ℕ) → is_free slots at ≡ false → home_of ids (tag_at slots at) ≤ place → place ≤ at → is_free slots place ≡ false
+-- the id at a place has passed a group, and is counted there
+abbrev pub passes : List Group → ℕ → ℕ → Bool
+passes groups at cell = passing (tag_at groups cell) (distance_at groups cell) (steps (length groups) at (cell / PLACES))
 
-pub record IsProbed (slots : List Slot) (ids : ℕ) : Type 0 where
-  pub listed : AreListed slots ids
-  pub reached : AreReached slots ids
+-- how many of the first numbers pass a test
+abbrev pub tally : (ℕ → Bool) → ℕ → ℕ
+tally test zero = zero
+tally test (suc n) = (if test n then 1 else 0) + tally test n
 
--- the same while a hole moves back: all before this place whose search would meet the hole have moved
-pub record IsClosing (slots : List Slot) (ids hole at : ℕ) : Type 0 where
-  pub listed : AreListed slots ids
-  pub hole_free : is_free slots hole ≡ true
-  pub behind : hole < at
-  pub inside : hole < length slots
-  pub reached : (from place : ℕ) → is_free slots from ≡ false → home_of ids (tag_at slots from) ≤ place → place ≤ from
-      → hole ≢ place → is_free slots place ≡ false
-  pub settled : (from : ℕ) → hole < from → from < at → is_free slots from ≡ false → hole < home_of ids (tag_at slots from)
+-- an id of a hash stands at a place, with the hash's tag and its distance from the hash's home
+pub record IsUnder (groups : List Group) (hash cell : ℕ) : Type 0 where
+  pub inside : cell < PLACES * length groups
+  pub taken : is_free groups cell ≡ false
+  pub is_tag : tag_at groups cell ≡ tag_of (length groups) hash
+  pub is_distance : distance_at groups cell ≡ min (steps (length groups) (home_of (length groups) hash) (cell / PLACES)) FAR
 
--- the ids are those that were there but one
-pub record Leaves (old : List Slot) (id : ℕ) (new : List Slot) : Type 0 where
-  pub gone : (tag : ℕ) → Has new tag id → ⊥
-  pub kept : (tag other : ℕ) → nat_eq id other ≡ false → Has old tag other → Has new tag other
-  pub were : (tag other : ℕ) → Has new tag other → Has old tag other
+-- each group has as many marks and ids as the type of its arrays says
+abbrev pub AreShaped : List Group → Type 0
+AreShaped groups = (at : ℕ) → at < length groups → (length (group_at groups at).marks ≡ 20) × (length (group_at groups at).ids ≡ PLACES)
+
+-- each id stands once, where an id of some hash may, and each group that it has passed counts it, unless it is FAR from its home
+pub record IsProbed (groups : List Group) (ids : ℕ) (far : Bool) : Type 0 where
+  pub room : ids ≤ SHARE * length groups
+  pub most : PLACES * length groups < 2 ^ 32
+  pub shaped : AreShaped groups
+  pub once : (cell other : ℕ) → is_free groups cell ≡ false → is_free groups other ≡ false → id_at groups cell ≡ id_at groups other → cell ≡ other
+  pub below : (cell : ℕ) → is_free groups cell ≡ false → id_at groups cell < ids
+  pub hashed : (cell : ℕ) → is_free groups cell ≡ false → (hash : ℕ) × IsUnder groups hash cell
+  pub counted : (at : ℕ) → at < length groups → (group_at groups at).passed ≡ tally (passes groups at) (PLACES * length groups)
+  pub says_far : (cell : ℕ) → is_free groups cell ≡ false → distance_at groups cell ≡ FAR → far ≡ true
+
+-- an id is put at a free place of a group
+pub record PutsIn (old : List Group) (at tag distance id : ℕ) (new : List Group) : Type 0 where
+  pub place : ℕ
+  pub within : place < PLACES
+  pub free : is_free old (at * PLACES + place) ≡ true
+  pub is : new ≡ slice_set old at (with_id (group_at old at) place tag distance id)
+
+-- all places but one have what they had
+pub record SameBut (old : List Group) (cell : ℕ) (new : List Group) : Type 0 where
+  pub len : length new ≡ length old
+  pub tags : (other : ℕ) → other ≢ cell → tag_at new other ≡ tag_at old other
+  pub distances : (other : ℕ) → other ≢ cell → distance_at new other ≡ distance_at old other
+  pub ids : (other : ℕ) → other ≢ cell → id_at new other ≡ id_at old other
+
+-- each of so many groups, from a home on, counts one more
+pub record CountsWay (old : List Group) (home distance : ℕ) (new : List Group) : Type 0 where
+  pub len : length new ≡ length old
+  pub marks : (at : ℕ) → (group_at new at).marks ≡ (group_at old at).marks
+  pub ids : (at : ℕ) → (group_at new at).ids ≡ (group_at old at).ids
+  pub passed : (at : ℕ) → at < length old
+      → (group_at new at).passed ≡ (group_at old at).passed + (if nat_lt (steps (length old) home at) distance then 1 else 0)

@@ -1,11 +1,18 @@
 //! The constants of the index, each with its reason.
 
-/// No id: it marks a free slot. It is past every id, since an index has room for `MOST_IDS` at most.
-pub const NONE: u32 = u32::MAX;
-
-/// The most ids that an index can have room for. Tags are spread over less than two places for each, which 32 bits number.
+/// The most ids that an index can have room for. A table of this room has fewer than 2^32 places, so that an id and the count of a group fit
+/// in 32 bits.
 pub const MOST_IDS: usize = 2_147_483_648;
 
-/// What a hash is multiplied by to get its tag: 2^64 over the golden ratio, which spreads numbers that follow one another evenly (Knuth's
-/// Fibonacci hashing). It is odd, so that hashes that differ in their highest bits alone have different tags too.
+/// What a hash is multiplied by to spread it over the table: 2^64 over the golden ratio, which spreads numbers that follow one another evenly
+/// (Knuth's Fibonacci hashing). It is odd, so that hashes that differ in their highest bits alone stay different.
 pub const SPREAD: u64 = 0x9E37_79B9_7F4A_7C15;
+
+/// The ids that a group has places for: as many as fit in a cache line with their tags and distances.
+pub const PLACES: usize = 10;
+
+/// The ids for each group of a full table. With four places in ten free, few groups are full.
+pub const SHARE: usize = 6;
+
+/// The distance of an id that stands this many groups after its home, or more: distances have 8 bits.
+pub const FAR: usize = 255;

@@ -1,24 +1,26 @@
-//! An index from hashes to ids, by open addressing with linear probing. It keeps part of each hash beside the id, so that its owner, which
-//! has the hash and the key of each id, is seldom asked in vain.
+//! An index from hashes to ids, by open addressing over groups of ten places. It keeps eight bits of each hash beside the id, so that its
+//! owner, which has the hash and the key of each id, is seldom asked in vain.
 ghost use Rattle.std.specs.Prelude.{◌≡◌, ℕ, ◌<◌, ◌≤◌, [], false, true, max, IsOk, OnOk, OnErr};
-ghost use Rattle.moka_index.specs.HashIndex.{candidates, is_candidate, Adds, Removes, Replaces};
+ghost use Rattle.moka_index.specs.HashIndex.{candidates, is_candidate, Adds, Removes};
 
 use crate::candidates::Candidates;
-use crate::constants::MOST_IDS;
-use crate::slot::{Slot, home_of, places_of, tag_of};
-use crate::table::{close, free_place, place_of, refill};
+use crate::constants::{FAR, MOST_IDS};
+use crate::group::{Group, groups_of, home_of, tag_of};
+use crate::table::{count, free_group, place_of, put, refill, take_back};
 use moka_base::error::OutOfMemory;
 use std::alloc::{Allocator, Global};
 use std::marker::Model;
 
 /// An index from hashes to ids.
 ///
-/// The table has seven places for four ids, over which tags are spread, and one more for each id behind these, so that a search that goes on
-/// from the tag's home until it meets a free slot never comes to the end.
+/// The table has a group of ten places for every six ids. An id stands in the first group with a free place, from its hash's home on, and
+/// each group that it passed counts it. A search ends at a group that no id has passed, or after one round.
 #[derive(Drop)]
 pub struct HashIndex<A: Allocator = Global> {
-    slots: Vec<Slot, A>,
+    groups: Vec<Group, A>,
     ids: usize,
+    /// Since the last `clear_for`, an id was put `FAR` groups from its home or more. No group counts it, so each search goes all the way round.
+    far: bool,
 }
 
 impl<A: Allocator> Model for HashIndex<A> {
@@ -27,9 +29,9 @@ impl<A: Allocator> Model for HashIndex<A> {
 
     ghost Value = { Index };
 
-    ghost view = { λ index. record { slots = index.slots.items; ids = index.ids } };
+    ghost view = { λ index. record { groups = index.groups.items; ids = index.ids; far = index.far } };
 
-    ghost invariant = { λ index. IsProbed index.slots.items index.ids };
+    ghost invariant = { λ index. IsProbed index.groups.items index.ids index.far };
 }
 
 impl<A: Allocator> HashIndex<A> {
@@ -39,8 +41,9 @@ impl<A: Allocator> HashIndex<A> {
         ensures ids { result.ids ≡ 0 }
     {
         HashIndex {
-            slots: Vec::new(alloc),
+            groups: Vec::new(alloc),
             ids: 0,
+            far: false,
         }
     }
 
@@ -54,7 +57,7 @@ impl<A: Allocator> HashIndex<A> {
     /// Forgets all ids, and makes room for those below `ids`. The owner adds its ids again: it has their hashes, of which the index keeps
     /// only a part.
     ///
-    /// This is the only call that takes memory, and only for more room than there was: 22 bytes an id. It is refused for more than
+    /// This is the only call that takes memory, and only for more room than there was: about 11 bytes an id. It is refused for more than
     /// `MOST_IDS` ids.
     pub fn clear_for(&mut self, ids: usize) -> Result<(), OutOfMemory>
         ensures empty { OnOk result ((hash : ℕ) → candidates self.new hash ≡ []) }
@@ -62,18 +65,20 @@ impl<A: Allocator> HashIndex<A> {
         ensures succeeds { ids ≤ self.old.ids → IsOk result }
         ensures err { OnErr result (self.new ≡ self.old) }
     {
-        let len = self.slots.len();
+        let len = self.groups.len();
         if ids <= self.ids {
-            refill(&mut self.slots, len);
+            refill(&mut self.groups, len);
+            self.far = false;
             return Ok(());
         }
         if ids > MOST_IDS {
             return Err(OutOfMemory);
         }
-        let longer = places_of(ids) + ids;
-        self.slots.reserve_exact(longer.saturating_sub(len))?;
-        refill(&mut self.slots, longer);
+        let longer = groups_of(ids);
+        self.groups.reserve_exact(longer.saturating_sub(len))?;
+        refill(&mut self.groups, longer);
         self.ids = ids;
+        self.far = false;
         Ok(())
     }
 
@@ -81,11 +86,21 @@ impl<A: Allocator> HashIndex<A> {
     pub fn candidates(&self, hash: u64) -> Candidates<'_>
         ensures { result ≡ candidates self.now hash }
     {
-        let tag = tag_of(hash);
+        let len = self.groups.len();
+        let tag = tag_of(len, hash);
+        let at = home_of(len, hash);
+        let found = match self.groups.get(at) {
+            Some(group) => group.places_of(tag, 0),
+            None => 0,
+        };
         Candidates {
-            slots: &self.slots,
-            at: home_of(self.ids, tag),
+            groups: &self.groups,
+            at,
             tag,
+            distance: 0,
+            far: self.far,
+            found,
+            left: len.saturating_sub(1),
         }
     }
 
@@ -95,28 +110,28 @@ impl<A: Allocator> HashIndex<A> {
         requires absent { (other : ℕ) → is_candidate self.old other id ≡ false }
         ensures step { Adds self.old id hash self.new }
     {
-        let tag = tag_of(hash);
-        let place = free_place(&self.slots, home_of(self.ids, tag));
-        self.slots[place] = Slot { tag, id: id as u32 };
+        let len = self.groups.len();
+        let home = home_of(len, hash);
+        let (at, distance) = free_group(&self.groups, home);
+        put(&mut self.groups, at, tag_of(len, hash), distance, id as u32);
+        if distance < FAR {
+            count(&mut self.groups, home, distance);
+        } else {
+            self.far = true;
+        }
     }
 
-    /// Takes an id out, which is a candidate of this hash. Ids behind it move up, so that no slot is lost.
+    /// Removes an id, which is a candidate of this hash. Takes constant time on average.
     pub fn remove(&mut self, id: usize, hash: u64)
         requires { is_candidate self.old hash id ≡ true }
         ensures step { Removes self.old id self.new }
     {
-        let place = place_of(&self.slots, home_of(self.ids, tag_of(hash)), id as u32);
-        close(&mut self.slots, self.ids, place);
-    }
-
-    /// Gives an id another name, which is a candidate of no hash: `remove` of the one and `add` of the other.
-    pub fn replace(&mut self, id: usize, to: usize, hash: u64)
-        requires room { to < self.old.ids }
-        requires found { is_candidate self.old hash id ≡ true }
-        requires absent { (other : ℕ) → is_candidate self.old other to ≡ false }
-        ensures step { Replaces self.old id to hash self.new }
-    {
-        self.remove(id, hash);
-        self.add(to, hash);
+        let len = self.groups.len();
+        let home = home_of(len, hash);
+        let (at, distance, place) = place_of(&self.groups, hash, id as u32);
+        self.groups[at].clear(place);
+        if distance < FAR {
+            take_back(&mut self.groups, home, distance);
+        }
     }
 }

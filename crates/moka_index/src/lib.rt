@@ -3,6 +3,6 @@
 
 pub mod candidates;
 pub mod constants;
+pub mod group;
 pub mod hash_index;
-pub mod slot;
 mod table;

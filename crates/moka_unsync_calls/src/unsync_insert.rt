@@ -108,7 +108,7 @@ fn insert_all(heap: &Heap) -> Result<(), &'static str> {
 #[test]
 fn the_weigher_is_asked_once_for_each_insert_that_is_taken(rt: HostRuntime) -> Result<(), Fail> {
     let plays = for_each_refusal(rt.alloc(), rt.alloc(), BOUND, |heap| insert_all(heap))?;
-    assert_eq!(rt; plays, 20);
+    assert_eq!(rt; plays, 16);
     Ok(())
 }
 

@@ -1,9 +1,20 @@
-use Rattle.std.proofs.Common.{◌≡◌, ℕ, ◌-◌, ◌≤◌, length}
-use Rattle.moka_index.specs.Probed.{id_at}
+use Rattle.std.proofs.Common.{◌≡◌, ℕ, ◌-◌, ◌<◌, false, length}
+use Rattle.std.specs.Prelude.{min}
+use Rattle.moka_index.specs.declared.constants.TheConstants.{FAR}
+use Rattle.moka_index.specs.HashIndex.{group_at, home_of, places_of}
+use Rattle.moka_index.specs.Probed.{is_among}
+use Rattle.moka_index.proofs.StandsLemmas.{walk}
 use Rattle.moka_index.proofs.table.place_of.Given as goal
 
-abbrev pub invariant-loop-at : goal.invariant-loop-at
-invariant-loop-at l = (place : ℕ) × (l.at ≤ place) × (id_at l.slots place ≡ l.id)
+abbrev pub invariant-loop-place : goal.invariant-loop-place
+invariant-loop-place l =
+    record {
+      way : l.at ≡ walk (length l.groups) (home_of (length l.groups) l.hash) l.distance;
+      near : l.distance < length l.groups;
+      missed : (s : ℕ) → s < l.distance
+          → is_among l.id (places_of (group_at l.groups (walk (length l.groups) (home_of (length l.groups) l.hash) s)) l.tag (min s FAR))
+          (group_at l.groups (walk (length l.groups) (home_of (length l.groups) l.hash) s)).ids ≡ false;
+    }
 
-abbrev pub decreases-loop-at : goal.decreases-loop-at
-decreases-loop-at l = length l.slots - l.at
+abbrev pub decreases-loop-place : goal.decreases-loop-place
+decreases-loop-place l = length l.groups - l.distance

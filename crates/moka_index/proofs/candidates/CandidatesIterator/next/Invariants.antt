@@ -1,12 +1,15 @@
-use Rattle.std.proofs.Common.{◌≡◌, ◌-◌, length, drop}
-use Rattle.moka_index.specs.HashIndex.{tagged}
+use Rattle.std.proofs.Common.{◌≡◌, ◌+◌, ◌^◌, ◌<◌, ◌≤◌, length}
+use Rattle.moka_index.specs.HashIndex.{rest_of}
 use Rattle.moka_index.proofs.candidates.CandidatesIterator.next.Given as goal
 
-abbrev pub invariant-loop-slot : goal.invariant-loop-slot
-invariant-loop-slot l =
-    (l.self-inside.slots ≡ l.initial.self-inside.slots) × (l.self-inside.tag ≡ l.initial.self-inside.tag)
-    × (tagged l.self-inside.tag (drop l.self-inside.at l.self-inside.slots.now)
-    ≡ tagged l.initial.self-inside.tag (drop l.initial.self-inside.at l.initial.self-inside.slots.now))
+abbrev pub invariant-loop-group : goal.invariant-loop-group
+invariant-loop-group l =
+    (l.self-inside.groups ≡ l.initial.self-inside.groups) × (l.self-inside.tag ≡ l.initial.self-inside.tag)
+    × (l.self-inside.found < 1024) × (length l.self-inside.groups.now ≤ l.self-inside.at → (l.self-inside.found ≡ 0) × (l.self-inside.left ≡ 0))
+    × (rest_of l.self-inside.groups.now l.self-inside.tag l.self-inside.far l.self-inside.left l.self-inside.distance l.self-inside.at l.self-inside.found
+    ≡ rest_of l.initial.self-inside.groups.now l.initial.self-inside.tag l.initial.self-inside.far l.initial.self-inside.left
+    l.initial.self-inside.distance l.initial.self-inside.at l.initial.self-inside.found)
+    × (l.self-inside.far ≡ l.initial.self-inside.far) × (l.self-inside.distance + l.self-inside.left < 2 ^ 64)
 
-abbrev pub decreases-loop-slot : goal.decreases-loop-slot
-decreases-loop-slot l = length l.self-inside.slots.now - l.self-inside.at
+abbrev pub decreases-loop-group : goal.decreases-loop-group
+decreases-loop-group l = l.self-inside.left

@@ -1,49 +1,89 @@
-use Rattle.std.proofs.Common.{◌≡◌, ◌∙◌, ◌≤◌, ◌<◌, true, ap, rules, subst, sym}
-use Rattle.moka_index.specs.declared.constants.TheConstants.{NONE}
-use Rattle.moka_index.specs.HashIndex.{home_of, is_candidate, tag_of}
-use Rattle.moka_index.specs.Probed.{Leaves, id_at}
-use Rattle.moka_index.proofs.CandidateLemmas.{candidate_id, candidate_stands, id_taken, removed}
+use Rattle.std.proofs.Common.{◌≡◌, ◌∙◌, ℕ, ◌*◌, ◌+◌, ◌<◌, true, arith, length, ap, rules, subst, sym}
+use Rattle.std.specs.Prelude.{slice_set}
+use Rattle.std.proofs.lemmas.List.{get_or_read}
+use Rattle.moka_index.specs.HashIndex.{Removes, group_at, home_of, is_candidate}
+use Rattle.moka_index.specs.Probed.{IsUnder, id_at, steps, without}
+use Rattle.moka_index.proofs.RestLemmas.{home_below}
+use Rattle.moka_index.proofs.StandsLemmas.{candidate_under, shown}
+use Rattle.moka_index.proofs.WayLemmas.{IsTaken, is_taken}
+use Rattle.moka_index.proofs.hash_index.HashIndex.remove.Given.{Over}
+use Rattle.moka_index.proofs.hash_index.HashIndex.remove.Goals.{After-deref, After-clear}
 use Rattle.moka_index.proofs.hash_index.HashIndex.remove.Goals as goal
+
+-- the id stands under its hash
+stands : (g : Over) (c : After-deref g)
+    → (cell : ℕ) × IsUnder c.self.inside.groups.items c.args.hash cell × (id_at c.self.inside.groups.items cell ≡ c.args.id)
+stands g c =
+    candidate_under c.self.inside.groups.items c.self.inside.ids c.self.inside.far c.args.hash c.args.id c.self.invariant.shaped
+    (subst (λ v. is_candidate v c.args.hash c.args.id ≡ true) (sym c.self.view_is) c.requires)
+
+-- a home is in the table
+home_inside : (g : Over) (c : After-deref g) → c.home_of-home.result < length c.self.inside.groups.items
+home_inside g c =
+    let n = length c.self.inside.groups.items in
+    let len : c.len-len.result ≡ n = search rules in
+    let within = (stands g c).1.inside in
+    subst (λ h. h < n) (sym (c.home_of-home.ensures ∙ ap (λ m. home_of m c.args.hash) len)) (home_below n c.args.hash (omega (arith, within)))
 
 pub overflow_cast-id : goal.overflow_cast-id
 overflow_cast-id g c =
-    let slots = c.self.inside.slots.items in let ids = c.self.inside.ids in
-    let small : c.args.id < NONE =
-    candidate_id slots ids c.self.invariant c.args.hash c.args.id
-    (subst (λ v. is_candidate v c.args.hash c.args.id ≡ true) (sym c.self.view_is) c.requires) in
-    search rules
+    let there = stands g c in
+    let low : c.args.id < c.self.inside.ids =
+    subst (λ i. i < c.self.inside.ids) there.2 (c.self.invariant.below there.0 there.1.taken) in
+    let room = c.self.invariant.room in let most = c.self.invariant.most in omega (arith, low, room, most)
 
-pub place_of-place-requires-clause-taken : goal.place_of-place-requires-clause-taken
-place_of-place-requires-clause-taken g c =
-    candidate_id c.self.inside.slots.items c.self.inside.ids c.self.invariant c.args.hash c.args.id
-    (subst (λ v. is_candidate v c.args.hash c.args.id ≡ true) (sym c.self.view_is) c.requires)
+pub place_of-at-requires-clause-stands : goal.place_of-at-requires-clause-stands
+place_of-at-requires-clause-stands g c =
+    subst (λ xs. (cell : ℕ) × IsUnder xs c.args.hash cell × (id_at xs cell ≡ c.args.id)) (sym c.deref.ensures.value) (stands g c)
 
-pub place_of-place-requires-clause-stands : goal.place_of-place-requires-clause-stands
-place_of-place-requires-clause-stands g c =
-    let slots = c.self.inside.slots.items in let ids = c.self.inside.ids in
-    let home : c.home_of.result ≡ home_of ids (tag_of c.args.hash) = c.home_of.ensures ∙ ap (home_of ids) c.tag_of.ensures.tag in
-    let same : c.deref.result.now ≡ slots = search rules in
-    let there = candidate_stands slots ids c.args.hash c.args.id
-    (subst (λ v. is_candidate v c.args.hash c.args.id ≡ true) (sym c.self.view_is) c.requires) in
-    (there.0.at, subst (λ h. h ≤ there.0.at) (sym home) there.1, subst (λ xs. id_at xs there.0.at ≡ c.args.id) (sym same) there.0.is_id)
-
-pub close-requires-clause-taken : goal.close-requires-clause-taken
-close-requires-clause-taken g c =
-    let slots = c.self.inside.slots.items in let ids = c.self.inside.ids in
-    let same : c.deref.result.now ≡ slots = search rules in
-    id_taken slots c.place_of-place.result c.args.id
-    (subst (λ xs. id_at xs c.place_of-place.result ≡ c.args.id) same c.place_of-place.ensures)
-    (candidate_id slots ids c.self.invariant c.args.hash c.args.id
-    (subst (λ v. is_candidate v c.args.hash c.args.id ≡ true) (sym c.self.view_is) c.requires))
-
-pub returns : goal.returns
-returns g c =
-    let slots = c.self.inside.slots.items in let ids = c.self.inside.ids in
-    let same : c.deref.result.now ≡ slots = search rules in
-    let is : id_at slots c.place_of-place.result ≡ c.args.id =
-    subst (λ xs. id_at xs c.place_of-place.result ≡ c.args.id) same c.place_of-place.ensures in
-    rw (← c.self.view_is)
+-- what the table is after the place is freed
+taken : (g : Over) (c : After-clear g)
+    → IsTaken c.self.inside.groups.items c.self.inside.ids c.self.inside.far c.args.id c.home_of-home.result c.place_of-at.result.1
+    (slice_set c.self.inside.groups.items c.place_of-at.result.0 c.clear.new.self)
+taken g c =
+    let groups = c.self.inside.groups.items in let n = length groups in let hash = c.args.hash in let home = c.home_of-home.result in
+    let at = c.place_of-at.result.0 in let place = c.place_of-at.result.2 in
+    let len : c.len-len.result ≡ n = search rules in
+    let same = c.deref.ensures.value in
+    let is_home : home ≡ home_of n hash = c.home_of-home.ensures ∙ ap (λ m. home_of m hash) len in
+    let inside : at < n = subst (λ xs. at < length xs) same c.place_of-at.ensures.inside.0 in
+    let group : c.index_mut.result.now ≡ group_at groups at = get_or_read groups at c.index_mut.result.now inside c.index_mut.ensures.value _ in
+    is_taken groups (slice_set groups at c.clear.new.self) c.self.inside.ids c.self.inside.far c.args.id hash home at c.place_of-at.result.1 place
     (record {
-      step = removed slots ids c.args.id c.close.new.slots.items c.self.invariant c.close.ensures.probed
-          (subst (λ i. Leaves slots i c.close.new.slots.items) is c.close.ensures.step);
+      is_home = is_home;
+      inside = inside;
+      is_distance = subst (λ xs. c.place_of-at.result.1 ≡ steps (length xs) (home_of (length xs) hash) at) same c.place_of-at.ensures.distance
+          ∙ ap (λ h. steps n h at) (sym is_home);
     })
+    c.self.invariant c.place_of-at.ensures.inside.1 (subst (λ xs. IsUnder xs hash (at * 10 + place)) same c.place_of-at.ensures.under)
+    (subst (λ xs. id_at xs (at * 10 + place) ≡ c.args.id) same c.place_of-at.ensures.is)
+    (ap (slice_set groups at) (c.clear.ensures ∙ ap (λ h. without h place) group))
+
+pub take_back-requires-clause-inside : goal.take_back-requires-clause-inside
+take_back-requires-clause-inside g c =
+    subst (λ m. c.home_of-home.result < m) (sym (taken g (goal.at.take_back-requires-clause-inside g c).After-clear).len)
+    (home_inside g (goal.at.take_back-requires-clause-inside g c).After-deref)
+
+pub take_back-requires-clause-counted : goal.take_back-requires-clause-counted
+take_back-requires-clause-counted g c =
+    (taken g (goal.at.take_back-requires-clause-counted g c).After-clear).counted c.if-distance-lt-FAR.true
+
+pub invariant_of-self : goal.invariant_of-self
+invariant_of-self g c =
+    ((taken g (goal.at.invariant_of-self g c).After-clear).if_near c.take_back.new.groups.items c.if-distance-lt-FAR.true c.take_back.ensures).lies
+
+pub invariant_of-self-else-distance-lt-FAR : goal.invariant_of-self-else-distance-lt-FAR
+invariant_of-self-else-distance-lt-FAR g c =
+    ((taken g (goal.at.invariant_of-self-else-distance-lt-FAR g c).After-clear).if_far c.if-distance-lt-FAR.false).lies
+
+pub returns-then-distance-lt-FAR : goal.returns-then-distance-lt-FAR
+returns-then-distance-lt-FAR g c =
+    let new = c.take_back.new.groups.items in
+    let gone = (taken g (goal.at.returns-then-distance-lt-FAR g c).After-clear).if_near new c.if-distance-lt-FAR.true c.take_back.ensures in
+    record { step = subst (λ v. Removes v c.args.id (shown new c.self.inside.ids c.self.inside.far)) c.self.view_is gone.step }
+
+pub returns-else-distance-lt-FAR : goal.returns-else-distance-lt-FAR
+returns-else-distance-lt-FAR g c =
+    let new = slice_set c.self.inside.groups.items c.place_of-at.result.0 c.clear.new.self in
+    let gone = (taken g (goal.at.returns-else-distance-lt-FAR g c).After-clear).if_far c.if-distance-lt-FAR.false in
+    record { step = subst (λ v. Removes v c.args.id (shown new c.self.inside.ids c.self.inside.far)) c.self.view_is gone.step }

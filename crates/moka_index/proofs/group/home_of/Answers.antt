@@ -1,6 +1,6 @@
 use Rattle.std.proofs.Common.{rules}
 use Rattle.moka_index.specs.HashIndex.{home_of}
-use Rattle.moka_index.proofs.slot.home_of.Goals as goal
+use Rattle.moka_index.proofs.group.home_of.Goals as goal
 
 pub returns : goal.returns
 unfolding home_of

@@ -1,0 +1,148 @@
+// A group of places for ids, and where a hash belongs.
+ghost use Rattle.std.specs.Prelude.{◌≡◌, ◌<◌, ◌≤◌, false, min, IfNone, IfSome};
+ghost use Rattle.moka_index.specs.HashIndex.{after, ends_at, groups_of, home_of, places_at, places_of, places_with, tag_of};
+ghost use Rattle.moka_index.specs.Probed.{FREE, HasAt, TakesFirst, is_among, with_id, without};
+ghost use Rattle.moka_index.specs.declared.constants.TheConstants.{FAR, MOST_IDS, PLACES};
+
+use crate::constants::{FAR, PLACES, SHARE, SPREAD};
+use std::simd::prelude::*;
+
+/// Ten places for ids, in 64 bytes.
+#[derive(Clone, Copy, Drop)]
+pub struct Group {
+    /// The tag of each place, or 0 if the place is free, and then the distance of each place: the number of groups from its id's home to this
+    /// group, or `FAR`.
+    pub(crate) marks: [u8; 20],
+    /// The number of ids that passed this full group on the way from their home. An id `FAR` groups from its home isn't counted.
+    pub(crate) passed: u32,
+    pub(crate) ids: [u32; 10],
+}
+
+impl Group {
+    /// A group without ids.
+    pub(crate) fn free() -> Self
+        ensures { result ≡ FREE }
+    {
+        Group {
+            marks: [0; 20],
+            passed: 0,
+            ids: [0; 10],
+        }
+    }
+
+    /// The places with `tag`, as bits. Tag 0 gives the free places.
+    pub(crate) fn places_with(&self, tag: u8) -> u64
+        ensures places { result ≡ places_with self.now tag }
+        ensures bound { result < 1024 }
+    {
+        u8x16::from_slice(&self.marks)
+            .simd_eq(u8x16::splat(tag))
+            .to_bitmask()
+            % 1024
+    }
+
+    /// The places with `distance`, as bits.
+    fn places_at(&self, distance: u8) -> u64
+        ensures { result ≡ places_at self.now distance }
+    {
+        u8x16::from_slice(&self.marks[4..])
+            .simd_eq(u8x16::splat(distance))
+            .to_bitmask()
+            >> 6
+    }
+
+    /// The places with `tag` and `distance`, as bits.
+    #[inline(always)]
+    pub(crate) fn places_of(&self, tag: u8, distance: usize) -> u64
+        ensures places { result ≡ places_of self.now tag (min distance FAR) }
+        ensures bound { result < 1024 }
+    {
+        self.places_with(tag) & self.places_at(distance.min(FAR) as u8)
+    }
+
+    /// The place of `id`, if it stands here with `tag` and `distance`.
+    pub(crate) fn place_of(&self, tag: u8, distance: usize, id: u32) -> Option<usize>
+        ensures some { IfSome result (HasAt self.now tag (min distance FAR) id) }
+        ensures none { IfNone result (is_among id (places_of self.now tag (min distance FAR)) self.now.ids ≡ false) }
+    {
+        let mut found = self.places_of(tag, distance);
+        while found != 0 {
+            let place = self.first(found);
+            if self.ids[place] == id {
+                return Some(place);
+            }
+            found -= 1 << place;
+        }
+        None
+    }
+
+    /// Returns true if a search ends here: no id has passed this group. If `far`, some ids may be counted by no group, so no search ends early.
+    #[inline(always)]
+    pub(crate) fn ends(&self, far: bool) -> bool
+        ensures { result ≡ ends_at self.now far }
+    {
+        !far && self.passed == 0
+    }
+
+    /// Puts `id` at `place`.
+    pub(crate) fn put(&mut self, place: usize, tag: u8, distance: usize, id: u32)
+        requires { place < PLACES }
+        ensures { self.new ≡ with_id self.old place tag (min distance FAR) id }
+    {
+        self.marks[place] = tag;
+        self.marks[PLACES + place] = distance.min(FAR) as u8;
+        self.ids[place] = id;
+    }
+
+    /// Frees `place`.
+    pub(crate) fn clear(&mut self, place: usize)
+        requires { place < PLACES }
+        ensures { self.new ≡ without self.old place }
+    {
+        self.marks[place] = 0;
+    }
+
+    /// The lowest of `places`.
+    pub(crate) fn first(&self, places: u64) -> usize
+        requires some { 0 < places }
+        requires few { places < 1024 }
+        ensures { TakesFirst places self.now.ids result }
+    {
+        places.trailing_zeros() as usize
+    }
+}
+
+/// The number of groups of a table with room for `ids` ids.
+#[inline]
+pub(crate) fn groups_of(ids: usize) -> usize
+    requires { ids ≤ MOST_IDS }
+    ensures { result ≡ groups_of ids }
+{
+    ids / SHARE + 1
+}
+
+/// The group at which a search for `hash` starts.
+#[inline(always)]
+pub(crate) fn home_of(groups: usize, hash: u64) -> usize
+    ensures { result ≡ home_of groups hash }
+{
+    (u128::from(hash.wrapping_mul(SPREAD)) * groups as u128 >> 64) as usize
+}
+
+/// The tag of `hash`, which is never 0.
+#[inline(always)]
+pub(crate) fn tag_of(groups: usize, hash: u64) -> u8
+    ensures { result ≡ tag_of groups hash }
+{
+    ((u128::from(hash.wrapping_mul(SPREAD)) * groups as u128 >> 56) % 256).max(1) as u8
+}
+
+/// The group after `at`, round and round.
+#[inline]
+pub(crate) fn after(groups: usize, at: usize) -> usize
+    requires { at < groups }
+    ensures is { result ≡ after groups at }
+    ensures inside { result < groups }
+{
+    if at + 1 == groups { 0 } else { at + 1 }
+}
