@@ -1,13 +1,16 @@
 -- Words of sixteen counters, by `Cells.antt`: reading one, adding one, halving all, counting the odd ones.
 use Rattle.std.proofs.Common.{◌≡◌, ℕ, zero, suc, ◌+◌, ◌-◌, ◌*◌, ◌/◌, ◌%◌, ◌^◌, ◌<◌, ◌≤◌, List, [], ◌∷◌, ◌++◌, length, get_or, set, map}
 use Rattle.std.proofs.Common.{replicate, refl, sym, ◌∙◌, ap, arith, bit_and, count_ones, cond, eqb, length-append, All, append_assoc, take}
-use Rattle.std.proofs.Common.{min, length-take, drop}
-use Rattle.std.proofs.lemmas.Nat.{shr-shr, pow-add, and_block, and_mask, ones_cat}
+use Rattle.std.proofs.Common.{min, length-take, drop, nat_lt, inl, inr}
+use Rattle.std.proofs.lemmas.Bool.{cases_lt}
+use Rattle.std.proofs.lemmas.Bool.Decides.{nat_tests}
+use Rattle.std.proofs.lemmas.Nat.{shr-shr, pow-add, and_block, and_mask, one_shl, ones_cat}
 use Rattle.std.proofs.lemmas.List.{length-map, append-nil, take_more, length-take-le, get_or-append_right, get_or-drop, set-get_or}
 use Rattle.std.proofs.lemmas.List.{get_or_append_left, get_or-append-add, set-append_left, set-append_right, map-append}
 use Rattle.std.proofs.lemmas.List.{replicate-append-replicate}
 use Rattle.std.proofs.lemmas.List.Sums.{count_by-le-length, sum_by-cons, sum_by-append}
 use Rattle.std.proofs.lemmas.List.Elements.{All-cons, All-append}
+use Rattle.std.specs.Int.{from_bool}
 use Rattle.std.specs.Int.Bits.{and_zero_r}
 use lib.Count.{ones, ones_in}
 use Rattle.moka_sketch.specs.Cells.{digits, counters_of_word, counters_of, halved_word}
@@ -221,12 +224,12 @@ counters_of-replicate (suc n) =
 -- ---- one counter of a table
 
 -- nor is one of a word
-pub counter_small : (word j : ℕ) → j < 16 → get_or (counters_of_word word) j 0 ≤ 15
+counter_small : (word j : ℕ) → j < 16 → get_or (counters_of_word word) j 0 ≤ 15
 unfolding counters_of_word
 counter_small word j h = let is : get_or (digits 16 word) j 0 ≡ word / 2 ^ (4 * j) % 16 = get_or-digits 16 j word h in omega arith
 
 -- a counter at the most stays
-pub counter_full : (words : List ℕ) (p j : ℕ) → p < length words → j < 16 → get_or (counters_of_word (get_or words p 0)) j 0 ≡ 15 →
+counter_full : (words : List ℕ) (p j : ℕ) → p < length words → j < 16 → get_or (counters_of_word (get_or words p 0)) j 0 ≡ 15 →
     counters_of words ≡ grown_at (counters_of words) (16 * p + j)
 counter_full words p j h below full =
     let is : get_or (counters_of words) (16 * p + j) 0 ≡ 15 = get_or-counters_of words p j h below ∙ full in
@@ -234,7 +237,7 @@ counter_full words p j h below full =
     rw value (sym (set-get_or (counters_of words) (16 * p + j) 0))
 
 -- another has one more
-pub counter_grown : (words : List ℕ) (p j : ℕ) → p < length words → j < 16 → get_or (counters_of_word (get_or words p 0)) j 0 < 15 →
+counter_grown : (words : List ℕ) (p j : ℕ) → p < length words → j < 16 → get_or (counters_of_word (get_or words p 0)) j 0 < 15 →
     counters_of (set words p (get_or words p 0 + 2 ^ (4 * j))) ≡ grown_at (counters_of words) (16 * p + j)
 unfolding counters_of_word
 counter_grown words p j h below room =
@@ -247,11 +250,44 @@ counter_grown words p j h below room =
     rw value (set-counters_of words p j (get_or words p 0 + 2 ^ (4 * j)) (get_or words p 0 / 2 ^ (4 * j) % 16 + 1) h below (sym word))
 
 -- and its word has room for it
-pub counter_room : (word j : ℕ) → j < 16 → word < 2 ^ 64 → get_or (counters_of_word word) j 0 < 15 → word + 2 ^ (4 * j) < 2 ^ 64
+counter_room : (word j : ℕ) → j < 16 → word < 2 ^ 64 → get_or (counters_of_word word) j 0 < 15 → word + 2 ^ (4 * j) < 2 ^ 64
 unfolding counters_of_word
 counter_room word j below fits room =
     let digit : get_or (digits 16 word) j 0 ≡ word / 2 ^ (4 * j) % 16 = get_or-digits 16 j word below in
     digit_room 16 j word below fits (omega arith)
+
+-- a counter below the most is raised by one, another by nothing, as the code adds it to the word
+pub raised : (words : List ℕ) (p j n : ℕ) → p < length words → j < 16 →
+    n ≡ from_bool (nat_lt (get_or (counters_of_word (get_or words p 0)) j 0) 15) →
+    counters_of (set words p (get_or words p 0 + n * 2 ^ (4 * j) % 2 ^ 64)) ≡ grown_at (counters_of words) (16 * p + j)
+raised words p j n h below is =
+    elim (cases_lt (get_or (counters_of_word (get_or words p 0)) j 0) 15) [
+      | inl room ↦
+          (let one : n ≡ 1 = is ∙ grind (arith, nat_tests) in
+          let added : n * 2 ^ (4 * j) % 2 ^ 64 ≡ 2 ^ (4 * j) =
+          ap (λ m. m * 2 ^ (4 * j) % 2 ^ 64) one ∙ one_shl (4 * j) 64 (omega arith) in
+          rw added (counter_grown words p j h below room))
+      | inr full ↦
+          (let none : n ≡ 0 = is ∙ grind (arith, nat_tests) in
+          let small : get_or (counters_of_word (get_or words p 0)) j 0 ≤ 15 = counter_small (get_or words p 0) j below in
+          let same : get_or words p 0 + n * 2 ^ (4 * j) % 2 ^ 64 ≡ get_or words p 0 = rw none (omega arith) in
+          rw same (ap counters_of (set-get_or words p 0) ∙ counter_full words p j h below (omega arith)))
+    ]
+
+-- and its word has room for that
+pub raised_room : (word j n : ℕ) → j < 16 → word < 2 ^ 64 → n ≡ from_bool (nat_lt (get_or (counters_of_word word) j 0) 15) →
+    word + n * 2 ^ (4 * j) % 2 ^ 64 < 2 ^ 64
+raised_room word j n below fits is =
+    elim (cases_lt (get_or (counters_of_word word) j 0) 15) [
+      | inl room ↦
+          (let one : n ≡ 1 = is ∙ grind (arith, nat_tests) in
+          let added : n * 2 ^ (4 * j) % 2 ^ 64 ≡ 2 ^ (4 * j) =
+          ap (λ m. m * 2 ^ (4 * j) % 2 ^ 64) one ∙ one_shl (4 * j) 64 (omega arith) in
+          rw added (counter_room word j below fits room))
+      | inr full ↦
+          (let none : n ≡ 0 = is ∙ grind (arith, nat_tests) in
+          rw none (omega arith))
+    ]
 
 -- ---- halving and counting a table
 

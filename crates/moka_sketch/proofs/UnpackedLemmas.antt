@@ -4,7 +4,7 @@ use Rattle.std.proofs.Common.{length, map, replicate, min, Some, Option, refl, s
 use Rattle.std.proofs.lemmas.Bool.Decides.{nat_tests}
 use Rattle.std.proofs.lemmas.Nat.{pow_pos}
 use Rattle.std.proofs.lemmas.List.{length-replicate}
-use Rattle.std.specs.Int.{leading_zeros, w32}
+use Rattle.std.specs.Int.{from_bool, leading_zeros, w32}
 use Rattle.moka_sketch.specs.declared.constants.TheConstants.{MAX_TABLE_LEN}
 use Rattle.moka_sketch.proofs.CellLemmas.{All-counters_of, counters_of-replicate, length-counters_of}
 use Rattle.moka_sketch.proofs.SketchLemmas.{next_power_within}
@@ -66,7 +66,28 @@ packed_kept words new sample size next len packed below = record {
   sampled = below;
 }
 
--- ---- a count, by whether a counter grew and whether the size came to the sample
+-- ---- a count, by whether the size comes to the sample
+
+-- what a count adds to the size is one at most
+pub added_most : (grew : Bool) (n : ℕ) → n ≡ from_bool grew → n ≤ 1
+added_most true n is = let one : n ≡ 1 = is in omega arith
+added_most false n is = let none : n ≡ 0 = is in omega arith
+
+-- the size grows by one where a counter does, and else by nothing
+size_by : (grows : Bool) (n size : ℕ) → n ≡ from_bool grows → size + n ≡ cond grows (size + 1) size
+size_by true n size is = let one : n ≡ 1 = is in omega arith
+size_by false n size is = let none : n ≡ 0 = is in omega arith
+
+-- a size below the sample lets no table age
+calm_by : (grows : Bool) (n sample size : ℕ) → n ≡ from_bool grows → size + n < sample → (grows && nat_le sample (size + 1)) ≡ false
+calm_by true n sample size is below = let one : n ≡ 1 = is in grind (arith, nat_tests)
+calm_by false n sample size is below = refl
+
+-- one that comes to the sample does
+due_by : (grows : Bool) (n sample size : ℕ) → n ≡ from_bool grows → size < sample → sample ≤ size + n →
+    (grows && nat_le sample (size + 1)) ≡ true
+due_by true n sample size is below full = let one : n ≡ 1 = is in grind (arith, nat_tests)
+due_by false n sample size is below full = let none : n ≡ 0 = is in absurd (omega arith)
 
 -- the sketch once a hash is counted, by whether the table ages
 abbrev counted_by : Bool → Table → ℕ → Option Table
@@ -108,43 +129,31 @@ module _ (words new : List ℕ) (sample size hash : ℕ) (grew : Bool) (made : I
   there : 0 < length new
   there = let on : 0 < length words = made.on in let len : length new ≡ length words = made.len in omega arith
 
-  -- where no counter grows
-  pub not_grown : grew ≡ false →
-      unpacked new sample size ≡ after_increment (unpacked words sample size) hash
-  not_grown is =
-      let full : grows_in (length words) (counters_of words) hash ≡ false = sym made.grew_is ∙ is in
-      let calm : ages before hash ≡ false = ap (λ b. b && nat_le sample (size + 1)) full in
-      let stays : (with_count before hash).size ≡ size = ap (λ b. cond b (size + 1) size) full in
-      unpacked_on new sample size there
-      ∙ ap Some (same_table (length new) (length words) sample size _ (counters_of new) _ made.len (sym stays) made.counters)
+  -- the size stays below the sample
+  pub counted_calm : (n : ℕ) → n ≡ from_bool grew → size + n < sample →
+      unpacked new sample (size + n) ≡ after_increment (unpacked words sample size) hash
+  counted_calm n is room =
+      let more : n ≡ from_bool (grows_in (length words) (counters_of words) hash) = is ∙ ap from_bool made.grew_is in
+      let calm : ages before hash ≡ false = calm_by (grows_in (length words) (counters_of words) hash) n sample size more room in
+      let grows : size + n ≡ (with_count before hash).size = size_by (grows_in (length words) (counters_of words) hash) n size more in
+      unpacked_on new sample (size + n) there
+      ∙ ap Some (same_table (length new) (length words) sample (size + n) _ (counters_of new) _ made.len grows made.counters)
       ∙ ap (λ b. counted_by b before hash) (sym calm)
       ∙ sym (after_on words sample size hash made.on)
 
-  -- where one does, and the size stays below the sample
-  pub grown : grew ≡ true → size + 1 < sample →
-      unpacked new sample (size + 1) ≡ after_increment (unpacked words sample size) hash
-  grown is room =
-      let more : grows_in (length words) (counters_of words) hash ≡ true = sym made.grew_is ∙ is in
-      let calm : ages before hash ≡ false = ap (λ b. b && nat_le sample (size + 1)) more ∙ grind (arith, nat_tests) in
-      let grows : (with_count before hash).size ≡ size + 1 = ap (λ b. cond b (size + 1) size) more in
-      unpacked_on new sample (size + 1) there
-      ∙ ap Some (same_table (length new) (length words) sample (size + 1) _ (counters_of new) _ made.len (sym grows) made.counters)
-      ∙ ap (λ b. counted_by b before hash) (sym calm)
-      ∙ sym (after_on words sample size hash made.on)
-
-  -- where the table ages, its words are those of the halved counters
-  pub grown_aged : (old : List ℕ) (odd : ℕ) → length old ≡ length words → counters_of old ≡ map (λ c. c / 2) (counters_of new) →
-      odd ≡ odd_count (counters_of new) → grew ≡ true → sample ≤ size + 1 →
-      unpacked old sample ((size + 1) / 2 - odd / 4) ≡ after_increment (unpacked words sample size) hash
-  grown_aged old odd same halved odd_is is full =
-      let more : grows_in (length words) (counters_of words) hash ≡ true = sym made.grew_is ∙ is in
+  -- it comes to the sample, and the table's words are those of the halved counters
+  pub counted_aged : (old : List ℕ) (n odd : ℕ) → n ≡ from_bool grew → size < sample → sample ≤ size + n → length old ≡ length words →
+      counters_of old ≡ map (λ c. c / 2) (counters_of new) → odd ≡ odd_count (counters_of new) →
+      unpacked old sample ((size + n) / 2 - odd / 4) ≡ after_increment (unpacked words sample size) hash
+  counted_aged old n odd is below full same halved odd_is =
+      let more : n ≡ from_bool (grows_in (length words) (counters_of words) hash) = is ∙ ap from_bool made.grew_is in
       let on : 0 < length words = made.on in
       let still : 0 < length old = omega arith in
-      let due : ages before hash ≡ true = ap (λ b. b && nat_le sample (size + 1)) more ∙ grind (arith, nat_tests) in
-      let grows : (with_count before hash).size ≡ size + 1 = ap (λ b. cond b (size + 1) size) more in
-      let left : (size + 1) / 2 - odd / 4 ≡ (aged (with_count before hash)).size =
-      ap (λ n. (size + 1) / 2 - n / 4) (odd_is ∙ ap odd_count made.counters)
-      ∙ ap (λ n. n / 2 - odd_count (with_count before hash).counters / 4) (sym grows) in
+      let due : ages before hash ≡ true = due_by (grows_in (length words) (counters_of words) hash) n sample size more below full in
+      let grows : size + n ≡ (with_count before hash).size = size_by (grows_in (length words) (counters_of words) hash) n size more in
+      let left : (size + n) / 2 - odd / 4 ≡ (aged (with_count before hash)).size =
+      ap (λ k. (size + n) / 2 - k / 4) (odd_is ∙ ap odd_count made.counters)
+      ∙ ap (λ k. k / 2 - odd_count (with_count before hash).counters / 4) grows in
       unpacked_on old sample _ still
       ∙ ap Some (same_table (length old) (length words) sample _ _ (counters_of old) _ same left
       (halved ∙ ap (map (λ c. c / 2)) made.counters))

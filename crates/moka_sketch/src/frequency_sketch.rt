@@ -82,8 +82,8 @@ impl<A: Allocator + Clone + Drop> FrequencySketch<A> {
         cells::frequency(&self.table, hash)
     }
 
-    /// Counts the hash. It touches four words, with a multiplication each, and every word where the table ages: that is at most once in half a
-    /// sample of counts.
+    /// Counts the hash. It stores four words, with a multiplication each, whether or not their counters grow: no branch depends on a counter. It
+    /// stores every word when the table ages, at most once in half a sample of counts.
     pub fn increment(&mut self, hash: u64)
         ensures step { self.new ≡ after_increment self.old hash }
     {
@@ -91,12 +91,9 @@ impl<A: Allocator + Clone + Drop> FrequencySketch<A> {
             return;
         }
         let words = self.table.as_mut_slice();
-        if cells::increment(words, hash) {
-            self.size += 1;
-            if self.size >= self.sample_size {
-                let odd = aging::age(words);
-                self.size = aging::aged_size(self.size, odd);
-            }
+        self.size += u32::from(cells::increment(words, hash));
+        if self.size >= self.sample_size {
+            self.size = aging::age_table(words, self.size);
         }
     }
 

@@ -27,6 +27,18 @@ const LANES: usize = 8;
 /// takes 12, since the compiler unrolls a loop of 12 steps, and none of 15.
 const BLOCK_LEN: usize = 12 * LANES;
 
+/// Ages a table of this size, and returns its new size. It runs at most once in half a sample of counts, so it is kept out of line.
+#[cold]
+#[inline(never)]
+pub fn age_table(words: &mut [u64], size: u32) -> u32
+    requires { length words.old ≤ MAX_TABLE_LEN }
+    ensures halved { counters_of words.new ≡ map (λ c. c / 2) (counters_of words.old) }
+    ensures size { result ≡ size / 2 - odd_count (counters_of words.old) / 4 }
+{
+    let odd = age(words);
+    aged_size(size, odd)
+}
+
 /// Halves every counter, rounded down. Returns how many were odd.
 pub fn age(words: &mut [u64]) -> u64
     requires { length words.old ≤ MAX_TABLE_LEN }

@@ -81,9 +81,7 @@ fn grow(words: &mut [u64], hash: u64, depth: usize) -> bool
     let word = words[index];
     let count = counter_of(word, counter);
     let grows = count < MAX_FREQUENCY;
-    if grows {
-        words[index] = word + (1 << (COUNTER_BITS * counter));
-    }
+    words[index] = word + (u64::from(grows) << (COUNTER_BITS * counter));
     grows
 }
 
