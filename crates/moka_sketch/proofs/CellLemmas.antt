@@ -13,10 +13,10 @@ use Rattle.std.proofs.lemmas.List.Elements.{All-cons, All-append}
 use Rattle.std.specs.Int.{from_bool}
 use Rattle.std.specs.Int.Bits.{and_zero_r}
 use lib.Count.{ones, ones_in}
-use Rattle.moka_sketch.specs.Cells.{digits, counters_of_word, counters_of, halved_word}
+use Rattle.moka_sketch.specs.Cells.{digits, counters_of_group, counters_of, halved_group}
 use Rattle.moka_sketch.specs.Sketch.{grown_at, odd_count}
 
--- ---- the digits of a word
+-- ---- the digits of a group
 
 pub length-digits : (k n : ℕ) → length (digits k n) ≡ k
 unfolding digits
@@ -63,7 +63,7 @@ set-digits (suc k) (suc j) n h room =
     let low : n % 16 ≡ (n + 2 ^ (4 * suc j)) % 16 = omega arith in
     cons_same _ _ _ _ low (rw (digit, up) rest)
 
--- and the word stays within its digits
+-- and the group stays within its digits
 pub digit_room : (k j n : ℕ) → j < k → n < 2 ^ (4 * k) → n / 2 ^ (4 * j) % 16 < 15 → n + 2 ^ (4 * j) < 2 ^ (4 * k)
 digit_room zero j n h fits room = absurd (omega arith)
 digit_room (suc k) zero n h fits room = let place : 2 ^ (4 * suc k) ≡ 16 * 2 ^ (4 * k) = place_next k in omega arith
@@ -153,137 +153,142 @@ ones-digits (suc k) n =
     sum_by-cons (λ c. cond (eqb (c % 2) 1) 1 0) (n % 16) (digits k (n / 16)) in
     ap count_ones step ∙ omega (arith, apart, bit, rest, whole)
 
--- ---- the counters of a list of words
+-- ---- the counters of a list of groups
 
-pub length-counters_of_word : (word : ℕ) → length (counters_of_word word) ≡ 16
-unfolding counters_of_word
-length-counters_of_word word = length-digits 16 word
+pub length-counters_of_group : (group : ℕ) → length (counters_of_group group) ≡ 4
+unfolding counters_of_group
+length-counters_of_group group = length-digits 4 group
 
-pub length-counters_of : (words : List ℕ) → length (counters_of words) ≡ 16 * length words
+pub length-counters_of : (groups : List ℕ) → length (counters_of groups) ≡ 4 * length groups
 unfolding counters_of
 length-counters_of [] = refl
-length-counters_of (word ∷ words) =
-    omega (arith, length-append (counters_of_word word) (counters_of words), length-counters_of_word word, length-counters_of words)
+length-counters_of (group ∷ groups) =
+    omega (arith, length-append (counters_of_group group) (counters_of groups), length-counters_of_group group, length-counters_of groups)
 
 pub counters_of-append : (xs ys : List ℕ) → counters_of (xs ++ ys) ≡ counters_of xs ++ counters_of ys
 unfolding counters_of
 counters_of-append [] ys = refl
-counters_of-append (word ∷ words) ys =
-    ap (λ cs. counters_of_word word ++ cs) (counters_of-append words ys)
-    ∙ sym (append_assoc (counters_of_word word) (counters_of words) (counters_of ys))
+counters_of-append (group ∷ groups) ys =
+    ap (λ cs. counters_of_group group ++ cs) (counters_of-append groups ys)
+    ∙ sym (append_assoc (counters_of_group group) (counters_of groups) (counters_of ys))
 
--- a counter of a word, among all counters
-pub get_or-counters_of : (words : List ℕ) (p j : ℕ) → p < length words → j < 16 →
-    get_or (counters_of words) (16 * p + j) 0 ≡ get_or (counters_of_word (get_or words p 0)) j 0
+-- a counter of a group, among all counters
+pub get_or-counters_of : (groups : List ℕ) (p j : ℕ) → p < length groups → j < 4 →
+    get_or (counters_of groups) (4 * p + j) 0 ≡ get_or (counters_of_group (get_or groups p 0)) j 0
 unfolding counters_of
 get_or-counters_of [] p j h below = absurd (omega arith)
-get_or-counters_of (word ∷ words) zero j h below =
-    let at : 16 * 0 + j ≡ j = omega arith in
-    let len : length (counters_of_word word) ≡ 16 = length-counters_of_word word in
-    rw at (get_or_append_left (counters_of_word word) (counters_of words) 0 j (omega arith))
-get_or-counters_of (word ∷ words) (suc p) j h below =
-    let len : length (counters_of_word word) ≡ 16 = length-counters_of_word word in
-    let at : 16 * suc p + j ≡ length (counters_of_word word) + (16 * p + j) = omega arith in
-    rw at (get_or-append-add (counters_of_word word) (counters_of words) (16 * p + j) 0 ∙ get_or-counters_of words p j (omega arith) below)
+get_or-counters_of (group ∷ groups) zero j h below =
+    let at : 4 * 0 + j ≡ j = omega arith in
+    let len : length (counters_of_group group) ≡ 4 = length-counters_of_group group in
+    rw at (get_or_append_left (counters_of_group group) (counters_of groups) 0 j (omega arith))
+get_or-counters_of (group ∷ groups) (suc p) j h below =
+    let len : length (counters_of_group group) ≡ 4 = length-counters_of_group group in
+    let at : 4 * suc p + j ≡ length (counters_of_group group) + (4 * p + j) = omega arith in
+    rw at (get_or-append-add (counters_of_group group) (counters_of groups) (4 * p + j) 0 ∙ get_or-counters_of groups p j (omega arith) below)
 
--- a word that changes in one counter changes that one among all
-pub set-counters_of : (words : List ℕ) (p j new value : ℕ) → p < length words → j < 16 →
-    counters_of_word new ≡ set (counters_of_word (get_or words p 0)) j value →
-    counters_of (set words p new) ≡ set (counters_of words) (16 * p + j) value
+-- a group that changes in one counter changes that one among all
+pub set-counters_of : (groups : List ℕ) (p j new value : ℕ) → p < length groups → j < 4 →
+    counters_of_group new ≡ set (counters_of_group (get_or groups p 0)) j value →
+    counters_of (set groups p new) ≡ set (counters_of groups) (4 * p + j) value
 unfolding counters_of
 set-counters_of [] p j new value h below same = absurd (omega arith)
-set-counters_of (word ∷ words) zero j new value h below same =
-    let at : 16 * 0 + j ≡ j = omega arith in
-    let len : length (counters_of_word word) ≡ 16 = length-counters_of_word word in
-    rw at (ap (λ cs. cs ++ counters_of words) same
-    ∙ sym (set-append_left (counters_of_word word) (counters_of words) j value (omega arith)))
-set-counters_of (word ∷ words) (suc p) j new value h below same =
-    let len : length (counters_of_word word) ≡ 16 = length-counters_of_word word in
-    let from : 16 * suc p + j - 16 ≡ 16 * p + j = omega arith in
-    let moved : set (counters_of_word word ++ counters_of words) (16 * suc p + j) value ≡ counters_of_word word ++ set (counters_of words)
-    (16 * suc p + j - 16) value =
-    set-append_right (counters_of_word word) (counters_of words) 16 (16 * suc p + j) value len (omega arith) in
-    ap (λ cs. counters_of_word word ++ cs) (set-counters_of words p j new value (omega arith) below same
-    ∙ ap (λ at. set (counters_of words) at value) (sym from))
+set-counters_of (group ∷ groups) zero j new value h below same =
+    let at : 4 * 0 + j ≡ j = omega arith in
+    let len : length (counters_of_group group) ≡ 4 = length-counters_of_group group in
+    rw at (ap (λ cs. cs ++ counters_of groups) same
+    ∙ sym (set-append_left (counters_of_group group) (counters_of groups) j value (omega arith)))
+set-counters_of (group ∷ groups) (suc p) j new value h below same =
+    let len : length (counters_of_group group) ≡ 4 = length-counters_of_group group in
+    let from : 4 * suc p + j - 4 ≡ 4 * p + j = omega arith in
+    let moved : set (counters_of_group group ++ counters_of groups) (4 * suc p + j) value ≡ counters_of_group group ++ set (counters_of groups)
+    (4 * suc p + j - 4) value =
+    set-append_right (counters_of_group group) (counters_of groups) 4 (4 * suc p + j) value len (omega arith) in
+    ap (λ cs. counters_of_group group ++ cs) (set-counters_of groups p j new value (omega arith) below same
+    ∙ ap (λ at. set (counters_of groups) at value) (sym from))
     ∙ sym moved
 
 -- no counter is above the most
-pub All-counters_of : (words : List ℕ) → All (λ c. c ≤ 15) (counters_of words)
-unfolding counters_of counters_of_word
-All-counters_of [] = All-nil
-All-counters_of (word ∷ words) = All-append (λ c. c ≤ 15) (digits 16 word) (counters_of words) (All-digits 16 word) (All-counters_of words)
+pub All-counters_of_group : (group : ℕ) → All (λ c. c ≤ 15) (counters_of_group group)
+unfolding counters_of_group
+All-counters_of_group group = All-digits 4 group
 
-pub counters_of-replicate : (n : ℕ) → counters_of (replicate n 0) ≡ replicate (16 * n) 0
-unfolding counters_of counters_of_word
+pub All-counters_of : (groups : List ℕ) → All (λ c. c ≤ 15) (counters_of groups)
+unfolding counters_of
+All-counters_of [] = All-nil
+All-counters_of (group ∷ groups) =
+    All-append (λ c. c ≤ 15) (counters_of_group group) (counters_of groups) (All-counters_of_group group) (All-counters_of groups)
+
+pub counters_of-replicate : (n : ℕ) → counters_of (replicate n 0) ≡ replicate (4 * n) 0
+unfolding counters_of counters_of_group
 counters_of-replicate zero = refl
 counters_of-replicate (suc n) =
-    let more : 16 * suc n ≡ 16 + 16 * n = omega arith in
-    rw more (ap (λ cs. cs ++ counters_of (replicate n 0)) (digits-zero 16) ∙ ap (λ cs. replicate 16 0 ++ cs) (counters_of-replicate n)
-    ∙ replicate-append-replicate 16 (16 * n) 0)
+    let more : 4 * suc n ≡ 4 + 4 * n = omega arith in
+    rw more (ap (λ cs. cs ++ counters_of (replicate n 0)) (digits-zero 4) ∙ ap (λ cs. replicate 4 0 ++ cs) (counters_of-replicate n)
+    ∙ replicate-append-replicate 4 (4 * n) 0)
 
 -- ---- one counter of a table
 
--- nor is one of a word
-counter_small : (word j : ℕ) → j < 16 → get_or (counters_of_word word) j 0 ≤ 15
-unfolding counters_of_word
-counter_small word j h = let is : get_or (digits 16 word) j 0 ≡ word / 2 ^ (4 * j) % 16 = get_or-digits 16 j word h in omega arith
+-- nor is one of a group
+counter_small : (group j : ℕ) → j < 4 → get_or (counters_of_group group) j 0 ≤ 15
+unfolding counters_of_group
+counter_small group j h = let is : get_or (digits 4 group) j 0 ≡ group / 2 ^ (4 * j) % 16 = get_or-digits 4 j group h in omega arith
 
 -- a counter at the most stays
-counter_full : (words : List ℕ) (p j : ℕ) → p < length words → j < 16 → get_or (counters_of_word (get_or words p 0)) j 0 ≡ 15 →
-    counters_of words ≡ grown_at (counters_of words) (16 * p + j)
-counter_full words p j h below full =
-    let is : get_or (counters_of words) (16 * p + j) 0 ≡ 15 = get_or-counters_of words p j h below ∙ full in
-    let value : min (get_or (counters_of words) (16 * p + j) 0 + 1) 15 ≡ get_or (counters_of words) (16 * p + j) 0 = omega arith in
-    rw value (sym (set-get_or (counters_of words) (16 * p + j) 0))
+counter_full : (groups : List ℕ) (p j : ℕ) → p < length groups → j < 4 → get_or (counters_of_group (get_or groups p 0)) j 0 ≡ 15 →
+    counters_of groups ≡ grown_at (counters_of groups) (4 * p + j)
+counter_full groups p j h below full =
+    let is : get_or (counters_of groups) (4 * p + j) 0 ≡ 15 = get_or-counters_of groups p j h below ∙ full in
+    let value : min (get_or (counters_of groups) (4 * p + j) 0 + 1) 15 ≡ get_or (counters_of groups) (4 * p + j) 0 = omega arith in
+    rw value (sym (set-get_or (counters_of groups) (4 * p + j) 0))
 
 -- another has one more
-counter_grown : (words : List ℕ) (p j : ℕ) → p < length words → j < 16 → get_or (counters_of_word (get_or words p 0)) j 0 < 15 →
-    counters_of (set words p (get_or words p 0 + 2 ^ (4 * j))) ≡ grown_at (counters_of words) (16 * p + j)
-unfolding counters_of_word
-counter_grown words p j h below room =
-    let is : get_or (counters_of words) (16 * p + j) 0 ≡ get_or (digits 16 (get_or words p 0)) j 0 = get_or-counters_of words p j h below in
-    let digit : get_or (digits 16 (get_or words p 0)) j 0 ≡ get_or words p 0 / 2 ^ (4 * j) % 16 =
-    get_or-digits 16 j (get_or words p 0) below in
-    let value : min (get_or (counters_of words) (16 * p + j) 0 + 1) 15 ≡ get_or words p 0 / 2 ^ (4 * j) % 16 + 1 = omega arith in
-    let word : set (digits 16 (get_or words p 0)) j (get_or words p 0 / 2 ^ (4 * j) % 16 + 1) ≡ digits 16 (get_or words p 0 + 2 ^ (4 * j)) =
-    set-digits 16 j (get_or words p 0) below (omega arith) in
-    rw value (set-counters_of words p j (get_or words p 0 + 2 ^ (4 * j)) (get_or words p 0 / 2 ^ (4 * j) % 16 + 1) h below (sym word))
+counter_grown : (groups : List ℕ) (p j : ℕ) → p < length groups → j < 4 → get_or (counters_of_group (get_or groups p 0)) j 0 < 15 →
+    counters_of (set groups p (get_or groups p 0 + 2 ^ (4 * j))) ≡ grown_at (counters_of groups) (4 * p + j)
+unfolding counters_of_group
+counter_grown groups p j h below room =
+    let is : get_or (counters_of groups) (4 * p + j) 0 ≡ get_or (digits 4 (get_or groups p 0)) j 0 = get_or-counters_of groups p j h below in
+    let digit : get_or (digits 4 (get_or groups p 0)) j 0 ≡ get_or groups p 0 / 2 ^ (4 * j) % 16 =
+    get_or-digits 4 j (get_or groups p 0) below in
+    let value : min (get_or (counters_of groups) (4 * p + j) 0 + 1) 15 ≡ get_or groups p 0 / 2 ^ (4 * j) % 16 + 1 = omega arith in
+    let group : set (digits 4 (get_or groups p 0)) j (get_or groups p 0 / 2 ^ (4 * j) % 16 + 1) ≡ digits 4 (get_or groups p 0 + 2 ^ (4 * j)) =
+    set-digits 4 j (get_or groups p 0) below (omega arith) in
+    rw value (set-counters_of groups p j (get_or groups p 0 + 2 ^ (4 * j)) (get_or groups p 0 / 2 ^ (4 * j) % 16 + 1) h below (sym group))
 
--- and its word has room for it
-counter_room : (word j : ℕ) → j < 16 → word < 2 ^ 64 → get_or (counters_of_word word) j 0 < 15 → word + 2 ^ (4 * j) < 2 ^ 64
-unfolding counters_of_word
-counter_room word j below fits room =
-    let digit : get_or (digits 16 word) j 0 ≡ word / 2 ^ (4 * j) % 16 = get_or-digits 16 j word below in
-    digit_room 16 j word below fits (omega arith)
+-- and its group has room for it
+counter_room : (group j : ℕ) → j < 4 → group < 2 ^ 16 → get_or (counters_of_group group) j 0 < 15 → group + 2 ^ (4 * j) < 2 ^ 16
+unfolding counters_of_group
+counter_room group j below fits room =
+    let digit : get_or (digits 4 group) j 0 ≡ group / 2 ^ (4 * j) % 16 = get_or-digits 4 j group below in
+    digit_room 4 j group below fits (omega arith)
 
--- a counter below the most is raised by one, another by nothing, as the code adds it to the word
-pub raised : (words : List ℕ) (p j n : ℕ) → p < length words → j < 16 →
-    n ≡ from_bool (nat_lt (get_or (counters_of_word (get_or words p 0)) j 0) 15) →
-    counters_of (set words p (get_or words p 0 + n * 2 ^ (4 * j) % 2 ^ 64)) ≡ grown_at (counters_of words) (16 * p + j)
-raised words p j n h below is =
-    elim (cases_lt (get_or (counters_of_word (get_or words p 0)) j 0) 15) [
+-- a counter below the most is raised by one, another by nothing, as the code adds it to the group
+pub raised : (groups : List ℕ) (p j n : ℕ) → p < length groups → j < 4 →
+    n ≡ from_bool (nat_lt (get_or (counters_of_group (get_or groups p 0)) j 0) 15) →
+    counters_of (set groups p (get_or groups p 0 + n * 2 ^ (4 * j) % 2 ^ 16)) ≡ grown_at (counters_of groups) (4 * p + j)
+raised groups p j n h below is =
+    elim (cases_lt (get_or (counters_of_group (get_or groups p 0)) j 0) 15) [
       | inl room ↦
           (let one : n ≡ 1 = is ∙ grind (arith, nat_tests) in
-          let added : n * 2 ^ (4 * j) % 2 ^ 64 ≡ 2 ^ (4 * j) =
-          ap (λ m. m * 2 ^ (4 * j) % 2 ^ 64) one ∙ one_shl (4 * j) 64 (omega arith) in
-          rw added (counter_grown words p j h below room))
+          let added : n * 2 ^ (4 * j) % 2 ^ 16 ≡ 2 ^ (4 * j) =
+          ap (λ m. m * 2 ^ (4 * j) % 2 ^ 16) one ∙ one_shl (4 * j) 16 (omega arith) in
+          rw added (counter_grown groups p j h below room))
       | inr full ↦
           (let none : n ≡ 0 = is ∙ grind (arith, nat_tests) in
-          let small : get_or (counters_of_word (get_or words p 0)) j 0 ≤ 15 = counter_small (get_or words p 0) j below in
-          let same : get_or words p 0 + n * 2 ^ (4 * j) % 2 ^ 64 ≡ get_or words p 0 = rw none (omega arith) in
-          rw same (ap counters_of (set-get_or words p 0) ∙ counter_full words p j h below (omega arith)))
+          let small : get_or (counters_of_group (get_or groups p 0)) j 0 ≤ 15 = counter_small (get_or groups p 0) j below in
+          let same : get_or groups p 0 + n * 2 ^ (4 * j) % 2 ^ 16 ≡ get_or groups p 0 = rw none (omega arith) in
+          rw same (ap counters_of (set-get_or groups p 0) ∙ counter_full groups p j h below (omega arith)))
     ]
 
--- and its word has room for that
-pub raised_room : (word j n : ℕ) → j < 16 → word < 2 ^ 64 → n ≡ from_bool (nat_lt (get_or (counters_of_word word) j 0) 15) →
-    word + n * 2 ^ (4 * j) % 2 ^ 64 < 2 ^ 64
-raised_room word j n below fits is =
-    elim (cases_lt (get_or (counters_of_word word) j 0) 15) [
+-- and its group has room for that
+pub raised_room : (group j n : ℕ) → j < 4 → group < 2 ^ 16 → n ≡ from_bool (nat_lt (get_or (counters_of_group group) j 0) 15) →
+    group + n * 2 ^ (4 * j) % 2 ^ 16 < 2 ^ 16
+raised_room group j n below fits is =
+    elim (cases_lt (get_or (counters_of_group group) j 0) 15) [
       | inl room ↦
           (let one : n ≡ 1 = is ∙ grind (arith, nat_tests) in
-          let added : n * 2 ^ (4 * j) % 2 ^ 64 ≡ 2 ^ (4 * j) =
-          ap (λ m. m * 2 ^ (4 * j) % 2 ^ 64) one ∙ one_shl (4 * j) 64 (omega arith) in
-          rw added (counter_room word j below fits room))
+          let added : n * 2 ^ (4 * j) % 2 ^ 16 ≡ 2 ^ (4 * j) =
+          ap (λ m. m * 2 ^ (4 * j) % 2 ^ 16) one ∙ one_shl (4 * j) 16 (omega arith) in
+          rw added (counter_room group j below fits room))
       | inr full ↦
           (let none : n ≡ 0 = is ∙ grind (arith, nat_tests) in
           rw none (omega arith))
@@ -291,62 +296,62 @@ raised_room word j n below fits is =
 
 -- ---- halving and counting a table
 
--- the mask of the code is that of sixteen digits
-three_bits_of_16 : three_bits 16 ≡ 0x7777_7777_7777_7777
+-- the mask of the code is that of four digits
+three_bits_of_4 : three_bits 4 ≡ 0x7777
 unfolding three_bits
-three_bits_of_16 = refl
+three_bits_of_4 = refl
 
 -- and so is the other
-pub low_bits_of_16 : low_bits 16 ≡ 0x1111_1111_1111_1111
+pub low_bits_of_4 : low_bits 4 ≡ 0x1111
 unfolding low_bits
-low_bits_of_16 = refl
+low_bits_of_4 = refl
 
-pub counters_of_word-halved : (word : ℕ) → counters_of_word (halved_word word) ≡ map (λ c. c / 2) (counters_of_word word)
-unfolding counters_of_word
-counters_of_word-halved word = rw (← three_bits_of_16) (digits-halved 16 word)
+pub counters_of_group-halved : (group : ℕ) → counters_of_group (halved_group group) ≡ map (λ c. c / 2) (counters_of_group group)
+unfolding counters_of_group
+counters_of_group-halved group = rw (← three_bits_of_4) (digits-halved 4 group)
 
-pub counters_of-halved : (words : List ℕ) → counters_of (map halved_word words) ≡ map (λ c. c / 2) (counters_of words)
+pub counters_of-halved : (groups : List ℕ) → counters_of (map halved_group groups) ≡ map (λ c. c / 2) (counters_of groups)
 unfolding counters_of
 counters_of-halved [] = refl
-counters_of-halved (word ∷ words) =
-    ap (λ cs. cs ++ counters_of (map halved_word words)) (counters_of_word-halved word)
-    ∙ ap (λ cs. map (λ c. c / 2) (counters_of_word word) ++ cs) (counters_of-halved words)
-    ∙ sym (map-append (λ c. c / 2) (counters_of_word word) (counters_of words))
+counters_of-halved (group ∷ groups) =
+    ap (λ cs. cs ++ counters_of (map halved_group groups)) (counters_of_group-halved group)
+    ∙ ap (λ cs. map (λ c. c / 2) (counters_of_group group) ++ cs) (counters_of-halved groups)
+    ∙ sym (map-append (λ c. c / 2) (counters_of_group group) (counters_of groups))
 
-pub ones-counters_of_word : (word : ℕ) → count_ones (bit_and word 0x1111_1111_1111_1111) ≡ odd_count (counters_of_word word)
-unfolding counters_of_word
-ones-counters_of_word word = rw (← low_bits_of_16) (ones-digits 16 word)
+pub ones-counters_of_group : (group : ℕ) → count_ones (bit_and group 0x1111) ≡ odd_count (counters_of_group group)
+unfolding counters_of_group
+ones-counters_of_group group = rw (← low_bits_of_4) (ones-digits 4 group)
 
--- one word more
-pub odd_count_more : (words : List ℕ) (i : ℕ) → i < length words →
-    odd_count (counters_of (take (i + 1) words)) ≡ odd_count (counters_of (take i words)) + count_ones
-    (bit_and (get_or words i 0) 0x1111_1111_1111_1111)
+-- one group more
+pub odd_count_more : (groups : List ℕ) (i : ℕ) → i < length groups →
+    odd_count (counters_of (take (i + 1) groups)) ≡ odd_count (counters_of (take i groups)) + count_ones
+    (bit_and (get_or groups i 0) 0x1111)
 unfolding counters_of
-odd_count_more words i h =
-    let word : ℕ = get_or words i 0 in
-    let more : take (i + 1) words ≡ take i words ++ word ∷ [] = take_more words i 0 h in
-    let split : counters_of (take (i + 1) words) ≡ counters_of (take i words) ++ counters_of_word word =
-    ap counters_of more ∙ counters_of-append (take i words) (word ∷ [])
-    ∙ ap (λ cs. counters_of (take i words) ++ cs) (append-nil (counters_of_word word)) in
+odd_count_more groups i h =
+    let group : ℕ = get_or groups i 0 in
+    let more : take (i + 1) groups ≡ take i groups ++ group ∷ [] = take_more groups i 0 h in
+    let split : counters_of (take (i + 1) groups) ≡ counters_of (take i groups) ++ counters_of_group group =
+    ap counters_of more ∙ counters_of-append (take i groups) (group ∷ [])
+    ∙ ap (λ cs. counters_of (take i groups) ++ cs) (append-nil (counters_of_group group)) in
     ap odd_count split
-    ∙ sum_by-append (λ c. cond (eqb (c % 2) 1) 1 0) (counters_of (take i words)) (counters_of_word word)
-    ∙ ap (λ n. odd_count (counters_of (take i words)) + n) (sym (ones-counters_of_word word))
+    ∙ sum_by-append (λ c. cond (eqb (c % 2) 1) 1 0) (counters_of (take i groups)) (counters_of_group group)
+    ∙ ap (λ n. odd_count (counters_of (take i groups)) + n) (sym (ones-counters_of_group group))
 
--- a word that is not halved yet
-pub word_ahead : (words : List ℕ) (i : ℕ) → i < length words →
-    get_or (map halved_word (take i words) ++ drop i words) i 0 ≡ get_or words i 0
-word_ahead words i h =
-    let front : length (map halved_word (take i words)) ≡ i =
-    length-map (take i words) halved_word ∙ length-take-le i words (omega arith) in
+-- a group that is not halved yet
+pub group_ahead : (groups : List ℕ) (i : ℕ) → i < length groups →
+    get_or (map halved_group (take i groups) ++ drop i groups) i 0 ≡ get_or groups i 0
+group_ahead groups i h =
+    let front : length (map halved_group (take i groups)) ≡ i =
+    length-map (take i groups) halved_group ∙ length-take-le i groups (omega arith) in
     let none : i + (i - i) ≡ i = omega arith in
-    get_or-append_right (map halved_word (take i words)) (drop i words) i i 0 front (omega arith)
-    ∙ get_or-drop i words (i - i) 0 ∙ ap (λ at. get_or words at 0) none
+    get_or-append_right (map halved_group (take i groups)) (drop i groups) i i 0 front (omega arith)
+    ∙ get_or-drop i groups (i - i) 0 ∙ ap (λ at. get_or groups at 0) none
 
 -- no more counters are odd than there are
-pub odd_count_within : (words : List ℕ) (i : ℕ) → odd_count (counters_of (take i words)) ≤ 16 * length words
-odd_count_within words i =
-    let most : odd_count (counters_of (take i words)) ≤ length (counters_of (take i words)) =
-    count_by-le-length (λ c. eqb (c % 2) 1) (counters_of (take i words)) in
-    let len : length (counters_of (take i words)) ≡ 16 * length (take i words) = length-counters_of (take i words) in
-    let front : length (take i words) ≡ min i (length words) = length-take i words in
+pub odd_count_within : (groups : List ℕ) (i : ℕ) → odd_count (counters_of (take i groups)) ≤ 4 * length groups
+odd_count_within groups i =
+    let most : odd_count (counters_of (take i groups)) ≤ length (counters_of (take i groups)) =
+    count_by-le-length (λ c. eqb (c % 2) 1) (counters_of (take i groups)) in
+    let len : length (counters_of (take i groups)) ≡ 4 * length (take i groups) = length-counters_of (take i groups) in
+    let front : length (take i groups) ≡ min i (length groups) = length-take i groups in
     omega arith

@@ -1,4 +1,4 @@
--- Words in lanes: what a vector's operations do to the counters of eight words, and how lanes count odd counters.
+-- Groups in lanes: what a vector's operations do to the counters of 32 groups, and how lanes count odd counters.
 use Rattle.std.proofs.Common.{◌≡◌, ℕ, zero, suc, ◌+◌, ◌*◌, ◌/◌, ◌%◌, ◌^◌, ◌<◌, ◌≤◌, List, [], ◌∷◌, ◌++◌, length, get_or, map, replicate}
 use Rattle.std.proofs.Common.{refl, sym, ◌∙◌, ap, arith, bit_and, cond, eqb, take, drop, sum, append_assoc, length-append}
 use Rattle.std.proofs.lemmas.Nat.{and_mask}
@@ -11,119 +11,119 @@ use Rattle.std.specs.Simd.{first_chunks}
 use borrow.Rule.Slice.PartMut.{put_mid}
 use lib.Lanes.{Each1, zip2, put_chunk}
 use Rattle.std.proofs.lemmas.Simd.{zip2_splat, map-map, put_chunk_is}
-use Rattle.moka_sketch.specs.Cells.{digits, counters_of_word, counters_of, halved_word}
+use Rattle.moka_sketch.specs.Cells.{digits, counters_of_group, counters_of, halved_group}
 use Rattle.moka_sketch.specs.Sketch.{odd_count}
-use Rattle.moka_sketch.proofs.CellLemmas.{low_bits, place_next, and_digit, low_bits_of_16, counters_of-append}
+use Rattle.moka_sketch.proofs.CellLemmas.{low_bits, place_next, and_digit, low_bits_of_4, counters_of-append}
 use Rattle.moka_sketch.proofs.CellLemmas.{counters_of-replicate, length-counters_of}
 
--- ---- words that are aged up to a place
+-- ---- groups that are aged up to a place
 
--- the words up to a place halved, and the others as they were
+-- the groups up to a place halved, and the others as they were
 abbrev pub aged_to : ℕ → List ℕ → List ℕ
-aged_to i words = map halved_word (take i words) ++ drop i words
+aged_to i groups = map halved_group (take i groups) ++ drop i groups
 
-pub drop-aged_to : (i : ℕ) (words : List ℕ) → i ≤ length words → drop i (aged_to i words) ≡ drop i words
-drop-aged_to i words h =
-    drop_at (map halved_word (take i words)) (drop i words) i (length-map (take i words) halved_word ∙ length-take-le i words h)
+pub drop-aged_to : (i : ℕ) (groups : List ℕ) → i ≤ length groups → drop i (aged_to i groups) ≡ drop i groups
+drop-aged_to i groups h =
+    drop_at (map halved_group (take i groups)) (drop i groups) i (length-map (take i groups) halved_group ∙ length-take-le i groups h)
 
-pub take-aged_to : (i : ℕ) (words : List ℕ) → i ≤ length words → take i (aged_to i words) ≡ map halved_word (take i words)
-take-aged_to i words h =
-    take_at (map halved_word (take i words)) (drop i words) i (length-map (take i words) halved_word ∙ length-take-le i words h)
+pub take-aged_to : (i : ℕ) (groups : List ℕ) → i ≤ length groups → take i (aged_to i groups) ≡ map halved_group (take i groups)
+take-aged_to i groups h =
+    take_at (map halved_group (take i groups)) (drop i groups) i (length-map (take i groups) halved_group ∙ length-take-le i groups h)
 
--- so many words more
-pub aged_to_more : (i n : ℕ) (words : List ℕ) → i + n ≤ length words →
-    take i (aged_to i words) ++ (map halved_word (take n (drop i words)) ++ drop n (drop i (aged_to i words))) ≡ aged_to (i + n) words
-aged_to_more i n words h =
-    let front : take i (aged_to i words) ≡ map halved_word (take i words) = take-aged_to i words (omega arith) in
-    let back : drop i (aged_to i words) ≡ drop i words = drop-aged_to i words (omega arith) in
-    let rest : drop n (drop i words) ≡ drop (i + n) words = drop-drop n i words in
-    let whole : map halved_word (take (i + n) words) ≡ map halved_word (take i words) ++ map halved_word (take n (drop i words)) =
-    ap (map halved_word) (take-add i n words) ∙ map-append halved_word (take i words) (take n (drop i words)) in
+-- so many groups more
+pub aged_to_more : (i n : ℕ) (groups : List ℕ) → i + n ≤ length groups →
+    take i (aged_to i groups) ++ (map halved_group (take n (drop i groups)) ++ drop n (drop i (aged_to i groups))) ≡ aged_to (i + n) groups
+aged_to_more i n groups h =
+    let front : take i (aged_to i groups) ≡ map halved_group (take i groups) = take-aged_to i groups (omega arith) in
+    let back : drop i (aged_to i groups) ≡ drop i groups = drop-aged_to i groups (omega arith) in
+    let rest : drop n (drop i groups) ≡ drop (i + n) groups = drop-drop n i groups in
+    let whole : map halved_group (take (i + n) groups) ≡ map halved_group (take i groups) ++ map halved_group (take n (drop i groups)) =
+    ap (map halved_group) (take-add i n groups) ∙ map-append halved_group (take i groups) (take n (drop i groups)) in
     rw (front, back, rest, whole)
-    (sym (append_assoc (map halved_word (take i words)) (map halved_word (take n (drop i words))) (drop (i + n) words)))
+    (sym (append_assoc (map halved_group (take i groups)) (map halved_group (take n (drop i groups))) (drop (i + n) groups)))
 
-pub length-aged_to : (i : ℕ) (words : List ℕ) → i ≤ length words → length (aged_to i words) ≡ length words
-length-aged_to i words h =
+pub length-aged_to : (i : ℕ) (groups : List ℕ) → i ≤ length groups → length (aged_to i groups) ≡ length groups
+length-aged_to i groups h =
     omega (
       arith,
-      length-append (map halved_word (take i words)) (drop i words),
-      length-map (take i words) halved_word,
-      length-take-le i words h,
-      length-drop i words,
+      length-append (map halved_group (take i groups)) (drop i groups),
+      length-map (take i groups) halved_group,
+      length-take-le i groups h,
+      length-drop i groups,
     )
 
--- at the end all words are halved
-pub aged_to_all : (i : ℕ) (words : List ℕ) → length words ≤ i → aged_to i words ≡ map halved_word words
-aged_to_all i words h =
-    ap (λ xs. map halved_word (take i words) ++ xs) (drop_all i words h) ∙ append-nil (map halved_word (take i words))
-    ∙ ap (map halved_word) (take_all i words h)
+-- at the end all groups are halved
+pub aged_to_all : (i : ℕ) (groups : List ℕ) → length groups ≤ i → aged_to i groups ≡ map halved_group groups
+aged_to_all i groups h =
+    ap (λ xs. map halved_group (take i groups) ++ xs) (drop_all i groups h) ∙ append-nil (map halved_group (take i groups))
+    ∙ ap (map halved_group) (take_all i groups h)
 
 -- a vector is stored
-pub aged_by_chunk : (i : ℕ) (words : List ℕ) → i + 8 ≤ length words →
-    put_chunk i (aged_to i words) (map halved_word (take 8 (drop i words))) ≡ aged_to (i + 8) words
-aged_by_chunk i words h =
-    let ys : List ℕ = map halved_word (take 8 (drop i words)) in
-    let len : length ys ≡ 8 =
-    length-map (take 8 (drop i words)) halved_word ∙ length-take-le 8 (drop i words) (omega (arith, length-drop i words)) in
-    let room : i + length ys ≤ length (aged_to i words) = omega (arith, length-aged_to i words (omega arith)) in
-    put_chunk_is i (aged_to i words) ys room
-    ∙ ap (λ n. take i (aged_to i words) ++ (ys ++ drop n (drop i (aged_to i words)))) len
-    ∙ aged_to_more i 8 words h
+pub aged_by_chunk : (i : ℕ) (groups : List ℕ) → i + 32 ≤ length groups →
+    put_chunk i (aged_to i groups) (map halved_group (take 32 (drop i groups))) ≡ aged_to (i + 32) groups
+aged_by_chunk i groups h =
+    let ys : List ℕ = map halved_group (take 32 (drop i groups)) in
+    let len : length ys ≡ 32 =
+    length-map (take 32 (drop i groups)) halved_group ∙ length-take-le 32 (drop i groups) (omega (arith, length-drop i groups)) in
+    let room : i + length ys ≤ length (aged_to i groups) = omega (arith, length-aged_to i groups (omega arith)) in
+    put_chunk_is i (aged_to i groups) ys room
+    ∙ ap (λ n. take i (aged_to i groups) ++ (ys ++ drop n (drop i (aged_to i groups)))) len
+    ∙ aged_to_more i 32 groups h
 
 -- a part of the slice is aged by a call
-pub part_aged : (i n : ℕ) (old words new : List ℕ) → i + n ≤ length old → words ≡ aged_to i old →
-    new ≡ map halved_word (take n (drop i words)) → put_mid i n words new ≡ aged_to (i + n) old
-part_aged i n old words new h so_far is =
-    ap (put_mid i n words) is
-    ∙ ap (λ ws. put_mid i n ws (map halved_word (take n (drop i ws)))) so_far
-    ∙ ap (λ ws. put_mid i n (aged_to i old) (map halved_word (take n ws))) (drop-aged_to i old (omega arith))
+pub part_aged : (i n : ℕ) (old groups new : List ℕ) → i + n ≤ length old → groups ≡ aged_to i old →
+    new ≡ map halved_group (take n (drop i groups)) → put_mid i n groups new ≡ aged_to (i + n) old
+part_aged i n old groups new h so_far is =
+    ap (put_mid i n groups) is
+    ∙ ap (λ ws. put_mid i n ws (map halved_group (take n (drop i ws)))) so_far
+    ∙ ap (λ ws. put_mid i n (aged_to i old) (map halved_group (take n ws))) (drop-aged_to i old (omega arith))
     ∙ aged_to_more i n old h
 
 -- the last part
-pub rest_aged : (i n : ℕ) (old words new : List ℕ) → i + n ≡ length old → words ≡ aged_to i old →
-    new ≡ map halved_word (take n (drop i words)) → put_mid i n words new ≡ map halved_word old
-rest_aged i n old words new h so_far is =
-    part_aged i n old words new (omega arith) so_far is ∙ aged_to_all (i + n) old (omega arith)
+pub rest_aged : (i n : ℕ) (old groups new : List ℕ) → i + n ≡ length old → groups ≡ aged_to i old →
+    new ≡ map halved_group (take n (drop i groups)) → put_mid i n groups new ≡ map halved_group old
+rest_aged i n old groups new h so_far is =
+    part_aged i n old groups new (omega arith) so_far is ∙ aged_to_all (i + n) old (omega arith)
 
 -- ---- odd counters up to a place
 
 -- no more counters are odd than there are
-pub odd_count_le : (words : List ℕ) → odd_count (counters_of words) ≤ 16 * length words
-odd_count_le words =
-    let most : odd_count (counters_of words) ≤ length (counters_of words) = count_by-le-length (λ c. eqb (c % 2) 1) (counters_of words) in
-    omega (arith, most, length-counters_of words)
+pub odd_count_le : (groups : List ℕ) → odd_count (counters_of groups) ≤ 4 * length groups
+odd_count_le groups =
+    let most : odd_count (counters_of groups) ≤ length (counters_of groups) = count_by-le-length (λ c. eqb (c % 2) 1) (counters_of groups) in
+    omega (arith, most, length-counters_of groups)
 
--- so many words more
-pub odd_count_add : (i n : ℕ) (words : List ℕ) →
-    odd_count (counters_of (take (i + n) words)) ≡ odd_count (counters_of (take i words)) + odd_count (counters_of (take n (drop i words)))
-odd_count_add i n words =
-    ap (λ ws. odd_count (counters_of ws)) (take-add i n words)
-    ∙ ap odd_count (counters_of-append (take i words) (take n (drop i words)))
-    ∙ sum_by-append (λ c. cond (eqb (c % 2) 1) 1 0) (counters_of (take i words)) (counters_of (take n (drop i words)))
+-- so many groups more
+pub odd_count_add : (i n : ℕ) (groups : List ℕ) →
+    odd_count (counters_of (take (i + n) groups)) ≡ odd_count (counters_of (take i groups)) + odd_count (counters_of (take n (drop i groups)))
+odd_count_add i n groups =
+    ap (λ ws. odd_count (counters_of ws)) (take-add i n groups)
+    ∙ ap odd_count (counters_of-append (take i groups) (take n (drop i groups)))
+    ∙ sum_by-append (λ c. cond (eqb (c % 2) 1) 1 0) (counters_of (take i groups)) (counters_of (take n (drop i groups)))
 
 -- a call counts a part of the slice
-pub part_counted : (i n odd more : ℕ) (old words : List ℕ) → i + n ≤ length old → words ≡ aged_to i old →
-    odd ≡ odd_count (counters_of (take i old)) → more ≡ odd_count (counters_of (take n (drop i words))) →
+pub part_counted : (i n odd more : ℕ) (old groups : List ℕ) → i + n ≤ length old → groups ≡ aged_to i old →
+    odd ≡ odd_count (counters_of (take i old)) → more ≡ odd_count (counters_of (take n (drop i groups))) →
     odd + more ≡ odd_count (counters_of (take (i + n) old))
-part_counted i n odd more old words h so_far counted is =
-    let there : drop i words ≡ drop i old = ap (drop i) so_far ∙ drop-aged_to i old (omega arith) in
+part_counted i n odd more old groups h so_far counted is =
+    let there : drop i groups ≡ drop i old = ap (drop i) so_far ∙ drop-aged_to i old (omega arith) in
     let here : more ≡ odd_count (counters_of (take n (drop i old))) = is ∙ ap (λ ws. odd_count (counters_of (take n ws))) there in
     omega (arith, counted, here, odd_count_add i n old)
 
 -- the last part
-pub rest_counted : (i n odd more : ℕ) (old words : List ℕ) → i + n ≡ length old → words ≡ aged_to i old →
-    odd ≡ odd_count (counters_of (take i old)) → more ≡ odd_count (counters_of (take n (drop i words))) →
+pub rest_counted : (i n odd more : ℕ) (old groups : List ℕ) → i + n ≡ length old → groups ≡ aged_to i old →
+    odd ≡ odd_count (counters_of (take i old)) → more ≡ odd_count (counters_of (take n (drop i groups))) →
     odd + more ≡ odd_count (counters_of old)
-rest_counted i n odd more old words h so_far counted is =
-    part_counted i n odd more old words (omega arith) so_far counted is
+rest_counted i n odd more old groups h so_far counted is =
+    part_counted i n odd more old groups (omega arith) so_far counted is
     ∙ ap (λ ws. odd_count (counters_of ws)) (take_all (i + n) old (omega arith))
 
 -- a chunk of a slice
-pub get_or-first_chunks : (n k i : ℕ) (words : List ℕ) → i < k → get_or (first_chunks n k words) i [] ≡ take n (drop (n * i) words)
-get_or-first_chunks n zero i words h = absurd (omega arith)
-get_or-first_chunks n (suc k) zero words h = let none : n * 0 ≡ 0 = omega arith in rw none refl
-get_or-first_chunks n (suc k) (suc i) words h =
-    get_or-first_chunks n k i (drop n words) (omega arith) ∙ ap (take n) (drop-drop (n * i) n words ∙ ap (λ at. drop at words) (sym (next n i)))
+pub get_or-first_chunks : (n k i : ℕ) (groups : List ℕ) → i < k → get_or (first_chunks n k groups) i [] ≡ take n (drop (n * i) groups)
+get_or-first_chunks n zero i groups h = absurd (omega arith)
+get_or-first_chunks n (suc k) zero groups h = let none : n * 0 ≡ 0 = omega arith in rw none refl
+get_or-first_chunks n (suc k) (suc i) groups h =
+    get_or-first_chunks n k i (drop n groups) (omega arith) ∙ ap (take n) (drop-drop (n * i) n groups ∙ ap (λ at. drop at groups) (sym (next n i)))
   where
     next : (n i : ℕ) → n * suc i ≡ n + n * i
     next n i = omega arith
@@ -219,77 +219,77 @@ sum-low_bits (suc k) n =
 
 -- ---- lanes that count odd counters
 
--- the odd counters of a word, each with a one in its place
-abbrev pub low_word : ℕ → ℕ
-low_word word = bit_and word 0x1111_1111_1111_1111
+-- the odd counters of a group, each with a one in its place
+abbrev pub low_group : ℕ → ℕ
+low_group group = bit_and group 0x1111
 
 -- the counters of lanes, each of which is at most so much
 abbrev pub AreSmall : ℕ → List ℕ → Type 0
-AreSmall most lanes = Each1 (Small most 16) lanes
+AreSmall most lanes = Each1 (Small most 4) lanes
 
-low_word_small : (word : ℕ) → Small 1 16 (low_word word)
-low_word_small word = rw (← low_bits_of_16) (Small-low_bits 16 word)
+low_group_small : (group : ℕ) → Small 1 4 (low_group group)
+low_group_small group = rw (← low_bits_of_4) (Small-low_bits 4 group)
 
-low_word_sum : (word : ℕ) → sum (digits 16 (low_word word)) ≡ odd_count (digits 16 word)
-low_word_sum word = rw (← low_bits_of_16) (sum-low_bits 16 word)
+low_group_sum : (group : ℕ) → sum (digits 4 (low_group group)) ≡ odd_count (digits 4 group)
+low_group_sum group = rw (← low_bits_of_4) (sum-low_bits 4 group)
 
--- what a vector makes of eight words
-pub low_lanes : (words : List ℕ) → length words ≡ 8 → zip2 bit_and words (replicate 8 0x1111_1111_1111_1111) ≡ map low_word words
-low_lanes words h = zip2_splat bit_and words 8 0x1111_1111_1111_1111 h
+-- what a vector makes of 32 groups
+pub low_lanes : (groups : List ℕ) → length groups ≡ 32 → zip2 bit_and groups (replicate 32 0x1111) ≡ map low_group groups
+low_lanes groups h = zip2_splat bit_and groups 32 0x1111 h
 
-pub halved_lanes : (words : List ℕ) → length words ≡ 8 →
-    zip2 bit_and (zip2 (λ a b. a / 2 ^ b) words (replicate 8 1)) (replicate 8 0x7777_7777_7777_7777) ≡ map halved_word words
-halved_lanes words h =
-    let shifted : zip2 (λ a b. a / 2 ^ b) words (replicate 8 1) ≡ map (λ a. a / 2) words = zip2_splat (λ a b. a / 2 ^ b) words 8 1 h in
-    let len : length (map (λ a. a / 2) words) ≡ 8 = length-map words (λ a. a / 2) ∙ h in
-    ap (λ ws. zip2 bit_and ws (replicate 8 0x7777_7777_7777_7777)) shifted
-    ∙ zip2_splat bit_and (map (λ a. a / 2) words) 8 0x7777_7777_7777_7777 len
-    ∙ map-map (λ a. bit_and a 0x7777_7777_7777_7777) (λ a. a / 2) words
+pub halved_lanes : (groups : List ℕ) → length groups ≡ 32 →
+    zip2 bit_and (zip2 (λ a b. a / 2 ^ b) groups (replicate 32 1)) (replicate 32 0x7777) ≡ map halved_group groups
+halved_lanes groups h =
+    let shifted : zip2 (λ a b. a / 2 ^ b) groups (replicate 32 1) ≡ map (λ a. a / 2) groups = zip2_splat (λ a b. a / 2 ^ b) groups 32 1 h in
+    let len : length (map (λ a. a / 2) groups) ≡ 32 = length-map groups (λ a. a / 2) ∙ h in
+    ap (λ ws. zip2 bit_and ws (replicate 32 0x7777)) shifted
+    ∙ zip2_splat bit_and (map (λ a. a / 2) groups) 32 0x7777 len
+    ∙ map-map (λ a. bit_and a 0x7777) (λ a. a / 2) groups
 
 -- a sum of lanes, as a vector makes it
 abbrev pub added : ℕ → ℕ → ℕ
-added a b = (a + b) % 2 ^ 64
+added a b = (a + b) % 2 ^ 16
 
-pub added_small : (most a word : ℕ) → most < 15 → Small most 16 a → added a (low_word word) ≡ a + low_word word
-added_small most a word h small =
-    let fits : a + low_word word < 2 ^ 64 =
-    Small-lt (most + 1) 16 (a + low_word word) (omega arith) (Small-add most 1 16 a (low_word word) (omega arith) small (low_word_small word)) in
+pub added_small : (most a group : ℕ) → most < 15 → Small most 4 a → added a (low_group group) ≡ a + low_group group
+added_small most a group h small =
+    let fits : a + low_group group < 2 ^ 16 =
+    Small-lt (most + 1) 4 (a + low_group group) (omega arith) (Small-add most 1 4 a (low_group group) (omega arith) small (low_group_small group)) in
     omega arith
 
-pub AreSmall-zero : AreSmall 0 (replicate 8 0)
-AreSmall-zero =
-    let z : Small 0 16 0 = Small-zero 0 16 in (z, (z, (z, (z, (z, (z, (z, (z, tt))))))))
+pub AreSmall-zero : (n : ℕ) → AreSmall 0 (replicate n 0)
+AreSmall-zero zero = tt
+AreSmall-zero (suc n) = (Small-zero 0 4, AreSmall-zero n)
 
-pub AreSmall-more : (most : ℕ) (lanes words : List ℕ) → most < 15 → length lanes ≡ length words → AreSmall most lanes →
-    AreSmall (most + 1) (zip2 added lanes (map low_word words))
-AreSmall-more most [] words h len small = tt
+pub AreSmall-more : (most : ℕ) (lanes groups : List ℕ) → most < 15 → length lanes ≡ length groups → AreSmall most lanes →
+    AreSmall (most + 1) (zip2 added lanes (map low_group groups))
+AreSmall-more most [] groups h len small = tt
 AreSmall-more most (lane ∷ lanes) [] h len small = absurd (omega arith)
-AreSmall-more most (lane ∷ lanes) (word ∷ words) h len small = (
-  rw (added_small most lane word h small.0) (Small-add most 1 16 lane (low_word word) (omega arith) small.0 (low_word_small word)),
-  AreSmall-more most lanes words h (omega arith) small.1,
+AreSmall-more most (lane ∷ lanes) (group ∷ groups) h len small = (
+  rw (added_small most lane group h small.0) (Small-add most 1 4 lane (low_group group) (omega arith) small.0 (low_group_small group)),
+  AreSmall-more most lanes groups h (omega arith) small.1,
 )
 
-pub sum-counters_of_added : (most : ℕ) (lanes words : List ℕ) → most < 15 → length lanes ≡ length words → AreSmall most lanes →
-    sum (counters_of (zip2 added lanes (map low_word words))) ≡ sum (counters_of lanes) + odd_count (counters_of words)
-unfolding counters_of counters_of_word
+pub sum-counters_of_added : (most : ℕ) (lanes groups : List ℕ) → most < 15 → length lanes ≡ length groups → AreSmall most lanes →
+    sum (counters_of (zip2 added lanes (map low_group groups))) ≡ sum (counters_of lanes) + odd_count (counters_of groups)
+unfolding counters_of counters_of_group
 sum-counters_of_added most [] [] h len small = refl
-sum-counters_of_added most [] (word ∷ words) h len small = absurd (omega arith)
+sum-counters_of_added most [] (group ∷ groups) h len small = absurd (omega arith)
 sum-counters_of_added most (lane ∷ lanes) [] h len small = absurd (omega arith)
-sum-counters_of_added most (lane ∷ lanes) (word ∷ words) h len small =
-    let first : sum (digits 16 (added lane (low_word word))) ≡ sum (digits 16 lane) + odd_count (digits 16 word) =
-    ap (λ n. sum (digits 16 n)) (added_small most lane word h small.0)
-    ∙ sum-digits_add most 1 16 lane (low_word word) (omega arith) small.0 (low_word_small word)
-    ∙ ap (λ n. sum (digits 16 lane) + n) (low_word_sum word) in
-    let rest : sum (counters_of (zip2 added lanes (map low_word words))) ≡ sum (counters_of lanes) + odd_count (counters_of words) =
-    sum-counters_of_added most lanes words h (omega arith) small.1 in
-    let left : sum (digits 16 (added lane (low_word word)) ++ counters_of (zip2 added lanes (map low_word words))) ≡ sum
-    (digits 16 (added lane (low_word word))) + sum (counters_of (zip2 added lanes (map low_word words))) =
-    sum_by-append (λ x. x) (digits 16 (added lane (low_word word))) (counters_of (zip2 added lanes (map low_word words))) in
-    let right : sum (digits 16 lane ++ counters_of lanes) ≡ sum (digits 16 lane) + sum (counters_of lanes) =
-    sum_by-append (λ x. x) (digits 16 lane) (counters_of lanes) in
-    let odd : odd_count (digits 16 word ++ counters_of words) ≡ odd_count (digits 16 word) + odd_count (counters_of words) =
-    sum_by-append (λ c. cond (eqb (c % 2) 1) 1 0) (digits 16 word) (counters_of words) in
+sum-counters_of_added most (lane ∷ lanes) (group ∷ groups) h len small =
+    let first : sum (digits 4 (added lane (low_group group))) ≡ sum (digits 4 lane) + odd_count (digits 4 group) =
+    ap (λ n. sum (digits 4 n)) (added_small most lane group h small.0)
+    ∙ sum-digits_add most 1 4 lane (low_group group) (omega arith) small.0 (low_group_small group)
+    ∙ ap (λ n. sum (digits 4 lane) + n) (low_group_sum group) in
+    let rest : sum (counters_of (zip2 added lanes (map low_group groups))) ≡ sum (counters_of lanes) + odd_count (counters_of groups) =
+    sum-counters_of_added most lanes groups h (omega arith) small.1 in
+    let left : sum (digits 4 (added lane (low_group group)) ++ counters_of (zip2 added lanes (map low_group groups))) ≡ sum
+    (digits 4 (added lane (low_group group))) + sum (counters_of (zip2 added lanes (map low_group groups))) =
+    sum_by-append (λ x. x) (digits 4 (added lane (low_group group))) (counters_of (zip2 added lanes (map low_group groups))) in
+    let right : sum (digits 4 lane ++ counters_of lanes) ≡ sum (digits 4 lane) + sum (counters_of lanes) =
+    sum_by-append (λ x. x) (digits 4 lane) (counters_of lanes) in
+    let odd : odd_count (digits 4 group ++ counters_of groups) ≡ odd_count (digits 4 group) + odd_count (counters_of groups) =
+    sum_by-append (λ c. cond (eqb (c % 2) 1) 1 0) (digits 4 group) (counters_of groups) in
     omega arith
 
-pub sum-counters_of_zero : sum (counters_of (replicate 8 0)) ≡ 0
-sum-counters_of_zero = ap sum (counters_of-replicate 8)
+pub sum-counters_of_zero : sum (counters_of (replicate 32 0)) ≡ 0
+sum-counters_of_zero = ap sum (counters_of-replicate 32)

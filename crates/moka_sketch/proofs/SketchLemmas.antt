@@ -110,10 +110,10 @@ get_or-positions places hash (suc (suc zero)) h = refl
 get_or-positions places hash (suc (suc (suc zero))) h = refl
 get_or-positions places hash (suc (suc (suc (suc depth)))) h = absurd (omega arith)
 
--- where a cell's counter stands, from its place and its counter
-pub cell_at : (places hash depth index counter : ℕ) → index ≡ index_of places hash depth → counter ≡ 4 * (hash % 4) + depth →
-    16 * index + counter ≡ position_of (cell places hash depth)
-cell_at places hash depth index counter place which = ap (λ p. 16 * p + counter) place ∙ ap (λ k. 16 * index_of places hash depth + k) which
+-- where a cell's counter stands, from its group and its depth
+pub cell_at : (places hash depth group : ℕ) → group ≡ 4 * index_of places hash depth + hash % 4 →
+    4 * group + depth ≡ position_of (cell places hash depth)
+cell_at places hash depth group is = omega (arith, is)
 
 -- the least counter of the first depths
 unfoldable pub estimate_to : ℕ → List ℕ → ℕ → ℕ → ℕ

@@ -9,8 +9,11 @@ pub const MAX_FREQUENCY: u8 = 15;
 /// How many counters a word of 64 bits holds.
 pub const COUNTERS_PER_WORD: usize = 16;
 
-/// How many counters a hash has. A word has four such groups, of which a hash's residue modulo 4 chooses one.
+/// How many counters a hash has, one a depth, and how many a group of 16 bits holds.
 pub const DEPTHS: usize = 4;
+
+/// How many groups a word holds. A hash's residue modulo 4 chooses one.
+pub const GROUPS_PER_WORD: usize = 4;
 
 /// The longest table, in words: as in the original, the power of two that half of `i32::MAX` is rounded up to.
 pub const MAX_TABLE_LEN: u32 = 1 << 30;

@@ -4,7 +4,9 @@ ghost use Rattle.moka_sketch.specs.Sketch.{IsSketch, after_increment, estimate, 
 ghost use Rattle.moka_sketch.specs.SketchCapacity.{after_ensure_capacity, sample_size_for, sketch_capacity, table_len, table_len_for};
 ghost use Rattle.moka_sketch.specs.declared.constants.TheConstants.{DEPTHS, MAX_FREQUENCY};
 
-use crate::constants::{MAX_SAMPLE_SIZE, MAX_TABLE_LEN, MIN_SKETCH_CAPACITY, SAMPLE_FACTOR};
+use crate::constants::{
+    GROUPS_PER_WORD, MAX_SAMPLE_SIZE, MAX_TABLE_LEN, MIN_SKETCH_CAPACITY, SAMPLE_FACTOR,
+};
 use moka_base::error::OutOfMemory;
 use std::alloc::{Allocator, Global};
 use std::marker::Model;
@@ -22,7 +24,8 @@ mod cells;
 /// Friedman and Manes, in 4 bits a counter.
 #[derive(Drop)]
 pub struct FrequencySketch<A: Allocator + Clone + Drop = Global> {
-    table: Vec<u64, A>,
+    /// Groups of four counters, `GROUPS_PER_WORD` a word.
+    table: Vec<u16, A>,
     sample_size: u32,
     size: u32,
 }
@@ -59,13 +62,13 @@ impl<A: Allocator + Clone + Drop> FrequencySketch<A> {
         ensures succeeds { table_len_for cap ≤ table_len self.old → IsOk result }
     {
         let len = wanted_len(cap);
-        if len <= self.table.len() {
+        if len <= self.table_len() {
             return Ok(());
         }
 
         // The new table comes first: a refusal leaves the old one.
         let alloc = self.table.allocator().clone()?;
-        self.table = vec![in alloc; 0; len]?;
+        self.table = vec![in alloc; 0; GROUPS_PER_WORD * len]?;
         self.sample_size = wanted_sample_size(cap);
         self.size = 0;
         Ok(())
@@ -90,10 +93,10 @@ impl<A: Allocator + Clone + Drop> FrequencySketch<A> {
         if self.table.is_empty() {
             return;
         }
-        let words = self.table.as_mut_slice();
-        self.size += u32::from(cells::increment(words, hash));
+        let groups = self.table.as_mut_slice();
+        self.size += u32::from(cells::increment(groups, hash));
         if self.size >= self.sample_size {
-            self.size = aging::age_table(words, self.size);
+            self.size = aging::age_table(groups, self.size);
         }
     }
 
@@ -102,7 +105,7 @@ impl<A: Allocator + Clone + Drop> FrequencySketch<A> {
         ensures value { result ≡ table_len self.now }
         ensures sketch { IsSketch self.now }
     {
-        self.table.len()
+        self.table.len() / GROUPS_PER_WORD
     }
 
     /// The word that has the hash's counter at this depth. `table_len` says whether there is a table.
@@ -112,7 +115,7 @@ impl<A: Allocator + Clone + Drop> FrequencySketch<A> {
         ensures value { result ≡ index_of (table_len self.now) hash depth }
         ensures within { result < table_len self.now }
     {
-        cells::index_of(self.table.len(), hash, depth as usize)
+        cells::index_of(self.table_len(), hash, depth as usize)
     }
 }
 

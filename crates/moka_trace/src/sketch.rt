@@ -1,11 +1,13 @@
 // A batch of counts and of look-ups of the sketch, or of agings of a table, as a whole call.
-ghost use Rattle.std.specs.Prelude.{◌≡◌, ◌≤◌, ◌≢◌};
+ghost use Rattle.std.specs.Prelude.{◌≡◌, ◌*◌, ◌≤◌, ◌≢◌, IfOk, length};
+ghost use Rattle.moka_sketch.specs.declared.constants.TheConstants.{GROUPS_PER_WORD};
 
 use crate::constants::{DONE, IN_LANES, ORDER, OUT_OF_MEMORY, UNKNOWN_KIND, WORD_BY_WORD};
 use moka_common::constants::MAX_TABLE_LEN;
 use moka_common::frequency_sketch::FrequencySketch;
+use moka_sketch::constants::GROUPS_PER_WORD;
 use moka_sketch::{age, age_plain, aged_size};
-use std::alloc::Global;
+use std::alloc::{AllocError, Global};
 
 /// Makes a sketch for `capacity` entries, counts all hashes `counts` times over, and then reads their frequencies `reads` times over. The sum of what
 /// was read, modulo 2^64, is in `sum` where the answer is `DONE`.
@@ -68,7 +70,7 @@ pub extern "C" fn moka_trace_aging(
     if load > WORD_BY_WORD || words.len() > MAX_TABLE_LEN as usize {
         return UNKNOWN_KIND;
     }
-    let Ok(mut table) = words.to_vec(alloc) else {
+    let Ok(mut table) = groups_of(alloc, words) else {
         return OUT_OF_MEMORY;
     };
     let table = table.as_mut_slice();
@@ -84,4 +86,15 @@ pub extern "C" fn moka_trace_aging(
     }
     *sum = total;
     DONE
+}
+
+/// The groups of these words, of which the first has the lowest bits.
+fn groups_of(alloc: Global, words: &[u64]) -> Result<Vec<u16>, AllocError>
+    ensures { IfOk result (λ groups. length groups.items ≡ GROUPS_PER_WORD * length words.now) }
+{
+    let mut groups = vec![in alloc; 0u16; GROUPS_PER_WORD * words.len()]?;
+    for (i, group) in groups.iter_mut().enumerate() {
+        *group = (words[i / GROUPS_PER_WORD] >> (16 * (i % GROUPS_PER_WORD)) & 0xffff) as u16;
+    }
+    Ok(groups)
 }

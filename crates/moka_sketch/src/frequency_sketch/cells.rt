@@ -1,11 +1,14 @@
-// The counters of a hash in a table's words, sixteen a word, of which counter 0 is in the lowest bits. It stands on what `Cells.antt` says of words.
-ghost use Rattle.std.specs.Prelude.{◌≡◌, ◌+◌, ◌*◌, ◌%◌, ◌<◌, length, slice_index, nat_lt};
+// The counters of a hash in a table's groups, four a group, of which that of depth 0 is in the lowest bits. It stands on what `Cells.antt` says of groups.
+ghost use Rattle.std.specs.Prelude.{◌≡◌, ◌+◌, ◌*◌, ◌/◌, ◌%◌, ◌<◌, slice_index, nat_lt};
 ghost use Rattle.std.specs.Int.{IsPowerOfTwo};
 ghost use Rattle.moka_sketch.specs.Sketch.{cell, estimate_in, grown_at, grows_in, incremented_counters, index_of, position_of};
-ghost use Rattle.moka_sketch.specs.Cells.{counters_of, counters_of_word};
-ghost use Rattle.moka_sketch.specs.declared.constants.TheConstants.{COUNTERS_PER_WORD, DEPTHS, MAX_FREQUENCY};
+ghost use Rattle.moka_sketch.specs.Cells.{counters_of, counters_of_group, places_of};
+ghost use Rattle.moka_sketch.specs.declared.constants.TheConstants.{DEPTHS, GROUPS_PER_WORD, MAX_FREQUENCY};
 
-use crate::constants::{COUNTER_BITS, DEPTHS, MAX_FREQUENCY};
+use crate::constants::{COUNTER_BITS, DEPTHS, GROUPS_PER_WORD, MAX_FREQUENCY};
+
+/// A full counter.
+const FULL: u16 = MAX_FREQUENCY as u16;
 
 /// What each depth mixes into a hash: the seeds of Caffeine's sketch, large numbers from CityHash and FNV-1a.
 const SEEDS: [u64; DEPTHS] = [
@@ -31,73 +34,73 @@ pub fn index_of(len: usize, hash: u64, depth: usize) -> usize
 }
 
 /// The least of the hash's counters.
-pub fn frequency(words: &[u64], hash: u64) -> u8
-    requires { IsPowerOfTwo (length words.now) }
-    ensures { result ≡ estimate_in (length words.now) (counters_of words.now) hash }
+pub fn frequency(groups: &[u16], hash: u64) -> u8
+    requires { IsPowerOfTwo (places_of groups.now) }
+    ensures { result ≡ estimate_in (places_of groups.now) (counters_of groups.now) hash }
 {
-    let mut least = MAX_FREQUENCY;
+    let mut least = FULL;
     for depth in 0..DEPTHS {
-        least = least.min(counter_at(words, hash, depth));
+        least = least.min(counter_at(groups, hash, depth));
     }
-    least
+    least as u8
 }
 
 /// Adds one to each of the hash's counters that is below the most. Returns whether one was.
-pub fn increment(words: &mut [u64], hash: u64) -> bool
-    requires { IsPowerOfTwo (length words.old) }
-    ensures counters { counters_of words.new
-        ≡ incremented_counters (length words.old) (counters_of words.old) hash }
-    ensures grew { result ≡ grows_in (length words.old) (counters_of words.old) hash }
+pub fn increment(groups: &mut [u16], hash: u64) -> bool
+    requires { IsPowerOfTwo (places_of groups.old) }
+    ensures counters { counters_of groups.new
+        ≡ incremented_counters (places_of groups.old) (counters_of groups.old) hash }
+    ensures grew { result ≡ grows_in (places_of groups.old) (counters_of groups.old) hash }
 {
     let mut grew = false;
     for depth in 0..DEPTHS {
-        grew |= grow(words, hash, depth);
+        grew |= grow(groups, hash, depth);
     }
     grew
 }
 
 /// The hash's counter at a depth.
-fn counter_at(words: &[u64], hash: u64, depth: usize) -> u8
-    requires words { IsPowerOfTwo (length words.now) }
+fn counter_at(groups: &[u16], hash: u64, depth: usize) -> u16
+    requires groups { IsPowerOfTwo (places_of groups.now) }
     requires depth { depth < DEPTHS }
-    ensures { let at = position_of (cell (length words.now) hash depth) in
-        result ≡ slice_index (counters_of words.now) at }
+    ensures { let at = position_of (cell (places_of groups.now) hash depth) in
+        result ≡ slice_index (counters_of groups.now) at }
 {
-    let index = index_of(words.len(), hash, depth);
-    counter_of(words[index], counter_index(hash, depth))
+    let index = group_index(groups.len(), hash, depth);
+    counter_of(groups[index], depth)
 }
 
 /// Adds one to the hash's counter at a depth, if that is below the most. Returns whether it was.
-fn grow(words: &mut [u64], hash: u64, depth: usize) -> bool
-    requires words { IsPowerOfTwo (length words.old) }
+fn grow(groups: &mut [u16], hash: u64, depth: usize) -> bool
+    requires groups { IsPowerOfTwo (places_of groups.old) }
     requires depth { depth < DEPTHS }
-    ensures counters { let at = position_of (cell (length words.old) hash depth) in
-        counters_of words.new ≡ grown_at (counters_of words.old) at }
-    ensures grew { let at = position_of (cell (length words.old) hash depth) in
-        result ≡ nat_lt (slice_index (counters_of words.old) at) MAX_FREQUENCY }
+    ensures counters { let at = position_of (cell (places_of groups.old) hash depth) in
+        counters_of groups.new ≡ grown_at (counters_of groups.old) at }
+    ensures grew { let at = position_of (cell (places_of groups.old) hash depth) in
+        result ≡ nat_lt (slice_index (counters_of groups.old) at) MAX_FREQUENCY }
 {
-    let index = index_of(words.len(), hash, depth);
-    let counter = counter_index(hash, depth);
-    let word = words[index];
-    let count = counter_of(word, counter);
-    let grows = count < MAX_FREQUENCY;
-    words[index] = word + (u64::from(grows) << (COUNTER_BITS * counter));
+    let index = group_index(groups.len(), hash, depth);
+    let group = groups[index];
+    let count = counter_of(group, depth);
+    let grows = count < FULL;
+    groups[index] = group + (u16::from(grows) << (COUNTER_BITS * depth));
     grows
 }
 
-/// Which counter of its word is the hash's at a depth. Two hashes that differ modulo 4 have none in common.
-fn counter_index(hash: u64, depth: usize) -> usize
-    requires { depth < DEPTHS }
-    ensures value { result ≡ DEPTHS * (hash % 4) + depth }
-    ensures within { result < COUNTERS_PER_WORD }
+/// The group that has the hash's counter at a depth, among `len` groups. Two hashes that differ modulo 4 have none in common.
+fn group_index(len: usize, hash: u64, depth: usize) -> usize
+    requires len { IsPowerOfTwo (len / GROUPS_PER_WORD) }
+    requires depth { depth < DEPTHS }
+    ensures value { result ≡ GROUPS_PER_WORD * index_of (len / GROUPS_PER_WORD) hash depth + hash % 4 }
+    ensures within { result < len }
 {
-    (hash % 4) as usize * DEPTHS + depth
+    GROUPS_PER_WORD * index_of(len / GROUPS_PER_WORD, hash, depth) + (hash % 4) as usize
 }
 
-/// A counter of a word.
-fn counter_of(word: u64, counter: usize) -> u8
-    requires { counter < COUNTERS_PER_WORD }
-    ensures { result ≡ slice_index (counters_of_word word) counter }
+/// The counter of a group at a depth.
+fn counter_of(group: u16, depth: usize) -> u16
+    requires { depth < DEPTHS }
+    ensures { result ≡ slice_index (counters_of_group group) depth }
 {
-    ((word >> (COUNTER_BITS * counter)) & u64::from(MAX_FREQUENCY)) as u8
+    (group >> (COUNTER_BITS * depth)) & FULL
 }

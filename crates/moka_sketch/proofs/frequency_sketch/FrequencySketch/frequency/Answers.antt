@@ -6,12 +6,12 @@ use Rattle.moka_sketch.proofs.frequency_sketch.FrequencySketch.frequency.Goals a
 
 pub returns-clause-value : goal.returns-clause-value
 returns-clause-value g c =
-    let words : List ℕ = c.self.inside.table.items in
+    let groups : List ℕ = c.self.inside.table.items in
     let hash : ℕ = c.args.hash in
     let some : 0 < vec_len c.self.inside.table =
     not_empty c.is_empty.result (vec_len c.self.inside.table) c.is_empty.ensures c.if-is_empty.false in
-    let len : length words ≡ vec_len c.self.inside.table = ap length (sym c.deref.ensures.value) ∙ c.deref.ensures.len in
-    let read : c.frequency.result ≡ estimate (unpacked words c.self.inside.sample_size c.self.inside.size) hash =
-    estimate_read words c.deref.result.now c.self.inside.sample_size c.self.inside.size hash c.frequency.result (omega arith)
+    let len : length groups ≡ vec_len c.self.inside.table = ap length (sym c.deref.ensures.value) ∙ c.deref.ensures.len in
+    let read : c.frequency.result ≡ estimate (unpacked groups c.self.inside.sample_size c.self.inside.size) hash =
+    estimate_read groups c.deref.result.now c.self.inside.sample_size c.self.inside.size hash c.frequency.result (omega arith)
     c.deref.ensures.value c.frequency.ensures in
     read ∙ ap (λ s. estimate s hash) c.self.view_is

@@ -6,4 +6,4 @@ use Rattle.moka_sketch.proofs.frequency_sketch.aging.age.Given as goal
 
 abbrev pub invariant-loop-block : goal.invariant-loop-block
 invariant-loop-block l =
-    (l.words ≡ aged_to (96 * l.block) l.initial.words) × (l.odd ≡ odd_count (counters_of (take (96 * l.block) l.initial.words)))
+    (l.groups ≡ aged_to (384 * l.block) l.initial.groups) × (l.odd ≡ odd_count (counters_of (take (384 * l.block) l.initial.groups)))

@@ -6,6 +6,6 @@ use Rattle.moka_sketch.proofs.frequency_sketch.aging.age_block.Given as goal
 
 abbrev pub invariant-loop-chunk : goal.invariant-loop-chunk
 invariant-loop-chunk l =
-    (l.words ≡ aged_to (8 * l.chunk) l.initial.words)
-    × (sum (counters_of l.odd) ≡ odd_count (counters_of (take (8 * l.chunk) l.initial.words)))
+    (l.groups ≡ aged_to (32 * l.chunk) l.initial.groups)
+    × (sum (counters_of l.odd) ≡ odd_count (counters_of (take (32 * l.chunk) l.initial.groups)))
     × AreSmall l.chunk l.odd

@@ -1,5 +1,5 @@
-use Rattle.std.proofs.Common.{◌≡◌, ◌∙◌, ◌+◌, ◌*◌, ℕ, List, length, get_or, ap, sym}
-use Rattle.moka_sketch.specs.Cells.{counters_of}
+use Rattle.std.proofs.Common.{◌≡◌, ◌∙◌, ◌+◌, ◌*◌, ℕ, List, get_or, ap, sym}
+use Rattle.moka_sketch.specs.Cells.{counters_of, places_of}
 use Rattle.moka_sketch.specs.Sketch.{cell, position_of}
 use Rattle.moka_sketch.proofs.CellLemmas.{get_or-counters_of}
 use Rattle.moka_sketch.proofs.SketchLemmas.{cell_at}
@@ -7,11 +7,9 @@ use Rattle.moka_sketch.proofs.frequency_sketch.cells.counter_at.Goals as goal
 
 pub returns : goal.returns
 returns c =
-    let words : List ℕ = c.args.words.now in
-    let at : 16 * c.index_of-index.result + c.counter_index.result ≡ position_of (cell (length words) c.args.hash c.args.depth) =
-    cell_at (length words) c.args.hash c.args.depth c.index_of-index.result c.counter_index.result c.index_of-index.ensures.value
-    c.counter_index.ensures.value in
+    let groups : List ℕ = c.args.groups.now in
+    let at : 4 * c.group_index-index.result + c.args.depth ≡ position_of (cell (places_of groups) c.args.hash c.args.depth) =
+    cell_at (places_of groups) c.args.hash c.args.depth c.group_index-index.result c.group_index-index.ensures.value in
     c.counter_of.ensures
-    ∙ sym (get_or-counters_of words c.index_of-index.result c.counter_index.result c.index_of-index.ensures.within
-    c.counter_index.ensures.within)
-    ∙ ap (λ k. get_or (counters_of words) k 0) at
+    ∙ sym (get_or-counters_of groups c.group_index-index.result c.args.depth c.group_index-index.ensures.within c.requires.depth)
+    ∙ ap (λ k. get_or (counters_of groups) k 0) at
