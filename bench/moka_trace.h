@@ -18,6 +18,8 @@ struct moka_trace_settings {
     uint64_t tick;  /* how much later each further one is made */
     bool is_weighed; /* whether an entry weighs its value in place of 1 */
     bool is_std_hashed; /* whether keys are hashed by std's default hash state in place of one multiplication */
+    uint8_t window_share; /* of the capacity, in percent; the core has no window */
+    uint8_t protected_share; /* of the main part, in percent; the core has no segments */
 };
 
 enum moka_trace_kind {
@@ -45,6 +47,7 @@ enum moka_trace_status {
     MOKA_TRACE_DONE = 0,
     MOKA_TRACE_OUT_OF_MEMORY = 1,
     MOKA_TRACE_UNKNOWN_KIND = 2,
+    MOKA_TRACE_SHARE_TOO_LARGE = 3,
 };
 
 /*

@@ -36,14 +36,16 @@ static const struct moka_trace_operation strange[] = {{7, 5, MOKA_TRACE_INSERT},
 
 /* Where one entry is allowed, 8 is rejected while it was asked for as often as 7, and then takes its place; 7 doesn't come back for the same reason. */
 static const struct trace traces[] = {
-    {"each kind", moka_trace_play, {NONE, NONE, NONE, 0, TICK, false, false}, each_kind, 6, MOKA_TRACE_DONE, {3, 14, 2, 2}},
-    {"each kind on a core", moka_trace_play_core, {NONE, NONE, NONE, 0, TICK, false, false}, each_kind, 6, MOKA_TRACE_DONE, {3, 14, 2, 2}},
-    {"weighed", moka_trace_play, {NONE, NONE, NONE, 0, TICK, true, false}, each_kind, 6, MOKA_TRACE_DONE, {3, 14, 2, 15}},
-    {"std's hashes", moka_trace_play, {NONE, NONE, NONE, 0, TICK, false, true}, each_kind, 6, MOKA_TRACE_DONE, {3, 14, 2, 2}},
-    {"one entry", moka_trace_play, {1, NONE, NONE, 0, TICK, false, false}, each_kind, 6, MOKA_TRACE_DONE, {1, 5, 1, 1}},
-    {"time to live", moka_trace_play, {NONE, 20, NONE, 0, TICK, false, false}, looks, 3, MOKA_TRACE_DONE, {1, 5, 0, 0}},
-    {"time to idle", moka_trace_play, {NONE, NONE, 20, 0, TICK, false, false}, looks, 3, MOKA_TRACE_DONE, {2, 10, 1, 1}},
-    {"no kind", moka_trace_play, {NONE, NONE, NONE, 0, TICK, false, false}, strange, 2, MOKA_TRACE_UNKNOWN_KIND, {9, 9, 9, 9}},
+    {"each kind", moka_trace_play, {NONE, NONE, NONE, 0, TICK, false, false, 1, 0}, each_kind, 6, MOKA_TRACE_DONE, {3, 14, 2, 2}},
+    {"each kind on a core", moka_trace_play_core, {NONE, NONE, NONE, 0, TICK, false, false, 1, 0}, each_kind, 6, MOKA_TRACE_DONE, {3, 14, 2, 2}},
+    {"weighed", moka_trace_play, {NONE, NONE, NONE, 0, TICK, true, false, 1, 0}, each_kind, 6, MOKA_TRACE_DONE, {3, 14, 2, 15}},
+    {"std's hashes", moka_trace_play, {NONE, NONE, NONE, 0, TICK, false, true, 1, 0}, each_kind, 6, MOKA_TRACE_DONE, {3, 14, 2, 2}},
+    {"one entry", moka_trace_play, {1, NONE, NONE, 0, TICK, false, false, 1, 0}, each_kind, 6, MOKA_TRACE_DONE, {1, 5, 1, 1}},
+    {"time to live", moka_trace_play, {NONE, 20, NONE, 0, TICK, false, false, 1, 0}, looks, 3, MOKA_TRACE_DONE, {1, 5, 0, 0}},
+    {"time to idle", moka_trace_play, {NONE, NONE, 20, 0, TICK, false, false, 1, 0}, looks, 3, MOKA_TRACE_DONE, {2, 10, 1, 1}},
+    {"no such window", moka_trace_play, {NONE, NONE, NONE, 0, TICK, false, false, 101, 0}, looks, 3, MOKA_TRACE_SHARE_TOO_LARGE, {9, 9, 9, 9}},
+    {"no such segment", moka_trace_play, {NONE, NONE, NONE, 0, TICK, false, false, 1, 101}, looks, 3, MOKA_TRACE_SHARE_TOO_LARGE, {9, 9, 9, 9}},
+    {"no kind", moka_trace_play, {NONE, NONE, NONE, 0, TICK, false, false, 1, 0}, strange, 2, MOKA_TRACE_UNKNOWN_KIND, {9, 9, 9, 9}},
 };
 
 /* How many of a count differ: 0 or 1, which is told. */

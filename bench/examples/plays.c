@@ -33,10 +33,12 @@ int main(void) {
         hashes[i] = i * 0x9e3779b97f4a7c15u;
     for (size_t i = 0; i < 1000; i++)
         words[i] = next() * next();
-    struct moka_trace_settings plain = {300, MOKA_TRACE_UNLIMITED, MOKA_TRACE_UNLIMITED, 0, 0, false, false};
-    struct moka_trace_settings expiring = {300, 5000, 2000, 0, 1, true, true};
+    struct moka_trace_settings plain = {300, MOKA_TRACE_UNLIMITED, MOKA_TRACE_UNLIMITED, 0, 0, false, false, 1, 0};
+    struct moka_trace_settings expiring = {300, 5000, 2000, 0, 1, true, true, 1, 0};
+    struct moka_trace_settings segmented = {300, MOKA_TRACE_UNLIMITED, MOKA_TRACE_UNLIMITED, 0, 0, false, false, 20, 80};
     uint32_t failed = 0;
     failed |= plays(moka_trace_play, plain, operations) | plays(moka_trace_play, expiring, operations);
+    failed |= plays(moka_trace_play, segmented, operations);
     failed |= plays(moka_trace_play_core, plain, operations) | plays(moka_trace_play_core, expiring, operations);
     uint64_t sum = 0;
     for (uint32_t load = MOKA_TRACE_MOVE; load <= MOKA_TRACE_TAKE_TURNS; load++) {

@@ -30,6 +30,9 @@ pub struct Settings {
     pub is_weighed: bool,
     /// Whether each side has its own std's default hash state in place of the one multiplication that all have in common.
     pub is_std_hashed: bool,
+    /// The port's shares of the window and of protected entries, in percent.
+    pub window_share: u8,
+    pub protected_share: u8,
 }
 
 impl Settings {
@@ -42,6 +45,17 @@ impl Settings {
             tick: 0,
             is_weighed: false,
             is_std_hashed: false,
+            window_share: 1,
+            protected_share: 0,
+        }
+    }
+
+    /// With other shares than the default ones.
+    pub fn with_shares(self, window_share: u8, protected_share: u8) -> Settings {
+        Settings {
+            window_share,
+            protected_share,
+            ..self
         }
     }
 

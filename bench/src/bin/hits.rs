@@ -15,9 +15,11 @@ const SHARES: [u64; 5] = [1, 5, 10, 50, 100];
 
 const SHARE_NAMES: [&str; 5] = ["0.1%", "0.5%", "1%", "5%", "10%"];
 
-const SIDES: [(&str, &str); 6] = [
+const SIDES: [(&str, &str); 8] = [
     ("best possible", "#999999"),
     ("this cache", "#1f5fa8"),
+    ("protected 80", "#17becf"),
+    ("window 20", "#8c564b"),
     ("mini-moka 0.10.3", "#b5651d"),
     ("Caffeine", "#2e8b57"),
     ("lru", "#c71585"),
@@ -94,7 +96,7 @@ fn caffeine_hits(jar: &str, keys: &[u64], capacities: &[u64]) -> Vec<u64> {
 }
 
 /// Each side's hits at a capacity, but for Caffeine's, which are handed in.
-fn hits_at(keys: &[u64], capacity: u64, caffeine: Option<u64>) -> [Option<u64>; 6] {
+fn hits_at(keys: &[u64], capacity: u64, caffeine: Option<u64>) -> [Option<u64>; 8] {
     let settings = Settings::with_capacity(capacity);
     let operations: Vec<Operation> = keys
         .iter()
@@ -107,6 +109,8 @@ fn hits_at(keys: &[u64], capacity: u64, caffeine: Option<u64>) -> [Option<u64>; 
     [
         Some(best_hits(keys, capacity as usize)),
         Some(port::play(&settings, &operations).hits),
+        Some(port::play(&settings.with_shares(1, 80), &operations).hits),
+        Some(port::play(&settings.with_shares(20, 0), &operations).hits),
         Some(play(&mut original(&settings), &operations).hits),
         caffeine,
         Some(play(&mut lru_cache(&settings), &operations).hits),

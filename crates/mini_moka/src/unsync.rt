@@ -2,4 +2,5 @@
 pub use moka_unsync::builder::CacheBuilder;
 pub use moka_unsync::cache::{Cache, Iter};
 pub use moka_unsync::runs::{Call, Reply, run};
+pub use moka_unsync::shares::Shares;
 pub use moka_unsync::{constants, history, laws};

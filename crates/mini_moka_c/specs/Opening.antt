@@ -3,6 +3,7 @@ use Rattle.std.specs.Prelude.{◌≡◌, ◌≤◌, ◌==◌, ℕ, false, Option
 use Rattle.moka_common.specs.Policy.{Policy}
 use Rattle.moka_common.specs.Settings.{live_nanos, idle_nanos}
 use Rattle.moka_unsync.specs.CacheState.{new_cache}
+use Rattle.moka_unsync.specs.Shares.{default_shares}
 use Rattle.moka_bytes.specs.declared.cache.ByteCache.{ByteCache}
 use Rattle.moka_bytes.specs.declared.walk.Walk.TheVariants.{Ended}
 use Rattle.moka_bytes.specs.declared.weight.ByteWeight.TheVariants as weight
@@ -28,7 +29,7 @@ pub record HasLimits (policy : Policy) (capacity live idle : ℕ) : Type 0 where
 pub record IsNumbersNew (settings : NumberSettings) (cache : NumberCache) : Type 0 where
   pub limits : HasLimits cache.settings.policy settings.capacity settings.time_to_live settings.time_to_idle
   pub new : cache ≡ new_cache (record { hash_state = cache.settings.hash_state; policy = cache.settings.policy; is_weighed = false })
-      cache.weigher cache.capacity
+      default_shares cache.weigher cache.capacity
   pub room : settings.initial_capacity ≤ cache.capacity
 
 -- and of bytes, with the key of the hash and the weigher that are set; nothing was counted, and no walk was begun
@@ -38,7 +39,7 @@ pub record IsBytesNew (settings : ByteSettings) (bytes : ByteCache) : Type 0 whe
     hash_state = record { low = settings.seed_low; high = settings.seed_high };
     policy = bytes.cache.settings.policy;
     is_weighed = settings.is_weighed;
-  }) (if settings.is_weighed then weight.Bytes else weight.Entry) bytes.cache.capacity
+  }) default_shares (if settings.is_weighed then weight.Bytes else weight.Entry) bytes.cache.capacity
   pub room : settings.initial_capacity ≤ bytes.cache.capacity
   pub counts : bytes.statistics ≡ no_statistics
   pub walk : bytes.walk ≡ Ended

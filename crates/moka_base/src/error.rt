@@ -28,6 +28,9 @@ impl<T: Drop> From<AllocFailed<T>> for OutOfMemory {
 pub enum BuildError {
     TimeToLiveTooLong,
     TimeToIdleTooLong,
+    /// Of the cache for one thread alone, as the next: more than 100 in 100.
+    WindowShareTooLarge,
+    ProtectedShareTooLarge,
     /// Of the shared cache alone: `initial_capacity` and a log's room together pass `usize::MAX`.
     CapacityTooLarge,
     OutOfMemory,
@@ -43,6 +46,8 @@ impl BuildError {
         match self {
             BuildError::TimeToLiveTooLong => "time_to_live is longer than 1000 years",
             BuildError::TimeToIdleTooLong => "time_to_idle is longer than 1000 years",
+            BuildError::WindowShareTooLarge => "window_share is above 100",
+            BuildError::ProtectedShareTooLarge => "protected_share is above 100",
             BuildError::CapacityTooLarge => "initial_capacity is too large",
             BuildError::OutOfMemory => "out of memory",
         }

@@ -1,6 +1,7 @@
 pub mod DequeLemmas
 pub mod NodesLemmas
 pub mod ChainLemmas
+pub mod ListingLemmas
 pub mod IdLemmas
 pub mod WalkLemmas
 pub mod CutLemmas

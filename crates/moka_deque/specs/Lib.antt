@@ -2,6 +2,7 @@ pub mod Deque
 pub mod DequeLends
 pub mod Chain
 pub mod ChainLends
+pub mod IdList
 -- inside
 pub mod Linked
 pub mod Lends
@@ -12,4 +13,5 @@ pub mod RawLends
 pub mod Nodes
 pub mod Links
 pub mod Chained
+pub mod Listing
 pub mod Link

@@ -1,6 +1,6 @@
 //! A list whose links lie apart from its elements, for an owner that moves nodes often: a move touches eight bytes at each of five nodes at most, and no
 //! element. It has no cursor.
-ghost use Rattle.std.specs.Prelude.{◌≡◌, ◌≢◌, ℕ, ◌+◌, ◌<◌, ◌≤◌, ◌-◌, [], ◌∷◌, ◌++◌, ◌↔◌, nat_eq, if◌then◌else◌, length, IsTrue, IsOk, OnOk, Some, None};
+ghost use Rattle.std.specs.Prelude.{◌≡◌, ◌≢◌, ℕ, ◌+◌, ◌<◌, ◌≤◌, ◌-◌, ◌^◌, [], ◌∷◌, ◌++◌, ◌↔◌, nat_eq, if◌then◌else◌, length, IsTrue, IsOk, OnOk, Some, None};
 ghost use Rattle.std.specs.Borrow.{sem};
 ghost use Rattle.std.specs.List.{IsDistinct};
 ghost use Rattle.std.specs.Map.{lookup, keys_of, remove_entry, values_of};
@@ -8,10 +8,12 @@ ghost use Rattle.moka_deque.specs.Chain.{moved_before};
 ghost use Rattle.moka_deque.specs.Deque.{IsIn, first_id, moved_to_back, next_id};
 ghost use Rattle.moka_deque.specs.declared.chain.links.TheConstants.{NONE};
 
+mod ids;
 mod iter;
 mod links;
 
 use crate::deque::NodeId;
+pub use ids::IdList;
 pub use iter::Iter;
 use links::{LinkTable, NONE};
 use moka_base::error::OutOfMemory;
@@ -125,6 +127,19 @@ impl<T, A: Allocator> Chain<T, A> {
         self.slots.capacity()
     }
 
+    /// How many elements fit with no allocation, with those that are there: fewer than 2^32.
+    pub fn fits(&self) -> usize
+        ensures value { result ≡ self.now.capacity }
+        ensures few { result < 2 ^ 32 }
+        ensures room { self.now.room ≡ self.now.capacity - length self.now.items }
+    {
+        let capacity = self.slots.capacity();
+        if capacity > self.links.len() {
+            return 0;
+        }
+        capacity
+    }
+
     /// Whether the node is in the chain.
     pub fn contains(&self, id: NodeId) -> bool
         ensures { IsTrue result ↔ IsIn self.now.items id }
@@ -187,6 +202,7 @@ impl<T, A: Allocator> Chain<T, A> {
         ensures items { self.new.items ≡ remove_entry (nat_eq id) self.old.items }
         ensures room { self.old.room ≤ self.new.room }
         ensures room_after { self.new.room ≤ self.old.room + 1 }
+        ensures room_left { self.new.room ≡ self.new.capacity - length self.new.items }
         ensures unchanged { self.new ≡ record self.old { items = self.new.items; room = self.new.room } }
     {
         let number = id.number();

@@ -111,7 +111,7 @@ pub fn is_found_after<
     now: Instant,
 ) -> Result<bool, OutOfMemory>
     requires ready { W.ready cache.old.weigher }
-    requires built { cache.old ≡ new_cache cache.old.settings cache.old.weigher cache.old.capacity }
+    requires built { cache.old ≡ new_cache cache.old.settings cache.old.shares cache.old.weigher cache.old.capacity }
     ensures { IfOk result (λ found. IsTrue found → (past : List (Transition K (Rc V Global) S W)) × (value : Rc V Global) × (replies : _)
         × AreServed calls.items (reverse (map (λ call. call.request) past)) (reverse (map (λ call. call.answer) past)) replies
         × IsCurrent (keys_by K.Hash S.BuildHasher S.Hasher.Hasher) cache.old.settings.policy now (exchanges past) key.now value) }

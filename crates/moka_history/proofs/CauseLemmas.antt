@@ -15,15 +15,16 @@ use Rattle.moka_base.specs.Policy.{Policy}
 use Rattle.moka_base.specs.Prefix.{shortest_prefix}
 use Rattle.moka_sketch.specs.Sketch.{Table, estimate}
 use Rattle.moka_machine.specs.declared.entry.Entry.{Entry}
-use Rattle.moka_machine.specs.declared.constants.TheConstants.{EVICTION_BATCH_SIZE, WINDOW_SHARE}
-use Rattle.moka_machine.specs.Contents.{Contents, Write, after_leaving, entry_at, entries_without, entry_keys, main_of, total_weight, window_of, without}
-use Rattle.moka_machine.specs.CacheState.{CacheState}
+use Rattle.moka_machine.specs.declared.constants.TheConstants.{EVICTION_BATCH_SIZE}
+use Rattle.moka_machine.specs.Contents.{Contents, Write, after_leaving, entry_at, entries_without, entry_keys, main_of, total_weight, window_of}
+use Rattle.moka_machine.specs.Contents.{without, is_probation, is_protected, is_window, probation_of, protected_of}
+use Rattle.moka_machine.specs.CacheState.{CacheState, room_of, windowed}
 use Rattle.moka_base.specs.Settings.{keeps_writes, live_nanos}
 use Rattle.moka_machine.specs.Upkeep.{after_expiry, after_idle, after_live_expiry, after_trim, after_upkeep, has_lived, is_idle, least_recent}
-use Rattle.moka_machine.specs.Lookup.{after_use, after_look, unexpired_at}
+use Rattle.moka_machine.specs.Lookup.{after_use, after_look, unexpired_at, after_using}
 use Rattle.moka_machine.specs.Upkeep.{is_expired}
 use Rattle.moka_machine.specs.Insert.{after_entering, after_entry, after_new, after_put, after_verdict, new_entry}
-use Rattle.moka_machine.specs.Window.{after_candidacy, after_candidates, candidates, excess, main_limit, victims_of, windowed_limit}
+use Rattle.moka_machine.specs.Window.{after_candidacy, after_candidates, candidates, excess, victims_of}
 use Rattle.moka_machine.specs.Invalidate.{chosen}
 use Rattle.moka_machine.specs.Step.{Answer, IsStep, Request, Get, Peek, ContainsKey, Insert, Invalidate, Remove}
 use Rattle.moka_machine.specs.Step.{InvalidateAll, InvalidateEntriesIf, Iterate, EntryCount, WeightedSize}
@@ -35,20 +36,25 @@ use Rattle.moka_laws.proofs.CandidateLemmas.{All-front, least_parts, prefix_part
 use Rattle.moka_laws.proofs.KeyLemmas.{StandOnce, contents-standing, once-candidacy, once-candidates, once-push, once-remains}
 use Rattle.moka_laws.proofs.LimitLemmas.{filter-swap, is_unlisted, main-leaving, main-moved, total-cons, total-filter, total-upkeep}
 use Rattle.moka_laws.proofs.RemainLemmas.{remains-leaving, remains-upkeep}
-use Rattle.moka_laws.proofs.StandLemmas.{AreCandidates, StandsIn, are-chosen, are-left, main-stands, once-front, window-stands}
-use Rattle.moka_laws.proofs.MapLemmas.{entry_at-equal, entry_at-moved, entry_at-other, entry_at-push}
+use Rattle.moka_laws.proofs.StandLemmas.{AreCandidates, StandsIn, are-chosen, are-left, main-stands, once-front, Stands, part-stands}
+use Rattle.moka_laws.proofs.MapLemmas.{entry_at-equal, entry_at-moved, entry_at-other, entry_at-push, entry_at-latest, entry_at-using, terms_of}
 use Rattle.moka_history.proofs.TiedLemmas.{all-taken, all-take, one-passes, prefix-cons, IsTied, AllTied, absent-left}
+use Rattle.moka_machine.specs.declared.shares.PartLimits.{PartLimits}
+use Rattle.moka_machine.specs.Shares.{limits_of, main_limit, windowed_limits}
+use Rattle.moka_machine.specs.declared.entry.Part.TheVariants.{Probation, Window}
+use Rattle.moka_machine.specs.declared.shares.Shares.{Shares}
+use Rattle.moka_machine.proofs.PartLemmas.{placed-none}
 
 -- ---- why upkeep removes an entry
 
 module _ {K V : Type 0} (eq : K → K → Bool) (laws : IsEquivalence eq) where
   -- where one of these entries, which stand at their keys, leaves as idle, the entry at its key was idle too long
-  front-passes : (test : Entry K V → Bool) (most : ℕ) (contents : Contents K V) (window : Bool) (entries : List (Entry K V)) (key : K)
-      (e : Entry K V) → All (StandsIn eq laws contents.entries window) entries
+  front-passes : (test part : Entry K V → Bool) (most : ℕ) (contents : Contents K V) (entries : List (Entry K V)) (key : K)
+      (e : Entry K V) → All (λ f. Stands eq laws contents.entries f × (part f ≡ true)) entries
       → list_any (λ (f : Entry K V). eq f.key key) (take most (take_while test entries)) ≡ true
       → entry_at eq key contents.entries ≡ Some e → test e ≡ true
-  front-passes test most contents window entries key e stand any found =
-      let S : Entry K V → Type 0 = StandsIn eq laws contents.entries window in
+  front-passes test part most contents entries key e stand any found =
+      let S : Entry K V → Type 0 = λ f. Stands eq laws contents.entries f × (part f ≡ true) in
       let P : Entry K V → Type 0 = λ f. S f × (test f ≡ true) in
       let (f, (stands, passes), equal) =
       one-passes P (λ f. eq f.key key) (take most (take_while test entries))
@@ -197,6 +203,7 @@ module _ {K V : Type 0} (eq : K → K → Bool) (laws : IsEquivalence eq) where
       let lived = after_live_expiry eq policy now most contents in
       let apart = once-remains eq contents lived (remains-leaving eq lived_keys contents) once in
       let waited = after_idle eq policy now most (window_of lived.entries) lived in
+      let tried = after_idle eq policy now most (probation_of lived.entries) waited in
       let expired = after_expiry eq policy now contents in
       elim (among (λ w. w.key) (take most (take_while (has_lived policy now) contents.written)) contents key) [
         | inl any ↦
@@ -206,27 +213,35 @@ module _ {K V : Type 0} (eq : K → K → Bool) (laws : IsEquivalence eq) where
             elim (among (λ e. e.key) (take most (take_while (is_idle policy now) (window_of lived.entries))) lived key) [
               | inl any ↦
                   inr (inl (or_right (live_expired (live_nanos policy) e.modified now) (is_idle policy now e)
-                  (front-passes (is_idle policy now) most lived true (window_of lived.entries) key e (window-stands eq laws lived.entries apart)
-                  any (stays ∙ found))))
+                  (front-passes (is_idle policy now) (λ e. is_window e.part) most lived (window_of lived.entries) key e
+                  (part-stands eq laws (λ e. is_window e.part) lived.entries apart) any (stays ∙ found))))
               | inr waits ↦
-                  elim (among (λ e. e.key) (take most (take_while (is_idle policy now) (main_of lived.entries))) waited key) [
+                  elim (among (λ e. e.key) (take most (take_while (is_idle policy now) (probation_of lived.entries))) waited key) [
                     | inl any ↦
                         inr (inl (or_right (live_expired (live_nanos policy) e.modified now) (is_idle policy now e)
-                        (front-passes (is_idle policy now) most lived false (main_of lived.entries) key e (main-stands eq laws lived.entries apart)
-                        any (stays ∙ found))))
-                    | inr used ↦
-                        elim (trim-cause policy.max_capacity expired key e (used ∙ (waits ∙ (stays ∙ found)))) [
-                          | inl stands ↦ inl stands
-                          | inr (l, is, above) ↦
-                              let less : total_weight (entries_from eq key expired.entries) ≤ total_weight
-                              (entries_from eq key contents.entries) =
-                              grind (
-                                arith,
-                                from-leaving lived_keys contents key,
-                                from-leaving (idle_keys policy now (window_of lived.entries)) lived key,
-                                from-leaving (idle_keys policy now (main_of lived.entries)) waited key,
-                              ) in
-                              inr (inr (l, is, grind (arith, above, less)))
+                        (front-passes (is_idle policy now) (λ e. is_probation e.part) most lived (probation_of lived.entries) key e
+                        (part-stands eq laws (λ e. is_probation e.part) lived.entries apart) any (stays ∙ found))))
+                    | inr tries ↦
+                        elim (among (λ e. e.key) (take most (take_while (is_idle policy now) (protected_of lived.entries))) tried key) [
+                          | inl any ↦
+                              inr (inl (or_right (live_expired (live_nanos policy) e.modified now) (is_idle policy now e)
+                              (front-passes (is_idle policy now) (λ e. is_protected e.part) most lived (protected_of lived.entries) key e
+                              (part-stands eq laws (λ e. is_protected e.part) lived.entries apart) any (stays ∙ found))))
+                          | inr used ↦
+                              elim (trim-cause policy.max_capacity expired key e (used ∙ (tries ∙ (waits ∙ (stays ∙ found))))) [
+                                | inl stands ↦ inl stands
+                                | inr (l, is, above) ↦
+                                    let less : total_weight (entries_from eq key expired.entries) ≤ total_weight
+                                    (entries_from eq key contents.entries) =
+                                    grind (
+                                      arith,
+                                      from-leaving lived_keys contents key,
+                                      from-leaving (idle_keys policy now (window_of lived.entries)) lived key,
+                                      from-leaving (idle_keys policy now (probation_of lived.entries)) waited key,
+                                      from-leaving (idle_keys policy now (protected_of lived.entries)) tried key,
+                                    ) in
+                                    inr (inr (l, is, grind (arith, above, less)))
+                              ]
                         ]
                   ]
             ]
@@ -332,10 +347,10 @@ module _ {K V : Type 0} (eq : K → K → Bool) (laws : IsEquivalence eq) where
   -- what becomes of an entry when a candidate is judged: it stands, or it is the candidate and main has no room, or it gives way to it
   pub data Judged (limit : ℕ) (sketch : Option Table) (c : Entry K V) (contents after : Contents K V) (key : K) (e : Entry K V) : Type 0 where
     Stays : (new : Entry K V) → entry_at eq key after.entries ≡ Some new → IsSame eq laws e new → Judged limit sketch c contents after key e
-    IsRejected : eq c.key key ≡ true → e.in_window ≡ true → limit < total_weight (main_of contents.entries) + c.weight
+    IsRejected : eq c.key key ≡ true → is_window e.part ≡ true → limit < total_weight (main_of contents.entries) + c.weight
         → Judged limit sketch c contents after key e
     GivesWay : estimate sketch e.hash < estimate sketch c.hash → limit < total_weight (main_of contents.entries) + c.weight
-        → entry_at eq c.key after.entries ≡ Some (record c { in_window = false }) → Judged limit sketch c contents after key e
+        → entry_at eq c.key after.entries ≡ Some (record c { part = Probation }) → Judged limit sketch c contents after key e
 
   judged : (limit : ℕ) (sketch : Option Table) (c : Entry K V) (contents : Contents K V) → StandOnce eq contents.entries
       → StandsIn eq laws contents.entries true c
@@ -347,13 +362,13 @@ module _ {K V : Type 0} (eq : K → K → Bool) (laws : IsEquivalence eq) where
         | inl equal ↦
             let same : c ≡ e = one_of (sym (entry_at-equal laws c.key key equal contents.entries) ∙ stands.0) found in
             let (l, limited, full) = no-room (Some limit) sketch c (main_of contents.entries) is in
-            IsRejected equal (ap (λ x. x.in_window) (sym same) ∙ stands.1)
+            IsRejected equal (ap (λ x. is_window x.part) (sym same) ∙ stands.1)
             (subst (λ n. n < total_weight (main_of contents.entries) + c.weight) (sym (one_of refl limited)) full)
         | inr differ ↦ Stays e (entry_at-other laws c.key key differ contents.entries ∙ found) (same-self eq laws e)
       ]
   judged limit sketch c contents once stands (Some gone) is key e found =
       let left = after_leaving eq (entry_keys gone) contents in
-      let moved = record c { in_window = false } in
+      let moved = record c { part = Probation } in
       let at : (k : K) → entry_at eq k (after_candidacy eq c (Some gone) contents).entries ≡ cond (eq c.key k) (Some moved)
       (entry_at eq k left.entries) =
       λ k. entry_at-moved laws k moved left.entries in
@@ -376,7 +391,7 @@ module _ {K V : Type 0} (eq : K → K → Bool) (laws : IsEquivalence eq) where
                   let same : g ≡ e = one_of in_main.0 (entry_at-equal laws g.key key equal contents.entries ∙ found) in
                   let (l, limited, full, more) =
                   displaced (Some limit) sketch c (main_of contents.entries) gone is key e any
-                  (found-passing (λ x. not x.in_window) key contents.entries e found (ap (λ x. not x.in_window) (sym same) ∙ ap not in_main.1)) in
+                  (found-passing (λ x. not (is_window x.part)) key contents.entries e found (ap (λ x. not (is_window x.part)) (sym same) ∙ ap not in_main.1)) in
                   GivesWay more (subst (λ n. n < total_weight (main_of contents.entries) + c.weight) (sym (one_of refl limited)) full)
                   (at c.key ∙ cond-true (eq c.key c.key) (Some moved) (entry_at eq c.key left.entries) (laws.refl c.key))
             ]
@@ -388,7 +403,7 @@ module _ {K V : Type 0} (eq : K → K → Bool) (laws : IsEquivalence eq) where
   main-grows c None contents =
       grind (
         arith,
-        ap total_weight (filter-swap eq laws (λ x. not x.in_window) (λ x. not (eq c.key x.key)) contents.entries),
+        ap total_weight (filter-swap eq laws (λ x. not (is_window x.part)) (λ x. not (eq c.key x.key)) contents.entries),
         total-filter (λ x. not (eq c.key x.key)) (main_of contents.entries),
       )
   main-grows c (Some gone) contents =
@@ -403,44 +418,44 @@ module _ {K V : Type 0} (eq : K → K → Bool) (laws : IsEquivalence eq) where
   -- room for so much
   pub data Decided (limit most : ℕ) (sketch : Option Table) (after : Contents K V) (key : K) (e : Entry K V) : Type 0 where
     StaysThen : (new : Entry K V) → entry_at eq key after.entries ≡ Some new → IsSame eq laws e new → Decided limit most sketch after key e
-    WasRejected : e.in_window ≡ true → limit < most → Decided limit most sketch after key e
-    DisplacedBy : (new : Entry K V) → entry_at eq new.key after.entries ≡ Some new → new.in_window ≡ false
+    WasRejected : is_window e.part ≡ true → limit < most → Decided limit most sketch after key e
+    DisplacedBy : (new : Entry K V) → entry_at eq new.key after.entries ≡ Some new → is_window new.part ≡ false
         → estimate sketch e.hash < estimate sketch new.hash → limit < most → Decided limit most sketch after key e
 
-  decided : (limit most : ℕ) (sketch : Option Table) (cs : List (Entry K V)) (contents : Contents K V) → StandOnce eq contents.entries
+  decided : (limits : PartLimits) (most : ℕ) (sketch : Option Table) (cs : List (Entry K V)) (contents : Contents K V) → StandOnce eq contents.entries
       → AreCandidates eq laws contents cs → total_weight (main_of contents.entries) + total_weight cs ≤ most
       → (key : K) (e : Entry K V) → entry_at eq key contents.entries ≡ Some e
-      → Decided (main_limit limit) most sketch (after_candidates eq limit sketch cs contents) key e
-  decided limit most sketch [] contents once are fits key e found = StaysThen e found (same-self eq laws e)
-  decided limit most sketch (c ∷ cs) contents once are fits key e found =
-      let gone = victims_of (Some (main_limit limit)) sketch c (main_of contents.entries) in
+      → Decided (main_limit limits) most sketch (after_candidates eq limits sketch cs contents) key e
+  decided limits most sketch [] contents once are fits key e found = StaysThen e found (same-self eq laws e)
+  decided limits most sketch (c ∷ cs) contents once are fits key e found =
+      let gone = victims_of (Some (main_limit limits)) sketch c (main_of contents.entries) in
       let next = after_candidacy eq c gone contents in
-      by (decided limit most sketch cs next (once-candidacy eq laws c gone contents once)
-      (are-left eq laws (main_limit limit) sketch c cs contents once are gone refl)
+      by (decided limits most sketch cs next (once-candidacy eq laws c gone contents once)
+      (are-left eq laws (main_limit limits) sketch c cs contents once are gone refl)
       (grind (arith, fits, main-grows c gone contents, total-cons c cs)))
-      (judged (main_limit limit) sketch c contents once are.stand.0 gone refl key e found)
+      (judged (main_limit limits) sketch c contents once are.stand.0 gone refl key e found)
     where
-      full : main_limit limit < total_weight (main_of contents.entries) + c.weight → main_limit limit < most
+      full : main_limit limits < total_weight (main_of contents.entries) + c.weight → main_limit limits < most
       full above = grind (arith, above, fits, total-cons c cs)
 
       same-hash : (x y : Entry K V) → IsSame eq laws x y → estimate sketch x.hash ≡ estimate sketch y.hash
       same-hash x y same = ap (λ z. estimate sketch z.hash) (sym same.but)
 
       stayed : (x : Entry K V) → IsSame eq laws e x
-          → Decided (main_limit limit) most sketch (after_candidates eq limit sketch (c ∷ cs) contents) key x
-          → Decided (main_limit limit) most sketch (after_candidates eq limit sketch (c ∷ cs) contents) key e
+          → Decided (main_limit limits) most sketch (after_candidates eq limits sketch (c ∷ cs) contents) key x
+          → Decided (main_limit limits) most sketch (after_candidates eq limits sketch (c ∷ cs) contents) key e
       stayed x same (StaysThen new at then) = StaysThen new at (same-both eq laws e x new same then)
       stayed x same (WasRejected waits above) = WasRejected (same.waits waits) above
       stayed x same (DisplacedBy new at main more above) =
           DisplacedBy new at main (subst (λ n. n < estimate sketch new.hash) (sym (same-hash e x same)) more) above
 
-      gave : estimate sketch e.hash < estimate sketch c.hash → main_limit limit < most
-          → Decided (main_limit limit) most sketch (after_candidates eq limit sketch (c ∷ cs) contents) c.key (record c { in_window = false })
-          → Decided (main_limit limit) most sketch (after_candidates eq limit sketch (c ∷ cs) contents) key e
+      gave : estimate sketch e.hash < estimate sketch c.hash → main_limit limits < most
+          → Decided (main_limit limits) most sketch (after_candidates eq limits sketch (c ∷ cs) contents) c.key (record c { part = Probation })
+          → Decided (main_limit limits) most sketch (after_candidates eq limits sketch (c ∷ cs) contents) key e
       gave less above (StaysThen new at then) =
-          let moved = record c { in_window = false } in
-          DisplacedBy new (ap (λ x. entry_at eq x.key (after_candidates eq limit sketch (c ∷ cs) contents).entries) then.but ∙ at)
-          (never new.in_window then.waits)
+          let moved = record c { part = Probation } in
+          DisplacedBy new (ap (λ x. entry_at eq x.key (after_candidates eq limits sketch (c ∷ cs) contents).entries) then.but ∙ at)
+          (never (is_window new.part) then.waits)
           (subst (λ n. estimate sketch e.hash < n) (same-hash moved new then) less) above
         where
           never : (b : Bool) → (b ≡ true → false ≡ true) → b ≡ false
@@ -450,14 +465,14 @@ module _ {K V : Type 0} (eq : K → K → Bool) (laws : IsEquivalence eq) where
       gave less above (DisplacedBy new at main more full) = DisplacedBy new at main (grind (arith, less, more)) full
 
       by : ((k : K) (x : Entry K V)
-          → entry_at eq k (after_candidacy eq c (victims_of (Some (main_limit limit)) sketch c (main_of contents.entries)) contents).entries
-          ≡ Some x → Decided (main_limit limit) most sketch (after_candidates eq limit sketch (c ∷ cs) contents) k x)
-          → Judged (main_limit limit) sketch c contents
-          (after_candidacy eq c (victims_of (Some (main_limit limit)) sketch c (main_of contents.entries)) contents) key e
-          → Decided (main_limit limit) most sketch (after_candidates eq limit sketch (c ∷ cs) contents) key e
+          → entry_at eq k (after_candidacy eq c (victims_of (Some (main_limit limits)) sketch c (main_of contents.entries)) contents).entries
+          ≡ Some x → Decided (main_limit limits) most sketch (after_candidates eq limits sketch (c ∷ cs) contents) k x)
+          → Judged (main_limit limits) sketch c contents
+          (after_candidacy eq c (victims_of (Some (main_limit limits)) sketch c (main_of contents.entries)) contents) key e
+          → Decided (main_limit limits) most sketch (after_candidates eq limits sketch (c ∷ cs) contents) key e
       by later (Stays new at same) = stayed new same (later key new at)
       by later (IsRejected equal waits above) = WasRejected waits (full above)
-      by later (GivesWay less above at) = gave less (full above) (later c.key (record c { in_window = false }) at)
+      by later (GivesWay less above at) = gave less (full above) (later c.key (record c { part = Probation }) at)
 
   -- ---- a new entry that enters the window
 
@@ -475,13 +490,13 @@ module _ {K V : Type 0} (eq : K → K → Bool) (laws : IsEquivalence eq) where
         | inr all ↦ inr (λ i. sym head i ∷ all i)
       ]
 
-  candidates-append : (limit : ℕ) (sketch : Option Table) (xs ys : List (Entry K V)) (contents : Contents K V)
-      → after_candidates eq limit sketch (xs ++ ys) contents
-      ≡ after_candidates eq limit sketch ys (after_candidates eq limit sketch xs contents)
-  candidates-append limit sketch [] ys contents = refl
-  candidates-append limit sketch (x ∷ xs) ys contents =
-      candidates-append limit sketch xs ys
-      (after_candidacy eq x (victims_of (Some (main_limit limit)) sketch x (main_of contents.entries)) contents)
+  candidates-append : (limits : PartLimits) (sketch : Option Table) (xs ys : List (Entry K V)) (contents : Contents K V)
+      → after_candidates eq limits sketch (xs ++ ys) contents
+      ≡ after_candidates eq limits sketch ys (after_candidates eq limits sketch xs contents)
+  candidates-append limits sketch [] ys contents = refl
+  candidates-append limits sketch (x ∷ xs) ys contents =
+      candidates-append limits sketch xs ys
+      (after_candidacy eq x (victims_of (Some (main_limit limits)) sketch x (main_of contents.entries)) contents)
 
   stand-front : (P : Entry K V → Type 0) (xs ys : List (Entry K V)) → AllByRecursion P (xs ++ ys) → AllByRecursion P xs
   stand-front P [] ys all = tt
@@ -491,38 +506,38 @@ module _ {K V : Type 0} (eq : K → K → Bool) (laws : IsEquivalence eq) where
   are-front contents xs ys are =
       record { stand = stand-front (StandsIn eq laws contents.entries true) xs ys are.stand; once = once-front eq xs ys are.once }
 
-  are-behind : (limit : ℕ) (sketch : Option Table) (xs ys : List (Entry K V)) (contents : Contents K V) → StandOnce eq contents.entries
-      → AreCandidates eq laws contents (xs ++ ys) → AreCandidates eq laws (after_candidates eq limit sketch xs contents) ys
-  are-behind limit sketch [] ys contents once are = are
-  are-behind limit sketch (x ∷ xs) ys contents once are =
-      let gone = victims_of (Some (main_limit limit)) sketch x (main_of contents.entries) in
-      are-behind limit sketch xs ys (after_candidacy eq x gone contents) (once-candidacy eq laws x gone contents once)
-      (are-left eq laws (main_limit limit) sketch x (xs ++ ys) contents once are gone refl)
+  are-behind : (limits : PartLimits) (sketch : Option Table) (xs ys : List (Entry K V)) (contents : Contents K V) → StandOnce eq contents.entries
+      → AreCandidates eq laws contents (xs ++ ys) → AreCandidates eq laws (after_candidates eq limits sketch xs contents) ys
+  are-behind limits sketch [] ys contents once are = are
+  are-behind limits sketch (x ∷ xs) ys contents once are =
+      let gone = victims_of (Some (main_limit limits)) sketch x (main_of contents.entries) in
+      are-behind limits sketch xs ys (after_candidacy eq x gone contents) (once-candidacy eq laws x gone contents once)
+      (are-left eq laws (main_limit limits) sketch x (xs ++ ys) contents once are gone refl)
 
-  main-grows-all : (limit : ℕ) (sketch : Option Table) (cs : List (Entry K V)) (contents : Contents K V)
-      → total_weight (main_of (after_candidates eq limit sketch cs contents).entries) ≤ total_weight (main_of contents.entries) + total_weight cs
-  main-grows-all limit sketch [] contents = grind (arith)
-  main-grows-all limit sketch (c ∷ cs) contents =
-      let gone = victims_of (Some (main_limit limit)) sketch c (main_of contents.entries) in
-      grind (arith, main-grows-all limit sketch cs (after_candidacy eq c gone contents), main-grows c gone contents, total-cons c cs)
+  main-grows-all : (limits : PartLimits) (sketch : Option Table) (cs : List (Entry K V)) (contents : Contents K V)
+      → total_weight (main_of (after_candidates eq limits sketch cs contents).entries) ≤ total_weight (main_of contents.entries) + total_weight cs
+  main-grows-all limits sketch [] contents = grind (arith)
+  main-grows-all limits sketch (c ∷ cs) contents =
+      let gone = victims_of (Some (main_limit limits)) sketch c (main_of contents.entries) in
+      grind (arith, main-grows-all limits sketch cs (after_candidacy eq c gone contents), main-grows c gone contents, total-cons c cs)
 
   -- what becomes of an entry when a new one enters the window
-  pub data Entered (limit : ℕ) (sketch : Option Table) (contents after : Contents K V) (key : K) (e : Entry K V) : Type 0 where
-    StaysWith : (new : Entry K V) → entry_at eq key after.entries ≡ Some new → IsSame eq laws e new → Entered limit sketch contents after key e
-    RejectedWith : e.in_window ≡ true → main_limit limit < total_weight contents.entries → Entered limit sketch contents after key e
+  pub data Entered (limits : PartLimits) (sketch : Option Table) (contents after : Contents K V) (key : K) (e : Entry K V) : Type 0 where
+    StaysWith : (new : Entry K V) → entry_at eq key after.entries ≡ Some new → IsSame eq laws e new → Entered limits sketch contents after key e
+    RejectedWith : is_window e.part ≡ true → main_limit limits < total_weight contents.entries → Entered limits sketch contents after key e
     DisplacedWith : (new : Entry K V) → entry_at eq new.key after.entries ≡ Some new → estimate sketch e.hash < estimate sketch new.hash
-        → main_limit limit < total_weight contents.entries + new.weight → Entered limit sketch contents after key e
+        → main_limit limits < total_weight contents.entries + new.weight → Entered limits sketch contents after key e
 
-  module _ (keeps : Bool) (limit : ℕ) (sketch : Option Table) (new : Entry K V) (contents : Contents K V)
+  module _ (keeps : Bool) (limits : PartLimits) (sketch : Option Table) (new : Entry K V) (contents : Contents K V)
       (absent : entry_at eq new.key contents.entries ≡ None) (once : StandOnce eq contents.entries) where
     abbrev waiting : Entry K V
-    waiting = record new { in_window = true }
+    waiting = record new { part = Window }
 
     abbrev within : Contents K V
-    within = after_entry eq keeps (record new { in_window = true }) contents
+    within = after_entry eq keeps (record new { part = Window }) contents
 
     abbrev chosen_ones : List (Entry K V)
-    chosen_ones = candidates limit (after_entry eq keeps (record new { in_window = true }) contents).entries
+    chosen_ones = candidates limits (after_entry eq keeps (record new { part = Window }) contents).entries
 
     apart : StandOnce eq within.entries
     apart = once-push eq laws contents.entries waiting absent once
@@ -535,7 +550,7 @@ module _ {K V : Type 0} (eq : K → K → Bool) (laws : IsEquivalence eq) where
     within-main =
         grind (
           arith,
-          ap total_weight (filter-append (λ e. not e.in_window) contents.entries (waiting ∷ [])),
+          ap total_weight (filter-append (λ e. not (is_window e.part)) contents.entries (waiting ∷ [])),
           sum_by-append (λ e. e.weight) (main_of contents.entries) [],
         )
 
@@ -543,9 +558,9 @@ module _ {K V : Type 0} (eq : K → K → Bool) (laws : IsEquivalence eq) where
     parted : ((r : List (Entry K V)) × (window_of contents.entries ≡ chosen_ones ++ r))
         ⊎ (chosen_ones ≡ window_of contents.entries ++ waiting ∷ [])
     parted =
-        let (rest, parts, heavy) = least_parts (excess limit within.entries) (window_of within.entries) in
+        let (rest, parts, heavy) = least_parts (excess limits within.entries) (window_of within.entries) in
         last-front (window_of contents.entries) chosen_ones rest waiting
-        (sym (filter-append (λ e. e.in_window) contents.entries (waiting ∷ [])) ∙ parts)
+        (sym (filter-append (λ e. is_window e.part) contents.entries (waiting ∷ [])) ∙ parts)
 
     fits-some : (r : List (Entry K V)) → window_of contents.entries ≡ chosen_ones ++ r
         → total_weight (main_of within.entries) + total_weight chosen_ones ≤ total_weight contents.entries
@@ -564,40 +579,40 @@ module _ {K V : Type 0} (eq : K → K → Bool) (laws : IsEquivalence eq) where
     -- where all are candidates, the new one is the last
     abbrev before_last : Contents K V
     before_last =
-        after_candidates eq limit sketch (window_of contents.entries) (after_entry eq keeps (record new { in_window = true }) contents)
+        after_candidates eq limits sketch (window_of contents.entries) (after_entry eq keeps (record new { part = Window }) contents)
 
     abbrev after_last : Contents K V
     after_last =
-        after_candidacy eq waiting (victims_of (Some (main_limit limit)) sketch waiting (main_of before_last.entries)) before_last
+        after_candidacy eq waiting (victims_of (Some (main_limit limits)) sketch waiting (main_of before_last.entries)) before_last
 
-    last-is : chosen_ones ≡ window_of contents.entries ++ waiting ∷ [] → after_entering eq keeps limit sketch new contents ≡ after_last
+    last-is : chosen_ones ≡ window_of contents.entries ++ waiting ∷ [] → after_entering eq keeps limits sketch new contents ≡ after_last
     last-is all =
-        ap (λ cs. after_candidates eq limit sketch cs within) all
-        ∙ candidates-append limit sketch (window_of contents.entries) (waiting ∷ []) within
+        ap (λ cs. after_candidates eq limits sketch cs within) all
+        ∙ candidates-append limits sketch (window_of contents.entries) (waiting ∷ []) within
 
     all-are : chosen_ones ≡ window_of contents.entries ++ waiting ∷ []
         → AreCandidates eq laws within (window_of contents.entries ++ waiting ∷ [])
-    all-are all = subst (AreCandidates eq laws within) all (are-chosen eq laws limit within apart)
+    all-are all = subst (AreCandidates eq laws within) all (are-chosen eq laws limits within apart)
 
     judged-last : chosen_ones ≡ window_of contents.entries ++ waiting ∷ [] → (key : K) (e : Entry K V)
-        → entry_at eq key before_last.entries ≡ Some e → Judged (main_limit limit) sketch waiting before_last after_last key e
+        → entry_at eq key before_last.entries ≡ Some e → Judged (main_limit limits) sketch waiting before_last after_last key e
     judged-last all key e found =
-        let are = are-behind limit sketch (window_of contents.entries) (waiting ∷ []) within apart (all-are all) in
-        judged (main_limit limit) sketch waiting before_last (once-candidates eq laws limit sketch (window_of contents.entries) within apart)
-        are.stand.0 (victims_of (Some (main_limit limit)) sketch waiting (main_of before_last.entries)) refl key e found
+        let are = are-behind limits sketch (window_of contents.entries) (waiting ∷ []) within apart (all-are all) in
+        judged (main_limit limits) sketch waiting before_last (once-candidates eq laws limits sketch (window_of contents.entries) within apart)
+        are.stand.0 (victims_of (Some (main_limit limits)) sketch waiting (main_of before_last.entries)) refl key e found
 
     decided-before : chosen_ones ≡ window_of contents.entries ++ waiting ∷ [] → (key : K) (e : Entry K V)
         → entry_at eq key within.entries ≡ Some e
-        → Decided (main_limit limit) (total_weight contents.entries) sketch before_last key e
+        → Decided (main_limit limits) (total_weight contents.entries) sketch before_last key e
     decided-before all key e found =
-        decided limit (total_weight contents.entries) sketch (window_of contents.entries) within apart
+        decided limits (total_weight contents.entries) sketch (window_of contents.entries) within apart
         (are-front within (window_of contents.entries) (waiting ∷ []) (all-are all)) fits-all key e found
 
     fewer-before : total_weight (main_of before_last.entries) ≤ total_weight contents.entries
-    fewer-before = grind (arith, fits-all, main-grows-all limit sketch (window_of contents.entries) within)
+    fewer-before = grind (arith, fits-all, main-grows-all limits sketch (window_of contents.entries) within)
 
     pub entered : (key : K) (e : Entry K V) → entry_at eq key contents.entries ≡ Some e
-        → Entered limit sketch contents (after_entering eq keeps limit sketch new contents) key e
+        → Entered limits sketch contents (after_entering eq keeps limits sketch new contents) key e
     entered key e found =
         elim (cases_Bool (eq new.key key)) [
           | inl equal ↦ something (sym (entry_at-equal laws new.key key equal contents.entries) ∙ absent) found
@@ -605,76 +620,76 @@ module _ {K V : Type 0} (eq : K → K → Bool) (laws : IsEquivalence eq) where
               let there = within-at key ∙ (cond-false (eq new.key key) (Some waiting) (entry_at eq key contents.entries) differ ∙ found) in
               elim parted [
                 | inl (r, parts) ↦
-                    some (decided limit (total_weight contents.entries) sketch chosen_ones within apart
-                    (are-chosen eq laws limit within apart) (fits-some r parts) key e there)
+                    some (decided limits (total_weight contents.entries) sketch chosen_ones within apart
+                    (are-chosen eq laws limits within apart) (fits-some r parts) key e there)
                 | inr all ↦
-                    subst (λ c. Entered limit sketch contents c key e) (sym (last-is all)) (every all differ (decided-before all key e there))
+                    subst (λ c. Entered limits sketch contents c key e) (sym (last-is all)) (every all differ (decided-before all key e there))
               ]
         ]
       where
-        some : Decided (main_limit limit) (total_weight contents.entries) sketch (after_entering eq keeps limit sketch new contents) key e
-            → Entered limit sketch contents (after_entering eq keeps limit sketch new contents) key e
+        some : Decided (main_limit limits) (total_weight contents.entries) sketch (after_entering eq keeps limits sketch new contents) key e
+            → Entered limits sketch contents (after_entering eq keeps limits sketch new contents) key e
         some (StaysThen x at same) = StaysWith x at same
         some (WasRejected waits above) = RejectedWith waits above
         some (DisplacedBy x at main more above) = DisplacedWith x at more (grind (arith, above))
 
         stayed : eq new.key key ≡ false → (x : Entry K V) → IsSame eq laws e x
-            → Judged (main_limit limit) sketch waiting before_last after_last key x
-            → Entered limit sketch contents after_last key e
+            → Judged (main_limit limits) sketch waiting before_last after_last key x
+            → Entered limits sketch contents after_last key e
         stayed differ x same (Stays y at then) = StaysWith y at (same-both eq laws e x y same then)
         stayed differ x same (IsRejected equal waits above) = absurd (false≢true (sym differ ∙ equal))
         stayed differ x same (GivesWay less above at) =
-            DisplacedWith (record waiting { in_window = false }) at
+            DisplacedWith (record waiting { part = Probation }) at
             (subst (λ n. n < estimate sketch new.hash) (ap (λ z. estimate sketch z.hash) same.but) less)
             (grind (arith, above, fewer-before))
 
-        gave : (x : Entry K V) → x.in_window ≡ false → estimate sketch e.hash < estimate sketch x.hash
-            → main_limit limit < total_weight contents.entries
-            → Judged (main_limit limit) sketch waiting before_last after_last x.key x
-            → Entered limit sketch contents after_last key e
+        gave : (x : Entry K V) → is_window x.part ≡ false → estimate sketch e.hash < estimate sketch x.hash
+            → main_limit limits < total_weight contents.entries
+            → Judged (main_limit limits) sketch waiting before_last after_last x.key x
+            → Entered limits sketch contents after_last key e
         gave x main more above (Stays y at then) =
             DisplacedWith y (ap (λ z. entry_at eq z.key after_last.entries) then.but ∙ at)
             (subst (λ n. estimate sketch e.hash < n) (sym (ap (λ z. estimate sketch z.hash) then.but)) more) (grind (arith, above))
         gave x main more above (IsRejected equal waits full) = absurd (false≢true (sym main ∙ waits))
         gave x main more above (GivesWay less full at) =
-            DisplacedWith (record waiting { in_window = false }) at (grind (arith, more, less)) (grind (arith, above))
+            DisplacedWith (record waiting { part = Probation }) at (grind (arith, more, less)) (grind (arith, above))
 
         every : chosen_ones ≡ window_of contents.entries ++ waiting ∷ [] → eq new.key key ≡ false
-            → Decided (main_limit limit) (total_weight contents.entries) sketch before_last key e
-            → Entered limit sketch contents after_last key e
+            → Decided (main_limit limits) (total_weight contents.entries) sketch before_last key e
+            → Entered limits sketch contents after_last key e
         every all differ (StaysThen x at same) = stayed differ x same (judged-last all key x at)
         every all differ (WasRejected waits above) = RejectedWith waits above
         every all differ (DisplacedBy x at main more above) = gave x main more above (judged-last all x.key x at)
 
     -- where the new one doesn't stand then, main has no room for all
-    pub new-rejected : entry_at eq new.key (after_entering eq keeps limit sketch new contents).entries ≡ None
-        → main_limit limit < total_weight contents.entries + new.weight
+    pub new-rejected : entry_at eq new.key (after_entering eq keeps limits sketch new contents).entries ≡ None
+        → main_limit limits < total_weight contents.entries + new.weight
     new-rejected none =
         let there = within-at new.key ∙ cond-true (eq new.key new.key) (Some waiting) (entry_at eq new.key contents.entries) (laws.refl new.key) in
         elim parted [
           | inl (r, parts) ↦
-              some (decided limit (total_weight contents.entries) sketch chosen_ones within apart
-              (are-chosen eq laws limit within apart) (fits-some r parts) new.key waiting there)
+              some (decided limits (total_weight contents.entries) sketch chosen_ones within apart
+              (are-chosen eq laws limits within apart) (fits-some r parts) new.key waiting there)
           | inr all ↦
               every all (sym (ap (λ c. entry_at eq new.key c.entries) (last-is all)) ∙ none) (decided-before all new.key waiting there)
         ]
       where
-        some : Decided (main_limit limit) (total_weight contents.entries) sketch (after_entering eq keeps limit sketch new contents) new.key waiting
-            → main_limit limit < total_weight contents.entries + new.weight
+        some : Decided (main_limit limits) (total_weight contents.entries) sketch (after_entering eq keeps limits sketch new contents) new.key waiting
+            → main_limit limits < total_weight contents.entries + new.weight
         some (StaysThen x at same) = something none at
         some (WasRejected waits above) = grind (arith, above)
         some (DisplacedBy x at main more above) = grind (arith, above)
 
         last : (x : Entry K V) → entry_at eq new.key after_last.entries ≡ None
-            → Judged (main_limit limit) sketch waiting before_last after_last new.key x
-            → main_limit limit < total_weight contents.entries + new.weight
+            → Judged (main_limit limits) sketch waiting before_last after_last new.key x
+            → main_limit limits < total_weight contents.entries + new.weight
         last x none (Stays y at then) = something none at
         last x none (IsRejected equal waits above) = grind (arith, above, fewer-before)
         last x none (GivesWay less above at) = grind (arith, above, fewer-before)
 
         every : chosen_ones ≡ window_of contents.entries ++ waiting ∷ [] → entry_at eq new.key after_last.entries ≡ None
-            → Decided (main_limit limit) (total_weight contents.entries) sketch before_last new.key waiting
-            → main_limit limit < total_weight contents.entries + new.weight
+            → Decided (main_limit limits) (total_weight contents.entries) sketch before_last new.key waiting
+            → main_limit limits < total_weight contents.entries + new.weight
         every all none (StaysThen x at same) = last x none (judged-last all new.key x at)
         every all none (WasRejected waits above) = grind (arith, above)
         every all none (DisplacedBy x at main more above) = grind (arith, above)
@@ -687,17 +702,22 @@ not-put true x o e none some = something none refl
 not-put false x o e none some = something none some
 
 -- a limit with a window is the limit
-pub windowed-is : (o : Option ℕ) (limit : ℕ) → windowed_limit o ≡ Some limit → o ≡ Some limit
-windowed-is None limit h = something {o = None} refl h
-windowed-is (Some l) limit h =
-    elim (cases_Bool (nat_le WINDOW_SHARE l)) [
-      | inl large ↦ sym (cond-true (nat_le WINDOW_SHARE l) (Some l) None large) ∙ h
-      | inr small ↦ something (cond-false (nat_le WINDOW_SHARE l) (Some l) None small) h
+pub windowed-is : (shares : Shares) (o : Option ℕ) (limits : PartLimits) → windowed_limits shares o ≡ Some limits
+    → (l : ℕ) × (o ≡ Some l) × (limits ≡ limits_of shares l)
+windowed-is shares None limits h = something {o = None} refl h
+windowed-is shares (Some l) limits h =
+    let some = nat_lt 0 (limits_of shares l).window in
+    elim (cases_Bool (nat_lt 0 (limits_of shares l).window)) [
+      | inl large ↦ (l, refl, one_of h (cond-true some (Some (limits_of shares l)) None large))
+      | inr small ↦ something (cond-false some (Some (limits_of shares l)) None small) h
     ]
 
 -- main may weigh no more than the limit
-pub main-less : (limit : ℕ) → main_limit limit ≤ limit
-main-less limit = omega arith
+pub main-less : (shares : Shares) (limit : ℕ) → main_limit (limits_of shares limit) ≤ limit
+main-less shares limit = by (limits_of shares limit).window
+  where
+    by : (window : ℕ) → limit - window ≤ limit
+    by window = omega arith
 
 module _ {K V S : Type 0} (keys : Keys K S) (laws : IsEquivalence keys.eq) (key : K) (e : Entry K V) where
   -- another key is equal to the entry's as it is to the key
@@ -706,13 +726,18 @@ module _ {K V S : Type 0} (keys : Keys K S) (laws : IsEquivalence keys.eq) (key 
       laws.symm other key ∙ (laws.congr key e.key other (found_key keys.eq key e entries found) ∙ laws.symm e.key other)
 
   -- a use lets it stand
-  pub use-stands : {P : Type 0} (now : ℕ) (o : Option (Entry K V)) (contents : Contents K V)
+  pub using-stands : {P : Type 0} (room : ℕ) (used : Entry K V) (contents : Contents K V) → entry_at keys.eq key contents.entries ≡ Some e
+      → entry_at keys.eq key (after_using keys.eq room used contents).entries ≡ None → P
+  using-stands room used contents stands none =
+      let (f, at) = entry_at-using laws room key used contents in
+      not-put (keys.eq used.key key) used (entry_at keys.eq key contents.entries) e
+      (placed-none f (cond (keys.eq used.key key) (Some used) (entry_at keys.eq key contents.entries)) (sym at ∙ none)) stands
+
+  pub use-stands : {P : Type 0} (room now : ℕ) (o : Option (Entry K V)) (contents : Contents K V)
       → entry_at keys.eq key contents.entries ≡ Some e
-      → entry_at keys.eq key (after_use keys.eq now o contents).entries ≡ None → P
-  use-stands now None contents stands none = something none stands
-  use-stands now (Some used) contents stands none =
-      not-put (keys.eq used.key key) (record used { accessed = now }) (entry_at keys.eq key contents.entries) e
-      (sym (entry_at-moved laws key (record used { accessed = now }) contents.entries) ∙ none) stands
+      → entry_at keys.eq key (after_use keys.eq room now o contents).entries ≡ None → P
+  use-stands room now None contents stands none = something none stands
+  use-stands room now (Some used) contents stands none = using-stands room (record used { accessed = now }) contents stands none
 
 module _ {K V S W : Type 0} (keys : Keys K S) (laws : IsEquivalence keys.eq) (key : K) (e : Entry K V) where
   -- upkeep removes it, or it stands when the call acts
@@ -733,18 +758,16 @@ module _ {K V S W : Type 0} (keys : Keys K S) (laws : IsEquivalence keys.eq) (ke
   -- where a put removes it, it gave way
   put-cause : (old new cache : CacheState K V S W) (other : K) (value : V) (now : ℕ) (o : Option (Entry K V)) (put : Entry K V)
       (refused : Bool) → new ≡ after_put keys.eq cache o put refused
-      → cache.settings ≡ old.settings → cache.sketch ≡ old.sketch
+      → terms_of cache ≡ terms_of old → cache.sketch ≡ old.sketch
       → total_weight cache.contents.entries ≤ total_weight old.contents.entries → StandOnce keys.eq cache.contents.entries → put.key ≡ other
       → entry_at keys.eq put.key cache.contents.entries ≡ o → entry_at keys.eq key cache.contents.entries ≡ Some e
       → entry_at keys.eq key new.contents.entries ≡ None
       → RemovalCause keys old (Insert other value now) new e
-  put-cause old new cache other value now (Some known) put refused is settings sketch less once own there stands none =
-      let update = record put { key = known.key; hash = known.hash; in_window = known.in_window } in
-      not-put (keys.eq known.key key) update (entry_at keys.eq key cache.contents.entries) e
-      (sym (entry_at-moved laws key update cache.contents.entries) ∙
-      (sym (ap (λ c. entry_at keys.eq key c.contents.entries) is) ∙ none)) stands
-  put-cause old new cache other value now None put refused is settings sketch less once own there stands none =
-      entering (windowed_limit cache.settings.policy.max_capacity) refl is
+  put-cause old new cache other value now (Some known) put refused is terms sketch less once own there stands none =
+      using-stands keys laws key e (room_of cache) (record put { key = known.key; hash = known.hash; part = known.part }) cache.contents
+      stands (sym (ap (λ c. entry_at keys.eq key c.contents.entries) is) ∙ none)
+  put-cause old new cache other value now None put refused is terms sketch less once own there stands none =
+      entering (windowed cache) refl is
     where
       by : (gone : Option (List (Entry K V))) → victims_of cache.settings.policy.max_capacity cache.sketch put cache.contents.entries ≡ gone
           → new.contents.entries ≡ (after_verdict keys.eq cache put gone refused).contents.entries
@@ -755,8 +778,7 @@ module _ {K V S W : Type 0} (keys : Keys K S) (laws : IsEquivalence keys.eq) (ke
           let empty = absent-left laws gone cache.contents put.key there in
           let at : (k : K) → entry_at keys.eq k new.contents.entries ≡ cond (keys.eq put.key k) (Some put)
           (entry_at keys.eq k left.entries) =
-          λ k. ap (entry_at keys.eq k) after ∙ entry_at-push laws k put left.entries
-          (λ equal. sym (entry_at-equal laws put.key k equal left.entries) ∙ empty) in
+          λ k. ap (entry_at keys.eq k) after ∙ entry_at-latest laws k put left.entries empty in
           elim (cases_Bool (keys.eq put.key key)) [
             | inl equal ↦ something (sym (entry_at-equal laws put.key key equal cache.contents.entries) ∙ there) stands
             | inr differ ↦
@@ -774,26 +796,28 @@ module _ {K V S W : Type 0} (keys : Keys K S) (laws : IsEquivalence keys.eq) (ke
                       (at put.key ∙ cond-true (keys.eq put.key put.key) (Some put) (entry_at keys.eq put.key left.entries)
                       (laws.refl put.key)))
                       (subst (λ s. estimate s e.hash < estimate s put.hash) sketch more)
-                      (sym (ap (λ s. s.policy.max_capacity) settings) ∙ limited) (grind (arith, full, less, main-less l))
+                      (sym (ap (λ t. t.0.policy.max_capacity) terms) ∙ limited) (grind (arith, full, less, main-less old.shares l))
                 ]
           ]
 
-      entering : (limit : Option ℕ) → windowed_limit cache.settings.policy.max_capacity ≡ limit
+      entering : (limit : Option PartLimits) → windowed cache ≡ limit
           → new ≡ after_new keys.eq cache limit put refused → RemovalCause keys old (Insert other value now) new e
-      entering None windowed is =
+      entering None limits is =
           by (victims_of cache.settings.policy.max_capacity cache.sketch put cache.contents.entries) refl (ap (λ c. c.contents.entries) is)
-      entering (Some limit) windowed is =
+      entering (Some limit) limits is =
           let keeps = keeps_writes cache.settings.policy in
           let contents = after_entering keys.eq keeps limit cache.sketch put cache.contents in
           let after : new.contents ≡ contents =
           ap (λ c. c.contents) is ∙ contents-standing keys.eq (record cache { contents = contents }) put refused in
-          let limited : old.settings.policy.max_capacity ≡ Some limit =
-          ap (λ s. s.policy.max_capacity) (sym settings) ∙ windowed-is cache.settings.policy.max_capacity limit windowed in
+          let (l, has, limit_is) = windowed-is cache.shares cache.settings.policy.max_capacity limit limits in
+          let limited : old.settings.policy.max_capacity ≡ Some l = ap (λ t. t.0.policy.max_capacity) (sym terms) ∙ has in
+          let limits_are : limit ≡ limits_of old.shares l = limit_is ∙ ap (λ t. limits_of t.1 l) terms in
+          let main : main_limit limit ≡ main_limit (limits_of old.shares l) = ap main_limit limits_are in
           elim (entered keys.eq laws keeps limit cache.sketch put cache.contents there once key e stands) [
             | StaysWith x at same ↦ something (sym (ap (λ c. entry_at keys.eq key c.entries) after) ∙ none) at
-            | RejectedWith waits above ↦ Rejected other value now limit refl waits limited (grind (arith, above, less))
+            | RejectedWith waits above ↦ Rejected other value now l refl waits limited (grind (arith, above, less, main))
             | DisplacedWith x at more above ↦
-                Displaced other value now limit x refl
+                Displaced other value now l x refl
                 (elim (cases_Bool (keys.eq x.key e.key)) [
                   | inl equal ↦
                       something (sym (ap (λ c. entry_at keys.eq key c.entries) after) ∙ none)
@@ -802,7 +826,7 @@ module _ {K V S W : Type 0} (keys : Keys K S) (laws : IsEquivalence keys.eq) (ke
                   | inr differ ↦ differ
                 ])
                 (ap (λ c. entry_at keys.eq x.key c.entries) after ∙ at)
-                (subst (λ s. estimate s e.hash < estimate s x.hash) sketch more) limited (grind (arith, above, less))
+                (subst (λ s. estimate s e.hash < estimate s x.hash) sketch more) limited (grind (arith, above, less, main))
           ]
 
   module _ (weighs : W → K → V → ℕ → W → Type 0) where
@@ -813,7 +837,7 @@ module _ {K V S W : Type 0} (keys : Keys K S) (laws : IsEquivalence keys.eq) (ke
         → RemovalCause keys old request new e
     step-cause old new (Get other now) answer step tied once found none =
         upkept old new (Get other now) now refl tied once found
-        (λ stands. use-stands keys laws key e now (unexpired_at keys.eq old.settings.policy now other (after_look keys old now).contents)
+        (λ stands. use-stands keys laws key e (room_of old) now (unexpired_at keys.eq old.settings.policy now other (after_look keys old now).contents)
         (after_look keys old now).contents stands
         (sym (ap (λ c. entry_at keys.eq key c.contents.entries) step.1) ∙ none))
     step-cause old new (Peek other now) answer step tied once found none =

@@ -11,15 +11,16 @@ use Rattle.moka_base.specs.Keys.{Keys}
 use Rattle.moka_base.specs.Policy.{Policy}
 use Rattle.moka_machine.specs.declared.entry.Entry.{Entry}
 use Rattle.moka_machine.specs.declared.constants.TheConstants.{EVICTION_BATCH_SIZE}
-use Rattle.moka_machine.specs.Contents.{Contents, after_leaving, entry_at, entries_without, entry_keys, main_of, total_weight, window_of, with_latest, without}
-use Rattle.moka_machine.specs.CacheState.{CacheState, new_cache}
+use Rattle.moka_machine.specs.Contents.{Contents, after_leaving, entry_at, entries_without, entry_keys, main_of, total_weight, window_of, without}
+use Rattle.moka_machine.specs.Contents.{is_window, probation_of, protected_of}
+use Rattle.moka_machine.specs.CacheState.{CacheState, new_cache, room_of, windowed}
 use Rattle.moka_base.specs.Settings.{Settings, keeps_writes}
 use Rattle.moka_sketch.specs.Sketch.{Table}
 use Rattle.moka_machine.specs.Upkeep.{after_expiry, after_idle, after_live_expiry, after_trim, after_upkeep, has_lived, is_idle, least_recent}
-use Rattle.moka_machine.specs.Lookup.{after_get, after_use, after_look, unexpired_at}
+use Rattle.moka_machine.specs.Lookup.{after_get, after_use, after_look, unexpired_at, after_using}
 use Rattle.moka_machine.specs.Upkeep.{is_expired, unexpired}
 use Rattle.moka_machine.specs.Insert.{after_entering, after_entry, after_new, after_put, after_verdict, new_entry}
-use Rattle.moka_machine.specs.Window.{after_candidacy, after_candidates, candidates, main_limit, victims_of, windowed_limit}
+use Rattle.moka_machine.specs.Window.{after_candidacy, after_candidates, candidates, victims_of}
 use Rattle.moka_machine.specs.Invalidate.{chosen}
 use Rattle.moka_machine.specs.Iterate.{unexpired_pairs}
 use Rattle.moka_machine.specs.Step.{Answer, IsStep, Request, Get, Peek, ContainsKey, Insert, Invalidate, Remove, InvalidateAll}
@@ -29,13 +30,18 @@ use Rattle.moka_history.specs.History.{IsLastInsert, LastWrite, LastWritesAreIns
 use Rattle.moka_history.specs.History.{RunsHaveAHistory}
 use Rattle.moka_history.specs.History.{is_invalidated, is_over, is_written, known_after, last_write, used_at}
 use Rattle.moka_history.specs.Removal.{last_write_of}
-use Rattle.moka_machine.proofs.ContentsLemmas.{found_key}
+use Rattle.moka_machine.proofs.ContentsLemmas.{found_key, absent-leaving}
 use Rattle.moka_laws.proofs.KeyLemmas.{StandOnce, contents-standing, entry_at-gone, none_stand, once-candidacy, once-push, once-remains, once-step}
 use Rattle.moka_laws.proofs.LimitLemmas.{found_there}
 use Rattle.moka_laws.proofs.MapLemmas.{entry_at-equal, entry_at-moved, entry_at-other, entry_at-push}
 use Rattle.moka_laws.proofs.RemainLemmas.{remains-upkeep}
 use Rattle.moka_laws.proofs.StandLemmas.{AreCandidates, are-chosen, are-left}
-use Rattle.moka_laws.proofs.MapLemmas.{gone_either, settings-step, told_by_value}
+use Rattle.moka_laws.proofs.MapLemmas.{gone_either, settings-step, told_by_value, entry_at-latest, entry_at-using}
+use Rattle.moka_machine.specs.declared.shares.PartLimits.{PartLimits}
+use Rattle.moka_machine.specs.Shares.{main_limit}
+use Rattle.moka_machine.specs.declared.entry.Part.TheVariants.{Probation, Window}
+use Rattle.moka_machine.specs.declared.shares.Shares.{Shares}
+use Rattle.moka_machine.proofs.PartLemmas.{placed-some}
 
 -- a key among those of entries is that of one of them
 pub any-key : {K V : Type 0} (test : K → Bool) (entries : List (Entry K V))
@@ -99,10 +105,12 @@ module _ {K V : Type 0} {eq : K → K → Bool} (laws : IsEquivalence eq) where
   found-upkeep policy now contents key e h =
       let lived = after_live_expiry eq policy now EVICTION_BATCH_SIZE contents in
       let waited = after_idle eq policy now EVICTION_BATCH_SIZE (window_of lived.entries) lived in
+      let tried = after_idle eq policy now EVICTION_BATCH_SIZE (probation_of lived.entries) waited in
       (found-leaving (λ w. w.key) (take EVICTION_BATCH_SIZE (take_while (has_lived policy now) contents.written)) contents key e
       (found-leaving (λ e. e.key) (take EVICTION_BATCH_SIZE (take_while (is_idle policy now) (window_of lived.entries))) lived key e
-      (found-leaving (λ e. e.key) (take EVICTION_BATCH_SIZE (take_while (is_idle policy now) (main_of lived.entries))) waited key e
-      (found-trim policy.max_capacity (after_expiry eq policy now contents) key e h)).1).1).1
+      (found-leaving (λ e. e.key) (take EVICTION_BATCH_SIZE (take_while (is_idle policy now) (probation_of lived.entries))) waited key e
+      (found-leaving (λ e. e.key) (take EVICTION_BATCH_SIZE (take_while (is_idle policy now) (protected_of lived.entries))) tried key e
+      (found-trim policy.max_capacity (after_expiry eq policy now contents) key e h)).1).1).1).1
 
 module _ {K V : Type 0} {eq : K → K → Bool} (laws : IsEquivalence eq) where
   -- behind an entry of another key they are found as before
@@ -128,18 +136,18 @@ module _ {K V : Type 0} {eq : K → K → Bool} (laws : IsEquivalence eq) where
 module _ {K V : Type 0} (eq : K → K → Bool) (laws : IsEquivalence eq) where
   -- the same entry, wherever it is; in the window only if it was there
   pub record IsSame (old new : Entry K V) : Type 0 where
-    pub but : new ≡ record old { in_window = new.in_window }
-    pub waits : new.in_window ≡ true → old.in_window ≡ true
+    pub but : new ≡ record old { part = new.part }
+    pub waits : is_window new.part ≡ true → is_window old.part ≡ true
 
   pub same-self : (e : Entry K V) → IsSame e e
   same-self e = record { but = refl; waits = λ w. w }
 
-  pub same-moved : (e : Entry K V) → IsSame e (record e { in_window = false })
+  pub same-moved : (e : Entry K V) → IsSame e (record e { part = Probation })
   same-moved e = record { but = refl; waits = λ w. absurd (false≢true w) }
 
   pub same-both : (a b c : Entry K V) → IsSame a b → IsSame b c → IsSame a c
   same-both a b c f g =
-      record { but = g.but ∙ ap (λ (e : Entry K V). record e { in_window = c.in_window }) f.but; waits = λ w. f.waits (g.waits w) }
+      record { but = g.but ∙ ap (λ (e : Entry K V). record e { part = c.part }) f.but; waits = λ w. f.waits (g.waits w) }
 
   -- what stands once a candidate was judged stood before
   found-candidacy : (c : Entry K V) (contents : Contents K V) → entry_at eq c.key contents.entries ≡ Some c
@@ -150,7 +158,7 @@ module _ {K V : Type 0} (eq : K → K → Bool) (laws : IsEquivalence eq) where
       (e, is, same-self e)
   found-candidacy c contents stands (Some gone) key e h =
       let left = after_leaving eq (entry_keys gone) contents in
-      let moved = record c { in_window = false } in
+      let moved = record c { part = Probation } in
       let at : cond (eq c.key key) (Some moved) (entry_at eq key left.entries) ≡ Some e = sym (entry_at-moved laws key moved left.entries) ∙ h in
       elim (cases_Bool (eq c.key key)) [
         | inl equal ↦
@@ -161,39 +169,39 @@ module _ {K V : Type 0} (eq : K → K → Bool) (laws : IsEquivalence eq) where
             (e, (found-leaving laws (λ x. x.key) gone contents key e stays).1, same-self e)
       ]
 
-  found-candidates : (limit : ℕ) (sketch : Option Table) (es : List (Entry K V)) (contents : Contents K V) → StandOnce eq contents.entries
+  found-candidates : (limits : PartLimits) (sketch : Option Table) (es : List (Entry K V)) (contents : Contents K V) → StandOnce eq contents.entries
       → AreCandidates eq laws contents es
-      → (key : K) (e : Entry K V) → entry_at eq key (after_candidates eq limit sketch es contents).entries ≡ Some e
+      → (key : K) (e : Entry K V) → entry_at eq key (after_candidates eq limits sketch es contents).entries ≡ Some e
       → (old : Entry K V) × (entry_at eq key contents.entries ≡ Some old) × IsSame old e
-  found-candidates limit sketch [] contents once are key e h = (e, h, same-self e)
-  found-candidates limit sketch (c ∷ es) contents once are key e h =
-      let gone = victims_of (Some (main_limit limit)) sketch c (main_of contents.entries) in
+  found-candidates limits sketch [] contents once are key e h = (e, h, same-self e)
+  found-candidates limits sketch (c ∷ es) contents once are key e h =
+      let gone = victims_of (Some (main_limit limits)) sketch c (main_of contents.entries) in
       let next = after_candidacy eq c gone contents in
       let (middle, there, same) =
-      found-candidates limit sketch es next (once-candidacy eq laws c gone contents once)
-      (are-left eq laws (main_limit limit) sketch c es contents once are gone refl) key e h in
+      found-candidates limits sketch es next (once-candidacy eq laws c gone contents once)
+      (are-left eq laws (main_limit limits) sketch c es contents once are gone refl) key e h in
       let (old, stood, same_before) = found-candidacy c contents are.stand.0.0 gone key middle there in
       (old, stood, same-both old middle e same_before same)
 
   -- what stands then is the new entry, or stood before
-  pub found-entering : (keeps : Bool) (limit : ℕ) (sketch : Option Table) (new : Entry K V) (contents : Contents K V)
+  pub found-entering : (keeps : Bool) (limits : PartLimits) (sketch : Option Table) (new : Entry K V) (contents : Contents K V)
       → entry_at eq new.key contents.entries ≡ None → StandOnce eq contents.entries
-      → (key : K) (e : Entry K V) → entry_at eq key (after_entering eq keeps limit sketch new contents).entries ≡ Some e
-      → ((eq new.key key ≡ true) × (e ≡ record new { in_window = e.in_window }))
+      → (key : K) (e : Entry K V) → entry_at eq key (after_entering eq keeps limits sketch new contents).entries ≡ Some e
+      → ((eq new.key key ≡ true) × (e ≡ record new { part = e.part }))
       ⊎ ((eq new.key key ≡ false) × ((old : Entry K V) × (entry_at eq key contents.entries ≡ Some old) × IsSame old e))
-  found-entering keeps limit sketch new contents absent once key e h =
-      let waiting = record new { in_window = true } in
+  found-entering keeps limits sketch new contents absent once key e h =
+      let waiting = record new { part = Window } in
       let entered = after_entry eq keeps waiting contents in
       let apart = once-push eq laws contents.entries waiting absent once in
       let (old, stood, same) =
-      found-candidates limit sketch (candidates limit entered.entries) entered apart (are-chosen eq laws limit entered apart) key e h in
+      found-candidates limits sketch (candidates limits entered.entries) entered apart (are-chosen eq laws limits entered apart) key e h in
       let at : cond (eq new.key key) (Some waiting) (entry_at eq key contents.entries) ≡ Some old =
       sym (entry_at-push laws key waiting contents.entries (λ equal. sym (entry_at-equal laws new.key key equal contents.entries) ∙ absent))
       ∙ stood in
       elim (cases_Bool (eq new.key key)) [
         | inl equal ↦
             let is : waiting ≡ old = one_of (cond-true (eq new.key key) (Some waiting) (entry_at eq key contents.entries) equal) at in
-            inl (equal, same.but ∙ ap (λ (x : Entry K V). record x { in_window = e.in_window }) (sym is))
+            inl (equal, same.but ∙ ap (λ (x : Entry K V). record x { part = e.part }) (sym is))
         | inr differ ↦
             inr (differ, (old, sym (cond-false (eq new.key key) (Some waiting) (entry_at eq key contents.entries) differ) ∙ at, same))
       ]
@@ -222,24 +230,26 @@ module _ {K V S : Type 0} (keys : Keys K S) (laws : IsEquivalence keys.eq) where
   IsTold known entries = (key : K) (e : Entry K V) → entry_at keys.eq key entries ≡ Some e → known key ≡ Some (last_write_of e)
 
   -- a get that found an entry
-  told-hit : (known : K → Option (LastWrite V)) (entries : List (Entry K V)) (other : K) (now : ℕ) (used : Entry K V)
-      → IsTold known entries → entry_at keys.eq other entries ≡ Some used
+  told-hit : (known : K → Option (LastWrite V)) (room : ℕ) (contents : Contents K V) (other : K) (now : ℕ) (used : Entry K V)
+      → IsTold known contents.entries → entry_at keys.eq other contents.entries ≡ Some used
       → IsTold (λ key. cond (keys.eq other key) (option_map (used_at now) (known key)) (known key))
-      (with_latest (record used { accessed = now }) (entries_without keys.eq used.key entries))
-  told-hit known entries other now used told there key e h =
+      (after_using keys.eq room (record used { accessed = now }) contents).entries
+  told-hit known room contents other now used told there key e h =
+      let entries = contents.entries in
       let new = record used { accessed = now } in
       let same : keys.eq other key ≡ keys.eq used.key key = laws.congr other used.key key (found_key keys.eq other used entries there) in
-      let at : cond (keys.eq used.key key) (Some new) (entry_at keys.eq key entries) ≡ Some e =
-      sym (entry_at-moved laws key new entries) ∙ h in
+      let (f, placed_at) = entry_at-using laws room key new contents in
+      let (x, at, but) = placed-some f (cond (keys.eq used.key key) (Some new) (entry_at keys.eq key entries)) e (sym placed_at ∙ h) in
+      let but_part = ap (λ (e : Entry K V). Some (last_write_of e)) (sym but) in
       elim (cases_Bool (keys.eq used.key key)) [
         | inl equal ↦
-            let is : new ≡ e = one_of (cond-true (keys.eq used.key key) (Some new) (entry_at keys.eq key entries) equal) at in
+            let is : new ≡ x = one_of (cond-true (keys.eq used.key key) (Some new) (entry_at keys.eq key entries) equal) at in
             cond-true (keys.eq other key) _ _ (same ∙ equal)
             ∙ (ap (option_map (used_at now)) (told key used (sym (entry_at-equal laws other key (same ∙ equal) entries) ∙ there))
-            ∙ ap (λ e. Some (last_write_of e)) is)
+            ∙ (ap (λ e. Some (last_write_of e)) is ∙ but_part))
         | inr differ ↦
-            cond-false (keys.eq other key) _ _ (same ∙ differ) ∙ told key e
-            (sym (cond-false (keys.eq used.key key) (Some new) (entry_at keys.eq key entries) differ) ∙ at)
+            cond-false (keys.eq other key) _ _ (same ∙ differ)
+            ∙ (told key x (sym (cond-false (keys.eq used.key key) (Some new) (entry_at keys.eq key entries) differ) ∙ at) ∙ but_part)
       ]
 
 module _ {K V S W : Type 0} (keys : Keys K S) (laws : IsEquivalence keys.eq) where
@@ -251,19 +261,20 @@ module _ {K V S W : Type 0} (keys : Keys K S) (laws : IsEquivalence keys.eq) whe
       (after_put keys.eq cache o new refused).contents.entries
   told-put known cache (Some old) new refused told once there key e h =
       let entries = cache.contents.entries in
-      let put = record new { key = old.key; hash = old.hash; in_window = old.in_window } in
+      let put = record new { key = old.key; hash = old.hash; part = old.part } in
       let same : keys.eq new.key key ≡ keys.eq old.key key = laws.congr new.key old.key key (found_key keys.eq new.key old entries there) in
-      let at : cond (keys.eq old.key key) (Some put) (entry_at keys.eq key entries) ≡ Some e =
-      sym (entry_at-moved laws key put entries) ∙ h in
+      let (f, placed_at) = entry_at-using laws (room_of cache) key put cache.contents in
+      let (x, at, but) = placed-some f (cond (keys.eq old.key key) (Some put) (entry_at keys.eq key entries)) e (sym placed_at ∙ h) in
+      let but_part = ap (λ (e : Entry K V). Some (last_write_of e)) (sym but) in
       elim (cases_Bool (keys.eq old.key key)) [
         | inl equal ↦
-            let is : put ≡ e = one_of (cond-true (keys.eq old.key key) (Some put) (entry_at keys.eq key entries) equal) at in
-            cond-true (keys.eq new.key key) _ _ (same ∙ equal) ∙ ap (λ e. Some (last_write_of e)) is
+            let is : put ≡ x = one_of (cond-true (keys.eq old.key key) (Some put) (entry_at keys.eq key entries) equal) at in
+            cond-true (keys.eq new.key key) _ _ (same ∙ equal) ∙ (ap (λ e. Some (last_write_of e)) is ∙ but_part)
         | inr differ ↦
-            cond-false (keys.eq new.key key) _ _ (same ∙ differ) ∙ told key e
-            (sym (cond-false (keys.eq old.key key) (Some put) (entry_at keys.eq key entries) differ) ∙ at)
+            cond-false (keys.eq new.key key) _ _ (same ∙ differ)
+            ∙ (told key x (sym (cond-false (keys.eq old.key key) (Some put) (entry_at keys.eq key entries) differ) ∙ at) ∙ but_part)
       ]
-  told-put known cache None new refused told once none key e h = entering (windowed_limit cache.settings.policy.max_capacity) h
+  told-put known cache None new refused told once none key e h = entering (windowed cache) h
     where
       by : (gone : Option (List (Entry K V)))
           → entry_at keys.eq key (after_verdict keys.eq cache new gone refused).contents.entries ≡ Some e
@@ -275,13 +286,9 @@ module _ {K V S W : Type 0} (keys : Keys K S) (laws : IsEquivalence keys.eq) whe
           ]
       by (Some gone) h =
           let left = after_leaving keys.eq (entry_keys gone) cache.contents in
-          let empty : keys.eq new.key key ≡ true → entry_at keys.eq key left.entries ≡ None =
-          λ equal. entry_at-leaving laws (λ e. e.key) gone cache.contents key
-          ∙ (ap (cond (list_any (λ e. keys.eq e.key key) gone) None)
-          (sym (entry_at-equal laws new.key key equal cache.contents.entries) ∙ none)
-          ∙ gone_either true (list_any (λ e. keys.eq e.key key) gone) None) in
+          let empty = absent-leaving keys.eq new.key (entry_keys gone) cache.contents none in
           let at : cond (keys.eq new.key key) (Some new) (entry_at keys.eq key left.entries) ≡ Some e =
-          sym (entry_at-push laws key new left.entries empty) ∙ h in
+          sym (entry_at-latest laws key new left.entries empty) ∙ h in
           elim (cases_Bool (keys.eq new.key key)) [
             | inl equal ↦
                 let is : new ≡ e = one_of (cond-true (keys.eq new.key key) (Some new) (entry_at keys.eq key left.entries) equal) at in
@@ -291,7 +298,7 @@ module _ {K V S W : Type 0} (keys : Keys K S) (laws : IsEquivalence keys.eq) whe
                 cond-false (keys.eq new.key key) _ _ differ ∙ told key e (found-leaving laws (λ e. e.key) gone cache.contents key e stays).1
           ]
 
-      entering : (limit : Option ℕ) → entry_at keys.eq key (after_new keys.eq cache limit new refused).contents.entries ≡ Some e
+      entering : (limit : Option PartLimits) → entry_at keys.eq key (after_new keys.eq cache limit new refused).contents.entries ≡ Some e
           → cond (keys.eq new.key key) (Some (last_write_of new)) (known key) ≡ Some (last_write_of e)
       entering None h = by (victims_of cache.settings.policy.max_capacity cache.sketch new cache.contents.entries) h
       entering (Some limit) h =
@@ -324,7 +331,7 @@ module _ {K V S W : Type 0} (keys : Keys K S) (laws : IsEquivalence keys.eq) whe
         by : (o : Option (Entry K V))
             → ((used : Entry K V) → o ≡ Some used → entry_at keys.eq other (after_look keys old now).contents.entries ≡ Some used)
             → answer ≡ Found (option_map (λ e. e.value) o)
-            → entry_at keys.eq key (after_use keys.eq now o (after_look keys old now).contents).entries ≡ Some e
+            → entry_at keys.eq key (after_use keys.eq (room_of old) now o (after_look keys old now).contents).entries ≡ Some e
             → known_after keys (Get other now) answer (chosen_keys (Get other now) old.contents.entries) key (known key) ≡ Some
             (last_write_of e)
         by None there is h =
@@ -332,7 +339,7 @@ module _ {K V S W : Type 0} (keys : Keys K S) (laws : IsEquivalence keys.eq) whe
             ∙ told-upkeep known old now told key e h
         by (Some used) there is h =
             ap (λ a. known_after keys (Get other now) a (chosen_keys (Get other now) old.contents.entries) key (known key)) is
-            ∙ told-hit keys laws known (after_look keys old now).contents.entries other now used (told-upkeep known old now told)
+            ∙ told-hit keys laws known (room_of old) (after_look keys old now).contents other now used (told-upkeep known old now told)
             (there used refl) key e h
     told-step old new (Peek other now) answer known step once told key e h =
         told key e (sym (ap (λ c. entry_at keys.eq key c.contents.entries) step.1) ∙ h)
@@ -379,39 +386,39 @@ module _ {K V S W : Type 0} (keys : Keys K S) (laws : IsEquivalence keys.eq) whe
         told key e (sym (ap (λ c. entry_at keys.eq key c.contents.entries) step.1) ∙ h)
 
     -- from a new cache no key has two entries
-    pub once-run : (settings : Settings S) (weigher : W) (capacity : ℕ) (past : List (Transition K V S W)) (cache : CacheState K V S W)
-        → Leads keys weighs (new_cache settings weigher capacity) past cache
+    pub once-run : (settings : Settings S) (shares : Shares) (weigher : W) (capacity : ℕ) (past : List (Transition K V S W)) (cache : CacheState K V S W)
+        → Leads keys weighs (new_cache settings shares weigher capacity) past cache
         → StandOnce keys.eq cache.contents.entries
-    once-run settings weigher capacity [] cache leads =
+    once-run settings shares weigher capacity [] cache leads =
         subst (λ c. StandOnce keys.eq c.contents.entries) (sym leads) (none_stand keys laws weighs)
-    once-run settings weigher capacity (call ∷ earlier) cache (is, step, leads) =
+    once-run settings shares weigher capacity (call ∷ earlier) cache (is, step, leads) =
         subst (λ c. StandOnce keys.eq c.contents.entries) is
         (once-step keys laws weighs call.before call.after call.request call.answer step
-        (once-run settings weigher capacity earlier call.before leads))
+        (once-run settings shares weigher capacity earlier call.before leads))
 
     -- so from a new cache the entries have what the calls tell
-    pub told-run : (settings : Settings S) (weigher : W) (capacity : ℕ) (past : List (Transition K V S W)) (cache : CacheState K V S W)
-        → Leads keys weighs (new_cache settings weigher capacity) past cache
+    pub told-run : (settings : Settings S) (shares : Shares) (weigher : W) (capacity : ℕ) (past : List (Transition K V S W)) (cache : CacheState K V S W)
+        → Leads keys weighs (new_cache settings shares weigher capacity) past cache
         → IsTold keys laws (λ key. last_write keys key (exchanges past)) cache.contents.entries
-    told-run settings weigher capacity [] cache leads key e h =
+    told-run settings shares weigher capacity [] cache leads key e h =
         something {o = None} refl (sym (ap (λ c. entry_at keys.eq key c.contents.entries) leads) ∙ h)
-    told-run settings weigher capacity (call ∷ earlier) cache (is, step, leads) key e h =
+    told-run settings shares weigher capacity (call ∷ earlier) cache (is, step, leads) key e h =
         told-step call.before call.after call.request call.answer (λ key. last_write keys key (exchanges earlier)) step
-        (once-run settings weigher capacity earlier call.before leads) (told-run settings weigher capacity earlier call.before leads) key e
+        (once-run settings shares weigher capacity earlier call.before leads) (told-run settings shares weigher capacity earlier call.before leads) key e
         (ap (λ c. entry_at keys.eq key c.contents.entries) is ∙ h)
 
     -- its settings are those that it was made with
-    pub settings-run : (settings : Settings S) (weigher : W) (capacity : ℕ) (past : List (Transition K V S W)) (cache : CacheState K V S W)
-        → Leads keys weighs (new_cache settings weigher capacity) past cache
+    pub settings-run : (settings : Settings S) (shares : Shares) (weigher : W) (capacity : ℕ) (past : List (Transition K V S W)) (cache : CacheState K V S W)
+        → Leads keys weighs (new_cache settings shares weigher capacity) past cache
         → cache.settings ≡ settings
-    settings-run settings weigher capacity [] cache leads = ap (λ c. c.settings) leads
-    settings-run settings weigher capacity (call ∷ earlier) cache (is, step, leads) =
+    settings-run settings shares weigher capacity [] cache leads = ap (λ c. c.settings) leads
+    settings-run settings shares weigher capacity (call ∷ earlier) cache (is, step, leads) =
         sym (ap (λ c. c.settings) is)
         ∙ (settings-step keys weighs call.before call.after call.request call.answer step
-        ∙ settings-run settings weigher capacity earlier call.before leads)
+        ∙ settings-run settings shares weigher capacity earlier call.before leads)
 
     pub hits_are_current : HitsAreCurrent keys weighs
-    hits_are_current settings weigher capacity past cache next key now value leads step =
+    hits_are_current settings shares weigher capacity past cache next key now value leads step =
         by (unexpired_at keys.eq cache.settings.policy now key (after_look keys cache now).contents)
         (found_there cache.settings.policy now (entry_at keys.eq key (after_look keys cache now).contents.entries))
         (found_fresh cache.settings.policy now (entry_at keys.eq key (after_look keys cache now).contents.entries))
@@ -425,15 +432,15 @@ module _ {K V S W : Type 0} (keys : Keys K S) (laws : IsEquivalence keys.eq) whe
         by None there fresh is = something {o = None} refl is
         by (Some used) there fresh is = (
           last_write_of used,
-          told-upkeep (λ key. last_write keys key (exchanges past)) cache now (told-run settings weigher capacity past cache leads) key used
+          told-upkeep (λ key. last_write keys key (exchanges past)) cache now (told-run settings shares weigher capacity past cache leads) key used
               (there used refl),
           one_of refl is,
-          subst (λ s. is_over s.policy now (last_write_of used) ≡ false) (settings-run settings weigher capacity past cache leads)
+          subst (λ s. is_over s.policy now (last_write_of used) ≡ false) (settings-run settings shares weigher capacity past cache leads)
               (fresh used refl),
         )
 
     pub peeks_are_current : PeeksAreCurrent keys weighs
-    peeks_are_current settings weigher capacity past cache next key now value leads step =
+    peeks_are_current settings shares weigher capacity past cache next key now value leads step =
         by (unexpired_at keys.eq cache.settings.policy now key cache.contents)
         (found_there cache.settings.policy now (entry_at keys.eq key cache.contents.entries))
         (found_fresh cache.settings.policy now (entry_at keys.eq key cache.contents.entries))
@@ -447,17 +454,17 @@ module _ {K V S W : Type 0} (keys : Keys K S) (laws : IsEquivalence keys.eq) whe
         by None there fresh is = something {o = None} refl is
         by (Some seen) there fresh is = (
           last_write_of seen,
-          told-run settings weigher capacity past cache leads key seen (there seen refl),
+          told-run settings shares weigher capacity past cache leads key seen (there seen refl),
           one_of refl is,
-          subst (λ s. is_over s.policy now (last_write_of seen) ≡ false) (settings-run settings weigher capacity past cache leads)
+          subst (λ s. is_over s.policy now (last_write_of seen) ≡ false) (settings-run settings shares weigher capacity past cache leads)
               (fresh seen refl),
         )
 
     pub pairs_are_current : PairsAreCurrent keys weighs
-    pairs_are_current settings weigher capacity past cache next now pairs leads step =
+    pairs_are_current settings shares weigher capacity past cache next now pairs leads step =
         All-from_recursion (λ (p : K × V). IsCurrent keys settings.policy now (exchanges past) p.0 p.1) pairs
         (subst (AllByRecursion (λ (p : K × V). IsCurrent keys settings.policy now (exchanges past) p.0 p.1)) (sym (same_pairs refl step.0))
-        (by cache.contents.entries (found-own laws cache.contents.entries (once-run settings weigher capacity past cache leads))))
+        (by cache.contents.entries (found-own laws cache.contents.entries (once-run settings shares weigher capacity past cache leads))))
       where
         by : (es : List (Entry K V)) → AllByRecursion (λ e. entry_at keys.eq e.key cache.contents.entries ≡ Some e) es
             → AllByRecursion (λ (p : K × V). IsCurrent keys settings.policy now (exchanges past) p.0 p.1)
@@ -476,10 +483,10 @@ module _ {K V S W : Type 0} (keys : Keys K S) (laws : IsEquivalence keys.eq) whe
                   (sym (cond-true (not (is_expired cache.settings.policy now e)) (e ∷ fresh) fresh (ap not lives))) (
                     (
                       last_write_of e,
-                      told-run settings weigher capacity past cache leads e.key e own.0,
+                      told-run settings shares weigher capacity past cache leads e.key e own.0,
                       refl,
                       subst (λ s. is_over s.policy now (last_write_of e) ≡ false)
-                          (settings-run settings weigher capacity past cache leads) lives,
+                          (settings-run settings shares weigher capacity past cache leads) lives,
                     ),
                     by es own.1,
                   )

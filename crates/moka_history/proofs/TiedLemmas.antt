@@ -17,6 +17,7 @@ use Rattle.moka_machine.proofs.ContentsLemmas.{absent-leaving}
 use Rattle.moka_history.proofs.HistoryLemmas.{once-run}
 use Rattle.moka_laws.specs.Laws.{AreWritesOf}
 use Rattle.moka_laws.proofs.WriteLemmas.{Follows, follow-clear, follow-step, told}
+use Rattle.moka_machine.specs.declared.shares.Shares.{Shares}
 
 -- ---- lists
 
@@ -123,18 +124,18 @@ module _ {K V S W : Type 0} (keys : Keys K S) (laws : IsEquivalence keys.eq) (we
   Tied cache = AllTied keys.eq cache.contents
 
   -- from a new cache the writes follow the entries
-  follow-run : (settings : Settings S) (weigher : W) (capacity : ℕ) (past : List (Transition K V S W)) (cache : CacheState K V S W)
-      → Leads keys weighs (new_cache settings weigher capacity) past cache → Follows keys laws weighs cache
-  follow-run settings weigher capacity [] cache leads =
+  follow-run : (settings : Settings S) (shares : Shares) (weigher : W) (capacity : ℕ) (past : List (Transition K V S W)) (cache : CacheState K V S W)
+      → Leads keys weighs (new_cache settings shares weigher capacity) past cache → Follows keys laws weighs cache
+  follow-run settings shares weigher capacity [] cache leads =
       subst (Follows keys laws weighs) (sym leads) (follow-clear keys.eq laws (keeps_writes settings.policy) (no_contents {K = K} {V = V}))
-  follow-run settings weigher capacity (call ∷ earlier) cache (is, step, leads) =
+  follow-run settings shares weigher capacity (call ∷ earlier) cache (is, step, leads) =
       subst (Follows keys laws weighs) is
       (follow-step keys laws weighs call.before call.after call.request call.answer step
-      (once-run keys laws weighs settings weigher capacity earlier call.before leads)
-      (follow-run settings weigher capacity earlier call.before leads))
+      (once-run keys laws weighs settings shares weigher capacity earlier call.before leads)
+      (follow-run settings shares weigher capacity earlier call.before leads))
 
-  pub tied-run : (settings : Settings S) (weigher : W) (capacity : ℕ) (past : List (Transition K V S W)) (cache : CacheState K V S W)
-      → Leads keys weighs (new_cache settings weigher capacity) past cache → Tied cache
-  tied-run settings weigher capacity past cache leads =
+  pub tied-run : (settings : Settings S) (shares : Shares) (weigher : W) (capacity : ℕ) (past : List (Transition K V S W)) (cache : CacheState K V S W)
+      → Leads keys weighs (new_cache settings shares weigher capacity) past cache → Tied cache
+  tied-run settings shares weigher capacity past cache leads =
       tied-by keys.eq laws (keeps_writes cache.settings.policy) cache.contents
-      (told keys laws weighs (keeps_writes cache.settings.policy) cache.contents (follow-run settings weigher capacity past cache leads))
+      (told keys laws weighs (keeps_writes cache.settings.policy) cache.contents (follow-run settings shares weigher capacity past cache leads))

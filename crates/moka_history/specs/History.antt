@@ -12,6 +12,7 @@ use Rattle.moka_machine.specs.CacheState.{CacheState, new_cache}
 use Rattle.moka_machine.specs.Invalidate.{chosen}
 use Rattle.moka_machine.specs.Step.{Answer, IsStep, Request, Runs, Get, Peek, Insert, Invalidate, Remove, InvalidateAll}
 use Rattle.moka_machine.specs.Step.{InvalidateEntriesIf, Iterate, ContainsKey, Done, Found, Pairs, Truth}
+use Rattle.moka_machine.specs.declared.shares.Shares.{Shares}
 
 -- ---- what the calls tell
 
@@ -126,26 +127,26 @@ module _ {K V S W : Type 0} (keys : Keys K S) (weighs : W → K → V → ℕ �
   -- from a new cache, a value that a get finds is the last one written at the key, and is current
   abbrev pub HitsAreCurrent : Type 0
   HitsAreCurrent =
-      (settings : Settings S) (weigher : W) (capacity : ℕ) (past : List (Transition K V S W)) (cache next : CacheState K V S W)
+      (settings : Settings S) (shares : Shares) (weigher : W) (capacity : ℕ) (past : List (Transition K V S W)) (cache next : CacheState K V S W)
       (key : K) (now : ℕ)
       (value : V) →
-      Leads (new_cache settings weigher capacity) past cache → IsStep keys weighs cache (Get key now) (Found (Some value)) next →
+      Leads (new_cache settings shares weigher capacity) past cache → IsStep keys weighs cache (Get key now) (Found (Some value)) next →
       IsCurrent keys settings.policy now (exchanges past) key value
 
   -- and so is each pair that an iterator gives
   abbrev pub PairsAreCurrent : Type 0
   PairsAreCurrent =
-      (settings : Settings S) (weigher : W) (capacity : ℕ) (past : List (Transition K V S W)) (cache next : CacheState K V S W) (now : ℕ)
+      (settings : Settings S) (shares : Shares) (weigher : W) (capacity : ℕ) (past : List (Transition K V S W)) (cache next : CacheState K V S W) (now : ℕ)
       (pairs : List (K × V)) →
-      Leads (new_cache settings weigher capacity) past cache → IsStep keys weighs cache (Iterate now) (Pairs pairs) next →
+      Leads (new_cache settings shares weigher capacity) past cache → IsStep keys weighs cache (Iterate now) (Pairs pairs) next →
       All (λ p. IsCurrent keys settings.policy now (exchanges past) p.0 p.1) pairs
 
   -- and so is a value that a peek finds
   abbrev pub PeeksAreCurrent : Type 0
   PeeksAreCurrent =
-      (settings : Settings S) (weigher : W) (capacity : ℕ) (past : List (Transition K V S W)) (cache next : CacheState K V S W)
+      (settings : Settings S) (shares : Shares) (weigher : W) (capacity : ℕ) (past : List (Transition K V S W)) (cache next : CacheState K V S W)
       (key : K) (now : ℕ) (value : V) →
-      Leads (new_cache settings weigher capacity) past cache → IsStep keys weighs cache (Peek key now) (Found (Some value)) next →
+      Leads (new_cache settings shares weigher capacity) past cache → IsStep keys weighs cache (Peek key now) (Found (Some value)) next →
       IsCurrent keys settings.policy now (exchanges past) key value
 
   -- a key is told to be there exactly where a get would find a value

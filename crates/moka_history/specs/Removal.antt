@@ -4,13 +4,14 @@ use Rattle.moka_base.specs.Keys.{Keys}
 use Rattle.moka_base.specs.Settings.{Settings}
 use Rattle.moka_sketch.specs.Sketch.{estimate}
 use Rattle.moka_machine.specs.declared.entry.Entry.{Entry}
-use Rattle.moka_machine.specs.Contents.{entry_at, total_weight}
+use Rattle.moka_machine.specs.Contents.{entry_at, total_weight, is_window}
 use Rattle.moka_machine.specs.CacheState.{CacheState, new_cache}
 use Rattle.moka_machine.specs.Upkeep.{is_expired}
-use Rattle.moka_machine.specs.Window.{main_limit}
 use Rattle.moka_machine.specs.Step.{Request, Get, ContainsKey, Insert, Invalidate, Remove, Done, Found}
 use Rattle.moka_history.specs.History.{LastWrite, Leads, Transition, chosen_keys, exchanges}
 use Rattle.moka_history.specs.History.{is_invalidated, is_over, is_written, last_write}
+use Rattle.moka_machine.specs.declared.shares.Shares.{Shares}
+use Rattle.moka_machine.specs.Shares.{limits_of, main_limit}
 
 -- the moment of a call that first removes what is expired or above the limit
 abbrev pub upkeep_moment : {K V : Type 0} → Request K V → Option ℕ
@@ -25,7 +26,7 @@ upkeep_moment request = None
 abbrev pub last_write_of : {K V : Type 0} → Entry K V → LastWrite V
 last_write_of e = record { value = e.value; written = e.modified; used = e.accessed }
 
--- the entry at a key and those behind it, which leave later: in main those used since, and the window
+-- the entry at a key and those behind it, which leave later: those of its part that were used since, and the later parts
 abbrev pub entries_from : {K V : Type 0} → (K → K → Bool) → K → List (Entry K V) → List (Entry K V)
 entries_from eq key [] = []
 entries_from eq key (e ∷ entries) = if eq key e.key then e ∷ entries else entries_from eq key entries
@@ -45,11 +46,11 @@ module _ {K V S W : Type 0} (keys : Keys K S) where
     Displaced : (key : K) (value : V) (now limit : ℕ) (entered : Entry K V) → request ≡ Insert key value now
         → keys.eq entered.key e.key ≡ false → entry_at keys.eq entered.key new.contents.entries ≡ Some entered
         → estimate old.sketch e.hash < estimate old.sketch entered.hash
-        → old.settings.policy.max_capacity ≡ Some limit → main_limit limit < total_weight old.contents.entries + entered.weight
+        → old.settings.policy.max_capacity ≡ Some limit → main_limit (limits_of old.shares limit) < total_weight old.contents.entries + entered.weight
         → RemovalCause old request new e
     -- with an insert, it was in the window, and main has no room for all
-    Rejected : (key : K) (value : V) (now limit : ℕ) → request ≡ Insert key value now → e.in_window ≡ true
-        → old.settings.policy.max_capacity ≡ Some limit → main_limit limit < total_weight old.contents.entries
+    Rejected : (key : K) (value : V) (now limit : ℕ) → request ≡ Insert key value now → is_window e.part ≡ true
+        → old.settings.policy.max_capacity ≡ Some limit → main_limit (limits_of old.shares limit) < total_weight old.contents.entries
         → RemovalCause old request new e
 
 module _ {K V S W : Type 0} (keys : Keys K S) (weighs : W → K → V → ℕ → W → Type 0) where
@@ -66,7 +67,7 @@ module _ {K V S W : Type 0} (keys : Keys K S) (weighs : W → K → V → ℕ �
     pub absent : entry_at keys.eq key call.after.contents.entries ≡ None
     pub weighed : weighs call.before.weigher other value weight weigher
     pub limited : call.before.settings.policy.max_capacity ≡ Some limit
-    pub no_room : main_limit limit < total_weight call.before.contents.entries + weight
+    pub no_room : main_limit (limits_of call.before.shares limit) < total_weight call.before.contents.entries + weight
 
   -- an entry with the last write of the key leaves with a call, for a cause
   pub record Leaves (call : Transition K V S W) (earlier : List (Transition K V S W)) (key : K) : Type 0 where
@@ -85,20 +86,20 @@ module _ {K V S W : Type 0} (keys : Keys K S) (weighs : W → K → V → ℕ �
   -- from a new cache, an entry that stands before a call and not after it leaves for a cause
   abbrev pub EntriesLeaveForACause : Type 0
   EntriesLeaveForACause =
-      (settings : Settings S) (weigher : W) (capacity : ℕ) (past : List (Transition K V S W)) (call : Transition K V S W)
+      (settings : Settings S) (shares : Shares) (weigher : W) (capacity : ℕ) (past : List (Transition K V S W)) (call : Transition K V S W)
       (cache : CacheState K V S W)
       (key : K) (e : Entry K V) →
-      Leads keys weighs (new_cache settings weigher capacity) (call ∷ past) cache →
+      Leads keys weighs (new_cache settings shares weigher capacity) (call ∷ past) cache →
       entry_at keys.eq key call.before.contents.entries ≡ Some e → entry_at keys.eq key cache.contents.entries ≡ None →
       RemovalCause keys call.before call.request cache e
 
   -- from a new cache, after an accepted insert its value stands at the key, written then, or it was rejected
   abbrev pub InsertsEnterOrAreRejected : Type 0
   InsertsEnterOrAreRejected =
-      (settings : Settings S) (weigher : W) (capacity : ℕ) (past : List (Transition K V S W)) (call : Transition K V S W)
+      (settings : Settings S) (shares : Shares) (weigher : W) (capacity : ℕ) (past : List (Transition K V S W)) (call : Transition K V S W)
       (cache : CacheState K V S W)
       (key : K) (value : V) (now : ℕ) →
-      Leads keys weighs (new_cache settings weigher capacity) (call ∷ past) cache → call.request ≡ Insert key value now →
+      Leads keys weighs (new_cache settings shares weigher capacity) (call ∷ past) cache → call.request ≡ Insert key value now →
       call.answer ≡ Done →
       ((e : Entry K V) × (entry_at keys.eq key cache.contents.entries ≡ Some e)
       × (last_write_of e ≡ record { value = value; written = now; used = now }))
@@ -107,10 +108,10 @@ module _ {K V S W : Type 0} (keys : Keys K S) (weighs : W → K → V → ℕ �
   -- from a new cache, a get finds nothing exactly where the key is missing after it for a reason, or its last write is over
   abbrev pub MissesHaveAReason : Type 0
   MissesHaveAReason =
-      (settings : Settings S) (weigher : W) (capacity : ℕ) (past : List (Transition K V S W)) (call : Transition K V S W)
+      (settings : Settings S) (shares : Shares) (weigher : W) (capacity : ℕ) (past : List (Transition K V S W)) (call : Transition K V S W)
       (cache : CacheState K V S W)
       (key : K) (now : ℕ) →
-      Leads keys weighs (new_cache settings weigher capacity) (call ∷ past) cache → call.request ≡ Get key now →
+      Leads keys weighs (new_cache settings shares weigher capacity) (call ∷ past) cache → call.request ≡ Get key now →
       (call.answer ≡ Found None)
       ↔ (IsMissing (call ∷ past) key
       ⊎ ((write : LastWrite V) × (last_write keys key (exchanges past) ≡ Some write) × (is_over settings.policy now write ≡ true)))

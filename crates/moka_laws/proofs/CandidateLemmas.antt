@@ -9,13 +9,18 @@ use Rattle.moka_base.specs.Prefix.{shortest_prefix}
 use Rattle.moka_base.specs.Settings.{keeps_writes}
 use Rattle.moka_sketch.specs.Sketch.{Table, estimate}
 use Rattle.moka_machine.specs.declared.entry.Entry.{Entry}
-use Rattle.moka_machine.specs.Contents.{Contents, after_leaving, entry_at, entries_without, entry_keys, main_of, total_weight, window_of}
+use Rattle.moka_machine.specs.Contents.{Contents, after_leaving, entry_at, entries_without, entry_keys, main_of, total_weight, window_of, is_window}
+use Rattle.moka_machine.specs.Contents.{is_protected}
 use Rattle.moka_machine.specs.CacheState.{CacheState}
 use Rattle.moka_machine.specs.Upkeep.{least_recent}
 use Rattle.moka_machine.specs.Insert.{after_asking, after_entering, after_entry, after_new, after_verdict}
-use Rattle.moka_machine.specs.Window.{after_candidacy, after_candidates, candidates, excess, main_limit, victims_of}
+use Rattle.moka_machine.specs.Window.{after_candidacy, after_candidates, candidates, excess, victims_of}
 use Rattle.moka_machine.proofs.ContentsLemmas.{All-leaving}
 use Rattle.moka_machine.proofs.WindowLemmas.{All-latest}
+use Rattle.moka_machine.specs.declared.shares.PartLimits.{PartLimits}
+use Rattle.moka_machine.specs.Shares.{main_limit}
+use Rattle.moka_machine.specs.declared.entry.Part.{Part}
+use Rattle.moka_machine.specs.declared.entry.Part.TheVariants.{Probation, Window}
 
 -- a shortest prefix is a beginning, and weighs enough
 pub prefix_parts : {X : Type 0} (weight : X → ℕ) (enough : ℕ) (xs prefix : List X) → shortest_prefix weight enough xs ≡ Some prefix
@@ -102,47 +107,47 @@ module _ {X : Type 0} (P : X → Type 0) where
   All-front [] ys all = All-from_recursion P [] tt
   All-front (x ∷ xs) ys all = All-cons P x xs (All-head P x (xs ++ ys) all) (All-front xs ys (All-tail P x (xs ++ ys) all))
 
-module _ {K V : Type 0} (eq : K → K → Bool) (P : Entry K V → Type 0) (moves : (e : Entry K V) (b : Bool) → P e → P (record e { in_window = b }))
+module _ {K V : Type 0} (eq : K → K → Bool) (P : Entry K V → Type 0) (moves : (e : Entry K V) (part : Part) → is_protected part ≡ false → P e → P (record e { part = part }))
   where
     -- what holds of all entries, wherever they are, holds of the candidates
-    pub All-chosen : (limit : ℕ) (es : List (Entry K V)) → All P es → All P (candidates limit es)
-    All-chosen limit es all =
-        let (rest, parts, heavy) = least_parts (excess limit es) (window_of es) in
-        All-front P (candidates limit es) rest (subst (All P) parts (All-filter (λ e. e.in_window) P es all))
+    pub All-chosen : (limits : PartLimits) (es : List (Entry K V)) → All P es → All P (candidates limits es)
+    All-chosen limits es all =
+        let (rest, parts, heavy) = least_parts (excess limits es) (window_of es) in
+        All-front P (candidates limits es) rest (subst (All P) parts (All-filter (λ e. is_window e.part) P es all))
 
     All-candidacy : (e : Entry K V) (gone : Option (List (Entry K V))) (contents : Contents K V) → P e → All P contents.entries
         → All P (after_candidacy eq e gone contents).entries
     All-candidacy e None contents here all = All-leaving eq P (e.key ∷ []) contents all
     All-candidacy e (Some gone) contents here all =
         let left = after_leaving eq (entry_keys gone) contents in
-        All-latest P (record e { in_window = false }) (entries_without eq e.key left.entries)
-        (All-filter (λ x. not (eq e.key x.key)) P left.entries (All-leaving eq P (entry_keys gone) contents all)) (moves e false here)
+        All-latest P (record e { part = Probation }) (entries_without eq e.key left.entries)
+        (All-filter (λ x. not (eq e.key x.key)) P left.entries (All-leaving eq P (entry_keys gone) contents all)) (moves e Probation refl here)
 
-    All-candidates : (limit : ℕ) (sketch : Option Table) (es : List (Entry K V)) (contents : Contents K V) → All P es → All P contents.entries
-        → All P (after_candidates eq limit sketch es contents).entries
-    All-candidates limit sketch [] contents here all = all
-    All-candidates limit sketch (e ∷ es) contents here all =
-        let gone = victims_of (Some (main_limit limit)) sketch e (main_of contents.entries) in
-        All-candidates limit sketch es (after_candidacy eq e gone contents) (All-tail P e es here)
+    All-candidates : (limits : PartLimits) (sketch : Option Table) (es : List (Entry K V)) (contents : Contents K V) → All P es → All P contents.entries
+        → All P (after_candidates eq limits sketch es contents).entries
+    All-candidates limits sketch [] contents here all = all
+    All-candidates limits sketch (e ∷ es) contents here all =
+        let gone = victims_of (Some (main_limit limits)) sketch e (main_of contents.entries) in
+        All-candidates limits sketch es (after_candidacy eq e gone contents) (All-tail P e es here)
         (All-candidacy e gone contents (All-head P e es here) all)
 
     -- and of what stands once a new one entered the window, of which it holds too
-    pub All-entering : (keeps : Bool) (limit : ℕ) (sketch : Option Table) (new : Entry K V) (contents : Contents K V) → All P contents.entries
-        → P new → All P (after_entering eq keeps limit sketch new contents).entries
-    All-entering keeps limit sketch new contents all here =
-        let entered = after_entry eq keeps (record new { in_window = true }) contents in
-        let whole = All-push P contents.entries (record new { in_window = true }) all (moves new true here) in
-        All-candidates limit sketch (candidates limit entered.entries) entered (All-chosen limit entered.entries whole) whole
+    pub All-entering : (keeps : Bool) (limits : PartLimits) (sketch : Option Table) (new : Entry K V) (contents : Contents K V) → All P contents.entries
+        → P new → All P (after_entering eq keeps limits sketch new contents).entries
+    All-entering keeps limits sketch new contents all here =
+        let entered = after_entry eq keeps (record new { part = Window }) contents in
+        let whole = All-push P contents.entries (record new { part = Window }) all (moves new Window refl here) in
+        All-candidates limits sketch (candidates limits entered.entries) entered (All-chosen limits entered.entries whole) whole
 
     -- or was put
-    pub All-new : {S W : Type 0} (cache : CacheState K V S W) (limit : Option ℕ) (new : Entry K V) (refused : Bool) → All P cache.contents.entries
+    pub All-new : {S W : Type 0} (cache : CacheState K V S W) (limit : Option PartLimits) (new : Entry K V) (refused : Bool) → All P cache.contents.entries
         → P new → All P (after_new eq cache limit new refused).contents.entries
     All-new cache None new refused all here =
         by (victims_of cache.settings.policy.max_capacity cache.sketch new cache.contents.entries)
       where
         by : (gone : Option (List (Entry K V))) → All P (after_verdict eq cache new gone refused).contents.entries
         by None = all
-        by (Some gone) = All-push P _ new (All-leaving eq P (entry_keys gone) cache.contents all) here
+        by (Some gone) = All-latest P new _ (All-leaving eq P (entry_keys gone) cache.contents all) here
     All-new cache (Some limit) new refused all here =
         by (is_some (entry_at eq new.key contents.entries))
         (All-entering (keeps_writes cache.settings.policy) limit cache.sketch new cache.contents all here)

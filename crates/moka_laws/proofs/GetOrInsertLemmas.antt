@@ -1,5 +1,5 @@
 -- Lemmas on gets or inserts.
-use Rattle.std.proofs.Common.{◌≡◌, ℕ, [], ap, inl, inr, refl, sym}
+use Rattle.std.proofs.Common.{ℕ, [], ap, inl, inr, refl, sym}
 use Rattle.moka_base.specs.Keys.{Keys}
 use Rattle.moka_machine.specs.Lookup.{after_get}
 use Rattle.moka_machine.specs.Step.{Done, Found, OutOfMemory}

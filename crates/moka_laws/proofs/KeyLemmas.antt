@@ -1,5 +1,5 @@
 -- Lemmas on keys that stand once.
-use Rattle.std.proofs.Common.{◌≡◌, ◌||◌, ℕ, Bool, true, false, cond, not, List, [], ◌∷◌, ◌++◌, filter}
+use Rattle.std.proofs.Common.{◌≡◌, ◌-◌, ◌||◌, ℕ, Bool, true, false, cond, not, List, [], ◌∷◌, ◌++◌, filter}
 use Rattle.std.proofs.Common.{is_some, Option, Some, None, refl, sym, ap, ◌∙◌, inl, inr, subst}
 use Rattle.std.proofs.lemmas.Bool.{cases_Bool, cond-true, cond-false, false≢true}
 use Rattle.std.proofs.lemmas.Map.Keys.{IsDistinct-cons, IsDistinct-head, IsDistinct-push, IsDistinct-tail}
@@ -12,17 +12,22 @@ use Rattle.moka_base.specs.Settings.{keeps_writes}
 use Rattle.moka_sketch.specs.Sketch.{Table}
 use Rattle.moka_machine.specs.declared.entry.Entry.{Entry}
 use Rattle.moka_machine.specs.Contents.{Contents, after_leaving, after_moving, entry_at, entries_without, entry_keys, main_of, with_latest, without}
-use Rattle.moka_machine.specs.CacheState.{CacheState, new_cache}
+use Rattle.moka_machine.specs.Contents.{protected_of, total_weight}
+use Rattle.moka_machine.specs.CacheState.{CacheState, new_cache, room_of, windowed}
 use Rattle.moka_machine.specs.Insert.{after_asking, after_entering, after_entry, after_new, after_put, after_standing, after_verdict, new_entry}
-use Rattle.moka_machine.specs.Window.{after_candidacy, after_candidates, candidates, main_limit, victims_of, windowed_limit}
+use Rattle.moka_machine.specs.Window.{after_candidacy, after_candidates, candidates, victims_of}
 use Rattle.moka_laws.specs.Laws.{KeysStandOnce, Remains}
-use Rattle.moka_machine.specs.Lookup.{after_look, after_use, unexpired_at}
+use Rattle.moka_machine.specs.Lookup.{after_look, after_use, unexpired_at, after_using, used_part}
 use Rattle.moka_machine.specs.Iterate.{pairs_of}
 use Rattle.moka_machine.specs.Step.{Answer, IsStep, Request, Runs, Get, Peek, ContainsKey, Insert, Invalidate, Remove}
 use Rattle.moka_machine.specs.Step.{InvalidateAll, InvalidateEntriesIf, Iterate, EntryCount, WeightedSize}
 use Rattle.moka_machine.proofs.ContentsLemmas.{absent-leaving}
 use Rattle.moka_machine.proofs.WindowLemmas.{goes_before}
 use Rattle.moka_laws.proofs.RemainLemmas.{invalidations, looks, remains-leaving, remains-upkeep}
+use Rattle.moka_machine.specs.declared.shares.PartLimits.{PartLimits}
+use Rattle.moka_machine.specs.Shares.{main_limit}
+use Rattle.moka_machine.specs.declared.entry.Part.TheVariants.{Probation, Window}
+use Rattle.moka_machine.proofs.PartLemmas.{keys-demoted}
 
 module _ {K V : Type 0} where
   -- the pairs have the entries' keys
@@ -163,10 +168,18 @@ module _ {K V : Type 0} (eq : K → K → Bool) where
         (entry_at-gone entry.key entry.key (laws.refl entry.key) contents.entries)
         (once-remains contents (after_leaving eq (entry.key ∷ []) contents) (remains-leaving eq (entry.key ∷ []) contents) once)
 
-    once-use : (now : ℕ) (o : Option (Entry K V)) (contents : Contents K V) → StandOnce contents.entries
-        → StandOnce (after_use eq now o contents).entries
-    once-use now None contents once = once
-    once-use now (Some used) contents once = once-moving (record used { accessed = now }) contents once
+    -- or is used
+    pub once-using : (room : ℕ) (entry : Entry K V) (contents : Contents K V) → StandOnce contents.entries
+        → StandOnce (after_using eq room entry contents).entries
+    once-using room entry contents once =
+        let used = record entry { part = used_part room entry.part entry.weight } in
+        let moved = after_moving eq used contents in
+        subst (IsDistinct eq) (sym (keys-demoted (total_weight (protected_of moved.entries) - room) moved.entries)) (once-moving used contents once)
+
+    once-use : (room now : ℕ) (o : Option (Entry K V)) (contents : Contents K V) → StandOnce contents.entries
+        → StandOnce (after_use eq room now o contents).entries
+    once-use room now None contents once = once
+    once-use room now (Some used) contents once = once-using room (record used { accessed = now }) contents once
 
     -- a candidate for main leaves each key once
     pub once-candidacy : (e : Entry K V) (gone : Option (List (Entry K V))) (contents : Contents K V) → StandOnce contents.entries
@@ -174,14 +187,14 @@ module _ {K V : Type 0} (eq : K → K → Bool) where
     once-candidacy e None contents once = once-remains contents (without eq contents e.key) (remains-leaving eq (e.key ∷ []) contents) once
     once-candidacy e (Some gone) contents once =
         let left = after_leaving eq (entry_keys gone) contents in
-        once-moving (record e { in_window = false }) left (once-remains contents left (remains-leaving eq (entry_keys gone) contents) once)
+        once-moving (record e { part = Probation }) left (once-remains contents left (remains-leaving eq (entry_keys gone) contents) once)
 
-    pub once-candidates : (limit : ℕ) (sketch : Option Table) (entries : List (Entry K V)) (contents : Contents K V) → StandOnce contents.entries
-        → StandOnce (after_candidates eq limit sketch entries contents).entries
-    once-candidates limit sketch [] contents once = once
-    once-candidates limit sketch (e ∷ es) contents once =
-        let gone = victims_of (Some (main_limit limit)) sketch e (main_of contents.entries) in
-        once-candidates limit sketch es (after_candidacy eq e gone contents) (once-candidacy e gone contents once)
+    pub once-candidates : (limits : PartLimits) (sketch : Option Table) (entries : List (Entry K V)) (contents : Contents K V) → StandOnce contents.entries
+        → StandOnce (after_candidates eq limits sketch entries contents).entries
+    once-candidates limits sketch [] contents once = once
+    once-candidates limits sketch (e ∷ es) contents once =
+        let gone = victims_of (Some (main_limit limits)) sketch e (main_of contents.entries) in
+        once-candidates limits sketch es (after_candidacy eq e gone contents) (once-candidacy e gone contents once)
 
 module _ {K V S W : Type 0} (eq : K → K → Bool) where
   -- asking for a table changes no contents
@@ -200,29 +213,29 @@ module _ {K V S W : Type 0} (eq : K → K → Bool) (laws : IsEquivalence eq) wh
   once-verdict cache new None refused absent once = once
   once-verdict cache new (Some gone) refused absent once =
       let left = after_leaving eq (entry_keys gone) cache.contents in
-      once-push eq laws left.entries new (absent-leaving eq new.key (entry_keys gone) cache.contents absent)
+      once-latest eq laws new left.entries (absent-leaving eq new.key (entry_keys gone) cache.contents absent)
       (once-remains eq cache.contents left (remains-leaving eq (entry_keys gone) cache.contents) once)
 
   -- an entry that enters the window stands once
-  once-new : (cache : CacheState K V S W) (limit : Option ℕ) (new : Entry K V) (refused : Bool)
+  once-new : (cache : CacheState K V S W) (limit : Option PartLimits) (new : Entry K V) (refused : Bool)
       → entry_at eq new.key cache.contents.entries ≡ None
       → StandOnce eq cache.contents.entries → StandOnce eq (after_new eq cache limit new refused).contents.entries
   once-new cache None new refused absent once =
       once-verdict cache new (victims_of cache.settings.policy.max_capacity cache.sketch new cache.contents.entries) refused absent once
   once-new cache (Some limit) new refused absent once =
       let keeps = keeps_writes cache.settings.policy in
-      let entered = after_entry eq keeps (record new { in_window = true }) cache.contents in
+      let entered = after_entry eq keeps (record new { part = Window }) cache.contents in
       let contents = after_entering eq keeps limit cache.sketch new cache.contents in
       subst (λ c. StandOnce eq c.entries) (sym (contents-standing eq (record cache { contents = contents }) new refused))
       (once-candidates eq laws limit cache.sketch (candidates limit entered.entries) entered
-      (once-push eq laws cache.contents.entries (record new { in_window = true }) absent once))
+      (once-push eq laws cache.contents.entries (record new { part = Window }) absent once))
 
   once-insert : (cache : CacheState K V S W) (o : Option (Entry K V)) (new : Entry K V) (refused : Bool)
       → entry_at eq new.key cache.contents.entries ≡ o
       → StandOnce eq cache.contents.entries → StandOnce eq (after_put eq cache o new refused).contents.entries
-  once-insert cache None new refused absent once = once-new cache (windowed_limit cache.settings.policy.max_capacity) new refused absent once
+  once-insert cache None new refused absent once = once-new cache (windowed cache) new refused absent once
   once-insert cache (Some old) new refused found once =
-      once-moving eq laws (record new { key = old.key; hash = old.hash; in_window = old.in_window }) cache.contents once
+      once-using eq laws (room_of cache) (record new { key = old.key; hash = old.hash; part = old.part }) cache.contents once
 
 module _ {K V S W : Type 0} (keys : Keys K S) (laws : IsEquivalence keys.eq) (weighs : W → K → V → ℕ → W → Type 0) where
   -- no call makes a key stand twice
@@ -231,7 +244,7 @@ module _ {K V S W : Type 0} (keys : Keys K S) (laws : IsEquivalence keys.eq) (we
   once-step old new (Get key now) answer step once =
       let kept = (after_look keys old now).contents in
       subst (λ c. StandOnce keys.eq c.contents.entries) (sym step.1)
-      (once-use keys.eq laws now (unexpired_at keys.eq old.settings.policy now key kept) kept
+      (once-use keys.eq laws (room_of old) now (unexpired_at keys.eq old.settings.policy now key kept) kept
       (once-remains keys.eq old.contents kept (remains-upkeep keys.eq old.settings.policy now old.contents) once))
   once-step old new (Peek key now) answer step once = subst (λ c. StandOnce keys.eq c.contents.entries) (sym step.1) once
   once-step old new (ContainsKey key now) answer step once =
@@ -270,5 +283,5 @@ module _ {K V S W : Type 0} (keys : Keys K S) (laws : IsEquivalence keys.eq) (we
 
   -- and a new cache has none
   pub keys_stand_once : KeysStandOnce keys weighs
-  keys_stand_once settings weigher capacity requests answers cache run =
-      once-runs (new_cache settings weigher capacity) cache requests answers run none_stand
+  keys_stand_once settings shares weigher capacity requests answers cache run =
+      once-runs (new_cache settings shares weigher capacity) cache requests answers run none_stand

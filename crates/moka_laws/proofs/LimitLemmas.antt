@@ -1,9 +1,9 @@
 -- Lemmas on how much the contents weigh after a call.
 use Rattle.std.proofs.Common.{◌≡◌, ◌⊎◌, ◌≤◌, ◌+◌, ◌-◌, ℕ, max, Bool, true, false, cond, not, ◌&&◌, List, [], ◌∷◌}
-use Rattle.std.proofs.Common.{◌++◌, All, filter, length, map, take, take_while, nat_le, is_some, Option}
-use Rattle.std.proofs.Common.{Some, None, unwrap_or, refl, sym, ap, ◌∙◌, inl, inr, arith, subst}
+use Rattle.std.proofs.Common.{◌++◌, All, filter, length, map, take, take_while, is_some, Option}
+use Rattle.std.proofs.Common.{Some, None, unwrap_or, refl, sym, ap, ◌∙◌, inl, inr, arith, subst, nat_lt}
 use Rattle.std.proofs.lemmas.Bool.{cases_Bool, cond-true, cond-false, false≢true}
-use Rattle.std.proofs.lemmas.List.Elements.{All-filter, All-from_recursion, All-head, All-tail, filter-append, recursion_from_All}
+use Rattle.std.proofs.lemmas.List.Elements.{All-from_recursion, All-head, All-tail, filter-append, recursion_from_All}
 use Rattle.std.proofs.Math.Nat.{le-max_left, le-max_right}
 use Rattle.std.proofs.lemmas.List.Sums.{sum_by-append, sum_by-cons, sum_by_push}
 use Rattle.std.specs.Cmp.{IsEquivalence}
@@ -12,26 +12,31 @@ use Rattle.moka_base.specs.Keys.{Keys}
 use Rattle.moka_base.specs.Policy.{Policy}
 use Rattle.moka_sketch.specs.Sketch.{Table}
 use Rattle.moka_machine.specs.declared.entry.Entry.{Entry}
-use Rattle.moka_machine.specs.declared.constants.TheConstants.{EVICTION_BATCH_SIZE, WINDOW_SHARE}
-use Rattle.moka_machine.specs.Contents.{Contents, after_leaving, after_moving, entry_at, entries_without, entry_keys, main_of, total_weight, window_of}
-use Rattle.moka_machine.specs.Contents.{with_latest, without}
-use Rattle.moka_machine.specs.CacheState.{CacheState, new_cache}
+use Rattle.moka_machine.specs.declared.constants.TheConstants.{EVICTION_BATCH_SIZE}
+use Rattle.moka_machine.specs.Contents.{Contents, after_leaving, after_moving, entry_at, entries_without, entry_keys, main_of, total_weight}
+use Rattle.moka_machine.specs.Contents.{window_of}
+use Rattle.moka_machine.specs.Contents.{without, is_window, probation_of, protected_of}
+use Rattle.moka_machine.specs.CacheState.{CacheState, new_cache, room_of, windowed}
 use Rattle.moka_base.specs.Settings.{keeps_writes}
 use Rattle.moka_machine.specs.Upkeep.{after_expiry, after_idle, after_live_expiry, after_trim, after_upkeep}
 use Rattle.moka_machine.specs.Upkeep.{has_lived, least_recent, is_expired, unexpired}
 use Rattle.moka_machine.specs.Insert.{IsInserted, after_admission, after_asking, after_entering, after_entry, after_new, after_put, after_verdict}
 use Rattle.moka_machine.specs.Insert.{new_entry}
-use Rattle.moka_machine.specs.Window.{after_candidacy, after_candidates, candidates, excess, main_limit, victims_of, window_limit, windowed_limit}
+use Rattle.moka_machine.specs.Window.{after_candidacy, after_candidates, candidates, excess, victims_of}
 use Rattle.moka_machine.specs.Invalidate.{chosen}
 use Rattle.moka_laws.specs.Laws.{IsUpdate, OnlyUpdatesOutgrowLimit, StaysWithinLimit}
-use Rattle.moka_machine.specs.Lookup.{after_search, after_use, unexpired_at}
+use Rattle.moka_machine.specs.Lookup.{after_search, after_use, unexpired_at, after_using}
 use Rattle.moka_machine.specs.Step.{Answer, IsStep, Request, Runs, Get, Peek, ContainsKey, Insert, Invalidate, Remove}
 use Rattle.moka_machine.specs.Step.{InvalidateAll, InvalidateEntriesIf, Iterate, EntryCount, WeightedSize}
 use Rattle.moka_machine.proofs.ContentsLemmas.{All-leaving, All-upkeep, idle_keys}
-use Rattle.moka_machine.proofs.WindowLemmas.{All-latest, total-latest, total-main_latest, total-split, window-latest}
+use Rattle.moka_machine.proofs.WindowLemmas.{total-latest, total-main_latest, total-split, window-latest}
 use Rattle.moka_laws.proofs.CandidateLemmas.{All-new, least_parts, victims_weigh}
-use Rattle.moka_laws.proofs.MapLemmas.{settings-put}
+use Rattle.moka_laws.proofs.MapLemmas.{terms-put}
 use Rattle.moka_laws.proofs.RemainLemmas.{filter-all, filter-both}
+use Rattle.moka_machine.proofs.PartLemmas.{All-using, total-using}
+use Rattle.moka_machine.specs.declared.shares.PartLimits.{PartLimits}
+use Rattle.moka_machine.specs.Shares.{limits_of, main_limit, windowed_limits}
+use Rattle.moka_machine.specs.declared.entry.Part.TheVariants.{Probation, Window}
 
 and-false : (a b : Bool) → b ≡ false → (a && b) ≡ false
 and-false true b h = h
@@ -97,12 +102,14 @@ module _ {K V : Type 0} where
     total-upkeep policy now contents =
         let lived = after_live_expiry eq policy now EVICTION_BATCH_SIZE contents in
         let waited = after_idle eq policy now EVICTION_BATCH_SIZE (window_of lived.entries) lived in
+        let tried = after_idle eq policy now EVICTION_BATCH_SIZE (probation_of lived.entries) waited in
         let expired = after_expiry eq policy now contents in
         grind (
           arith,
           total-leaving (map (λ w. w.key) (take EVICTION_BATCH_SIZE (take_while (has_lived policy now) contents.written))) contents,
           total-leaving (idle_keys policy now (window_of lived.entries)) lived,
-          total-leaving (idle_keys policy now (main_of lived.entries)) waited,
+          total-leaving (idle_keys policy now (probation_of lived.entries)) waited,
+          total-leaving (idle_keys policy now (protected_of lived.entries)) tried,
           total-trim policy.max_capacity expired,
         )
 
@@ -179,10 +186,10 @@ module _ {K V : Type 0} (eq : K → K → Bool) (laws : IsEquivalence eq) where
           × ((total_weight contents.entries + new.weight ≤ limit) ⊎ (new.weight ≤ total_weight gone))
           → IsBounded limit contents (after_admission eq keeps new (Some gone) contents)
       by (rest, parts, inl room) =
-          inr (rw (total-push new (after_leaving eq (entry_keys gone) contents).entries)
+          inr (rw (total-latest new (after_leaving eq (entry_keys gone) contents).entries)
           (grind (arith, room, total-leaving eq (entry_keys gone) contents)))
       by (rest, parts, inr enough) =
-          inl (rw (total-push new (after_leaving eq (entry_keys gone) contents).entries)
+          inl (rw (total-latest new (after_leaving eq (entry_keys gone) contents).entries)
           (grind (
             arith,
             enough,
@@ -210,29 +217,29 @@ module _ {K V : Type 0} (eq : K → K → Bool) (laws : IsEquivalence eq) where
   window-candidacy e None contents = (
     λ k. not (eq e.key k),
     ap not (laws.refl e.key),
-    filter-swap (λ x. x.in_window) (λ x. not (eq e.key x.key)) contents.entries,
+    filter-swap (λ x. is_window x.part) (λ x. not (eq e.key x.key)) contents.entries,
   )
   window-candidacy e (Some gone) contents =
       let left = after_leaving eq (entry_keys gone) contents in (
         λ k. is_unlisted eq (entry_keys gone) k && not (eq e.key k),
         and-false (is_unlisted eq (entry_keys gone) e.key) (not (eq e.key e.key)) (ap not (laws.refl e.key)),
-        window-latest (record e { in_window = false }) (entries_without eq e.key left.entries) refl
-            ∙ (filter-swap (λ x. x.in_window) (λ x. not (eq e.key x.key)) left.entries
+        window-latest (record e { part = Probation }) (entries_without eq e.key left.entries) refl
+            ∙ (filter-swap (λ x. is_window x.part) (λ x. not (eq e.key x.key)) left.entries
             ∙ (ap (λ l. filter (λ x. not (eq e.key x.key)) (window_of l)) (leaving-filter eq (entry_keys gone) contents)
             ∙ (ap (filter (λ x. not (eq e.key x.key)))
-            (filter-swap (λ x. x.in_window) (λ x. is_unlisted eq (entry_keys gone) x.key) contents.entries)
+            (filter-swap (λ x. is_window x.part) (λ x. is_unlisted eq (entry_keys gone) x.key) contents.entries)
             ∙ filter-both (λ x. is_unlisted eq (entry_keys gone) x.key) (λ x. not (eq e.key x.key)) (window_of contents.entries)))),
       )
 
   -- and once several were, one after another
-  window-candidates : (limit : ℕ) (sketch : Option Table) (es : List (Entry K V)) (contents : Contents K V)
+  window-candidates : (limits : PartLimits) (sketch : Option Table) (es : List (Entry K V)) (contents : Contents K V)
       → (stays : K → Bool) × AllByRecursion (λ e. stays e.key ≡ false) es
-      × (window_of (after_candidates eq limit sketch es contents).entries ≡ filter (λ x. stays x.key) (window_of contents.entries))
-  window-candidates limit sketch [] contents = (λ k. true, tt, filter-all (window_of contents.entries))
-  window-candidates limit sketch (e ∷ es) contents =
-      let gone = victims_of (Some (main_limit limit)) sketch e (main_of contents.entries) in
+      × (window_of (after_candidates eq limits sketch es contents).entries ≡ filter (λ x. stays x.key) (window_of contents.entries))
+  window-candidates limits sketch [] contents = (λ k. true, tt, filter-all (window_of contents.entries))
+  window-candidates limits sketch (e ∷ es) contents =
+      let gone = victims_of (Some (main_limit limits)) sketch e (main_of contents.entries) in
       let (first, leaves, is) = window-candidacy e gone contents in
-      let (later, all, rest) = window-candidates limit sketch es (after_candidacy eq e gone contents) in (
+      let (later, all, rest) = window-candidates limits sketch es (after_candidacy eq e gone contents) in (
         λ k. first k && later k,
         (ap (λ b. b && later e.key) leaves, behind first later es all),
         rest
@@ -251,17 +258,17 @@ module _ {K V : Type 0} (eq : K → K → Bool) (laws : IsEquivalence eq) where
       ≡ filter (λ x. is_unlisted eq (entry_keys gone) x.key) (main_of contents.entries)
   main-leaving gone contents =
       ap main_of (leaving-filter eq (entry_keys gone) contents)
-      ∙ filter-swap (λ x. not x.in_window) (λ x. is_unlisted eq (entry_keys gone) x.key) contents.entries
+      ∙ filter-swap (λ x. not (is_window x.part)) (λ x. is_unlisted eq (entry_keys gone) x.key) contents.entries
 
   -- an entry that comes to main adds no more than its weight
   pub main-moved : (e : Entry K V) (contents : Contents K V)
-      → total_weight (main_of (after_moving eq (record e { in_window = false }) contents).entries)
+      → total_weight (main_of (after_moving eq (record e { part = Probation }) contents).entries)
       ≤ total_weight (main_of contents.entries) + e.weight
   main-moved e contents =
-      rw (total-main_latest (record e { in_window = false }) (entries_without eq e.key contents.entries) refl)
+      rw (total-main_latest (record e { part = Probation }) (entries_without eq e.key contents.entries) refl)
       (grind (
         arith,
-        ap total_weight (filter-swap (λ x. not x.in_window) (λ x. not (eq e.key x.key)) contents.entries),
+        ap total_weight (filter-swap (λ x. not (is_window x.part)) (λ x. not (eq e.key x.key)) contents.entries),
         total-filter (λ x. not (eq e.key x.key)) (main_of contents.entries),
       ))
 
@@ -271,7 +278,7 @@ module _ {K V : Type 0} (eq : K → K → Bool) (laws : IsEquivalence eq) where
       → (total_weight (main_of (after_candidacy eq e gone contents).entries) ≤ total_weight (main_of contents.entries))
       ⊎ (total_weight (main_of (after_candidacy eq e gone contents).entries) ≤ limit)
   main-candidacy limit sketch e contents None is =
-      inl (rw (filter-swap (λ x. not x.in_window) (λ x. not (eq e.key x.key)) contents.entries)
+      inl (rw (filter-swap (λ x. not (is_window x.part)) (λ x. not (eq e.key x.key)) contents.entries)
       (total-filter (λ x. not (eq e.key x.key)) (main_of contents.entries)))
   main-candidacy limit sketch e contents (Some gone) is =
       by (victims_weigh limit sketch e (main_of contents.entries) gone is)
@@ -299,16 +306,16 @@ module _ {K V : Type 0} (eq : K → K → Bool) (laws : IsEquivalence eq) where
             sum_by-append (λ e. e.weight) gone rest,
           ))
 
-  main-candidates : (limit : ℕ) (sketch : Option Table) (es : List (Entry K V)) (contents : Contents K V)
-      → (total_weight (main_of (after_candidates eq limit sketch es contents).entries) ≤ total_weight (main_of contents.entries))
-      ⊎ (total_weight (main_of (after_candidates eq limit sketch es contents).entries) ≤ main_limit limit)
-  main-candidates limit sketch [] contents = inl (grind (arith))
-  main-candidates limit sketch (e ∷ es) contents =
-      let gone = victims_of (Some (main_limit limit)) sketch e (main_of contents.entries) in
+  main-candidates : (limits : PartLimits) (sketch : Option Table) (es : List (Entry K V)) (contents : Contents K V)
+      → (total_weight (main_of (after_candidates eq limits sketch es contents).entries) ≤ total_weight (main_of contents.entries))
+      ⊎ (total_weight (main_of (after_candidates eq limits sketch es contents).entries) ≤ main_limit limits)
+  main-candidates limits sketch [] contents = inl (grind (arith))
+  main-candidates limits sketch (e ∷ es) contents =
+      let gone = victims_of (Some (main_limit limits)) sketch e (main_of contents.entries) in
       let next = after_candidacy eq e gone contents in
-      elim (main-candidates limit sketch es next) [
+      elim (main-candidates limits sketch es next) [
         | inl less ↦
-            elim (main-candidacy (main_limit limit) sketch e contents gone refl) [
+            elim (main-candidacy (main_limit limits) sketch e contents gone refl) [
               | inl h ↦ inl (grind (arith, less, h))
               | inr h ↦ inr (grind (arith, less, h))
             ]
@@ -316,56 +323,56 @@ module _ {K V : Type 0} (eq : K → K → Bool) (laws : IsEquivalence eq) where
       ]
 
   -- an entry that enters the window leaves no more weight, or no more than the limit
-  bounded_entering : (keeps : Bool) (limit : ℕ) (sketch : Option Table) (new : Entry K V) (contents : Contents K V)
-      → IsBounded limit contents (after_entering eq keeps limit sketch new contents)
-  bounded_entering keeps limit sketch new contents =
-      let entry = record new { in_window = true } in
+  bounded_entering : (keeps : Bool) (limits : PartLimits) (sketch : Option Table) (new : Entry K V) (contents : Contents K V)
+      → IsBounded limits.all contents (after_entering eq keeps limits sketch new contents)
+  bounded_entering keeps limits sketch new contents =
+      let entry = record new { part = Window } in
       let entered = after_entry eq keeps entry contents in
       let window = window_of entered.entries in
-      let enough = excess limit entered.entries in
-      let after = after_candidates eq limit sketch (candidates limit entered.entries) entered in
+      let enough = excess limits entered.entries in
+      let after = after_candidates eq limits sketch (candidates limits entered.entries) entered in
       let (rest, parts, heavy) = least_parts enough window in
-      let (stays, leave, left) = window-candidates limit sketch (candidates limit entered.entries) entered in
+      let (stays, leave, left) = window-candidates limits sketch (candidates limits entered.entries) entered in
       let less : total_weight (window_of after.entries) ≤ total_weight rest =
-      rw (left ∙ ap (filter (λ x. stays x.key)) parts) (total-behind (λ x. stays x.key) (candidates limit entered.entries) rest leave) in
+      rw (left ∙ ap (filter (λ x. stays x.key)) parts) (total-behind (λ x. stays x.key) (candidates limits entered.entries) rest leave) in
       let main : total_weight (main_of entered.entries) ≤ total_weight contents.entries =
       grind (
         arith,
-        ap total_weight (filter-append (λ e. not e.in_window) contents.entries (entry ∷ [])),
+        ap total_weight (filter-append (λ e. not (is_window e.part)) contents.entries (entry ∷ [])),
         sum_by-append (λ e. e.weight) (main_of contents.entries) [],
         total-split contents.entries,
       ) in
       by (total_weight contents.entries) (total_weight (main_of entered.entries)) (total_weight window) (total_weight entered.entries)
-      (total_weight (candidates limit entered.entries)) (total_weight rest)
+      (total_weight (candidates limits entered.entries)) (total_weight rest)
       (total_weight (main_of after.entries)) (total_weight (window_of after.entries)) (total_weight after.entries)
-      main (total-split entered.entries) (ap total_weight parts ∙ sum_by-append (λ e. e.weight) (candidates limit entered.entries) rest)
+      main (total-split entered.entries) (ap total_weight parts ∙ sum_by-append (λ e. e.weight) (candidates limits entered.entries) rest)
       less (total-split after.entries)
       (elim heavy [ inl h ↦ inl h | inr none ↦ inr (ap total_weight none) ])
-      (main-candidates limit sketch (candidates limit entered.entries) entered)
+      (main-candidates limits sketch (candidates limits entered.entries) entered)
     where
       by : (old main1 window1 all1 chosen rest main2 window2 all2 : ℕ)
           → main1 ≤ old → main1 + window1 ≡ all1 → window1 ≡ chosen + rest → window2 ≤ rest → main2 + window2 ≡ all2
-          → (max (window1 - window_limit limit) (all1 - limit) ≤ chosen) ⊎ (rest ≡ 0)
-          → (main2 ≤ main1) ⊎ (main2 ≤ main_limit limit)
-          → (all2 ≤ old) ⊎ (all2 ≤ limit)
+          → (max (window1 - limits.window) (all1 - limits.all) ≤ chosen) ⊎ (rest ≡ 0)
+          → (main2 ≤ main1) ⊎ (main2 ≤ main_limit limits)
+          → (all2 ≤ old) ⊎ (all2 ≤ limits.all)
       by old main1 window1 all1 chosen rest main2 window2 all2 a b c d e (inl enough) (inl less) =
-          inr (omega (arith, le-max_right (window1 - window_limit limit) (all1 - limit)))
+          inr (omega (arith, le-max_right (window1 - limits.window) (all1 - limits.all)))
       by old main1 window1 all1 chosen rest main2 window2 all2 a b c d e (inl enough) (inr less) =
-          inr (omega (arith, le-max_left (window1 - window_limit limit) (all1 - limit)))
+          inr (omega (arith, le-max_left (window1 - limits.window) (all1 - limits.all), le-max_right (window1 - limits.window) (all1 - limits.all)))
       by old main1 window1 all1 chosen rest main2 window2 all2 a b c d e (inr none) (inl less) = inl (omega arith)
       by old main1 window1 all1 chosen rest main2 window2 all2 a b c d e (inr none) (inr less) = inr (omega arith)
 
   -- a use leaves no more weight
-  total-search : (policy : Policy) (now : ℕ) (key : K) (contents : Contents K V)
-      → total_weight (after_search eq policy now key contents).entries ≤ total_weight contents.entries
-  total-search policy now key contents =
+  total-search : (room : ℕ) (policy : Policy) (now : ℕ) (key : K) (contents : Contents K V)
+      → total_weight (after_search eq room policy now key contents).entries ≤ total_weight contents.entries
+  total-search room policy now key contents =
       by (unexpired_at eq policy now key contents) (found_there policy now (entry_at eq key contents.entries))
     where
       by : (o : Option (Entry K V)) → ((used : Entry K V) → o ≡ Some used → entry_at eq key contents.entries ≡ Some used)
-          → total_weight (after_use eq now o contents).entries ≤ total_weight contents.entries
+          → total_weight (after_use eq room now o contents).entries ≤ total_weight contents.entries
       by None there = grind (arith)
       by (Some used) there =
-          rw (total-latest (record used { accessed = now }) (entries_without eq used.key contents.entries))
+          subst (λ n. n ≤ total_weight contents.entries) (sym (total-using eq room (record used { accessed = now }) contents))
           (total-found eq laws key used contents.entries (there used refl))
 
 module _ {K V S W : Type 0} (keys : Keys K S) (laws : IsEquivalence keys.eq) (weighs : W → K → V → ℕ → W → Type 0) where
@@ -379,16 +386,17 @@ module _ {K V S W : Type 0} (keys : Keys K S) (laws : IsEquivalence keys.eq) (we
       → IsBounded keys.eq laws limit cache.contents (after_put keys.eq cache o new refused).contents
   bounded_put cache limit new refused has (Some old) none = absurd (false≢true (sym none))
   bounded_put cache limit new refused has None none =
-      subst (λ l. IsBounded keys.eq laws limit cache.contents (after_new keys.eq cache (windowed_limit l) new refused).contents) (sym has)
-      (elim (cases_Bool (nat_le WINDOW_SHARE limit)) [
+      subst (λ l. IsBounded keys.eq laws limit cache.contents (after_new keys.eq cache (windowed_limits cache.shares l) new refused).contents)
+      (sym has)
+      (elim (cases_Bool (nat_lt 0 (limits_of cache.shares limit).window)) [
         | inl windowed ↦
             subst (λ l. IsBounded keys.eq laws limit cache.contents (after_new keys.eq cache l new refused).contents)
-            (sym (cond-true (nat_le WINDOW_SHARE limit) (Some limit) None windowed))
+            (sym (cond-true (nat_lt 0 (limits_of cache.shares limit).window) (Some (limits_of cache.shares limit)) None windowed))
             (standing (is_some (entry_at keys.eq new.key entered.entries))
-            (bounded_entering keys.eq laws (keeps_writes cache.settings.policy) limit cache.sketch new cache.contents))
+            (bounded_entering keys.eq laws (keeps_writes cache.settings.policy) (limits_of cache.shares limit) cache.sketch new cache.contents))
         | inr low ↦
             subst (λ l. IsBounded keys.eq laws limit cache.contents (after_new keys.eq cache l new refused).contents)
-            (sym (cond-false (nat_le WINDOW_SHARE limit) (Some limit) None low))
+            (sym (cond-false (nat_lt 0 (limits_of cache.shares limit).window) (Some (limits_of cache.shares limit)) None low))
             (subst (λ l. IsBounded keys.eq laws limit cache.contents
             (after_verdict keys.eq cache new (victims_of l cache.sketch new cache.contents.entries) refused).contents) (sym has)
             (by (victims_of (Some limit) cache.sketch new cache.contents.entries)
@@ -397,7 +405,7 @@ module _ {K V S W : Type 0} (keys : Keys K S) (laws : IsEquivalence keys.eq) (we
       ])
     where
       entered : Contents K V
-      entered = after_entering keys.eq (keeps_writes cache.settings.policy) limit cache.sketch new cache.contents
+      entered = after_entering keys.eq (keeps_writes cache.settings.policy) (limits_of cache.shares limit) cache.sketch new cache.contents
 
       standing : (b : Bool) → IsBounded keys.eq laws limit cache.contents entered
           → IsBounded keys.eq laws limit cache.contents
@@ -448,7 +456,7 @@ module _ {K V S W : Type 0} (keys : Keys K S) (laws : IsEquivalence keys.eq) (we
       less limit old new _ (Get key now) step.1
       (grind (
         arith,
-        total-search keys.eq laws policy now key (after_upkeep keys.eq policy now old.contents),
+        total-search keys.eq laws (room_of old) policy now key (after_upkeep keys.eq policy now old.contents),
         total-upkeep keys.eq policy
             now old.contents,
       ))
@@ -501,21 +509,20 @@ module _ {K V : Type 0} (eq : K → K → Bool) where
             (sym (cond-false (eq key f.key) (Some f) (entry_at eq key fs) differ) ∙ h)
       ]
 
-  ones_latest : (es : List (Entry K V)) (e : Entry K V) → AllOne es → e.weight ≡ 1 → AllOne (with_latest e es)
-  ones_latest es e ones one = All-latest (λ e. e.weight ≡ 1) e es ones one
+  ones_using : (room : ℕ) (e : Entry K V) (contents : Contents K V) → AllOne contents.entries → e.weight ≡ 1
+      → AllOne (after_using eq room e contents).entries
+  ones_using room e contents ones one = All-using eq (λ e. e.weight ≡ 1) (λ x protected is. is) room e contents one ones
 
-  ones_search : (policy : Policy) (now : ℕ) (key : K) (contents : Contents K V) → AllOne contents.entries
-      → AllOne (after_search eq policy now key contents).entries
-  ones_search policy now key contents ones =
+  ones_search : (room : ℕ) (policy : Policy) (now : ℕ) (key : K) (contents : Contents K V) → AllOne contents.entries
+      → AllOne (after_search eq room policy now key contents).entries
+  ones_search room policy now key contents ones =
       by (unexpired_at eq policy now key contents) (found_there policy now (entry_at eq key contents.entries))
     where
       by : (o : Option (Entry K V)) → ((used : Entry K V) → o ≡ Some used → entry_at eq key contents.entries ≡ Some used)
-          → AllOne (after_use eq now o contents).entries
+          → AllOne (after_use eq room now o contents).entries
       by None there = ones
       by (Some used) there =
-          ones_latest (entries_without eq used.key contents.entries) (record used { accessed = now })
-          (All-filter (λ e. not (eq used.key e.key)) (λ e. e.weight ≡ 1) contents.entries ones)
-          (ones_found key contents.entries used ones (there used refl))
+          ones_using room (record used { accessed = now }) contents ones (ones_found key contents.entries used ones (there used refl))
 
 module _ {K V S W : Type 0} (keys : Keys K S) (laws : IsEquivalence keys.eq) (weighs : W → K → V → ℕ → W → Type 0)
     (each : (old new : W) (key : K) (value : V) (weight : ℕ) → weighs old key value weight new → weight ≡ 1) where
@@ -529,14 +536,11 @@ module _ {K V S W : Type 0} (keys : Keys K S) (laws : IsEquivalence keys.eq) (we
       → (o : Option (Entry K V)) → entry_at keys.eq new.key cache.contents.entries ≡ o
       → IsWithin limit (after_put keys.eq cache o new refused)
   within_put limit cache new refused within one (Some old) at =
-      let less = entries_without keys.eq old.key cache.contents.entries in
-      let update = record new { key = old.key; hash = old.hash; in_window = old.in_window } in
+      let update = record new { key = old.key; hash = old.hash; part = old.part } in
       record {
         has = within.has;
-        ones =
-            ones_latest keys.eq less update
-            (All-filter (λ e. not (keys.eq old.key e.key)) (λ e. e.weight ≡ 1) cache.contents.entries within.ones) one;
-        fits = rw (total-latest update less)
+        ones = ones_using keys.eq (room_of cache) update cache.contents within.ones one;
+        fits = subst (λ n. n ≤ limit) (sym (total-using keys.eq (room_of cache) update cache.contents))
             (grind (
               arith,
               total-found keys.eq laws new.key old cache.contents.entries at,
@@ -548,9 +552,9 @@ module _ {K V S W : Type 0} (keys : Keys K S) (laws : IsEquivalence keys.eq) (we
       }
   within_put limit cache new refused within one None at =
       record {
-        has = ap (λ s. s.policy.max_capacity) (settings-put keys.eq cache None new refused) ∙ within.has;
+        has = ap (λ t. t.0.policy.max_capacity) (terms-put keys.eq cache None new refused) ∙ within.has;
         ones =
-            All-new keys.eq (λ e. e.weight ≡ 1) (λ e b h. h) cache (windowed_limit cache.settings.policy.max_capacity) new refused
+            All-new keys.eq (λ e. e.weight ≡ 1) (λ e part free h. h) cache (windowed cache) new refused
             within.ones one;
         fits =
             elim (bounded_put keys laws weighs cache limit new refused within.has None refl) [
@@ -572,8 +576,8 @@ module _ {K V S W : Type 0} (keys : Keys K S) (laws : IsEquivalence keys.eq) (we
       let policy = old.settings.policy in
       let kept = after_upkeep keys.eq policy now old.contents in
       within_less limit old new _ within step.1 refl
-      (ones_search keys.eq policy now key kept (All-upkeep keys.eq (λ e. e.weight ≡ 1) policy now old.contents within.ones))
-      (grind (arith, total-search keys.eq laws policy now key kept, total-upkeep keys.eq policy now old.contents))
+      (ones_search keys.eq (room_of old) policy now key kept (All-upkeep keys.eq (λ e. e.weight ≡ 1) policy now old.contents within.ones))
+      (grind (arith, total-search keys.eq laws (room_of old) policy now key kept, total-upkeep keys.eq policy now old.contents))
   within_step limit old new (Peek key now) answer within step = subst (IsWithin limit) (sym step.1) within
   within_step limit old new (ContainsKey key now) answer within step =
       let policy = old.settings.policy in
@@ -626,9 +630,9 @@ module _ {K V S W : Type 0} (keys : Keys K S) (laws : IsEquivalence keys.eq) (we
 -- each entry of weight 1 is counted by its weight
 pub stays_within : {K V S W : Type 0} (keys : Keys K S) → IsEquivalence keys.eq → (weighs : W → K → V → ℕ → W → Type 0)
     → StaysWithinLimit keys weighs
-stays_within keys laws weighs each settings weigher capacity limit requests answers cache has run =
+stays_within keys laws weighs each settings shares weigher capacity limit requests answers cache has run =
     let within =
-    within_run keys laws weighs each limit (new_cache settings weigher capacity) cache requests answers
+    within_run keys laws weighs each limit (new_cache settings shares weigher capacity) cache requests answers
     (record { has = has; ones = All-from_recursion (λ e. e.weight ≡ 1) [] tt; fits = grind (arith) }) run in
     subst (λ n. n ≤ limit) (total-ones cache.contents.entries (recursion_from_All (λ e. e.weight ≡ 1) cache.contents.entries within.ones))
     within.fits

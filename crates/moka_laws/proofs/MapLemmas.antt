@@ -1,5 +1,5 @@
 -- Lemmas on a cache without limits, which does what a plain map does.
-use Rattle.std.proofs.Common.{◌≡◌, ◌≢◌, ◌||◌, ℕ, Bool, true, false, cond, not, List, [], ◌∷◌, ◌++◌, filter, find, is_some}
+use Rattle.std.proofs.Common.{◌≡◌, ◌≢◌, ◌-◌, ◌||◌, ℕ, Bool, true, false, cond, not, List, [], ◌∷◌, ◌++◌, filter, find, is_some}
 use Rattle.std.proofs.Common.{map, take, take_while, Option, Some, None, option_map, refl, sym, ap, ◌∙◌, subst, inl, inr}
 use Rattle.std.proofs.lemmas.Bool.{cases_Bool, cond-true, cond-false}
 use Rattle.std.proofs.lemmas.List.{length-map}
@@ -15,13 +15,15 @@ use Rattle.moka_base.specs.Moment.{idle_expired, live_expired}
 use Rattle.moka_base.specs.Policy.{Policy}
 use Rattle.moka_machine.specs.declared.entry.Entry.{Entry}
 use Rattle.moka_machine.specs.declared.constants.TheConstants.{EVICTION_BATCH_SIZE}
-use Rattle.moka_machine.specs.Contents.{Contents, after_leaving, entry_at, entries_without, entry_keys, main_of, window_of, with_latest, without}
-use Rattle.moka_machine.specs.CacheState.{CacheState}
-use Rattle.moka_base.specs.Settings.{idle_nanos, keeps_writes, live_nanos}
-use Rattle.moka_machine.specs.Upkeep.{after_expiry, after_idle, after_idle_expiry, after_trim, after_upkeep, has_lived, is_idle, is_expired, unexpired}
-use Rattle.moka_machine.specs.Lookup.{after_look, after_search, after_use, found_by_get, found_by_peek, unexpired_at}
+use Rattle.moka_machine.specs.Contents.{Contents, after_leaving, entry_at, entries_without, entry_keys, window_of, with_latest, without, probation_of}
+use Rattle.moka_machine.specs.Contents.{protected_of, total_weight}
+use Rattle.moka_machine.specs.CacheState.{CacheState, room_of, windowed}
+use Rattle.moka_base.specs.Settings.{Settings, idle_nanos, keeps_writes, live_nanos}
+use Rattle.moka_machine.specs.Upkeep.{after_expiry, after_idle, after_idle_expiry, after_trim, after_upkeep, has_lived, is_idle, is_expired}
+use Rattle.moka_machine.specs.Upkeep.{unexpired}
+use Rattle.moka_machine.specs.Lookup.{after_look, after_search, after_use, found_by_get, found_by_peek, unexpired_at, after_using, used_part}
 use Rattle.moka_machine.specs.Insert.{after_asking, after_entering, after_new, after_put, after_verdict, new_entry}
-use Rattle.moka_machine.specs.Window.{victims_of, windowed_limit}
+use Rattle.moka_machine.specs.Window.{victims_of}
 use Rattle.moka_machine.specs.Invalidate.{chosen}
 use Rattle.moka_machine.specs.Iterate.{unexpired_pairs, pairs_of}
 use Rattle.moka_machine.specs.Step.{Answer, IsStep, Request, Get, Peek, ContainsKey, Insert, Invalidate, Remove, InvalidateAll}
@@ -30,6 +32,11 @@ use Rattle.moka_laws.specs.PlainMap.{IsMapAnswer, IsUnbounded, RunsAsMap, StepsA
 use Rattle.moka_machine.proofs.ContentsLemmas.{found_key}
 use Rattle.moka_machine.proofs.WindowLemmas.{latest_parts}
 use Rattle.moka_laws.proofs.KeyLemmas.{entry_at-gone, keys-pairs, once-step}
+use Rattle.moka_machine.specs.declared.shares.PartLimits.{PartLimits}
+use Rattle.moka_machine.specs.Shares.{windowed_limits}
+use Rattle.moka_machine.specs.declared.entry.Part.{Part}
+use Rattle.moka_machine.specs.declared.shares.Shares.{Shares}
+use Rattle.moka_machine.proofs.PartLemmas.{entry_at-demoted, placed, placed-map}
 
 -- ---- upkeep without limits
 
@@ -62,9 +69,11 @@ module _ (policy : Policy) (unbounded : IsUnbounded policy) (now : ℕ) where
       ∙ take-nil EVICTION_BATCH_SIZE in
       ap (λ limit. after_trim eq limit (after_expiry eq policy now contents)) unbounded.0
       ∙ (ap (after_idle_expiry eq policy now EVICTION_BATCH_SIZE) (ap (λ l. after_leaving eq (map (λ w. w.key) l) contents) none_lived)
+      ∙ (ap (λ l. after_leaving eq (entry_keys l) (after_idle eq policy now EVICTION_BATCH_SIZE (probation_of contents.entries)
+      (after_idle eq policy now EVICTION_BATCH_SIZE (window_of contents.entries) contents))) (none_idle (protected_of contents.entries))
       ∙ (ap (λ l. after_leaving eq (entry_keys l) (after_idle eq policy now EVICTION_BATCH_SIZE (window_of contents.entries) contents))
-      (none_idle (main_of contents.entries))
-      ∙ ap (λ l. after_leaving eq (entry_keys l) contents) (none_idle (window_of contents.entries))))
+      (none_idle (probation_of contents.entries))
+      ∙ ap (λ l. after_leaving eq (entry_keys l) contents) (none_idle (window_of contents.entries)))))
 
 -- ---- what stands at a key
 
@@ -157,6 +166,32 @@ module _ {K V : Type 0} {eq : K → K → Bool} (laws : IsEquivalence eq) where
         | inr differ ↦ ap (cond (eq moved.key key) (Some moved)) (entry_at-other moved.key key differ entries)
       ]
 
+  -- and so does one that is used, in whatever part it then is, as do all others
+  pub entry_at-using : (room : ℕ) (key : K) (entry : Entry K V) (contents : Contents K V)
+      → (f : Part → Part) × (entry_at eq key (after_using eq room entry contents).entries
+      ≡ placed f (cond (eq entry.key key) (Some entry) (entry_at eq key contents.entries)))
+  entry_at-using room key entry contents =
+      let used = record entry { part = used_part room entry.part entry.weight } in
+      let es = with_latest used (entries_without eq entry.key contents.entries) in
+      let (f, at) = entry_at-demoted eq key (total_weight (protected_of es) - room) es in
+      let stands = ap (placed f) (entry_at-moved key used contents.entries) in
+      elim (cases_Bool (eq entry.key key)) [
+        | inl equal ↦ (
+          λ part. f used.part,
+          at
+              ∙ (stands
+              ∙ (ap (placed f) (cond-true (eq entry.key key) (Some used) (entry_at eq key contents.entries) equal)
+              ∙ sym (ap (placed (λ part. f used.part)) (cond-true (eq entry.key key) (Some entry) (entry_at eq key contents.entries) equal)))),
+        )
+        | inr differ ↦ (
+          f,
+          at
+              ∙ (stands
+              ∙ (ap (placed f) (cond-false (eq entry.key key) (Some used) (entry_at eq key contents.entries) differ)
+              ∙ sym (ap (placed f) (cond-false (eq entry.key key) (Some entry) (entry_at eq key contents.entries) differ)))),
+        )
+      ]
+
 -- ---- what value it has
 
 -- a choice between values
@@ -200,18 +235,21 @@ module _ {K V : Type 0} {eq : K → K → Bool} (laws : IsEquivalence eq) (key :
       ∙ (ap (cond (list_any (λ e. eq e.key key) gs) None) (value-without g.key contents.entries)
       ∙ gone_either (eq g.key key) (list_any (λ e. eq e.key key) gs) (value_in contents.entries))
 
-  -- an entry that takes the place of another brings its value
-  value-put : (new : Entry K V) (entries : List (Entry K V))
-      → value_in (with_latest new (entries_without eq new.key entries)) ≡ cond (eq new.key key) (Some new.value) (value_in entries)
-  value-put new entries =
-      ap (option_map (λ e. e.value)) (entry_at-moved laws key new entries) ∙ value_of (eq new.key key) (Some new) (entry_at eq key entries)
+  -- an entry that is used brings its value
+  value-using : (room : ℕ) (new : Entry K V) (contents : Contents K V)
+      → value_in (after_using eq room new contents).entries ≡ cond (eq new.key key) (Some new.value) (value_in contents.entries)
+  value-using room new contents =
+      let (f, at) = entry_at-using laws room key new contents in
+      ap (option_map (λ e. e.value)) at
+      ∙ (placed-map (λ e. e.value) (λ e part. refl) f (cond (eq new.key key) (Some new) (entry_at eq key contents.entries))
+      ∙ value_of (eq new.key key) (Some new) (entry_at eq key contents.entries))
 
   -- a use changes no value
-  value-used : (now : ℕ) (other : K) (o : Option (Entry K V)) (contents : Contents K V) → entry_at eq other contents.entries ≡ o
-      → value_in (after_use eq now o contents).entries ≡ value_in contents.entries
-  value-used now other None contents found = refl
-  value-used now other (Some e) contents found =
-      value-put (record e { accessed = now }) contents.entries
+  value-used : (room now : ℕ) (other : K) (o : Option (Entry K V)) (contents : Contents K V) → entry_at eq other contents.entries ≡ o
+      → value_in (after_use eq room now o contents).entries ≡ value_in contents.entries
+  value-used room now other None contents found = refl
+  value-used room now other (Some e) contents found =
+      value-using room (record e { accessed = now }) contents
       ∙ elim (cases_Bool (eq e.key key)) [
         | inl equal ↦
             cond-true (eq e.key key) (Some e.value) (value_in contents.entries) equal
@@ -229,15 +267,14 @@ module _ {K V : Type 0} {eq : K → K → Bool} (laws : IsEquivalence eq) (key :
         → value_in (after_put eq cache o new refused).contents.entries ≡ cond (eq new.key key) (Some new.value)
         (value_in cache.contents.entries)
     value-inserted cache None new refused unbounded found =
-        ap (λ limit. value_in (after_new eq cache (windowed_limit limit) new refused).contents.entries) unbounded
+        ap (λ limit. value_in (after_new eq cache (windowed_limits cache.shares limit) new refused).contents.entries) unbounded
         ∙ (ap (λ limit. value_in (after_verdict eq cache new (victims_of limit cache.sketch new cache.contents.entries) refused).contents.entries)
         unbounded
         ∙ (ap (option_map (λ e. e.value))
-        (entry_at-push laws key new cache.contents.entries (λ equal. sym (entry_at-equal laws new.key key equal cache.contents.entries)
-        ∙ found))
+        (entry_at-latest laws key new cache.contents.entries found)
         ∙ value_of (eq new.key key) (Some new) (entry_at eq key cache.contents.entries)))
     value-inserted cache (Some old) new refused unbounded found =
-        value-put (record new { key = old.key; hash = old.hash; in_window = old.in_window }) cache.contents.entries
+        value-using (room_of cache) (record new { key = old.key; hash = old.hash; part = old.part }) cache.contents
         ∙ ap (λ b. cond b (Some new.value) (value_in cache.contents.entries))
         (sym (laws.congr new.key old.key key (found_key eq new.key old cache.contents.entries found)))
 
@@ -292,27 +329,31 @@ pub told_by_value : {K V : Type 0} (o : Option (Entry K V)) → is_some o ≡ is
 told_by_value None = refl
 told_by_value (Some e) = refl
 
+-- what a cache was made with
+abbrev pub terms_of : {K V S W : Type 0} → CacheState K V S W → Settings S × Shares
+terms_of cache = (cache.settings, cache.shares)
+
 module _ {K V S W : Type 0} (eq : K → K → Bool) where
-  -- an insert leaves the settings
-  pub settings-put : (cache : CacheState K V S W) (o : Option (Entry K V)) (new : Entry K V) (refused : Bool)
-      → (after_put eq cache o new refused).settings ≡ cache.settings
-  settings-put cache None new refused = settings-new (windowed_limit cache.settings.policy.max_capacity)
+  -- an insert leaves that
+  pub terms-put : (cache : CacheState K V S W) (o : Option (Entry K V)) (new : Entry K V) (refused : Bool)
+      → terms_of (after_put eq cache o new refused) ≡ terms_of cache
+  terms-put cache None new refused = terms-new (windowed cache)
     where
-      by : (gone : Option (List (Entry K V))) → (after_verdict eq cache new gone refused).settings ≡ cache.settings
+      by : (gone : Option (List (Entry K V))) → terms_of (after_verdict eq cache new gone refused) ≡ terms_of cache
       by None = refl
       by (Some victims) = refl
 
-      standing : (b : Bool) (left : CacheState K V S W) → left.settings ≡ cache.settings
-          → (cond b (after_asking eq refused left) left).settings ≡ cache.settings
+      standing : (b : Bool) (left : CacheState K V S W) → terms_of left ≡ terms_of cache
+          → terms_of (cond b (after_asking eq refused left) left) ≡ terms_of cache
       standing true left same = same
       standing false left same = same
 
-      settings-new : (limit : Option ℕ) → (after_new eq cache limit new refused).settings ≡ cache.settings
-      settings-new None = by (victims_of cache.settings.policy.max_capacity cache.sketch new cache.contents.entries)
-      settings-new (Some limit) =
+      terms-new : (limit : Option PartLimits) → terms_of (after_new eq cache limit new refused) ≡ terms_of cache
+      terms-new None = by (victims_of cache.settings.policy.max_capacity cache.sketch new cache.contents.entries)
+      terms-new (Some limit) =
           let contents = after_entering eq (keeps_writes cache.settings.policy) limit cache.sketch new cache.contents in
           standing (is_some (entry_at eq new.key contents.entries)) (record cache { contents = contents }) refl
-  settings-put cache (Some old) new refused = refl
+  terms-put cache (Some old) new refused = refl
 
 module _ {K V S W : Type 0} (keys : Keys K S) where
   -- a call finds what stood there
@@ -335,28 +376,33 @@ module _ {K V S W : Type 0} (keys : Keys K S) where
       ∙ seen_in_map cache unbounded key now
 
 module _ {K V S W : Type 0} (keys : Keys K S) (weighs : W → K → V → ℕ → W → Type 0) where
-  -- each call leaves the settings
+  -- each call leaves what the cache was made with
+  pub terms-step : (old new : CacheState K V S W) (request : Request K V) (answer : Answer K V)
+      → IsStep keys weighs old request answer new
+      → terms_of new ≡ terms_of old
+  terms-step old new (Get other now) answer step = ap terms_of step.1
+  terms-step old new (Peek other now) answer step = ap terms_of step.1
+  terms-step old new (ContainsKey other now) answer step = ap terms_of step.1
+  terms-step old new (Insert other value now) answer (inl (done, inserted)) =
+      let kept = (after_look keys old now).contents in
+      let entry = new_entry keys old.settings.hash_state other value inserted.weight now in
+      ap terms_of inserted.step
+      ∙ terms-put keys.eq (record old { weigher = inserted.weigher; capacity = inserted.capacity; contents = kept })
+      (entry_at keys.eq other kept.entries) entry
+      inserted.refused
+  terms-step old new (Insert other value now) answer (inr (refused, same)) = ap terms_of same.same
+  terms-step old new (Invalidate other now) answer step = ap terms_of step.1
+  terms-step old new (Remove other now) answer step = ap terms_of step.1
+  terms-step old new InvalidateAll answer step = ap terms_of step.1
+  terms-step old new (InvalidateEntriesIf answers) answer step = ap terms_of step.1
+  terms-step old new (Iterate now) answer step = ap terms_of step.1
+  terms-step old new EntryCount answer step = ap terms_of step.1
+  terms-step old new WeightedSize answer step = ap terms_of step.1
+
   pub settings-step : (old new : CacheState K V S W) (request : Request K V) (answer : Answer K V)
       → IsStep keys weighs old request answer new
       → new.settings ≡ old.settings
-  settings-step old new (Get other now) answer step = ap (λ c. c.settings) step.1
-  settings-step old new (Peek other now) answer step = ap (λ c. c.settings) step.1
-  settings-step old new (ContainsKey other now) answer step = ap (λ c. c.settings) step.1
-  settings-step old new (Insert other value now) answer (inl (done, inserted)) =
-      let kept = (after_look keys old now).contents in
-      let entry = new_entry keys old.settings.hash_state other value inserted.weight now in
-      ap (λ c. c.settings) inserted.step
-      ∙ settings-put keys.eq (record old { weigher = inserted.weigher; capacity = inserted.capacity; contents = kept })
-      (entry_at keys.eq other kept.entries) entry
-      inserted.refused
-  settings-step old new (Insert other value now) answer (inr (refused, same)) = ap (λ c. c.settings) same.same
-  settings-step old new (Invalidate other now) answer step = ap (λ c. c.settings) step.1
-  settings-step old new (Remove other now) answer step = ap (λ c. c.settings) step.1
-  settings-step old new InvalidateAll answer step = ap (λ c. c.settings) step.1
-  settings-step old new (InvalidateEntriesIf answers) answer step = ap (λ c. c.settings) step.1
-  settings-step old new (Iterate now) answer step = ap (λ c. c.settings) step.1
-  settings-step old new EntryCount answer step = ap (λ c. c.settings) step.1
-  settings-step old new WeightedSize answer step = ap (λ c. c.settings) step.1
+  settings-step old new request answer step = ap (λ t. t.0) (terms-step old new request answer step)
 
   module _ (laws : IsEquivalence keys.eq) where
     -- each call answers what it would with a plain map
@@ -406,12 +452,12 @@ module _ {K V S W : Type 0} (keys : Keys K S) (weighs : W → K → V → ℕ �
         → (key : K) → cached_value key new ≡ value_after keys (pairs_of old.contents.entries) request key
     values_as_map old new (Get other now) answer unbounded known step key =
         ap (cached_value key) step.1
-        ∙ (ap (λ c. value_at keys key (pairs_of (after_search keys.eq old.settings.policy now other c).entries))
+        ∙ (ap (λ c. value_at keys key (pairs_of (after_search keys.eq (room_of old) old.settings.policy now other c).entries))
         (look-same keys old unbounded now)
-        ∙ (ap (λ o. value_at keys key (pairs_of (after_use keys.eq now o old.contents).entries))
+        ∙ (ap (λ o. value_at keys key (pairs_of (after_use keys.eq (room_of old) now o old.contents).entries))
         (unexpired-same old.settings.policy unbounded now (entry_at keys.eq other old.contents.entries))
-        ∙ same_value key (after_use keys.eq now (entry_at keys.eq other old.contents.entries) old.contents).entries old.contents.entries
-        (value-used laws key now other (entry_at keys.eq other old.contents.entries) old.contents refl)))
+        ∙ same_value key (after_use keys.eq (room_of old) now (entry_at keys.eq other old.contents.entries) old.contents).entries old.contents.entries
+        (value-used laws key (room_of old) now other (entry_at keys.eq other old.contents.entries) old.contents refl)))
     values_as_map old new (Peek other now) answer unbounded known step key = ap (cached_value key) step.1
     values_as_map old new (ContainsKey other now) answer unbounded known step key =
         ap (cached_value key) step.1 ∙ ap (λ c. value_at keys key (pairs_of c.entries)) (look-same keys old unbounded now)

@@ -1,25 +1,24 @@
 -- Lemmas on entries that have the hash of their key and a weight of 32 bits.
-use Rattle.std.proofs.Common.{◌≡◌, ◌<◌, ◌^◌, ℕ, Bool, not, List, [], ◌∷◌, All, is_some, Option, Some, None, unwrap_or, refl, sym, ap, ◌∙◌}
+use Rattle.std.proofs.Common.{◌≡◌, ◌<◌, ◌^◌, ℕ, Bool, List, [], ◌∷◌, All, is_some, Option, Some, None, unwrap_or, refl, sym, ap, ◌∙◌}
 use Rattle.std.proofs.Common.{subst, inl, inr}
 use Rattle.std.proofs.lemmas.Bool.{cases_Bool, cond-true, cond-false, false≢true}
-use Rattle.std.proofs.lemmas.List.Elements.{All-filter, All-head, All-tail, All-from_recursion}
+use Rattle.std.proofs.lemmas.List.Elements.{All-head, All-tail, All-from_recursion}
 use Rattle.moka_base.specs.Keys.{Keys}
 use Rattle.moka_base.specs.Policy.{Policy}
 use Rattle.moka_machine.specs.declared.entry.Entry.{Entry}
 use Rattle.moka_machine.specs.Contents.{Contents, entry_at, entry_keys}
-use Rattle.moka_machine.specs.CacheState.{CacheState, new_cache}
+use Rattle.moka_machine.specs.CacheState.{CacheState, new_cache, room_of, windowed}
 use Rattle.moka_machine.specs.Upkeep.{is_expired, unexpired}
 use Rattle.moka_machine.specs.Lookup.{after_look, after_use, unexpired_at}
 use Rattle.moka_machine.specs.Insert.{after_put, new_entry}
-use Rattle.moka_machine.specs.Window.{windowed_limit}
 use Rattle.moka_machine.specs.Invalidate.{chosen}
 use Rattle.moka_machine.specs.Step.{Answer, IsStep, Request, Runs, Get, Peek, ContainsKey, Insert, Invalidate, Remove, InvalidateAll}
 use Rattle.moka_machine.specs.Step.{InvalidateEntriesIf, Iterate, EntryCount, WeightedSize}
 use Rattle.moka_machine.proofs.ContentsLemmas.{All-leaving, All-upkeep}
 use Rattle.moka_laws.specs.Laws.{EntriesAreOwn}
-use Rattle.moka_machine.proofs.WindowLemmas.{All-latest}
 use Rattle.moka_laws.proofs.CandidateLemmas.{All-new}
 use Rattle.moka_laws.proofs.MapLemmas.{settings-step}
+use Rattle.moka_machine.proofs.PartLemmas.{All-using}
 
 -- an entry that is found unexpired is found
 pub unexpired-found : {K V : Type 0} (policy : Policy) (now : ℕ) (o : Option (Entry K V)) (e : Entry K V) → unexpired policy now o ≡ Some e
@@ -48,23 +47,22 @@ module _ {K V S : Type 0} (keys : Keys K S) (state : S) where
   abbrev IsOwn : Entry K V → Type 0
   IsOwn e = (e.hash ≡ keys.hash_of state e.key) × (e.weight < 2 ^ 32)
 
-  own-use : (now : ℕ) (key : K) (o : Option (Entry K V)) (contents : Contents K V)
+  own-use : (room now : ℕ) (key : K) (o : Option (Entry K V)) (contents : Contents K V)
       → ((e : Entry K V) → o ≡ Some e → entry_at keys.eq key contents.entries ≡ Some e)
-      → All IsOwn contents.entries → All IsOwn (after_use keys.eq now o contents).entries
-  own-use now key None contents found a = a
-  own-use now key (Some e) contents found a =
-      All-latest IsOwn (record e { accessed = now }) _ (All-filter (λ f. not (keys.eq e.key f.key)) IsOwn contents.entries a)
-      (All-found keys.eq IsOwn key e contents.entries a (found e refl))
+      → All IsOwn contents.entries → All IsOwn (after_use keys.eq room now o contents).entries
+  own-use room now key None contents found a = a
+  own-use room now key (Some e) contents found a =
+      All-using keys.eq IsOwn (λ f protected own. own) room (record e { accessed = now }) contents
+      (All-found keys.eq IsOwn key e contents.entries a (found e refl)) a
 
   own-put : {W : Type 0} (cache : CacheState K V S W) (key : K) (o : Option (Entry K V)) (new : Entry K V) (refused : Bool) → IsOwn new
       → entry_at keys.eq key cache.contents.entries ≡ o
       → All IsOwn cache.contents.entries → All IsOwn (after_put keys.eq cache o new refused).contents.entries
   own-put cache key None new refused own found a =
-      All-new keys.eq IsOwn (λ e b own. own) cache (windowed_limit cache.settings.policy.max_capacity) new refused a own
+      All-new keys.eq IsOwn (λ e part free own. own) cache (windowed cache) new refused a own
   own-put cache key (Some old) new refused own found a =
-      All-latest IsOwn (record new { key = old.key; hash = old.hash; in_window = old.in_window }) _
-      (All-filter (λ f. not (keys.eq old.key f.key)) IsOwn cache.contents.entries a)
-      ((All-found keys.eq IsOwn key old cache.contents.entries a found).0, own.1)
+      All-using keys.eq IsOwn (λ f protected own. own) (room_of cache) (record new { key = old.key; hash = old.hash; part = old.part })
+      cache.contents ((All-found keys.eq IsOwn key old cache.contents.entries a found).0, own.1) a
 
 module _ {K V S W : Type 0} (keys : Keys K S) (weighs : W → K → V → ℕ → W → Type 0) where
   -- all entries of a cache are its keys' own
@@ -81,7 +79,7 @@ module _ {K V S W : Type 0} (keys : Keys K S) (weighs : W → K → V → ℕ �
   own-step old new (Get key now) answer step a =
       let kept = (after_look keys old now).contents in
       subst AreOwn (sym step.1)
-      (own-use keys old.settings.hash_state now key (unexpired_at keys.eq old.settings.policy now key kept) kept
+      (own-use keys old.settings.hash_state (room_of old) now key (unexpired_at keys.eq old.settings.policy now key kept) kept
       (unexpired-found old.settings.policy now (entry_at keys.eq key kept.entries)) (own-look old now a))
   own-step old new (Peek key now) answer step a = subst AreOwn (sym step.1) a
   own-step old new (ContainsKey key now) answer step a = subst AreOwn (sym step.1) (own-look old now a)
@@ -123,5 +121,5 @@ module _ {K V S W : Type 0} (keys : Keys K S) (weighs : W → K → V → ℕ �
 
   -- and a new cache has none
   pub entries_are_own : EntriesAreOwn keys weighs
-  entries_are_own settings weigher capacity requests answers cache run =
-      own-runs (new_cache settings weigher capacity) cache requests answers run (All-from_recursion _ [] tt)
+  entries_are_own settings shares weigher capacity requests answers cache run =
+      own-runs (new_cache settings shares weigher capacity) cache requests answers run (All-from_recursion _ [] tt)

@@ -5,7 +5,8 @@ use Rattle.std.proofs.lemmas.Bool.{cases_Bool, cond-true, cond-false}
 use Rattle.moka_base.specs.Keys.{Keys}
 use Rattle.moka_base.specs.Policy.{Policy}
 use Rattle.moka_machine.specs.declared.constants.TheConstants.{EVICTION_BATCH_SIZE}
-use Rattle.moka_machine.specs.Contents.{Contents, after_leaving, entry_keys, main_of, no_contents, total_weight, window_of, without}
+use Rattle.moka_machine.specs.Contents.{Contents, after_leaving, entry_keys, no_contents, probation_of, protected_of, total_weight}
+use Rattle.moka_machine.specs.Contents.{window_of, without}
 use Rattle.moka_machine.specs.CacheState.{CacheState}
 use Rattle.moka_machine.specs.Upkeep.{after_expiry, after_idle, after_live_expiry, after_trim, after_upkeep, has_lived, least_recent}
 use Rattle.moka_machine.specs.Invalidate.{chosen}
@@ -73,11 +74,13 @@ module _ {K V : Type 0} where
     remains-upkeep policy now contents =
         let lived = after_live_expiry eq policy now EVICTION_BATCH_SIZE contents in
         let waited = after_idle eq policy now EVICTION_BATCH_SIZE (window_of lived.entries) lived in
+        let tried = after_idle eq policy now EVICTION_BATCH_SIZE (probation_of lived.entries) waited in
         remains-both contents (after_expiry eq policy now contents) (after_upkeep eq policy now contents)
         (remains-both contents lived (after_expiry eq policy now contents)
         (remains-leaving (map (λ w. w.key) (take EVICTION_BATCH_SIZE (take_while (has_lived policy now) contents.written))) contents)
         (remains-both lived waited (after_expiry eq policy now contents) (remains-leaving (idle_keys policy now (window_of lived.entries)) lived)
-        (remains-leaving (idle_keys policy now (main_of lived.entries)) waited)))
+        (remains-both waited tried (after_expiry eq policy now contents) (remains-leaving (idle_keys policy now (probation_of lived.entries)) waited)
+        (remains-leaving (idle_keys policy now (protected_of lived.entries)) tried))))
         (remains-trim policy.max_capacity (after_expiry eq policy now contents))
 
 module _ {K V S W : Type 0} (keys : Keys K S) (weighs : W → K → V → ℕ → W → Type 0) where

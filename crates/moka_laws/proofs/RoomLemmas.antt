@@ -7,21 +7,22 @@ use Rattle.std.proofs.lemmas.List.Elements.{All-from_recursion, recursion_from_A
 use Rattle.moka_base.specs.Keys.{Keys}
 use Rattle.moka_base.specs.Settings.{keeps_writes}
 use Rattle.moka_machine.specs.declared.entry.Entry.{Entry}
-use Rattle.moka_machine.specs.CacheState.{CacheState, new_cache}
+use Rattle.moka_machine.specs.CacheState.{CacheState, new_cache, windowed}
 use Rattle.moka_machine.specs.Contents.{entry_at}
 use Rattle.moka_machine.specs.Insert.{after_asking, after_entering, after_new, after_put, after_verdict, new_entry}
-use Rattle.moka_machine.specs.Window.{victims_of, windowed_limit}
+use Rattle.moka_machine.specs.Window.{victims_of}
 use Rattle.moka_machine.specs.Lookup.{after_look}
 use Rattle.moka_machine.specs.Step.{Answer, IsStep, Request, Runs, Get, Peek, ContainsKey, Insert, Invalidate, Remove, InvalidateAll}
 use Rattle.moka_machine.specs.Step.{InvalidateEntriesIf, Iterate, EntryCount, WeightedSize, Done, OutOfMemory}
 use Rattle.moka_laws.specs.Laws.{NeverRefuses}
 use Rattle.moka_laws.proofs.LimitLemmas.{IsWithin, total-ones, within_step}
+use Rattle.moka_machine.specs.declared.shares.PartLimits.{PartLimits}
 
 module _ {K V S W : Type 0} (eq : K → K → Bool) where
   -- an entry that is put leaves the capacity
   capacity-put : (cache : CacheState K V S W) (o : Option (Entry K V)) (new : Entry K V) (refused : Bool)
       → (after_put eq cache o new refused).capacity ≡ cache.capacity
-  capacity-put cache None new refused = capacity-new (windowed_limit cache.settings.policy.max_capacity)
+  capacity-put cache None new refused = capacity-new (windowed cache)
     where
       by : (gone : Option (List (Entry K V))) → (after_verdict eq cache new gone refused).capacity ≡ cache.capacity
       by None = refl
@@ -32,7 +33,7 @@ module _ {K V S W : Type 0} (eq : K → K → Bool) where
       standing true left same = same
       standing false left same = same
 
-      capacity-new : (limit : Option ℕ) → (after_new eq cache limit new refused).capacity ≡ cache.capacity
+      capacity-new : (limit : Option PartLimits) → (after_new eq cache limit new refused).capacity ≡ cache.capacity
       capacity-new None = by (victims_of cache.settings.policy.max_capacity cache.sketch new cache.contents.entries)
       capacity-new (Some limit) =
           let contents = after_entering eq (keeps_writes cache.settings.policy) limit cache.sketch new cache.contents in
@@ -98,6 +99,6 @@ module _ {K V S W : Type 0} (keys : Keys K S) (weighs : W → K → V → ℕ �
 
 pub never_refuses : {K V S W : Type 0} (keys : Keys K S) → IsEquivalence keys.eq → (weighs : W → K → V → ℕ → W → Type 0)
     → NeverRefuses keys weighs
-never_refuses keys laws weighs each settings weigher capacity limit requests answers cache has room run =
-    served_run keys weighs laws each limit (new_cache settings weigher capacity) cache requests answers
+never_refuses keys laws weighs each settings shares weigher capacity limit requests answers cache has room run =
+    served_run keys weighs laws each limit (new_cache settings shares weigher capacity) cache requests answers
     (record { has = has; ones = All-from_recursion (λ e. e.weight ≡ 1) [] tt; fits = omega arith }) room run

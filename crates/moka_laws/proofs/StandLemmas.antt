@@ -8,11 +8,13 @@ use Rattle.std.specs.Cmp.{IsEquivalence}
 use Rattle.std.specs.List.{AllByRecursion, IsDistinct}
 use Rattle.moka_sketch.specs.Sketch.{Table}
 use Rattle.moka_machine.specs.declared.entry.Entry.{Entry}
-use Rattle.moka_machine.specs.Contents.{Contents, after_leaving, entry_at, entry_keys, main_of, window_of, without}
+use Rattle.moka_machine.specs.Contents.{Contents, after_leaving, entry_at, entry_keys, main_of, window_of, without, is_window}
 use Rattle.moka_machine.specs.Window.{after_candidacy, candidates, excess, victims_of}
 use Rattle.moka_laws.proofs.CandidateLemmas.{All-front, least_parts, victims_weigh}
 use Rattle.moka_laws.proofs.KeyLemmas.{StandOnce}
 use Rattle.moka_laws.proofs.MapLemmas.{entry_at-equal, entry_at-moved, entry_at-other}
+use Rattle.moka_machine.specs.declared.shares.PartLimits.{PartLimits}
+use Rattle.moka_machine.specs.declared.entry.Part.TheVariants.{Probation}
 
 module _ {X : Type 0} (P : X → Type 0) (test : X → Bool) where
   -- what passes a test passes it
@@ -94,25 +96,30 @@ module _ {K V : Type 0} (eq : K → K → Bool) where
 
     -- and so does each of main, or of the window
     abbrev pub StandsIn : List (Entry K V) → Bool → Entry K V → Type 0
-    StandsIn es window e = Stands es e × (e.in_window ≡ window)
+    StandsIn es window e = Stands es e × (is_window e.part ≡ window)
 
     pub window-stands : (es : List (Entry K V)) → StandOnce eq es → All (StandsIn es true) (window_of es)
-    window-stands es once = All-passing (Stands es) (λ e. e.in_window) es (All-from_recursion (Stands es) es (stand-all es once))
+    window-stands es once = All-passing (Stands es) (λ e. is_window e.part) es (All-from_recursion (Stands es) es (stand-all es once))
 
     pub main-stands : (es : List (Entry K V)) → StandOnce eq es → All (StandsIn es false) (main_of es)
     main-stands es once =
-        flipped (main_of es) (All-passing (Stands es) (λ e. not e.in_window) es (All-from_recursion (Stands es) es (stand-all es once)))
+        flipped (main_of es) (All-passing (Stands es) (λ e. not (is_window e.part)) es (All-from_recursion (Stands es) es (stand-all es once)))
       where
         other : (b : Bool) → not b ≡ true → b ≡ false
         other true h = sym h
         other false h = refl
 
-        flipped : (xs : List (Entry K V)) → All (λ e. Stands es e × (not e.in_window ≡ true)) xs → All (StandsIn es false) xs
+        flipped : (xs : List (Entry K V)) → All (λ e. Stands es e × (not (is_window e.part) ≡ true)) xs → All (StandsIn es false) xs
         flipped [] all = All-from_recursion (StandsIn es false) [] tt
         flipped (x ∷ xs) all =
-            let here = All-head (λ e. Stands es e × (not e.in_window ≡ true)) x xs all in
-            All-cons (StandsIn es false) x xs (here.0, other x.in_window here.1)
-            (flipped xs (All-tail (λ e. Stands es e × (not e.in_window ≡ true)) x xs all))
+            let here = All-head (λ e. Stands es e × (not (is_window e.part) ≡ true)) x xs all in
+            All-cons (StandsIn es false) x xs (here.0, other (is_window x.part) here.1)
+            (flipped xs (All-tail (λ e. Stands es e × (not (is_window e.part) ≡ true)) x xs all))
+
+    -- and each that passes a test
+    pub part-stands : (test : Entry K V → Bool) (es : List (Entry K V)) → StandOnce eq es
+        → All (λ e. Stands es e × (test e ≡ true)) (filter test es)
+    part-stands test es once = All-passing (Stands es) test es (All-from_recursion (Stands es) es (stand-all es once))
 
     -- one of main and one of the window have other keys
     apart-lists : (es : List (Entry K V)) (g e : Entry K V) → StandsIn es false g → StandsIn es true e → eq g.key e.key ≡ false
@@ -120,7 +127,7 @@ module _ {K V : Type 0} (eq : K → K → Bool) where
         elim (cases_Bool (eq g.key e.key)) [
           | inl equal ↦
               absurd (false≢true
-              (sym main.1 ∙ (ap (λ o. unwrap_or (option_map (λ x. x.in_window) o) true)
+              (sym main.1 ∙ (ap (λ o. unwrap_or (option_map (λ x. is_window x.part) o) true)
               (sym main.0 ∙ (entry_at-equal laws g.key e.key equal es ∙ window.0)) ∙ window.1)))
           | inr differ ↦ differ
         ]
@@ -156,17 +163,17 @@ module _ {K V : Type 0} (eq : K → K → Bool) where
       pub stand : AllByRecursion (StandsIn contents.entries true) es
       pub once : StandOnce eq es
 
-    pub are-chosen : (limit : ℕ) (contents : Contents K V) → StandOnce eq contents.entries
-        → AreCandidates contents (candidates limit contents.entries)
-    are-chosen limit contents once =
-        let (rest, parts, heavy) = least_parts (excess limit contents.entries) (window_of contents.entries) in
-        let chosen = candidates limit contents.entries in
+    pub are-chosen : (limits : PartLimits) (contents : Contents K V) → StandOnce eq contents.entries
+        → AreCandidates contents (candidates limits contents.entries)
+    are-chosen limits contents once =
+        let (rest, parts, heavy) = least_parts (excess limits contents.entries) (window_of contents.entries) in
+        let chosen = candidates limits contents.entries in
         record {
           stand =
               recursion_from_All (StandsIn contents.entries true) chosen
               (All-front (StandsIn contents.entries true) chosen rest
               (subst (All (StandsIn contents.entries true)) parts (window-stands contents.entries once)));
-          once = once-front chosen rest (subst (StandOnce eq) parts (once-passing (λ e. e.in_window) contents.entries once));
+          once = once-front chosen rest (subst (StandOnce eq) parts (once-passing (λ e. is_window e.part) contents.entries once));
         }
 
     -- the others still do after one of them was judged
@@ -186,7 +193,7 @@ module _ {K V : Type 0} (eq : K → K → Bool) where
         one None is x differ stands = (entry_at-other laws e.key x.key differ contents.entries ∙ stands.0, stands.1)
         one (Some gone) is x differ stands =
             let left = after_leaving eq (entry_keys gone) contents in
-            let moved = record e { in_window = false } in (
+            let moved = record e { part = Probation } in (
               entry_at-moved laws x.key moved left.entries
                   ∙ (cond-false (eq e.key x.key) (Some moved) (entry_at eq x.key left.entries) differ
                   ∙ stands-left limit sketch e gone contents once is x stands),

@@ -14,28 +14,35 @@ use Rattle.moka_machine.specs.declared.constants.TheConstants.{EVICTION_BATCH_SI
 use Rattle.moka_machine.specs.declared.entry.Entry.{Entry}
 use Rattle.moka_machine.specs.Contents.{Contents, Write, after_leaving, after_moving, entry_at, entries_without, main_of, window_of}
 use Rattle.moka_machine.specs.Contents.{entry_keys, no_contents, total_weight, without}
-use Rattle.moka_machine.specs.Contents.{write_of, writes_without}
-use Rattle.moka_machine.specs.CacheState.{CacheState, new_cache}
+use Rattle.moka_machine.specs.Contents.{write_of, writes_without, probation_of, protected_of}
+use Rattle.moka_machine.specs.CacheState.{CacheState, new_cache, room_of, windowed}
 use Rattle.moka_machine.specs.Upkeep.{after_expiry, after_idle, after_live_expiry, after_trim, after_upkeep, has_lived, least_recent}
-use Rattle.moka_machine.specs.Lookup.{after_look, after_use, unexpired_at}
+use Rattle.moka_machine.specs.Lookup.{after_look, after_use, unexpired_at, after_using}
 use Rattle.moka_machine.specs.Insert.{after_asking, after_entering, after_entry, after_new, after_put, after_update, after_verdict, new_entry}
-use Rattle.moka_machine.specs.Window.{after_candidacy, after_candidates, candidates, main_limit, victims_of, windowed_limit}
+use Rattle.moka_machine.specs.Insert.{after_arrival}
+use Rattle.moka_machine.specs.Window.{after_candidacy, after_candidates, candidates, victims_of}
 use Rattle.moka_machine.specs.Invalidate.{chosen}
 use Rattle.moka_machine.specs.Step.{Answer, IsStep, Request, Runs, Get, Peek, ContainsKey, Insert, Invalidate, Remove, InvalidateAll}
 use Rattle.moka_machine.specs.Step.{InvalidateEntriesIf, Iterate, EntryCount, WeightedSize}
 use Rattle.moka_machine.proofs.ContentsLemmas.{absent-leaving, found_key, idle_keys}
 use Rattle.moka_laws.specs.Laws.{AreWritesOf, WritesFollowEntries}
 use Rattle.moka_laws.proofs.KeyLemmas.{StandOnce, entry_at-gone, none_stand, once-candidacy, once-push, once-put, once-remains, once-step}
-use Rattle.moka_laws.proofs.MapLemmas.{entry_at-equal, entry_at-other, entry_at-moved, entry_at-push, entry_at-put, settings-step}
+use Rattle.moka_laws.proofs.MapLemmas.{entry_at-equal, entry_at-other, entry_at-moved, entry_at-push, entry_at-put, settings-step, entry_at-latest}
+use Rattle.moka_laws.proofs.MapLemmas.{entry_at-using}
 use Rattle.moka_laws.proofs.RemainLemmas.{remains-upkeep}
 use Rattle.moka_laws.proofs.StandLemmas.{AreCandidates, StandsIn, are-chosen, are-left, stands-left}
 use Rattle.moka_laws.proofs.OwnLemmas.{unexpired-found}
+use Rattle.moka_machine.specs.declared.shares.PartLimits.{PartLimits}
+use Rattle.moka_machine.specs.Shares.{main_limit}
+use Rattle.moka_machine.specs.declared.entry.Part.{Part}
+use Rattle.moka_machine.specs.declared.entry.Part.TheVariants.{Probation, Window}
+use Rattle.moka_machine.proofs.PartLemmas.{placed-map}
 
 -- ---- writes as entries
 
 -- a write as an entry without a value, so that what holds of entries holds of writes
 abbrev as_entry : {K : Type 0} → Write K → Entry K (Unit {0})
-as_entry w = record { key = w.key; value = tt; hash = 0; weight = 0; accessed = 0; modified = w.modified; in_window = false }
+as_entry w = record { key = w.key; value = tt; hash = 0; weight = 0; accessed = 0; modified = w.modified; part = Probation }
 
 -- the write of an entry as one
 abbrev again : {K V : Type 0} → Entry K V → Entry K (Unit {0})
@@ -101,10 +108,10 @@ module _ {K V : Type 0} (eq : K → K → Bool) (laws : IsEquivalence eq) where
             ],
       )
 
-  match-moved : (now : ℕ) (window : Bool) (other : K) (e : Entry K V) (contents : Contents K V) → entry_at eq other contents.entries ≡ Some e
-      → Match contents → Match (after_moving eq (record e { accessed = now; in_window = window }) contents)
-  match-moved now window other e contents found m =
-      let moved : Entry K V = record e { accessed = now; in_window = window } in (
+  match-moved : (now : ℕ) (part : Part) (other : K) (e : Entry K V) (contents : Contents K V) → entry_at eq other contents.entries ≡ Some e
+      → Match contents → Match (after_moving eq (record e { accessed = now; part = part }) contents)
+  match-moved now part other e contents found m =
+      let moved : Entry K V = record e { accessed = now; part = part } in (
         m.0,
         λ key. m.1 key
             ∙ (elim (cases_Bool (eq e.key key)) [
@@ -117,6 +124,27 @@ module _ {K V : Type 0} (eq : K → K → Bool) (laws : IsEquivalence eq) where
                   sym (ap (option_map again) (cond-false (eq e.key key) (Some moved) (entry_at eq key contents.entries) differ))
             ]
             ∙ sym (ap (option_map again) (entry_at-moved laws key moved contents.entries))),
+      )
+
+  -- a use leaves its write
+  match-using : (room now : ℕ) (other : K) (e : Entry K V) (contents : Contents K V) → entry_at eq other contents.entries ≡ Some e
+      → Match contents → Match (after_using eq room (record e { accessed = now }) contents)
+  match-using room now other e contents found m =
+      let used : Entry K V = record e { accessed = now } in (
+        m.0,
+        λ key. let (f, at) = entry_at-using laws room key used contents in
+            m.1 key
+            ∙ (elim (cases_Bool (eq e.key key)) [
+              | inl equal ↦
+                  ap (option_map again) (sym (entry_at-equal laws e.key key equal contents.entries)
+                  ∙ (sym (entry_at-equal laws other e.key (found_key eq other e contents.entries found) contents.entries)
+                  ∙ found))
+                  ∙ sym (ap (option_map again) (cond-true (eq e.key key) (Some used) (entry_at eq key contents.entries) equal))
+              | inr differ ↦
+                  sym (ap (option_map again) (cond-false (eq e.key key) (Some used) (entry_at eq key contents.entries) differ))
+            ]
+            ∙ (sym (placed-map again (λ x part. refl) f (cond (eq e.key key) (Some used) (entry_at eq key contents.entries)))
+            ∙ sym (ap (option_map again) at))),
       )
 
   match-entry : (new : Entry K V) (contents : Contents K V) → entry_at eq new.key contents.entries ≡ None → Match contents
@@ -134,20 +162,33 @@ module _ {K V : Type 0} (eq : K → K → Bool) (laws : IsEquivalence eq) where
             (λ equal. sym (entry_at-equal laws new.key key equal contents.entries) ∙ absent)))))),
       )
 
-  match-update : (old new : Entry K V) (contents : Contents K V) → Match contents → Match (after_update eq true old new contents)
-  match-update old new contents m =
+  match-arrival : (new : Entry K V) (contents : Contents K V) → entry_at eq new.key contents.entries ≡ None → Match contents
+      → Match (after_arrival eq true new contents)
+  match-arrival new contents absent m =
+      let (once, at) = match-entry new contents absent m in (
+        once,
+        λ key. at key
+            ∙ ap (option_map again) (entry_at-push laws key new contents.entries
+            (λ equal. sym (entry_at-equal laws new.key key equal contents.entries) ∙ absent)
+            ∙ sym (entry_at-latest laws key new contents.entries absent)),
+      )
+
+  match-update : (room : ℕ) (old new : Entry K V) (contents : Contents K V) → Match contents → Match (after_update eq true room old new contents)
+  match-update room old new contents m =
       let entries = as_entries contents.written in
-      let put : Entry K V = record new { key = old.key; hash = old.hash; in_window = old.in_window } in
+      let put : Entry K V = record new { key = old.key; hash = old.hash; part = old.part } in
       let grown : as_entries (writes_without eq old.key contents.written ++ write_of put ∷ [])
       ≡ entries_without eq old.key entries ++ again put ∷ [] =
       map-append as_entry (writes_without eq old.key contents.written) (write_of put ∷ [])
       ∙ ap (λ l. l ++ again put ∷ []) (entries-without eq old.key contents.written) in (
         subst (StandOnce eq) (sym grown) (once-put eq laws (record { entries = entries; written = [] }) (again put) m.0),
-        λ key. ap (entry_at eq key) grown
+        λ key. let (f, at) = entry_at-using laws room key put contents in
+            ap (entry_at eq key) grown
             ∙ (entry_at-put laws key (again put) entries
             ∙ (ap (cond (eq old.key key) (Some (again put))) (m.1 key)
             ∙ (sym (map-cond again (eq old.key key) (Some put) (entry_at eq key contents.entries))
-            ∙ sym (ap (option_map again) (entry_at-moved laws key put contents.entries))))),
+            ∙ (sym (placed-map again (λ x part. refl) f (cond (eq old.key key) (Some put) (entry_at eq key contents.entries)))
+            ∙ sym (ap (option_map again) at))))),
       )
 
   -- ---- with a time to live, and without
@@ -174,23 +215,31 @@ module _ {K V : Type 0} (eq : K → K → Bool) (laws : IsEquivalence eq) where
       → Follow keeps (after_upkeep eq policy now contents)
   follow-upkeep keeps policy now contents f =
       let lived = after_live_expiry eq policy now EVICTION_BATCH_SIZE contents in
+      let waited = after_idle eq policy now EVICTION_BATCH_SIZE (window_of lived.entries) lived in
+      let tried = after_idle eq policy now EVICTION_BATCH_SIZE (probation_of lived.entries) waited in
       follow-trim keeps policy.max_capacity (after_expiry eq policy now contents)
-      (follow-leaving keeps (idle_keys policy now (main_of lived.entries)) (after_idle eq policy now EVICTION_BATCH_SIZE (window_of lived.entries) lived)
+      (follow-leaving keeps (idle_keys policy now (protected_of lived.entries)) tried
+      (follow-leaving keeps (idle_keys policy now (probation_of lived.entries)) waited
       (follow-leaving keeps (idle_keys policy now (window_of lived.entries)) lived
-      (follow-leaving keeps (map (λ w. w.key) (take EVICTION_BATCH_SIZE (take_while (has_lived policy now) contents.written))) contents f)))
+      (follow-leaving keeps (map (λ w. w.key) (take EVICTION_BATCH_SIZE (take_while (has_lived policy now) contents.written))) contents f))))
 
-  follow-use : (keeps : Bool) (now : ℕ) (other : K) (o : Option (Entry K V)) (contents : Contents K V)
+  follow-use : (keeps : Bool) (room now : ℕ) (other : K) (o : Option (Entry K V)) (contents : Contents K V)
       → ((e : Entry K V) → o ≡ Some e → entry_at eq other contents.entries ≡ Some e)
-      → Follow keeps contents → Follow keeps (after_use eq now o contents)
-  follow-use true now other None contents found f = f
-  follow-use true now other (Some e) contents found f = match-moved now e.in_window other e contents (found e refl) f
-  follow-use false now other None contents found f = f
-  follow-use false now other (Some e) contents found f = f
+      → Follow keeps contents → Follow keeps (after_use eq room now o contents)
+  follow-use true room now other None contents found f = f
+  follow-use true room now other (Some e) contents found f = match-using room now other e contents (found e refl) f
+  follow-use false room now other None contents found f = f
+  follow-use false room now other (Some e) contents found f = f
 
   follow-entry : (keeps : Bool) (new : Entry K V) (contents : Contents K V) → entry_at eq new.key contents.entries ≡ None
       → Follow keeps contents → Follow keeps (after_entry eq keeps new contents)
   follow-entry true new contents absent f = match-entry new contents absent f
   follow-entry false new contents absent f = f
+
+  follow-arrival : (keeps : Bool) (new : Entry K V) (contents : Contents K V) → entry_at eq new.key contents.entries ≡ None
+      → Follow keeps contents → Follow keeps (after_arrival eq keeps new contents)
+  follow-arrival true new contents absent f = match-arrival new contents absent f
+  follow-arrival false new contents absent f = f
 
   -- a candidate's write stays in its place, or leaves with it
   follow-candidacy : (keeps : Bool) (limit : ℕ) (sketch : Option Table) (e : Entry K V) (contents : Contents K V)
@@ -200,33 +249,33 @@ module _ {K V : Type 0} (eq : K → K → Bool) (laws : IsEquivalence eq) where
   follow-candidacy keeps limit sketch e contents once stands f None is = follow-leaving keeps (e.key ∷ []) contents f
   follow-candidacy true limit sketch e contents once stands f (Some gone) is =
       let left = after_leaving eq (entry_keys gone) contents in
-      match-moved e.accessed false e.key e left (stands-left eq laws limit sketch e gone contents once is e stands)
+      match-moved e.accessed Probation e.key e left (stands-left eq laws limit sketch e gone contents once is e stands)
       (follow-leaving true (entry_keys gone) contents f)
   follow-candidacy false limit sketch e contents once stands f (Some gone) is = follow-leaving false (entry_keys gone) contents f
 
-  follow-candidates : (keeps : Bool) (limit : ℕ) (sketch : Option Table) (es : List (Entry K V)) (contents : Contents K V)
+  follow-candidates : (keeps : Bool) (limits : PartLimits) (sketch : Option Table) (es : List (Entry K V)) (contents : Contents K V)
       → StandOnce eq contents.entries → AreCandidates eq laws contents es → Follow keeps contents
-      → Follow keeps (after_candidates eq limit sketch es contents)
-  follow-candidates keeps limit sketch [] contents once are f = f
-  follow-candidates keeps limit sketch (e ∷ es) contents once are f =
-      let gone = victims_of (Some (main_limit limit)) sketch e (main_of contents.entries) in
-      follow-candidates keeps limit sketch es (after_candidacy eq e gone contents) (once-candidacy eq laws e gone contents once)
-      (are-left eq laws (main_limit limit) sketch e es contents once are gone refl)
-      (follow-candidacy keeps (main_limit limit) sketch e contents once are.stand.0 f gone refl)
+      → Follow keeps (after_candidates eq limits sketch es contents)
+  follow-candidates keeps limits sketch [] contents once are f = f
+  follow-candidates keeps limits sketch (e ∷ es) contents once are f =
+      let gone = victims_of (Some (main_limit limits)) sketch e (main_of contents.entries) in
+      follow-candidates keeps limits sketch es (after_candidacy eq e gone contents) (once-candidacy eq laws e gone contents once)
+      (are-left eq laws (main_limit limits) sketch e es contents once are gone refl)
+      (follow-candidacy keeps (main_limit limits) sketch e contents once are.stand.0 f gone refl)
 
-  follow-entering : (keeps : Bool) (limit : ℕ) (sketch : Option Table) (new : Entry K V) (contents : Contents K V)
+  follow-entering : (keeps : Bool) (limits : PartLimits) (sketch : Option Table) (new : Entry K V) (contents : Contents K V)
       → entry_at eq new.key contents.entries ≡ None → StandOnce eq contents.entries → Follow keeps contents
-      → Follow keeps (after_entering eq keeps limit sketch new contents)
-  follow-entering keeps limit sketch new contents absent once f =
-      let entered = after_entry eq keeps (record new { in_window = true }) contents in
-      let apart = once-push eq laws contents.entries (record new { in_window = true }) absent once in
-      follow-candidates keeps limit sketch (candidates limit entered.entries) entered apart (are-chosen eq laws limit entered apart)
-      (follow-entry keeps (record new { in_window = true }) contents absent f)
+      → Follow keeps (after_entering eq keeps limits sketch new contents)
+  follow-entering keeps limits sketch new contents absent once f =
+      let entered = after_entry eq keeps (record new { part = Window }) contents in
+      let apart = once-push eq laws contents.entries (record new { part = Window }) absent once in
+      follow-candidates keeps limits sketch (candidates limits entered.entries) entered apart (are-chosen eq laws limits entered apart)
+      (follow-entry keeps (record new { part = Window }) contents absent f)
 
-  follow-update : (keeps : Bool) (old new : Entry K V) (contents : Contents K V) → Follow keeps contents
-      → Follow keeps (after_update eq keeps old new contents)
-  follow-update true old new contents f = match-update old new contents f
-  follow-update false old new contents f = ap (writes_without eq old.key) f
+  follow-update : (keeps : Bool) (room : ℕ) (old new : Entry K V) (contents : Contents K V) → Follow keeps contents
+      → Follow keeps (after_update eq keeps room old new contents)
+  follow-update true room old new contents f = match-update room old new contents f
+  follow-update false room old new contents f = ap (writes_without eq old.key) f
 
   pub follow-clear : (keeps : Bool) (contents : Contents K V) → Follow keeps (record contents { entries = []; written = [] })
   follow-clear true contents = (nothing_stands eq, λ key. refl)
@@ -239,10 +288,10 @@ module _ {K V : Type 0} (eq : K → K → Bool) (laws : IsEquivalence eq) where
     follow-verdict cache new None refused absent f = f
     follow-verdict cache new (Some gone) refused absent f =
         let keeps = keeps_writes cache.settings.policy in
-        follow-entry keeps new (after_leaving eq (entry_keys gone) cache.contents)
+        follow-arrival keeps new (after_leaving eq (entry_keys gone) cache.contents)
         (absent-leaving eq new.key (entry_keys gone) cache.contents absent) (follow-leaving keeps (entry_keys gone) cache.contents f)
 
-    follow-new : (cache : CacheState K V S W) (limit : Option ℕ) (new : Entry K V) (refused : Bool)
+    follow-new : (cache : CacheState K V S W) (limit : Option PartLimits) (new : Entry K V) (refused : Bool)
         → entry_at eq new.key cache.contents.entries ≡ None → StandOnce eq cache.contents.entries
         → Follow (keeps_writes cache.settings.policy) cache.contents
         → Follow (keeps_writes cache.settings.policy) (after_new eq cache limit new refused).contents
@@ -264,8 +313,8 @@ module _ {K V : Type 0} (eq : K → K → Bool) (laws : IsEquivalence eq) where
     follow-put : (cache : CacheState K V S W) (o : Option (Entry K V)) (new : Entry K V) (refused : Bool)
         → entry_at eq new.key cache.contents.entries ≡ o → StandOnce eq cache.contents.entries → Follow (keeps_writes cache.settings.policy) cache.contents
         → Follow (keeps_writes cache.settings.policy) (after_put eq cache o new refused).contents
-    follow-put cache None new refused absent once f = follow-new cache (windowed_limit cache.settings.policy.max_capacity) new refused absent once f
-    follow-put cache (Some old) new refused found once f = follow-update (keeps_writes cache.settings.policy) old new cache.contents f
+    follow-put cache None new refused absent once f = follow-new cache (windowed cache) new refused absent once f
+    follow-put cache (Some old) new refused found once f = follow-update (keeps_writes cache.settings.policy) (room_of cache) old new cache.contents f
 
 -- ---- all calls
 
@@ -283,7 +332,7 @@ module _ {K V S W : Type 0} (keys : Keys K S) (laws : IsEquivalence keys.eq) (we
   follow-step old new (Get key now) answer step once f =
       let kept = (after_look keys old now).contents in
       subst Follows (sym step.1)
-      (follow-use keys.eq laws (keeps_writes old.settings.policy) now key (unexpired_at keys.eq old.settings.policy now key kept) kept
+      (follow-use keys.eq laws (keeps_writes old.settings.policy) (room_of old) now key (unexpired_at keys.eq old.settings.policy now key kept) kept
       (unexpired-found old.settings.policy now (entry_at keys.eq key kept.entries)) (follow-look old now f))
   follow-step old new (Peek key now) answer step once f = subst Follows (sym step.1) f
   follow-step old new (ContainsKey key now) answer step once f = subst Follows (sym step.1) (follow-look old now f)
@@ -350,7 +399,7 @@ module _ {K V S W : Type 0} (keys : Keys K S) (laws : IsEquivalence keys.eq) (we
   told false contents f = f
 
   pub writes_follow_entries : WritesFollowEntries keys weighs
-  writes_follow_entries settings weigher capacity requests answers cache run =
+  writes_follow_entries settings shares weigher capacity requests answers cache run =
       told (keeps_writes cache.settings.policy) cache.contents
-      (follow-runs (new_cache settings weigher capacity) cache requests answers run (none_stand keys laws weighs)
+      (follow-runs (new_cache settings shares weigher capacity) cache requests answers run (none_stand keys laws weighs)
       (follow-clear keys.eq laws (keeps_writes settings.policy) (no_contents {K = K} {V = V})))

@@ -1,2 +1,3 @@
 pub mod Laws
+pub mod OneList
 pub mod PlainMap

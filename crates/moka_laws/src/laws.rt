@@ -1,9 +1,12 @@
 //! The laws of the cache as a machine, one a function. A law is its function's clause: there is no code to call.
 ghost use Rattle.moka_base.specs.Keys.{keys_by};
-ghost use Rattle.std.specs.Prelude.{◌≡◌};
-ghost use Rattle.moka_machine.specs.declared.constants.TheConstants.{EVICTION_BATCH_SIZE, WINDOW_SHARE};
-ghost use Rattle.moka_laws.specs.Laws.{EntriesAreOwn, GetsOrInsertsAreRuns, InvalidationsKeepCounts, KeysStandOnce, LooksChangeNothing};
-ghost use Rattle.moka_laws.specs.Laws.{NeverRefuses, OnlyUpdatesOutgrowLimit, StaysWithinLimit, WindowStandsBehind, WindowStaysEmpty, WritesFollowEntries};
+ghost use Rattle.std.specs.Prelude.{◌≡◌, ◌/◌, ℕ};
+ghost use Rattle.moka_machine.specs.declared.constants.TheConstants.{EVICTION_BATCH_SIZE};
+ghost use Rattle.moka_machine.specs.Shares.{default_shares, limits_of};
+ghost use Rattle.moka_laws.specs.Laws.{EntriesAreOwn, GetsOrInsertsAreRuns, HitsAreProtected, InvalidationsKeepCounts, IsCacheOfOneList, KeysStandOnce};
+ghost use Rattle.moka_laws.specs.Laws.{LooksChangeNothing};
+ghost use Rattle.moka_laws.specs.Laws.{NeverRefuses, OnlyUpdatesOutgrowLimit, PartsStandInOrder, ProtectedGivesWayLast, ProtectedStaysEmpty};
+ghost use Rattle.moka_laws.specs.Laws.{ProtectedStaysWithinShare, StaysWithinLimit, WindowStandsBehind, WindowStaysEmpty, WritesFollowEntries};
 ghost use Rattle.moka_laws.specs.PlainMap.{RunsAsMap, StepsAsMap};
 
 use moka_base::weigh::Weigh;
@@ -45,14 +48,55 @@ pub fn the_window_stands_behind<K: Eq + Hash, V, S: BuildHasher, W: Weigh<K, V>>
     ensures { WindowStandsBehind (keys_by K.Hash S.BuildHasher S.Hasher.Hasher) W.weighs }
 {}
 
-/// Without a limit, and with one below 100, there is no window: no entry is ever in it.
+/// And in main those of probation before those of protected.
+pub fn the_parts_stand_in_order<K: Eq + Hash, V, S: BuildHasher, W: Weigh<K, V>>()
+    ensures { PartsStandInOrder (keys_by K.Hash S.BuildHasher S.Hasher.Hasher) W.weighs }
+{}
+
+/// Protected never weighs more than its share of main, whatever calls are made.
+pub fn protected_stays_within_its_share<K: Eq + Hash, V, S: BuildHasher, W: Weigh<K, V>>()
+    ensures { ProtectedStaysWithinShare (keys_by K.Hash S.BuildHasher S.Hasher.Hasher) W.weighs }
+{}
+
+/// Where that is nothing, no entry is ever in it, not even one that weighs nothing.
+pub fn protected_stays_empty<K: Eq + Hash, V, S: BuildHasher, W: Weigh<K, V>>()
+    ensures { ProtectedStaysEmpty (keys_by K.Hash S.BuildHasher S.Hasher.Hasher) W.weighs }
+{}
+
+/// A hit in main leaves its entry in protected, unless it is heavier than all of that may be.
+pub fn hits_are_protected<K: Eq + Hash, V, S: BuildHasher, W: Weigh<K, V>>()
+    ensures { HitsAreProtected (keys_by K.Hash S.BuildHasher S.Hasher.Hasher) W.weighs }
+{}
+
+/// An entry of protected leaves for want of room only where probation doesn't weigh enough.
+pub fn protected_gives_way_last<K: Eq + Hash, V, S: BuildHasher, W: Weigh<K, V>>()
+    ensures { ProtectedGivesWayLast (keys_by K.Hash S.BuildHasher S.Hasher.Hasher) W.weighs }
+{}
+
+/// With the shares that are set where nothing else is, a cache does what one with main as one list and a window of a hundredth does, to the letter: so
+/// protected is opt-in.
+pub fn a_cache_without_protected_is_one_of_one_list<
+    K: Eq + Hash,
+    V,
+    S: BuildHasher,
+    W: Weigh<K, V>,
+>()
+    ensures { IsCacheOfOneList (keys_by K.Hash S.BuildHasher S.Hasher.Hasher) W.weighs }
+{}
+
+/// Without a limit, and with one of which its share is nothing, there is no window: no entry is ever in it.
 pub fn the_window_stays_empty<K: Eq + Hash, V, S: BuildHasher, W: Weigh<K, V>>()
     ensures { WindowStaysEmpty (keys_by K.Hash S.BuildHasher S.Hasher.Hasher) W.weighs }
 {}
 
-/// The window has a hundredth of a limit, by its digits: definitions name the constant.
+/// Where nothing else is set the window has a hundredth of a limit, by its digits: definitions name the constant.
 pub fn the_window_has_a_hundredth()
-    ensures { WINDOW_SHARE ≡ 100 }
+    ensures { (limit : ℕ) → (limits_of default_shares limit).window ≡ limit / 100 }
+{}
+
+/// And protected has nothing.
+pub fn protected_is_opt_in()
+    ensures { (limit : ℕ) → (limits_of default_shares limit).protected ≡ 0 }
 {}
 
 /// An entry has its key's hash under the cache's hash state, and a weight of 32 bits.

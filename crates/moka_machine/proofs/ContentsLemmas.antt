@@ -6,7 +6,8 @@ use Rattle.std.proofs.lemmas.List.Elements.{All-filter}
 use Rattle.moka_base.specs.Policy.{Policy}
 use Rattle.moka_machine.specs.declared.constants.TheConstants.{EVICTION_BATCH_SIZE}
 use Rattle.moka_machine.specs.declared.entry.Entry.{Entry}
-use Rattle.moka_machine.specs.Contents.{Contents, after_leaving, entry_at, entries_without, entry_keys, main_of, total_weight, window_of, without}
+use Rattle.moka_machine.specs.Contents.{Contents, after_leaving, entry_at, entries_without, entry_keys, probation_of, protected_of, total_weight}
+use Rattle.moka_machine.specs.Contents.{window_of, without}
 use Rattle.moka_machine.specs.Upkeep.{after_expiry, after_idle, after_live_expiry, after_trim, after_upkeep, has_lived, is_idle, least_recent}
 
 -- the keys of a batch of these entries that were idle too long
@@ -29,10 +30,13 @@ module _ {K V : Type 0} (eq : K → K → Bool) (P : Entry K V → Type 0) where
       → All P (after_upkeep eq policy now contents).entries
   All-upkeep policy now contents a =
       let lived = after_live_expiry eq policy now EVICTION_BATCH_SIZE contents in
+      let waited = after_idle eq policy now EVICTION_BATCH_SIZE (window_of lived.entries) lived in
+      let tried = after_idle eq policy now EVICTION_BATCH_SIZE (probation_of lived.entries) waited in
       All-trim policy.max_capacity (after_expiry eq policy now contents)
-      (All-leaving (idle_keys policy now (main_of lived.entries)) (after_idle eq policy now EVICTION_BATCH_SIZE (window_of lived.entries) lived)
+      (All-leaving (idle_keys policy now (protected_of lived.entries)) tried
+      (All-leaving (idle_keys policy now (probation_of lived.entries)) waited
       (All-leaving (idle_keys policy now (window_of lived.entries)) lived
-      (All-leaving (map (λ w. w.key) (take EVICTION_BATCH_SIZE (take_while (has_lived policy now) contents.written))) contents a)))
+      (All-leaving (map (λ w. w.key) (take EVICTION_BATCH_SIZE (take_while (has_lived policy now) contents.written))) contents a))))
 
 module _ {K V : Type 0} (eq : K → K → Bool) (key : K) where
   absent-without : (gone : K) (entries : List (Entry K V)) → entry_at eq key entries ≡ None

@@ -1,7 +1,8 @@
 -- Lemmas on a new entry that enters the window: to judge the window's old entries first, and only then to let it in or to judge it, leaves the same.
-use Rattle.std.proofs.Common.{◌≡◌, ◌<◌, ◌+◌, ◌-◌, ℕ, zero, suc, Bool, true, false, cond, not, ◌&&◌, List, [], ◌∷◌, ◌++◌, All, filter, length, get_or, drop}
+use Rattle.std.proofs.Common.{◌≡◌, ◌<◌, ◌+◌, ◌-◌, ℕ, zero, suc, Bool, true, false, cond, not, List, [], ◌∷◌, ◌++◌, All, filter, length, get_or, drop}
 use Rattle.std.proofs.Common.{sum_by, nat_le}
-use Rattle.std.proofs.Common.{nat_lt, is_some, IfSome, Option, Some, None, option_map, unwrap_or, append-nil, refl, sym, ap, ◌∙◌, subst, inl, inr, arith}
+use Rattle.std.proofs.Common.{nat_lt, is_some, IfSome, Option, Some, None, option_map, unwrap_or, append-nil, refl, sym, ap, ◌∙◌, subst, inl, inr}
+use Rattle.std.proofs.Common.{arith}
 use Rattle.std.proofs.lemmas.Bool.{cases_Bool, cond-true, cond-false, false≢true}
 use Rattle.std.proofs.lemmas.List.Elements.{All-cons, All-filter, All-head, All-nil, All-tail, All-weaker, filter-append, filter_passes}
 use Rattle.std.proofs.lemmas.List.Sums.{fold-append, sum_by-cons}
@@ -12,45 +13,40 @@ use Rattle.moka_base.specs.Admission.{outvoted}
 use Rattle.moka_base.specs.Prefix.{shortest_prefix}
 use Rattle.moka_sketch.specs.Sketch.{Table, estimate}
 use Rattle.moka_machine.specs.declared.entry.Entry.{Entry}
-use Rattle.moka_machine.specs.Contents.{Contents, Write, after_leaving, after_moving, entries_without, entry_at, entry_keys, main_of, total_weight}
-use Rattle.moka_machine.specs.Contents.{window_of, with_latest, without, writes_without}
+use Rattle.moka_machine.specs.declared.entry.Part.TheVariants.{Probation, Window}
+use Rattle.moka_machine.specs.Contents.{Contents, Write, after_leaving, after_moving, entries_without, entry_at, entry_keys, is_window, main_of}
+use Rattle.moka_machine.specs.Contents.{total_weight, window_of, with_latest, without, writes_without}
+use Rattle.moka_machine.specs.declared.shares.PartLimits.{PartLimits}
+use Rattle.moka_machine.specs.Shares.{main_limit}
 use Rattle.moka_machine.specs.Upkeep.{least_recent}
-use Rattle.moka_machine.specs.Insert.{after_entering, after_entry, with_write}
-use Rattle.moka_machine.specs.Window.{after_candidacy, after_candidate, after_candidates, excess, main_limit, victims_of}
+use Rattle.moka_machine.specs.Insert.{after_admission, after_entering, after_entry, with_write}
+use Rattle.moka_machine.specs.Window.{after_candidacy, after_candidate, after_candidates, excess, victims_of}
 use Rattle.moka_machine.proofs.ContentsLemmas.{All-leaving}
-use Rattle.moka_machine.proofs.WindowLemmas.{All-latest, goes_before, latest_parts, window-latest}
-
-module _ {K V : Type 0} (eq : K → K → Bool) where
-  -- the contents once a new entry was admitted in place of these as the most recent of its own, or was rejected
-  abbrev pub after_arrival : Bool → Entry K V → Option (List (Entry K V)) → Contents K V → Contents K V
-  after_arrival keeps new None contents = contents
-  after_arrival keeps new (Some gone) contents =
-      let left = after_leaving eq (entry_keys gone) contents in
-      record { entries = with_latest new left.entries; written = with_write keeps left.written new.key new.modified }
+use Rattle.moka_machine.proofs.WindowLemmas.{All-latest, before-window, goes_before, latest_parts, window-latest}
 
 module _ {K V : Type 0} where
   -- a new entry as one of the window
   abbrev pub inside : Entry K V → Entry K V
-  inside new = record new { in_window = true }
+  inside new = record new { part = Window }
 
   -- and as one of main
   abbrev pub outside : Entry K V → Entry K V
-  outside new = record new { in_window = false }
+  outside new = record new { part = Probation }
 
   -- how much has to leave the window once it has entered
-  abbrev pub entering_excess : ℕ → Entry K V → List (Entry K V) → ℕ
+  abbrev pub entering_excess : PartLimits → Entry K V → List (Entry K V) → ℕ
   entering_excess limit new entries = excess limit (entries ++ inside new ∷ [])
 
   -- the old entries of the window that are judged before it
-  abbrev pub judged_first : ℕ → Entry K V → List (Entry K V) → List (Entry K V)
+  abbrev pub judged_first : PartLimits → Entry K V → List (Entry K V) → List (Entry K V)
   judged_first limit new entries = least_recent (entering_excess limit new entries) (window_of entries)
 
   -- how much still has to leave the window after those
-  abbrev pub excess_left : ℕ → Entry K V → List (Entry K V) → ℕ
+  abbrev pub excess_left : PartLimits → Entry K V → List (Entry K V) → ℕ
   excess_left limit new entries = entering_excess limit new entries - total_weight (judged_first limit new entries)
 
   -- the contents once they were judged
-  abbrev pub after_judging : (K → K → Bool) → ℕ → Option Table → Entry K V → Contents K V → Contents K V
+  abbrev pub after_judging : (K → K → Bool) → PartLimits → Option Table → Entry K V → Contents K V → Contents K V
   after_judging eq limit sketch new contents = after_candidates eq limit sketch (judged_first limit new contents.entries) contents
 
 -- ---- tests of lists
@@ -64,7 +60,7 @@ module _ {X : Type 0} (p : X → Bool) where
       ∙ ap (λ l. x ∷ l) (passed-all xs (All-tail (λ x. p x ≡ true) x xs all))
 
   -- one more that passes stands behind those that did
-  passed-push : (xs : List X) (x : X) → p x ≡ true → filter p (xs ++ x ∷ []) ≡ filter p xs ++ x ∷ []
+  pub passed-push : (xs : List X) (x : X) → p x ≡ true → filter p (xs ++ x ∷ []) ≡ filter p xs ++ x ∷ []
   passed-push xs x passes = filter-append p xs (x ∷ []) ∙ ap (λ l. filter p xs ++ l) (cond-true (p x) (x ∷ []) [] passes)
 
   -- one more that fails changes nothing
@@ -144,9 +140,9 @@ module _ {K V : Type 0} where
       (All-least_recent P (suc n - c.weight) ws (All-tail P c ws all)))
 
   -- candidates are judged one after another
-  pub after_candidates-cons : (eq : K → K → Bool) (limit : ℕ) (sketch : Option Table) (c : Entry K V) (es : List (Entry K V)) (contents : Contents K V)
-      → after_candidates eq limit sketch (c ∷ es) contents ≡ after_candidates eq limit sketch es (after_candidate eq limit sketch contents c)
-  after_candidates-cons eq limit sketch c es contents = refl
+  pub after_candidates-cons : (eq : K → K → Bool) (limits : PartLimits) (sketch : Option Table) (c : Entry K V) (es : List (Entry K V)) (contents : Contents K V)
+      → after_candidates eq limits sketch (c ∷ es) contents ≡ after_candidates eq limits sketch es (after_candidate eq limits sketch contents c)
+  after_candidates-cons eq limits sketch c es contents = refl
 
 -- ---- those that give way
 
@@ -190,10 +186,10 @@ module _ {K V : Type 0} (P : Entry K V → Type 0) where
 
 module _ {K V : Type 0} where
   -- one of main is put before it
-  latest-push : (entry : Entry K V) (es : List (Entry K V)) (x : Entry K V) → entry.in_window ≡ false → x.in_window ≡ true
+  latest-push : (entry : Entry K V) (es : List (Entry K V)) (x : Entry K V) → is_window entry.part ≡ false → is_window x.part ≡ true
       → with_latest entry (es ++ x ∷ []) ≡ with_latest entry es ++ x ∷ []
   latest-push entry [] x main waits =
-      cond-true (goes_before entry x) (entry ∷ x ∷ []) (x ∷ entry ∷ []) (λ i. waits i && not (main i))
+      cond-true (goes_before entry x) (entry ∷ x ∷ []) (x ∷ entry ∷ []) (before-window entry.part x.part main waits)
   latest-push entry (e ∷ es) x main waits =
       elim (cases_Bool (goes_before entry e)) [
         | inl before ↦
@@ -238,8 +234,8 @@ module _ {K V : Type 0} (eq : K → K → Bool) (keeps : Bool) (x : Entry K V) w
       ap (after_leaving eq (entry_keys gs)) (without-push g.key contents (All-head (λ g. eq g.key x.key ≡ false) g gs differ))
       ∙ leaving-push gs (without eq contents g.key) (All-tail (λ g. eq g.key x.key ≡ false) g gs differ)
 
-  module _ (waits : x.in_window ≡ true) where
-    moving-push : (entry : Entry K V) (contents : Contents K V) → entry.in_window ≡ false → eq entry.key x.key ≡ false
+  module _ (waits : is_window x.part ≡ true) where
+    pub moving-push : (entry : Entry K V) (contents : Contents K V) → is_window entry.part ≡ false → eq entry.key x.key ≡ false
         → after_moving eq entry (after_entry eq keeps x contents) ≡ after_entry eq keeps x (after_moving eq entry contents)
     moving-push entry contents main differ =
         λ i. record {
@@ -309,12 +305,12 @@ module _ {K V : Type 0} (eq : K → K → Bool) (key : K) where
       All-latest IsOther (outside c) (entries_without eq c.key left.entries)
       (All-filter (λ e. not (eq c.key e.key)) IsOther left.entries (All-leaving eq IsOther (entry_keys gone) contents all)) differ
 
-  others-candidates : (limit : ℕ) (sketch : Option Table) (cs : List (Entry K V)) (contents : Contents K V) → All IsOther cs
-      → All IsOther contents.entries → All IsOther (after_candidates eq limit sketch cs contents).entries
-  others-candidates limit sketch [] contents others all = all
-  others-candidates limit sketch (c ∷ cs) contents others all =
-      others-candidates limit sketch cs (after_candidate eq limit sketch contents c) (All-tail IsOther c cs others)
-      (others-candidacy c (victims_of (Some (main_limit limit)) sketch c (main_of contents.entries)) contents (All-head IsOther c cs others) all)
+  others-candidates : (limits : PartLimits) (sketch : Option Table) (cs : List (Entry K V)) (contents : Contents K V) → All IsOther cs
+      → All IsOther contents.entries → All IsOther (after_candidates eq limits sketch cs contents).entries
+  others-candidates limits sketch [] contents others all = all
+  others-candidates limits sketch (c ∷ cs) contents others all =
+      others-candidates limits sketch cs (after_candidate eq limits sketch contents c) (All-tail IsOther c cs others)
+      (others-candidacy c (victims_of (Some (main_limit limits)) sketch c (main_of contents.entries)) contents (All-head IsOther c cs others) all)
 
   -- a write of the key is none either
   writes-leaving : (keys : List K) (contents : Contents K V) → All (IsOtherWrite eq key) contents.written
@@ -332,21 +328,21 @@ module _ {K V : Type 0} (eq : K → K → Bool) (key : K) where
   none-leaving keys contents none =
       record { entries = All-leaving eq IsOther keys contents none.entries; written = writes-leaving keys contents none.written }
 
-  none-candidate : (limit : ℕ) (sketch : Option Table) (c : Entry K V) (contents : Contents K V) → IsOther c → HasNone contents
-      → HasNone (after_candidate eq limit sketch contents c)
-  none-candidate limit sketch c contents differ none =
-      let gone = victims_of (Some (main_limit limit)) sketch c (main_of contents.entries) in
+  none-candidate : (limits : PartLimits) (sketch : Option Table) (c : Entry K V) (contents : Contents K V) → IsOther c → HasNone contents
+      → HasNone (after_candidate eq limits sketch contents c)
+  none-candidate limits sketch c contents differ none =
+      let gone = victims_of (Some (main_limit limits)) sketch c (main_of contents.entries) in
       record {
         entries = others-candidacy c gone contents differ none.entries;
         written = writes-candidacy c gone contents none.written;
       }
 
-  none-candidates : (limit : ℕ) (sketch : Option Table) (cs : List (Entry K V)) (contents : Contents K V) → All IsOther cs → HasNone contents
-      → HasNone (after_candidates eq limit sketch cs contents)
-  none-candidates limit sketch [] contents others none = none
-  none-candidates limit sketch (c ∷ cs) contents others none =
-      none-candidates limit sketch cs (after_candidate eq limit sketch contents c) (All-tail IsOther c cs others)
-      (none-candidate limit sketch c contents (All-head IsOther c cs others) none)
+  none-candidates : (limits : PartLimits) (sketch : Option Table) (cs : List (Entry K V)) (contents : Contents K V) → All IsOther cs → HasNone contents
+      → HasNone (after_candidates eq limits sketch cs contents)
+  none-candidates limits sketch [] contents others none = none
+  none-candidates limits sketch (c ∷ cs) contents others none =
+      none-candidates limits sketch cs (after_candidate eq limits sketch contents c) (All-tail IsOther c cs others)
+      (none-candidate limits sketch c contents (All-head IsOther c cs others) none)
 
   -- an entry of the key is found, wherever it stands
   found-between : (x : Entry K V) (front back : List (Entry K V)) → eq key x.key ≡ true
@@ -361,42 +357,42 @@ module _ {K V : Type 0} (eq : K → K → Bool) (key : K) where
 
   -- the candidates of a window whose entries have other keys have other keys
   others-first : (lacking : ℕ) (es : List (Entry K V)) → All IsOther es → All IsOther (least_recent lacking (window_of es))
-  others-first lacking es all = All-least_recent IsOther lacking (window_of es) (All-filter (λ e. e.in_window) IsOther es all)
+  others-first lacking es all = All-least_recent IsOther lacking (window_of es) (All-filter (λ e. is_window e.part) IsOther es all)
 
-module _ {K V : Type 0} (eq : K → K → Bool) (laws : IsEquivalence eq) (keeps : Bool) (limit : ℕ) (sketch : Option Table) (new : Entry K V) where
+module _ {K V : Type 0} (eq : K → K → Bool) (laws : IsEquivalence eq) (keeps : Bool) (limits : PartLimits) (sketch : Option Table) (new : Entry K V) where
   apart-new : (es : List (Entry K V)) → All (IsOther eq new.key) es → All (λ e. eq e.key new.key ≡ false) es
   apart-new es others =
       All-weaker (IsOther eq new.key) (λ e. eq e.key new.key ≡ false) (λ e differ. laws.symm e.key new.key ∙ differ) es others
 
   -- those that give way to a candidate have other keys
   victims-apart : (c : Entry K V) (contents : Contents K V) → HasNone eq new.key contents
-      → IfSome (victims_of (Some (main_limit limit)) sketch c (main_of contents.entries)) (All (λ e. eq e.key new.key ≡ false))
+      → IfSome (victims_of (Some (main_limit limits)) sketch c (main_of contents.entries)) (All (λ e. eq e.key new.key ≡ false))
   victims-apart c contents none =
-      All-victims (λ e. eq e.key new.key ≡ false) (main_limit limit) sketch c (main_of contents.entries)
-      (apart-new (main_of contents.entries) (All-filter (λ e. not e.in_window) (IsOther eq new.key) contents.entries none.entries))
+      All-victims (λ e. eq e.key new.key ≡ false) (main_limit limits) sketch c (main_of contents.entries)
+      (apart-new (main_of contents.entries) (All-filter (λ e. not (is_window e.part)) (IsOther eq new.key) contents.entries none.entries))
 
   -- the new entry in the window changes nothing for the others
   main-push : (contents : Contents K V) → main_of (after_entry eq keeps (inside new) contents).entries ≡ main_of contents.entries
-  main-push contents = failed-push (λ e. not e.in_window) contents.entries (inside new) refl
+  main-push contents = failed-push (λ e. not (is_window e.part)) contents.entries (inside new) refl
 
   candidate-push : (c : Entry K V) (contents : Contents K V) → IsOther eq new.key c → HasNone eq new.key contents
-      → after_candidate eq limit sketch (after_entry eq keeps (inside new) contents) c
-      ≡ after_entry eq keeps (inside new) (after_candidate eq limit sketch contents c)
+      → after_candidate eq limits sketch (after_entry eq keeps (inside new) contents) c
+      ≡ after_entry eq keeps (inside new) (after_candidate eq limits sketch contents c)
   candidate-push c contents differ none =
-      ap (λ es. after_candidacy eq c (victims_of (Some (main_limit limit)) sketch c es) (after_entry eq keeps (inside new) contents))
+      ap (λ es. after_candidacy eq c (victims_of (Some (main_limit limits)) sketch c es) (after_entry eq keeps (inside new) contents))
       (main-push contents)
-      ∙ candidacy-push eq keeps (inside new) refl c (victims_of (Some (main_limit limit)) sketch c (main_of contents.entries)) contents
+      ∙ candidacy-push eq keeps (inside new) refl c (victims_of (Some (main_limit limits)) sketch c (main_of contents.entries)) contents
       (laws.symm c.key new.key ∙ differ) (victims-apart c contents none)
 
   candidates-push : (cs : List (Entry K V)) (contents : Contents K V) → All (IsOther eq new.key) cs → HasNone eq new.key contents
-      → after_candidates eq limit sketch cs (after_entry eq keeps (inside new) contents)
-      ≡ after_entry eq keeps (inside new) (after_candidates eq limit sketch cs contents)
+      → after_candidates eq limits sketch cs (after_entry eq keeps (inside new) contents)
+      ≡ after_entry eq keeps (inside new) (after_candidates eq limits sketch cs contents)
   candidates-push [] contents others none = refl
   candidates-push (c ∷ cs) contents others none =
       let differ = All-head (IsOther eq new.key) c cs others in
-      ap (after_candidates eq limit sketch cs) (candidate-push c contents differ none)
-      ∙ candidates-push cs (after_candidate eq limit sketch contents c) (All-tail (IsOther eq new.key) c cs others)
-      (none-candidate eq new.key limit sketch c contents differ none)
+      ap (after_candidates eq limits sketch cs) (candidate-push c contents differ none)
+      ∙ candidates-push cs (after_candidate eq limits sketch contents c) (All-tail (IsOther eq new.key) c cs others)
+      (none-candidate eq new.key limits sketch c contents differ none)
 
   -- without it the entries are those that there were
   entries-again : (contents : Contents K V) → HasNone eq new.key contents
@@ -409,7 +405,7 @@ module _ {K V : Type 0} (eq : K → K → Bool) (laws : IsEquivalence eq) (keeps
   -- where it is judged itself it arrives in main, or has never been there
   candidacy-last : (gone : Option (List (Entry K V))) (contents : Contents K V) → HasNone eq new.key contents
       → IfSome gone (All (λ e. eq e.key new.key ≡ false))
-      → after_candidacy eq (inside new) gone (after_entry eq keeps (inside new) contents) ≡ after_arrival eq keeps (outside new) gone contents
+      → after_candidacy eq (inside new) gone (after_entry eq keeps (inside new) contents) ≡ after_admission eq keeps (outside new) gone contents
   candidacy-last None contents none others =
       λ i. record {
         entries = entries-again contents none i;
@@ -426,65 +422,65 @@ module _ {K V : Type 0} (eq : K → K → Bool) (laws : IsEquivalence eq) (keeps
       })
 
   candidate-last : (contents : Contents K V) → HasNone eq new.key contents
-      → after_candidate eq limit sketch (after_entry eq keeps (inside new) contents) (inside new)
-      ≡ after_arrival eq keeps (outside new) (victims_of (Some (main_limit limit)) sketch (outside new) (main_of contents.entries)) contents
+      → after_candidate eq limits sketch (after_entry eq keeps (inside new) contents) (inside new)
+      ≡ after_admission eq keeps (outside new) (victims_of (Some (main_limit limits)) sketch (outside new) (main_of contents.entries)) contents
   candidate-last contents none =
-      ap (λ es. after_candidacy eq (inside new) (victims_of (Some (main_limit limit)) sketch (inside new) es)
+      ap (λ es. after_candidacy eq (inside new) (victims_of (Some (main_limit limits)) sketch (inside new) es)
       (after_entry eq keeps (inside new) contents)) (main-push contents)
-      ∙ candidacy-last (victims_of (Some (main_limit limit)) sketch (inside new) (main_of contents.entries)) contents none
+      ∙ candidacy-last (victims_of (Some (main_limit limits)) sketch (inside new) (main_of contents.entries)) contents none
       (victims-apart (inside new) contents none)
 
   -- a new entry enters and what has to leave the window is judged: the same as where the old entries are judged first, and it enters then,
   -- if they weigh as much as has to leave
   pub entering-is_kept : (contents : Contents K V) → entry_at eq new.key contents.entries ≡ None
-      → writes_without eq new.key contents.written ≡ contents.written → excess_left limit new contents.entries ≡ 0
-      → after_entering eq keeps limit sketch new contents ≡ after_entry eq keeps (inside new) (after_judging eq limit sketch new contents)
+      → writes_without eq new.key contents.written ≡ contents.written → excess_left limits new contents.entries ≡ 0
+      → after_entering eq keeps limits sketch new contents ≡ after_entry eq keeps (inside new) (after_judging eq limits sketch new contents)
   entering-is_kept contents absent unwritten enough =
       let none = none-absent eq new.key contents absent unwritten in
-      let lacking = entering_excess limit new contents.entries in
+      let lacking = entering_excess limits new contents.entries in
       let entered = after_entry eq keeps (inside new) contents in
-      ap (λ ws. after_candidates eq limit sketch (least_recent lacking ws) entered)
-      (passed-push (λ e. e.in_window) contents.entries (inside new) refl)
-      ∙ (ap (λ cs. after_candidates eq limit sketch cs entered)
+      ap (λ ws. after_candidates eq limits sketch (least_recent lacking ws) entered)
+      (passed-push (λ e. is_window e.part) contents.entries (inside new) refl)
+      ∙ (ap (λ cs. after_candidates eq limits sketch cs entered)
       (least_recent-enough lacking (window_of contents.entries) (inside new) enough)
-      ∙ candidates-push (judged_first limit new contents.entries) contents (others-first eq new.key lacking contents.entries none.entries) none)
+      ∙ candidates-push (judged_first limits new contents.entries) contents (others-first eq new.key lacking contents.entries none.entries) none)
 
   -- or is the last to be judged and never enters, if they do not
   pub entering-is_judged : (contents : Contents K V) → entry_at eq new.key contents.entries ≡ None
-      → writes_without eq new.key contents.written ≡ contents.written → 0 < excess_left limit new contents.entries
-      → after_entering eq keeps limit sketch new contents
-      ≡ after_arrival eq keeps (outside new)
-      (victims_of (Some (main_limit limit)) sketch (outside new) (main_of (after_judging eq limit sketch new contents).entries))
-      (after_judging eq limit sketch new contents)
+      → writes_without eq new.key contents.written ≡ contents.written → 0 < excess_left limits new contents.entries
+      → after_entering eq keeps limits sketch new contents
+      ≡ after_admission eq keeps (outside new)
+      (victims_of (Some (main_limit limits)) sketch (outside new) (main_of (after_judging eq limits sketch new contents).entries))
+      (after_judging eq limits sketch new contents)
   entering-is_judged contents absent unwritten lacks =
       let none = none-absent eq new.key contents absent unwritten in
-      let lacking = entering_excess limit new contents.entries in
-      let first = judged_first limit new contents.entries in
+      let lacking = entering_excess limits new contents.entries in
+      let first = judged_first limits new contents.entries in
       let entered = after_entry eq keeps (inside new) contents in
       let others = others-first eq new.key lacking contents.entries none.entries in
-      ap (λ ws. after_candidates eq limit sketch (least_recent lacking ws) entered)
-      (passed-push (λ e. e.in_window) contents.entries (inside new) refl)
-      ∙ (ap (λ cs. after_candidates eq limit sketch cs entered)
+      ap (λ ws. after_candidates eq limits sketch (least_recent lacking ws) entered)
+      (passed-push (λ e. is_window e.part) contents.entries (inside new) refl)
+      ∙ (ap (λ cs. after_candidates eq limits sketch cs entered)
       (least_recent-last lacking (window_of contents.entries) (inside new) lacks)
-      ∙ (fold-append (after_candidate eq limit sketch) entered first (inside new ∷ [])
-      ∙ (ap (λ c. after_candidate eq limit sketch c (inside new)) (candidates-push first contents others none)
-      ∙ candidate-last (after_judging eq limit sketch new contents) (none-candidates eq new.key limit sketch first contents others none))))
+      ∙ (fold-append (after_candidate eq limits sketch) entered first (inside new ∷ [])
+      ∙ (ap (λ c. after_candidate eq limits sketch c (inside new)) (candidates-push first contents others none)
+      ∙ candidate-last (after_judging eq limits sketch new contents) (none-candidates eq new.key limits sketch first contents others none))))
 
   -- no entry stands at its key before it enters or arrives
   pub absent-judged : (contents : Contents K V) → entry_at eq new.key contents.entries ≡ None
-      → entry_at eq new.key (after_judging eq limit sketch new contents).entries ≡ None
+      → entry_at eq new.key (after_judging eq limits sketch new contents).entries ≡ None
   absent-judged contents absent =
       let all = others-absent eq new.key contents.entries absent in
-      absent-others eq new.key (after_judging eq limit sketch new contents).entries
-      (others-candidates eq new.key limit sketch (judged_first limit new contents.entries) contents
-      (others-first eq new.key (entering_excess limit new contents.entries) contents.entries all) all)
+      absent-others eq new.key (after_judging eq limits sketch new contents).entries
+      (others-candidates eq new.key limits sketch (judged_first limits new contents.entries) contents
+      (others-first eq new.key (entering_excess limits new contents.entries) contents.entries all) all)
 
   -- what stands there at the end
   pub stands-kept : (contents : Contents K V) → is_some (entry_at eq new.key (after_entry eq keeps (inside new) contents).entries) ≡ true
   stands-kept contents = found-between eq new.key (inside new) contents.entries [] (laws.refl new.key)
 
   pub stands-arrived : (gone : Option (List (Entry K V))) (contents : Contents K V) → entry_at eq new.key contents.entries ≡ None
-      → is_some (entry_at eq new.key (after_arrival eq keeps (outside new) gone contents).entries) ≡ is_some gone
+      → is_some (entry_at eq new.key (after_admission eq keeps (outside new) gone contents).entries) ≡ is_some gone
   stands-arrived None contents absent = ap is_some absent
   stands-arrived (Some gone) contents absent =
       let (front, back, parts, latest) = latest_parts (outside new) (after_leaving eq (entry_keys gone) contents).entries in
@@ -512,20 +508,20 @@ module _ {K V : Type 0} (eq : K → K → Bool) where
   main-apart laws (e ∷ es) once =
       let rest = main-apart laws es (IsDistinct-tail eq e.key (entry_keys es) once) in
       let head = apart-head e es once in
-      elim (cases_Bool e.in_window) [
+      elim (cases_Bool (is_window e.part)) [
         | inl waits ↦
-            let window : window_of (e ∷ es) ≡ e ∷ window_of es = cond-true e.in_window (e ∷ window_of es) (window_of es) waits in
-            let main : main_of (e ∷ es) ≡ main_of es = cond-false (not e.in_window) (e ∷ main_of es) (main_of es) (ap not waits) in
+            let window : window_of (e ∷ es) ≡ e ∷ window_of es = cond-true (is_window e.part) (e ∷ window_of es) (window_of es) waits in
+            let main : main_of (e ∷ es) ≡ main_of es = cond-false (not (is_window e.part)) (e ∷ main_of es) (main_of es) (ap not waits) in
             subst (λ ws. All (λ g. IsApartFrom ws g.key) (main_of (e ∷ es))) (sym window)
             (subst (All (λ g. IsApartFrom (e ∷ window_of es) g.key)) (sym main)
-            (both e (main_of es) (window_of es) (All-filter (λ x. not x.in_window) (λ x. eq e.key x.key ≡ false) es head) rest))
+            (both e (main_of es) (window_of es) (All-filter (λ x. not (is_window x.part)) (λ x. eq e.key x.key ≡ false) es head) rest))
         | inr in_main ↦
-            let window : window_of (e ∷ es) ≡ window_of es = cond-false e.in_window (e ∷ window_of es) (window_of es) in_main in
-            let main : main_of (e ∷ es) ≡ e ∷ main_of es = cond-true (not e.in_window) (e ∷ main_of es) (main_of es) (ap not in_main) in
+            let window : window_of (e ∷ es) ≡ window_of es = cond-false (is_window e.part) (e ∷ window_of es) (window_of es) in_main in
+            let main : main_of (e ∷ es) ≡ e ∷ main_of es = cond-true (not (is_window e.part)) (e ∷ main_of es) (main_of es) (ap not in_main) in
             subst (λ ws. All (λ g. IsApartFrom ws g.key) (main_of (e ∷ es))) (sym window)
             (subst (All (λ g. IsApartFrom (window_of es) g.key)) (sym main)
             (All-cons (λ g. IsApartFrom (window_of es) g.key) e (main_of es)
-            (All-filter (λ x. x.in_window) (λ x. eq e.key x.key ≡ false) es head) rest))
+            (All-filter (λ x. is_window x.part) (λ x. eq e.key x.key ≡ false) es head) rest))
       ]
     where
       both : (e : Entry K V) (gs ws : List (Entry K V)) → IsApartFrom gs e.key → All (λ g. IsApartFrom ws g.key) gs
@@ -541,22 +537,22 @@ module _ {K V : Type 0} (eq : K → K → Bool) where
   window-apart : (c : Entry K V) (ws es : List (Entry K V)) → IsDistinct eq (entry_keys es) → window_of es ≡ c ∷ ws → IsApartFrom ws c.key
   window-apart c ws [] once window = let no : ⊥ = omega (arith, ap length window) in absurd no
   window-apart c ws (e ∷ es) once window =
-      elim (cases_Bool e.in_window) [
+      elim (cases_Bool (is_window e.part)) [
         | inl waits ↦
-            let same : e ∷ window_of es ≡ c ∷ ws = sym (cond-true e.in_window (e ∷ window_of es) (window_of es) waits) ∙ window in
+            let same : e ∷ window_of es ≡ c ∷ ws = sym (cond-true (is_window e.part) (e ∷ window_of es) (window_of es) waits) ∙ window in
             let first : e ≡ c = ap (λ l. get_or l 0 e) same in
             let rest : window_of es ≡ ws = ap (drop 1) same in
             subst (λ l. IsApartFrom l c.key) rest
             (subst (λ x. IsApartFrom (window_of es) x.key) first
-            (All-filter (λ x. x.in_window) (λ x. eq e.key x.key ≡ false) es (apart-head e es once)))
+            (All-filter (λ x. is_window x.part) (λ x. eq e.key x.key ≡ false) es (apart-head e es once)))
         | inr in_main ↦
             window-apart c ws es (IsDistinct-tail eq e.key (entry_keys es) once)
-            (sym (cond-false e.in_window (e ∷ window_of es) (window_of es) in_main) ∙ window)
+            (sym (cond-false (is_window e.part) (e ∷ window_of es) (window_of es) in_main) ∙ window)
       ]
 
   window-without : (key : K) (es ws : List (Entry K V)) → window_of es ≡ ws → IsApartFrom ws key → window_of (entries_without eq key es) ≡ ws
   window-without key es ws window apart =
-      both-tests (λ e. e.in_window) (λ e. not (eq key e.key)) es
+      both-tests (λ e. is_window e.part) (λ e. not (eq key e.key)) es
       ∙ (ap (entries_without eq key) window
       ∙ passed-all (λ e. not (eq key e.key)) ws
       (All-weaker (λ w. eq key w.key ≡ false) (λ w. not (eq key w.key) ≡ true) (λ w differ. ap not differ) ws apart))
@@ -575,7 +571,7 @@ module _ {K V : Type 0} (eq : K → K → Bool) where
     window-rest : (c : Entry K V) (ws es : List (Entry K V)) → window_of es ≡ c ∷ ws → IsApartFrom ws c.key
         → window_of (entries_without eq c.key es) ≡ ws
     window-rest c ws es window apart =
-        both-tests (λ e. e.in_window) (λ e. not (eq c.key e.key)) es
+        both-tests (λ e. is_window e.part) (λ e. not (eq c.key e.key)) es
         ∙ (ap (entries_without eq c.key) window
         ∙ (cond-false (not (eq c.key c.key)) (c ∷ entries_without eq c.key ws) (entries_without eq c.key ws) (ap not (laws.refl c.key))
         ∙ passed-all (λ e. not (eq c.key e.key)) ws
@@ -601,13 +597,13 @@ module _ {K V : Type 0} (eq : K → K → Bool) where
         (main-apart laws contents.entries once)))
 
     -- and is the rest once its first was judged
-    pub judged-window : (limit : ℕ) (sketch : Option Table) (c : Entry K V) (ws : List (Entry K V)) (contents : Contents K V)
+    pub judged-window : (limits : PartLimits) (sketch : Option Table) (c : Entry K V) (ws : List (Entry K V)) (contents : Contents K V)
         → IsDistinct eq (entry_keys contents.entries) → window_of contents.entries ≡ c ∷ ws
-        → window_of (after_candidate eq limit sketch contents c).entries ≡ ws
-    judged-window limit sketch c ws contents once window =
-        window-candidacy c ws (victims_of (Some (main_limit limit)) sketch c (main_of contents.entries)) contents window
+        → window_of (after_candidate eq limits sketch contents c).entries ≡ ws
+    judged-window limits sketch c ws contents once window =
+        window-candidacy c ws (victims_of (Some (main_limit limits)) sketch c (main_of contents.entries)) contents window
         (window-apart c ws contents.entries once window)
-        (All-victims (λ g. IsApartFrom (c ∷ ws) g.key) (main_limit limit) sketch c (main_of contents.entries)
+        (All-victims (λ g. IsApartFrom (c ∷ ws) g.key) (main_limit limits) sketch c (main_of contents.entries)
         (subst (λ l. All (λ g. IsApartFrom l g.key) (main_of contents.entries)) window (main-apart laws contents.entries once)))
 
     -- a key that none of the others has stands once before them
@@ -670,7 +666,7 @@ module _ {K V : Type 0} (eq : K → K → Bool) where
         fails false h = refl
 
     -- a candidate leaves each key once
-    pub judged-once : (limit : ℕ) (sketch : Option Table) (c : Entry K V) (contents : Contents K V)
-        → IsDistinct eq (entry_keys contents.entries) → IsDistinct eq (entry_keys (after_candidate eq limit sketch contents c).entries)
-    judged-once limit sketch c contents once =
-        once-candidacy c (victims_of (Some (main_limit limit)) sketch c (main_of contents.entries)) contents once
+    pub judged-once : (limits : PartLimits) (sketch : Option Table) (c : Entry K V) (contents : Contents K V)
+        → IsDistinct eq (entry_keys contents.entries) → IsDistinct eq (entry_keys (after_candidate eq limits sketch contents c).entries)
+    judged-once limits sketch c contents once =
+        once-candidacy c (victims_of (Some (main_limit limits)) sketch c (main_of contents.entries)) contents once

@@ -1,3 +1,4 @@
 pub mod ContentsLemmas
 pub mod EnteringLemmas
+pub mod PartLemmas
 pub mod WindowLemmas

@@ -1,7 +1,7 @@
 -- Lemmas on main and the window.
-use Rattle.std.proofs.Common.{◌≡◌, ◌+◌, Bool, true, false, not, ◌&&◌, List, [], ◌∷◌, ◌++◌, All, filter, Some}
-use Rattle.std.proofs.Common.{refl, sym, ap, ◌∙◌, subst, inl, inr, arith}
-use Rattle.std.proofs.lemmas.Bool.{cases_Bool, cond-true, cond-false}
+use Rattle.std.proofs.Common.{◌≡◌, ◌+◌, Bool, true, false, not, List, [], ◌∷◌, ◌++◌, All, filter, Some}
+use Rattle.std.proofs.Common.{append_assoc, refl, sym, ap, ◌∙◌, subst, inl, inr, arith}
+use Rattle.std.proofs.lemmas.Bool.{cases_Bool, cond-true, cond-false, false≢true}
 use Rattle.std.proofs.lemmas.List.Elements.{All-cons, All-from_recursion, All-head, All-tail, filter-append}
 use Rattle.std.proofs.lemmas.List.Filters.{sum_by-filter_both}
 use Rattle.std.proofs.lemmas.List.Sums.{sum_by-append, sum_by-cons}
@@ -9,14 +9,30 @@ use Rattle.std.proofs.lemmas.Map.Keys.{IsDistinct-head, IsDistinct-tail}
 use Rattle.std.specs.Cmp.{IsEquivalence}
 use Rattle.std.specs.List.{AllByRecursion, IsDistinct}
 use Rattle.moka_machine.specs.declared.entry.Entry.{Entry}
-use Rattle.moka_machine.specs.Contents.{Contents, after_leaving, after_moving, entries_without, entry_keys, main_of, total_weight, window_of}
-use Rattle.moka_machine.specs.Contents.{with_latest, without}
+use Rattle.moka_machine.specs.declared.entry.Part.{Part}
+use Rattle.moka_machine.specs.declared.entry.Part.TheVariants.{Probation, Protected, Window}
+use Rattle.moka_machine.specs.Contents.{Contents, after_leaving, after_moving, entries_without, entry_keys, is_before, is_window, main_of}
+use Rattle.moka_machine.specs.Contents.{total_weight, window_of, with_latest, without}
 use Rattle.moka_machine.specs.Window.{after_candidacy}
+
+-- each of main stands before the window
+pub before-window : (a b : Part) → is_window a ≡ false → is_window b ≡ true → is_before a b ≡ true
+before-window Probation Probation main waits = absurd (false≢true waits)
+before-window Probation Protected main waits = absurd (false≢true waits)
+before-window Probation Window main waits = refl
+before-window Protected b main waits = waits
+before-window Window b main waits = absurd (false≢true (sym main))
+
+-- and nothing that is in the window stands before any
+pub window-last : (a b : Part) → is_window a ≡ true → is_before a b ≡ false
+window-last Probation b waits = absurd (false≢true waits)
+window-last Protected b waits = absurd (false≢true waits)
+window-last Window b waits = refl
 
 module _ {K V : Type 0} where
   -- where one more entry stands before another
   abbrev pub goes_before : Entry K V → Entry K V → Bool
-  goes_before entry e = e.in_window && not entry.in_window
+  goes_before entry e = is_before entry.part e.part
 
   -- one more entry stands between some of the others
   pub latest_parts : (entry : Entry K V) (entries : List (Entry K V))
@@ -64,16 +80,16 @@ module _ {K V : Type 0} where
 
   -- main and the window are all entries
   pub total-split : (entries : List (Entry K V)) → total_weight (main_of entries) + total_weight (window_of entries) ≡ total_weight entries
-  total-split entries = sum_by-filter_both (λ e. not e.in_window) (λ e. e.in_window) double (λ e. e.weight) entries
+  total-split entries = sum_by-filter_both (λ e. not (is_window e.part)) (λ e. is_window e.part) double (λ e. e.weight) entries
     where
-      double : (e : Entry K V) → e.in_window ≡ not (not e.in_window)
-      double e = by e.in_window
+      double : (e : Entry K V) → is_window e.part ≡ not (not (is_window e.part))
+      double e = by (is_window e.part)
         where
           by : (b : Bool) → b ≡ not (not b)
           by true = refl
           by false = refl
 
-  -- with nothing in the window an entry of main stands behind all, and so does one of the window in any case
+  -- with nothing that it is before an entry stands behind all, and so does one of the window in any case
   pub latest-last : (entry : Entry K V) (entries : List (Entry K V)) → All (λ e. goes_before entry e ≡ false) entries
       → with_latest entry entries ≡ entries ++ entry ∷ []
   latest-last entry [] all = refl
@@ -92,11 +108,11 @@ module _ {K V : Type 0} where
       ∙ sym (ap (filter p) parts ∙ filter-append p front back)))
 
   -- an entry of main leaves the window as it was, and adds its weight to main
-  pub window-latest : (entry : Entry K V) (entries : List (Entry K V)) → entry.in_window ≡ false
+  pub window-latest : (entry : Entry K V) (entries : List (Entry K V)) → is_window entry.part ≡ false
       → window_of (with_latest entry entries) ≡ window_of entries
-  window-latest entry entries main = latest-filtered (λ e. e.in_window) entry entries main
+  window-latest entry entries main = latest-filtered (λ e. is_window e.part) entry entries main
 
-  pub total-main_latest : (entry : Entry K V) (entries : List (Entry K V)) → entry.in_window ≡ false
+  pub total-main_latest : (entry : Entry K V) (entries : List (Entry K V)) → is_window entry.part ≡ false
       → total_weight (main_of (with_latest entry entries)) ≡ total_weight (main_of entries) + entry.weight
   total-main_latest entry entries main =
       grind (
@@ -111,35 +127,33 @@ module _ {K V : Type 0} where
 
 module _ {K V : Type 0} where
   -- where main stands first it is what stands there
-  pub main-first : (front back : List (Entry K V)) → AllByRecursion (λ e. e.in_window ≡ false) front
-      → AllByRecursion (λ e. e.in_window ≡ true) back → main_of (front ++ back) ≡ front
+  pub main-first : (front back : List (Entry K V)) → AllByRecursion (λ e. is_window e.part ≡ false) front
+      → AllByRecursion (λ e. is_window e.part ≡ true) back → main_of (front ++ back) ≡ front
   main-first [] [] main window = refl
   main-first [] (e ∷ es) main window =
-      cond-false (not e.in_window) (e ∷ main_of es) (main_of es) (ap not window.0) ∙ main-first [] es main window.1
+      cond-false (not (is_window e.part)) (e ∷ main_of es) (main_of es) (ap not window.0) ∙ main-first [] es main window.1
   main-first (f ∷ fs) back main window =
-      cond-true (not f.in_window) (f ∷ main_of (fs ++ back)) (main_of (fs ++ back)) (ap not main.0)
+      cond-true (not (is_window f.part)) (f ∷ main_of (fs ++ back)) (main_of (fs ++ back)) (ap not main.0)
       ∙ ap (λ l. f ∷ l) (main-first fs back main.1 window)
 
   -- and the window is what stands behind it
-  pub window-behind : (front back : List (Entry K V)) → AllByRecursion (λ e. e.in_window ≡ false) front
-      → AllByRecursion (λ e. e.in_window ≡ true) back → window_of (front ++ back) ≡ back
+  pub window-behind : (front back : List (Entry K V)) → AllByRecursion (λ e. is_window e.part ≡ false) front
+      → AllByRecursion (λ e. is_window e.part ≡ true) back → window_of (front ++ back) ≡ back
   window-behind [] [] main window = refl
   window-behind [] (e ∷ es) main window =
-      cond-true e.in_window (e ∷ window_of es) (window_of es) window.0 ∙ ap (λ l. e ∷ l) (window-behind [] es main window.1)
+      cond-true (is_window e.part) (e ∷ window_of es) (window_of es) window.0 ∙ ap (λ l. e ∷ l) (window-behind [] es main window.1)
   window-behind (f ∷ fs) back main window =
-      cond-false f.in_window (f ∷ window_of (fs ++ back)) (window_of (fs ++ back)) main.0 ∙ window-behind fs back main.1 window
+      cond-false (is_window f.part) (f ∷ window_of (fs ++ back)) (window_of (fs ++ back)) main.0 ∙ window-behind fs back main.1 window
 
-  -- an entry of main stands between main and the window
-  pub latest-between : (entry : Entry K V) (front back : List (Entry K V)) → entry.in_window ≡ false
-      → AllByRecursion (λ e. e.in_window ≡ false) front → AllByRecursion (λ e. e.in_window ≡ true) back
-      → with_latest entry (front ++ back) ≡ front ++ entry ∷ back
-  latest-between entry [] [] main front_main window = refl
-  latest-between entry [] (e ∷ es) main front_main window =
-      cond-true (goes_before entry e) (entry ∷ e ∷ es) (e ∷ with_latest entry es) (λ i. window.0 i && not (main i))
-  latest-between entry (f ∷ fs) back main front_main window =
-      cond-false (goes_before entry f) (entry ∷ f ∷ fs ++ back) (f ∷ with_latest entry (fs ++ back))
-      (ap (λ b. b && not entry.in_window) front_main.0)
-      ∙ ap (λ l. f ∷ l) (latest-between entry fs back main front_main.1 window)
+  -- an entry stands between those that it is not before and those that it is before
+  pub latest-between : (entry : Entry K V) (front back : List (Entry K V)) → AllByRecursion (λ e. goes_before entry e ≡ false) front
+      → AllByRecursion (λ e. goes_before entry e ≡ true) back → with_latest entry (front ++ back) ≡ front ++ entry ∷ back
+  latest-between entry [] [] behind before = refl
+  latest-between entry [] (e ∷ es) behind before =
+      cond-true (goes_before entry e) (entry ∷ e ∷ es) (e ∷ with_latest entry es) before.0
+  latest-between entry (f ∷ fs) back behind before =
+      cond-false (goes_before entry f) (entry ∷ f ∷ fs ++ back) (f ∷ with_latest entry (fs ++ back)) behind.0
+      ∙ ap (λ l. f ∷ l) (latest-between entry fs back behind.1 before)
 
 module _ {K V : Type 0} (eq : K → K → Bool) (laws : IsEquivalence eq) where
   -- without one that has no entry all stay
@@ -165,16 +179,17 @@ module _ {K V : Type 0} (eq : K → K → Bool) (laws : IsEquivalence eq) where
       among [] apart = apart.0
       among (x ∷ xs) apart = among xs apart.1
 
-  -- it keeps its place, and is of main
-  pub promoted : (c : Entry K V) (front back : List (Entry K V)) (contents : Contents K V) → contents.entries ≡ front ++ c ∷ back
-      → AllByRecursion (λ e. e.in_window ≡ false) front → AllByRecursion (λ e. e.in_window ≡ true) back
-      → IsDistinct eq (entry_keys contents.entries)
-      → (after_moving eq (record c { in_window = false }) contents).entries ≡ front ++ record c { in_window = false } ∷ back
-  promoted c front back contents parts main window once =
-      ap (λ es. with_latest (record c { in_window = false }) (entries_without eq c.key es)) parts
-      ∙ (ap (with_latest (record c { in_window = false }))
-      (without-between c front back (subst (λ es. IsDistinct eq (entry_keys es)) parts once))
-      ∙ latest-between (record c { in_window = false }) front back refl main window)
+  -- behind probation it is the last of that, before protected and the window
+  pub promoted : (c : Entry K V) (front between back : List (Entry K V)) (contents : Contents K V)
+      → contents.entries ≡ front ++ (between ++ c ∷ back) → AllByRecursion (λ e. is_before Probation e.part ≡ false) front
+      → AllByRecursion (λ e. is_before Probation e.part ≡ true) (between ++ back) → IsDistinct eq (entry_keys contents.entries)
+      → (after_moving eq (record c { part = Probation }) contents).entries ≡ front ++ record c { part = Probation } ∷ (between ++ back)
+  promoted c front between back contents parts probation later once =
+      let whole : contents.entries ≡ (front ++ between) ++ c ∷ back = parts ∙ sym (append_assoc front between (c ∷ back)) in
+      ap (λ es. with_latest (record c { part = Probation }) (entries_without eq c.key es)) whole
+      ∙ (ap (with_latest (record c { part = Probation }))
+      (without-between c (front ++ between) back (subst (λ es. IsDistinct eq (entry_keys es)) whole once) ∙ append_assoc front between back)
+      ∙ latest-between (record c { part = Probation }) front (between ++ back) probation later)
 
   -- behind some entries no key stands twice
   once-behind : (front back : List (Entry K V)) → IsDistinct eq (entry_keys (front ++ back)) → IsDistinct eq (entry_keys back)
@@ -192,14 +207,14 @@ module _ {K V : Type 0} (eq : K → K → Bool) (laws : IsEquivalence eq) where
       leaving-front gs rest (without eq contents g.key) left
       (subst (λ es. IsDistinct eq (entry_keys es)) (sym left) (IsDistinct-tail eq g.key (entry_keys (gs ++ rest)) apart))
 
-  -- it comes to main in place of the first of main, and keeps its place among those that stay
-  pub admitted : (c : Entry K V) (gone front back : List (Entry K V)) (contents : Contents K V) → contents.entries ≡ gone ++ (front ++ c ∷ back)
-      → AllByRecursion (λ e. e.in_window ≡ false) front → AllByRecursion (λ e. e.in_window ≡ true) back
-      → IsDistinct eq (entry_keys contents.entries)
-      → (after_candidacy eq c (Some gone) contents).entries ≡ front ++ record c { in_window = false } ∷ back
-  admitted c gone front back contents parts main window once =
-      let left : (after_leaving eq (entry_keys gone) contents).entries ≡ front ++ c ∷ back =
-      leaving-front gone (front ++ c ∷ back) contents parts once in
-      promoted c front back (after_leaving eq (entry_keys gone) contents) left main window
+  -- it comes to probation in place of the first of main
+  pub admitted : (c : Entry K V) (gone front between back : List (Entry K V)) (contents : Contents K V)
+      → contents.entries ≡ gone ++ (front ++ (between ++ c ∷ back)) → AllByRecursion (λ e. is_before Probation e.part ≡ false) front
+      → AllByRecursion (λ e. is_before Probation e.part ≡ true) (between ++ back) → IsDistinct eq (entry_keys contents.entries)
+      → (after_candidacy eq c (Some gone) contents).entries ≡ front ++ record c { part = Probation } ∷ (between ++ back)
+  admitted c gone front between back contents parts probation later once =
+      let left : (after_leaving eq (entry_keys gone) contents).entries ≡ front ++ (between ++ c ∷ back) =
+      leaving-front gone (front ++ (between ++ c ∷ back)) contents parts once in
+      promoted c front between back (after_leaving eq (entry_keys gone) contents) left probation later
       (subst (λ es. IsDistinct eq (entry_keys es)) (sym left)
-      (once-behind gone (front ++ c ∷ back) (subst (λ es. IsDistinct eq (entry_keys es)) parts once)))
+      (once-behind gone (front ++ (between ++ c ∷ back)) (subst (λ es. IsDistinct eq (entry_keys es)) parts once)))

@@ -1,18 +1,44 @@
 -- What a contract sees of a cache's contents: its entries in order of use, and their writes.
-use Rattle.std.specs.Prelude.{ℕ, ◌-◌, ◌^◌, Bool, ◌&&◌, not, List, [], ◌∷◌, sum_by, map, filter, fold, min, Option, if◌then◌else◌}
+use Rattle.std.specs.Prelude.{◌≡◌, ℕ, zero, suc, ◌-◌, ◌^◌, Bool, true, false, not, List, [], ◌∷◌, sum_by, map, filter, fold, min, Option, if◌then◌else◌}
 use Rattle.std.specs.List.{find}
 use Rattle.moka_machine.specs.declared.entry.Entry.{Entry}
+use Rattle.moka_machine.specs.declared.entry.Part.{Part}
+use Rattle.moka_machine.specs.declared.entry.Part.TheVariants.{Probation, Protected, Window}
 
 -- a key, and the moment of its last write
 pub record Write (K : Type 0) : Type 0 where
   pub key : K
   pub modified : ℕ
 
--- the entries in two parts, main and behind it the window, each in order of use, least recent first; and the writes in their order, which are kept
--- only with a time to live
+-- the entries in three parts, main's probation, behind it main's protected, and behind that the window, each in order of use, least recent first; and
+-- the writes in their order, which are kept only with a time to live
 pub record Contents (K V : Type 0) : Type 0 where
   pub entries : List (Entry K V)
   pub written : List (Write K)
+
+-- whether a part is main's probation
+abbrev pub is_probation : Part → Bool
+is_probation Probation = true
+is_probation Protected = false
+is_probation Window = false
+
+-- whether it is main's protected
+abbrev pub is_protected : Part → Bool
+is_protected Probation = false
+is_protected Protected = true
+is_protected Window = false
+
+-- whether it is the window
+abbrev pub is_window : Part → Bool
+is_window Probation = false
+is_window Protected = false
+is_window Window = true
+
+-- whether a part stands before another: probation before protected, and both before the window
+abbrev pub is_before : Part → Part → Bool
+is_before Probation part = not (is_probation part)
+is_before Protected part = is_window part
+is_before Window part = false
 
 module _ {K V : Type 0} where
   -- nothing at all
@@ -33,16 +59,40 @@ module _ {K V : Type 0} where
 
   -- the entries of main
   abbrev pub main_of : List (Entry K V) → List (Entry K V)
-  main_of entries = filter (λ e. not e.in_window) entries
+  main_of entries = filter (λ e. not (is_window e.part)) entries
+
+  -- those of its probation
+  abbrev pub probation_of : List (Entry K V) → List (Entry K V)
+  probation_of entries = filter (λ e. is_probation e.part) entries
+
+  -- those of its protected
+  abbrev pub protected_of : List (Entry K V) → List (Entry K V)
+  protected_of entries = filter (λ e. is_protected e.part) entries
 
   -- the entries of the window
   abbrev pub window_of : List (Entry K V) → List (Entry K V)
-  window_of entries = filter (λ e. e.in_window) entries
+  window_of entries = filter (λ e. is_window e.part) entries
 
-  -- the entries with one more, the most recent of its part: one of the window stands behind all, one of main before the first of the window
+  -- the entries with one more, the most recent of its part: it stands before the first of a later part
   abbrev pub with_latest : Entry K V → List (Entry K V) → List (Entry K V)
   with_latest entry [] = entry ∷ []
-  with_latest entry (e ∷ entries) = if e.in_window && not entry.in_window then entry ∷ e ∷ entries else e ∷ with_latest entry entries
+  with_latest entry (e ∷ entries) = if is_before entry.part e.part then entry ∷ e ∷ entries else e ∷ with_latest entry entries
+
+  -- the entries once the first of protected that weigh so much, or all, are the last of probation: their places are the same
+  abbrev pub demoted : ℕ → List (Entry K V) → List (Entry K V)
+  demoted zero entries = entries
+  demoted (suc weight) [] = []
+  demoted (suc weight) (e ∷ entries) =
+      if is_protected e.part then record e { part = Probation } ∷ demoted (suc weight - e.weight) entries else e ∷ demoted (suc weight) entries
+
+  -- the entries once protected weighs no more than this
+  abbrev pub balanced : ℕ → List (Entry K V) → List (Entry K V)
+  balanced room entries = demoted (total_weight (protected_of entries) - room) entries
+
+  -- each is in this part or a later one, and none stands before one of an earlier part
+  abbrev pub InOrder : Part → List (Entry K V) → Type 0
+  InOrder last [] = Unit {0}
+  InOrder last (e ∷ es) = (is_before e.part last ≡ false) × InOrder e.part es
 
   -- the keys of the entries
   abbrev pub entry_keys : List (Entry K V) → List K

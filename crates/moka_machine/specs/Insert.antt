@@ -5,11 +5,14 @@ use Rattle.moka_base.specs.Keys.{Keys}
 use Rattle.moka_sketch.specs.Sketch.{Table}
 use Rattle.moka_sketch.specs.SketchCapacity.{after_ensure_capacity}
 use Rattle.moka_machine.specs.declared.entry.Entry.{Entry}
-use Rattle.moka_machine.specs.Contents.{Contents, Write, total_weight, entry_keys, entry_at, writes_without, after_leaving, after_moving}
-use Rattle.moka_machine.specs.CacheState.{CacheState}
+use Rattle.moka_machine.specs.declared.entry.Part.TheVariants.{Probation, Window}
+use Rattle.moka_machine.specs.Contents.{Contents, Write, total_weight, entry_keys, entry_at, writes_without, after_leaving, with_latest}
+use Rattle.moka_machine.specs.CacheState.{CacheState, room_of, windowed}
 use Rattle.moka_base.specs.Settings.{Settings, keeps_writes}
+use Rattle.moka_machine.specs.declared.shares.PartLimits.{PartLimits}
+use Rattle.moka_machine.specs.Lookup.{after_using}
 use Rattle.moka_machine.specs.Upkeep.{after_upkeep}
-use Rattle.moka_machine.specs.Window.{windowed_limit, candidates, victims_of, after_candidates}
+use Rattle.moka_machine.specs.Window.{candidates, victims_of, after_candidates}
 
 -- the writes with one more, where they are kept
 abbrev pub with_write : {K : Type 0} → Bool → List (Write K) → K → ℕ → List (Write K)
@@ -17,14 +20,19 @@ with_write true written key now = written ++ record { key = key; modified = now 
 with_write false written key now = written
 
 module _ {K V : Type 0} (eq : K → K → Bool) where
-  -- the contents once an entry has another's value, weight and moments: it keeps its key and its part, and is the most recent there and of the writes
-  abbrev pub after_update : Bool → Entry K V → Entry K V → Contents K V → Contents K V
-  after_update keeps old new contents =
-      record (after_moving eq (record new { key = old.key; hash = old.hash; in_window = old.in_window }) contents) {
+  -- the contents once an entry has another's value, weight and moments: it keeps its key, is used, and is the most recent of the writes
+  abbrev pub after_update : Bool → ℕ → Entry K V → Entry K V → Contents K V → Contents K V
+  after_update keeps room old new contents =
+      record (after_using eq room (record new { key = old.key; hash = old.hash; part = old.part }) contents) {
         written = with_write keeps (writes_without eq old.key contents.written) old.key new.modified;
       }
 
-  -- the contents once a new entry is the most recent in both orders
+  -- the contents once a new entry is the most recent of its part, and of the writes
+  abbrev pub after_arrival : Bool → Entry K V → Contents K V → Contents K V
+  after_arrival keeps new contents =
+      record { entries = with_latest new contents.entries; written = with_write keeps contents.written new.key new.modified }
+
+  -- the same for one of the window, which is the most recent of all
   abbrev pub after_entry : Bool → Entry K V → Contents K V → Contents K V
   after_entry keeps new contents =
       record { entries = contents.entries ++ new ∷ []; written = with_write keeps contents.written new.key new.modified }
@@ -32,13 +40,13 @@ module _ {K V : Type 0} (eq : K → K → Bool) where
   -- the contents once a new entry was admitted in place of these, or was rejected
   abbrev pub after_admission : Bool → Entry K V → Option (List (Entry K V)) → Contents K V → Contents K V
   after_admission keeps new None contents = contents
-  after_admission keeps new (Some gone) contents = after_entry keeps new (after_leaving eq (entry_keys gone) contents)
+  after_admission keeps new (Some gone) contents = after_arrival keeps new (after_leaving eq (entry_keys gone) contents)
 
   -- the contents once a new entry entered the window, and what then has to leave it were candidates for main
-  abbrev pub after_entering : Bool → ℕ → Option Table → Entry K V → Contents K V → Contents K V
-  after_entering keeps limit sketch new contents =
-      let entered = after_entry keeps (record new { in_window = true }) contents in
-      after_candidates eq limit sketch (candidates limit entered.entries) entered
+  abbrev pub after_entering : Bool → PartLimits → Option Table → Entry K V → Contents K V → Contents K V
+  after_entering keeps limits sketch new contents =
+      let entered = after_entry keeps (record new { part = Window }) contents in
+      after_candidates eq limits sketch (candidates limits entered.entries) entered
 
 -- the sketch once a table was asked for, if these contents ask for one, and whether memory refuses it
 abbrev pub after_enabling : {K V S : Type 0} → Settings S → Option ℕ → Option Table → Contents K V → Bool → Option Table
@@ -69,18 +77,18 @@ module _ {K V S W : Type 0} (eq : K → K → Bool) where
       if is_some (entry_at eq new.key cache.contents.entries) then after_asking refused cache else cache
 
   -- the cache once a new entry was put, where there is a window or none
-  abbrev pub after_new : CacheState K V S W → Option ℕ → Entry K V → Bool → CacheState K V S W
+  abbrev pub after_new : CacheState K V S W → Option PartLimits → Entry K V → Bool → CacheState K V S W
   after_new cache None new refused =
       after_verdict cache new (victims_of cache.settings.policy.max_capacity cache.sketch new cache.contents.entries) refused
-  after_new cache (Some limit) new refused =
-      let contents = after_entering eq (keeps_writes cache.settings.policy) limit cache.sketch new cache.contents in
+  after_new cache (Some limits) new refused =
+      let contents = after_entering eq (keeps_writes cache.settings.policy) limits cache.sketch new cache.contents in
       after_standing (record cache { contents = contents }) new refused
 
   -- the cache once an entry was put at its key, where one stands or none
   abbrev pub after_put : CacheState K V S W → Option (Entry K V) → Entry K V → Bool → CacheState K V S W
   after_put cache (Some old) new refused =
-      record cache { contents = after_update eq (keeps_writes cache.settings.policy) old new cache.contents }
-  after_put cache None new refused = after_new cache (windowed_limit cache.settings.policy.max_capacity) new refused
+      record cache { contents = after_update eq (keeps_writes cache.settings.policy) (room_of cache) old new cache.contents }
+  after_put cache None new refused = after_new cache (windowed cache) new refused
 
   -- the cache after an insert that had its room: upkeep, and then the entry is put
   abbrev pub after_insert : CacheState K V S W → Entry K V → ℕ → Bool → CacheState K V S W
@@ -91,7 +99,7 @@ module _ {K V S W : Type 0} (eq : K → K → Bool) where
 -- the entry of a key, as it is written
 abbrev pub new_entry : {K V S : Type 0} → Keys K S → S → K → V → ℕ → ℕ → Entry K V
 new_entry keys state key value weight now =
-    record { key = key; value = value; hash = keys.hash_of state key; weight = weight; in_window = false; accessed = now; modified = now }
+    record { key = key; value = value; hash = keys.hash_of state key; weight = weight; part = Probation; accessed = now; modified = now }
 
 module _ {K V S W : Type 0} where
   -- there was no room for one more entry, and all is as it was, but that there may be another room

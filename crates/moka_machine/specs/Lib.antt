@@ -1,4 +1,5 @@
 pub mod Contents
+pub mod Shares
 pub mod CacheState
 pub mod Upkeep
 pub mod Lookup

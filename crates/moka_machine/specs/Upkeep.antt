@@ -6,7 +6,7 @@ use Rattle.moka_base.specs.Prefix.{shortest_prefix}
 use Rattle.moka_base.specs.Settings.{live_nanos, idle_nanos}
 use Rattle.moka_machine.specs.declared.constants.TheConstants.{EVICTION_BATCH_SIZE}
 use Rattle.moka_machine.specs.declared.entry.Entry.{Entry}
-use Rattle.moka_machine.specs.Contents.{Contents, Write, total_weight, main_of, window_of, entry_keys, after_leaving}
+use Rattle.moka_machine.specs.Contents.{Contents, Write, total_weight, probation_of, protected_of, window_of, entry_keys, after_leaving}
 
 -- whether a key was written too long ago
 abbrev pub has_lived : {K : Type 0} → Policy → ℕ → Write K → Bool
@@ -40,12 +40,13 @@ module _ {K V : Type 0} (eq : K → K → Bool) where
   after_idle policy now most entries contents =
       after_leaving eq (entry_keys (take most (take_while (is_idle policy now) entries))) contents
 
-  -- such a batch of the window leaves, and then one of main
+  -- such a batch of the window leaves, then one of probation, and then one of protected
   abbrev pub after_idle_expiry : Policy → ℕ → ℕ → Contents K V → Contents K V
   after_idle_expiry policy now most contents =
-      after_idle policy now most (main_of contents.entries) (after_idle policy now most (window_of contents.entries) contents)
+      after_idle policy now most (protected_of contents.entries)
+      (after_idle policy now most (probation_of contents.entries) (after_idle policy now most (window_of contents.entries) contents))
 
-  -- the first entries, main's before the window's, that weigh as much as the weight above the limit leave, but at most so many
+  -- the first entries, probation's, then protected's, then the window's, that weigh as much as the weight above the limit leave, but at most so many
   abbrev pub after_eviction : ℕ → ℕ → Contents K V → Contents K V
   after_eviction limit most contents =
       after_leaving eq (entry_keys (take most (least_recent (total_weight contents.entries - limit) contents.entries))) contents

@@ -3,3 +3,4 @@
 
 pub mod constants;
 pub mod entry;
+pub mod shares;

@@ -16,6 +16,7 @@ use Rattle.moka_grammar.specs.declared.line.Request.TheVariants.{Insert, Get, Co
 use Rattle.moka_grammar.specs.declared.line.Request.TheVariants.{InvalidateIf, Sync, Iter, EntryCount, WeightedSize, Policy}
 use Rattle.moka_grammar.specs.Lines.{allows, WeightFits, RequestFits, LineFits}
 use Rattle.moka_unsync.specs.declared.entry.Entry.{Entry}
+use Rattle.moka_unsync.specs.Shares.{default_shares}
 use Rattle.moka_unsync.specs.CacheState.{new_cache}
 use Rattle.moka_unsync.specs.Insert.{IsInserted}
 use Rattle.moka_unsync.specs.Invalidate.{AnswersInTurn}
@@ -158,7 +159,7 @@ module _ (options : CacheOptions) (policy : Limits) (limits : HasLimits policy o
   -- the cache is new and of these settings, where the script is weighed so
   abbrev IsFirst : (weighed : Bool) → ScriptCache (WeigherOf weighed) → Type 0
   IsFirst weighed cache = HasLimits cache.settings.policy options ×
-      (cache ≡ new_cache (record { hash_state = record {}; policy = cache.settings.policy; is_weighed = weighed }) cache.weigher
+      (cache ≡ new_cache (record { hash_state = record {}; policy = cache.settings.policy; is_weighed = weighed }) default_shares cache.weigher
       cache.capacity)
 
   -- the reply lines are those of the cache
@@ -176,11 +177,11 @@ module _ (options : CacheOptions) (policy : Limits) (limits : HasLimits policy o
   -- a cache that is built answers the lines
   pub built : {T E : Type 0} (text_of : T → List ℕ) (result : Result T E) (weighed : Bool) (weigher : WeigherOf weighed)
       (cache : ScriptCache (WeigherOf weighed)) → weighed ≡ options.weighed
-      → policy_fault ≡ None → cache ≡ new_cache (record { hash_state = record {}; policy = policy; is_weighed = weighed }) weigher
+      → policy_fault ≡ None → cache ≡ new_cache (record { hash_state = record {}; policy = policy; is_weighed = weighed }) default_shares weigher
       cache.capacity
       → IfOk result (λ t. AreOf cache (text_of t)) → IfOk result (λ t. AreUnsyncReplyLines options lines (text_of t))
   built text_of result weighed weigher cache is fine new answers =
-      let first : IsFirst weighed (new_cache (record { hash_state = record {}; policy = policy; is_weighed = weighed }) weigher
+      let first : IsFirst weighed (new_cache (record { hash_state = record {}; policy = policy; is_weighed = weighed }) default_shares weigher
       cache.capacity) =
       (limits, refl) in
       IfOk-map result (λ t of. under_fault None (text_of t) fine

@@ -11,6 +11,7 @@ use Rattle.moka_grammar.specs.declared.line.Request.TheVariants.{Insert, Get, Co
 use Rattle.moka_grammar.specs.declared.line.Request.TheVariants.{Sync, Iter, EntryCount, WeightedSize, Policy as GetPolicy}
 use Rattle.moka_grammar.specs.Options.{span_nanos}
 use Rattle.moka_unsync.specs.declared.entry.Entry.{Entry}
+use Rattle.moka_unsync.specs.Shares.{default_shares}
 use Rattle.moka_unsync.specs.CacheState.{CacheState, new_cache}
 use Rattle.moka_unsync.specs.Step as machine
 use Rattle.moka_script.specs.declared.keys.KeyState.{KeyState}
@@ -88,7 +89,7 @@ pub record HasLimits (policy : Policy) (options : CacheOptions) : Type 0 where
 -- the cache is a new one with these settings
 pub record IsFirstCache {W : Type 0} (options : CacheOptions) (cache : ScriptCache W) : Type 0 where
   pub limits : HasLimits cache.settings.policy options
-  pub new : cache ≡ new_cache (record { hash_state = record {}; policy = cache.settings.policy; is_weighed = options.weighed })
+  pub new : cache ≡ new_cache (record { hash_state = record {}; policy = cache.settings.policy; is_weighed = options.weighed }) default_shares
       cache.weigher cache.capacity
 
 -- what is written where the settings have this fault or none: that they are refused, and nothing more; or the reply lines

@@ -3,6 +3,7 @@ ghost use Rattle.std.specs.Prelude.{◌≡◌, ◌++◌, ℕ, List, false, IfOk,
 ghost use Rattle.std.specs.List.{AllByRecursion};
 ghost use Rattle.moka_unsync.specs.Invalidate.{after_invalidate_if};
 ghost use Rattle.moka_grammar.specs.Lines.{allows, LineFits};
+ghost use Rattle.moka_unsync.specs.Shares.{default_shares};
 ghost use Rattle.moka_script.specs.Reply.{Ready, Reply as Told, reply_line};
 ghost use Rattle.moka_script.specs.ReplyValue.{pairs_of};
 ghost use Rattle.moka_script.specs.ScriptKeys.{script_keys};
@@ -55,6 +56,7 @@ pub fn unsync_replies<A: Allocator + Clone + Drop>(
 fn builder_of<A: Allocator + Clone + Drop>(alloc: A, options: CacheOptions) -> ScriptBuilder<A>
     ensures limits { HasLimits result.policy options }
     ensures weighed { result.is_weighed ≡ false }
+    ensures shares { result.shares ≡ default_shares }
 {
     let mut builder = CacheBuilder::default(alloc);
     if let Some(max) = options.max {

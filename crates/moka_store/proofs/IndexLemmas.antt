@@ -1,34 +1,31 @@
 -- Lemmas on the index of a store: what each change of the nodes leaves of it, and what it finds.
-use Rattle.std.proofs.Common.{◌≡◌, ◌⊎◌, ◌<◌, ◌≤◌, ◌∙◌, ◌++◌, ◌∷◌, ℕ, Bool, true, false, cond, nat_eq, nat_le, List, [], All, Option, Some}
-use Rattle.std.proofs.Common.{None, is_some, IsSome, IfSome, refl, sym, ap, inl, inr, arith, subst}
-use Rattle.std.proofs.lemmas.Bool.{cases_Bool, cond_both, cond-true, cond-false, eqb-true, false≢true, leb-true, le-leb, or_cases, or_right}
+use Rattle.std.proofs.Common.{◌≡◌, ◌⊎◌, ◌<◌, ◌∙◌, ◌++◌, ◌∷◌, ℕ, Bool, true, false, cond, nat_eq, List, [], All, Option, Some}
+use Rattle.std.proofs.Common.{None, is_some, IsSome, refl, sym, ap, inl, inr, subst}
+use Rattle.std.proofs.lemmas.Bool.{cases_Bool, cond_both, cond-true, cond-false, eqb-true, false≢true, or_cases, or_right}
 use Rattle.std.proofs.lemmas.Cmp.{nat_eq_equiv}
 use Rattle.std.proofs.lemmas.List.{append_assoc}
 use Rattle.std.proofs.lemmas.List.Elements.{recursion_from_All}
 use Rattle.std.proofs.lemmas.Map.Keys.{IsDistinct-head, IsDistinct-tail}
-use Rattle.std.specs.List.{IsDistinct, AllByRecursion, list_any}
+use Rattle.std.specs.List.{IsDistinct, AllByRecursion}
 use Rattle.std.specs.Map.{lookup, remove_entry, keys_of, values_of}
 use Rattle.moka_deque.specs.Deque.{first_id, next_id}
+use Rattle.moka_deque.specs.IdList.{is_listed}
 use Rattle.moka_index.specs.HashIndex.{HashIndex, candidates, is_candidate, Adds, Removes as Unlists}
 use Rattle.moka_machine.specs.declared.entry.Entry.{Entry}
 use Rattle.moka_machine.specs.Contents.{entry_at}
-use Rattle.moka_store.specs.Indexed.{IsIndexed, indexed_capacity}
-use Rattle.moka_store.specs.Store.{Store, Enters, IsFront, IsMainFront, IsOldest, IsWindowFront, Promotes, Relists, Removes, Touches, Updates}
+use Rattle.moka_store.specs.Indexed.{IsIndexed}
+use Rattle.moka_store.specs.Store.{AreCandidates, Store}
 use Rattle.moka_deque.proofs.DequeLemmas.{lookup-push}
 use Rattle.moka_deque.proofs.IdLemmas.{each_found, lookup-removed, not_none, some_parts}
 use Rattle.moka_deque.proofs.WalkLemmas.{from_first, from_node, from_next, from_none}
 
 -- ---- ids among others
 
--- the id is among these
-abbrev is_among : ℕ → List ℕ → Bool
-is_among id ids = list_any (nat_eq id) ids
+among_behind : (id i : ℕ) (ids : List ℕ) → is_listed ids id ≡ true → is_listed (i ∷ ids) id ≡ true
+among_behind id i ids h = or_right (nat_eq id i) (is_listed ids id) h
 
-among_behind : (id i : ℕ) (ids : List ℕ) → is_among id ids ≡ true → is_among id (i ∷ ids) ≡ true
-among_behind id i ids h = or_right (nat_eq id i) (is_among id ids) h
-
-among_cases : (id i : ℕ) (ids : List ℕ) → is_among id (i ∷ ids) ≡ true → (nat_eq id i ≡ true) ⊎ (is_among id ids ≡ true)
-among_cases id i ids h = or_cases (nat_eq id i) (is_among id ids) h
+among_cases : (id i : ℕ) (ids : List ℕ) → is_listed (i ∷ ids) id ≡ true → (nat_eq id i ≡ true) ⊎ (is_listed ids id ≡ true)
+among_cases id i ids h = or_cases (nat_eq id i) (is_listed ids id) h
 
 -- ---- what each change leaves
 
@@ -37,33 +34,12 @@ pub IsIndexed-none : {K V : Type 0} (index : HashIndex) → ((hash : ℕ) → ca
 IsIndexed-none index empty =
     record {
       listed = λ id e h. not_none e (sym h);
-      standing = λ hash id h. absurd (false≢true (sym (ap (is_among id) (empty hash)) ∙ h));
+      standing = λ hash id h. absurd (false≢true (sym (ap (λ l. is_listed l id) (empty hash)) ∙ h));
+      below = λ id h. absurd (false≢true h);
     }
 
 module _ {K V : Type 0} {nodes : List (ℕ × Entry K V)} {index : HashIndex} (s : IsIndexed nodes index) (id : ℕ) (e : Entry K V) where
   module _ (once : IsDistinct nat_eq (keys_of nodes)) (stood : lookup (nat_eq id) nodes ≡ Some e) where
-    -- an entry that is rewritten keeps its hash
-    pub IsIndexed-rewrite : (x : Entry K V) → x.hash ≡ e.hash → (moved : List (ℕ × Entry K V))
-        → ((v : ℕ) → lookup (nat_eq v) moved ≡ cond (nat_eq id v) (Some x) (lookup (nat_eq v) nodes)) → IsIndexed moved index
-    IsIndexed-rewrite x same_hash moved found =
-        record {
-          listed = λ i y h. by i y (sym (found i) ∙ h);
-          standing = λ hash i h.
-              subst (λ o. IsSome o) (sym (found i))
-              (cond_both (nat_eq id i) (Some x) (lookup (nat_eq i) nodes) (λ o. IsSome o) (λ _. refl) (λ _. s.standing hash i h));
-        }
-      where
-        by : (i : ℕ) (y : Entry K V) → cond (nat_eq id i) (Some x) (lookup (nat_eq i) nodes) ≡ Some y
-            → is_candidate index y.hash i ≡ true
-        by i y h =
-            elim (cases_Bool (nat_eq id i)) [
-              | inl same ↦
-                  let is_x : y ≡ x = some_parts y x (sym h ∙ cond-true (nat_eq id i) _ _ same) in
-                  subst (λ n. is_candidate index n i ≡ true) (sym (ap (λ z. z.hash) is_x ∙ same_hash))
-                  (subst (λ j. is_candidate index e.hash j ≡ true) (eqb-true id i same) (s.listed id e stood))
-              | inr other ↦ s.listed i y (sym (cond-false (nat_eq id i) _ _ other) ∙ h)
-            ]
-
     -- one that leaves is no candidate any more
     pub IsIndexed-remove : (new : HashIndex) → Unlists index id new → (left : List (ℕ × Entry K V)) → left ≡ remove_entry (nat_eq id) nodes
         → IsIndexed left new
@@ -78,8 +54,13 @@ module _ {K V : Type 0} {nodes : List (ℕ × Entry K V)} {index : HashIndex} (s
                     subst (λ o. IsSome o) (sym (found i ∙ cond-false (nat_eq id i) _ _ other))
                     (s.standing hash i (sym (step.others hash i other) ∙ h))
               ];
+          below = λ i h. subst (λ n. i < n) (sym step.ids) (s.below i (stood_before (nat_eq id i) (lookup (nat_eq i) nodes) (sym (ap is_some (found i)) ∙ h)));
         }
       where
+        stood_before : (b : Bool) (o : Option (Entry K V)) → is_some (cond b None o) ≡ true → is_some o ≡ true
+        stood_before true o h = absurd (false≢true h)
+        stood_before false o h = h
+
         found : (i : ℕ) → lookup (nat_eq i) left ≡ cond (nat_eq id i) None (lookup (nat_eq i) nodes)
         found i = ap (lookup (nat_eq i)) is ∙ lookup-removed id i nodes once
 
@@ -91,16 +72,21 @@ module _ {K V : Type 0} {nodes : List (ℕ × Entry K V)} {index : HashIndex} (s
             ]
 
   -- a new one is a candidate of its hash
-  pub IsIndexed-enter : (new : HashIndex) → Adds index id e.hash new → (pushed : List (ℕ × Entry K V))
+  pub IsIndexed-enter : id < index.ids → (new : HashIndex) → Adds index id e.hash new → (pushed : List (ℕ × Entry K V))
       → ((v : ℕ) → lookup (nat_eq v) pushed ≡ cond (nat_eq id v) (Some e) (lookup (nat_eq v) nodes)) → IsIndexed pushed new
-  IsIndexed-enter new step pushed found =
+  IsIndexed-enter room new step pushed found =
       record {
         listed = λ i y h. by i y (sym (found i) ∙ h);
         standing = λ hash i h.
             subst (λ o. IsSome o) (sym (found i))
             (cond_both (nat_eq id i) (Some e) (lookup (nat_eq i) nodes) (λ o. IsSome o) (λ _. refl) (λ other. stands hash i other h));
+        below = λ i h. subst (λ n. i < n) (sym step.ids) (fits i (nat_eq id i) refl (sym (ap is_some (found i)) ∙ h));
       }
     where
+      fits : (i : ℕ) (b : Bool) → nat_eq id i ≡ b → is_some (cond b (Some e) (lookup (nat_eq i) nodes)) ≡ true → i < index.ids
+      fits i true same h = subst (λ n. n < index.ids) (eqb-true id i same) room
+      fits i false other h = s.below i h
+
       by : (i : ℕ) (y : Entry K V) → cond (nat_eq id i) (Some e) (lookup (nat_eq i) nodes) ≡ Some y → is_candidate new y.hash i ≡ true
       by i y h =
           elim (cases_Bool (nat_eq id i)) [
@@ -119,8 +105,8 @@ module _ {K V : Type 0} {nodes : List (ℕ × Entry K V)} {index : HashIndex} (s
 module _ {K V : Type 0} (eq : K → K → Bool) (key : K) (nodes : List (ℕ × Entry K V)) where
   -- these ids are nodes, and if there is an entry of the key, it is among them
   pub record IsAhead (ids : List ℕ) : Type 0 where
-    pub standing : (id : ℕ) → is_among id ids ≡ true → IsSome (lookup (nat_eq id) nodes)
-    pub ahead : (id : ℕ) (e : Entry K V) → lookup (nat_eq id) nodes ≡ Some e → eq key e.key ≡ true → is_among id ids ≡ true
+    pub standing : (id : ℕ) → is_listed ids id ≡ true → IsSome (lookup (nat_eq id) nodes)
+    pub ahead : (id : ℕ) (e : Entry K V) → lookup (nat_eq id) nodes ≡ Some e → eq key e.key ≡ true → is_listed ids id ≡ true
 
   hash_is : (hash : ℕ) (es : List (ℕ × Entry K V)) → AllByRecursion (λ e. eq key e.key ≡ true → e.hash ≡ hash) (values_of es) → (id : ℕ)
       (e : Entry K V) → lookup (nat_eq id) es ≡ Some e → eq key e.key ≡ true → e.hash ≡ hash
@@ -139,14 +125,13 @@ module _ {K V : Type 0} (eq : K → K → Bool) (key : K) (nodes : List (ℕ × 
   has_hash hash hashed = hash_is hash nodes (recursion_from_All (λ e. eq key e.key ≡ true → e.hash ≡ hash) (values_of nodes) hashed)
 
   -- at first all candidates are ahead
-  pub all_ahead : (index : HashIndex) (hash : ℕ) → IsIndexed nodes index → All (λ e. eq key e.key ≡ true → e.hash ≡ hash) (values_of nodes)
-      → (ids : List ℕ) → ids ≡ candidates index hash → IsAhead ids
-  all_ahead index hash s hashed ids is =
+  pub all_ahead : (store : Store K V) (hash : ℕ) (ids : List ℕ) → store.nodes ≡ nodes → AreCandidates store hash ids
+      → All (λ e. eq key e.key ≡ true → e.hash ≡ hash) (values_of nodes) → IsAhead ids
+  all_ahead store hash ids is s hashed =
       record {
-        standing = λ id h. s.standing hash id (sym (ap (is_among id) is) ∙ h);
+        standing = λ id h. subst (λ l. IsSome (lookup (nat_eq id) l)) is (s.standing id h);
         ahead = λ id e stands equal.
-            ap (is_among id) is
-            ∙ subst (λ n. is_candidate index n id ≡ true) (has_hash hash hashed id e stands equal) (s.listed id e stands);
+            s.ahead id e (ap (lookup (nat_eq id)) is ∙ stands) (has_hash hash hashed id e stands equal);
       }
 
   -- behind one of another key
@@ -178,6 +163,15 @@ module _ {K V : Type 0} (eq : K → K → Bool) (key : K) (nodes : List (ℕ × 
             | inr differ ↦ cond-false (eq key p.1.key) _ _ differ ∙ by es a.1
           ]
 
+-- the candidates of a hash are those of a store
+pub are_candidates : {K V : Type 0} (store : Store K V) (index : HashIndex) (hash : ℕ) → IsIndexed store.nodes index
+    → AreCandidates store hash (candidates index hash)
+are_candidates store index hash s =
+    record {
+      standing = λ id h. s.standing hash id h;
+      ahead = λ id e stands same. subst (λ n. is_candidate index n id ≡ true) same (s.listed id e stands);
+    }
+
 -- ---- all ids, one after another
 
 -- what stands in front of a node has another id
@@ -208,15 +202,15 @@ module _ {K V : Type 0} (nodes : List (ℕ × Entry K V)) where
 
   -- and the next one with it
   pub up_to_next : (id : ℕ) (e : Entry K V) (index new : HashIndex) → IsDistinct nat_eq (keys_of nodes) → lookup (nat_eq id) nodes ≡ Some e
-      → IsUpTo (Some id) index → Adds index id e.hash new → IsUpTo (next_id id nodes) new
-  up_to_next id e index new once stands s step =
+      → IsUpTo (Some id) index → id < index.ids → Adds index id e.hash new → IsUpTo (next_id id nodes) new
+  up_to_next id e index new once stands s room step =
       let parts : s.done ++ (id, e) ∷ from_node (next_id id nodes) nodes ≡ nodes =
       ap (λ l. s.done ++ l) (sym (from_next id e nodes once stands)) ∙ s.parts in
       record {
         done = s.done ++ (id, e) ∷ [];
         parts = append_assoc s.done ((id, e) ∷ []) (from_node (next_id id nodes) nodes) ∙ parts;
         indexed =
-            IsIndexed-enter s.indexed id e new step (s.done ++ (id, e) ∷ [])
+            IsIndexed-enter s.indexed id e room new step (s.done ++ (id, e) ∷ [])
             (λ v. lookup-push v id e s.done
             (apart_from s.done id e (from_node (next_id id nodes) nodes) (subst (λ l. IsDistinct nat_eq (keys_of l)) (sym parts) once)));
       }
@@ -240,125 +234,3 @@ module _ {K V : Type 0} (nodes : List (ℕ × Entry K V)) where
       append_nil : {X : Type 0} (xs : List X) → xs ++ [] ≡ xs
       append_nil [] = refl
       append_nil (x ∷ xs) = ap (λ l. x ∷ l) (append_nil xs)
-
--- ---- what a contract sees
-
-module _ {K V : Type 0} where
-  -- capacity that is there is that of the lists, and the index has room for all ids
-  pub capacity_is_indexed : (deques : Store K V) (index : HashIndex) (len : ℕ) → len < indexed_capacity deques index
-      → (len < deques.capacity) × (deques.ids ≤ index.ids)
-  capacity_is_indexed deques index len h =
-      elim (cases_Bool (nat_le deques.ids index.ids)) [
-        | inl fits ↦
-            (subst (λ n. len < n) (cond-true (nat_le deques.ids index.ids) _ _ fits) h, leb-true deques.ids index.ids fits)
-        | inr lacks ↦
-            let none : len < 0 = subst (λ n. len < n) (cond-false (nat_le deques.ids index.ids) deques.capacity 0 lacks) h in
-            absurd (omega (arith, none))
-      ]
-
-  -- where the index has room for all ids, the capacity is that of the lists
-  pub indexed_capacity-all : (deques : Store K V) (index : HashIndex) → deques.ids ≤ index.ids
-      → indexed_capacity deques index ≡ deques.capacity
-  indexed_capacity-all deques index fits = cond-true (nat_le deques.ids index.ids) _ _ (le-leb deques.ids index.ids fits)
-
-  -- the same capacity of the lists is the same capacity
-  pub indexed_capacity-same : (a b : Store K V) (i j : HashIndex) → b.ids ≡ a.ids → j.ids ≡ i.ids → b.capacity ≡ a.capacity
-      → indexed_capacity b j ≡ indexed_capacity a i
-  indexed_capacity-same a b i j ids index capacity k = cond (nat_le (ids k) (index k)) (capacity k) 0
-
-  module _ (eq : K → K → Bool) (a : Store K V) (m : ℕ) where
-    pub shown_front : (o : Option ℕ) → IfSome o (λ id. IsFront eq a id) → IfSome o (λ id. IsFront eq (record a { capacity = m }) id)
-    shown_front None h = tt
-    shown_front (Some id) h = record { entry = h.entry; rest = h.rest; stands = h.stands; first = h.first; alone = h.alone }
-
-    abbrev front_shown : (id : ℕ) → IsFront eq a id → IsFront eq (record a { capacity = m }) id
-    front_shown id h = record { entry = h.entry; rest = h.rest; stands = h.stands; first = h.first; alone = h.alone }
-
-    pub shown_main_front : (o : Option ℕ) → IfSome o (λ id. IsMainFront eq a id) → IfSome o (λ id. IsMainFront eq (record a { capacity = m }) id)
-    shown_main_front None h = tt
-    shown_main_front (Some id) h = record { front = front_shown id h.front; main = h.main }
-
-    pub window_front_shown : (id : ℕ) → IsWindowFront eq a id → IsWindowFront eq (record a { capacity = m }) id
-    window_front_shown id h =
-        record {
-          entry = h.entry;
-          rest = h.rest;
-          stands = h.stands;
-          windowed = h.windowed;
-          first = h.first;
-          alone = h.alone;
-          main = h.main;
-        }
-
-    pub window_front_hidden : (id : ℕ) → IsWindowFront eq (record a { capacity = m }) id → IsWindowFront eq a id
-    window_front_hidden id h =
-        record {
-          entry = h.entry;
-          rest = h.rest;
-          stands = h.stands;
-          windowed = h.windowed;
-          first = h.first;
-          alone = h.alone;
-          main = h.main;
-        }
-
-    pub shown_window_front : (o : Option ℕ) → IfSome o (λ id. IsWindowFront eq a id)
-        → IfSome o (λ id. IsWindowFront eq (record a { capacity = m }) id)
-    shown_window_front None h = tt
-    shown_window_front (Some id) h = window_front_shown id h
-
-    pub shown_oldest : (o : Option ℕ) → IfSome o (λ id. IsOldest eq a id) → IfSome o (λ id. IsOldest eq (record a { capacity = m }) id)
-    shown_oldest None h = tt
-    shown_oldest (Some id) h = record { entry = h.entry; rest = h.rest; stands = h.stands; first = h.first; alone = h.alone }
-
-  module _ {eq : K → K → Bool} {a b : Store K V} {id : ℕ} (m n : ℕ) where
-    pub shown_removes : n ≡ m → Removes eq a id b → Removes eq (record a { capacity = m }) id (record b { capacity = n })
-    shown_removes same h =
-        record {
-          entry = h.entry;
-          stood = h.stood;
-          entries = h.entries;
-          written = h.written;
-          keeps = h.keeps;
-          capacity = same;
-          nodes = h.nodes;
-          fewer = h.fewer;
-          ids = h.ids;
-        }
-
-    shown_relists : {e x : Entry K V} → n ≡ m → Relists eq a id e x b → Relists eq (record a { capacity = m }) id e x (record b { capacity = n })
-    shown_relists same h =
-        record {
-          stood = h.stood;
-          at = h.at;
-          entries = h.entries;
-          keeps = h.keeps;
-          capacity = same;
-          len = h.len;
-          ids = h.ids;
-        }
-
-    pub shown_touches : (now : ℕ) → n ≡ m → Touches eq a id now b
-        → Touches eq (record a { capacity = m }) id now (record b { capacity = n })
-    shown_touches now same h = record { entry = h.entry; relists = shown_relists same h.relists; written = h.written }
-
-    pub shown_updates : (update : Entry K V) → n ≡ m → Updates eq a id update b
-        → Updates eq (record a { capacity = m }) id update (record b { capacity = n })
-    shown_updates update same h = record { entry = h.entry; relists = shown_relists same h.relists; written = h.written }
-
-    pub shown_promotes : n ≡ m → Promotes eq a id b → Promotes eq (record a { capacity = m }) id (record b { capacity = n })
-    shown_promotes same h = record { entry = h.entry; relists = shown_relists same h.relists; written = h.written }
-
-    pub shown_enters : (e : Entry K V) → n ≡ m → Enters eq a e id b → Enters eq (record a { capacity = m }) e id (record b { capacity = n })
-    shown_enters e same h =
-        record {
-          entries = h.entries;
-          written = h.written;
-          keeps = h.keeps;
-          capacity = same;
-          at = h.at;
-          len = h.len;
-          new_id = h.new_id;
-          below = h.below;
-          ids = h.ids;
-        }

@@ -1,5 +1,4 @@
 pub mod Store
-pub mod Turns
 -- inside
 pub mod Indexed
 pub mod Nodes

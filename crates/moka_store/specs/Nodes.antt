@@ -1,111 +1,174 @@
--- How the store lays its entries out in a chain and a deque. No public clause cites this module.
-use Rattle.std.specs.Prelude.{◌≡◌, ◌<◌, ℕ, ◌+◌, ◌^◌, Bool, true, false, not, ◌&&◌, if◌then◌else◌, min, nat_eq, List, [], ◌∷◌, All, map, sum_by, length}
-use Rattle.std.specs.Prelude.{Option, Some, None, option_map}
+-- How the store lays its entries out. No public clause cites this module.
+use Rattle.std.specs.Prelude.{◌≡◌, ◌<◌, ◌^◌, ℕ, Bool, true, false, not, ◌&&◌, if◌then◌else◌, nat_eq, List, [], ◌∷◌, ◌++◌, sum_by, length}
+use Rattle.std.specs.Prelude.{Option, Some, None, IsSome, option_map}
+use Rattle.std.specs.Option.{option_eq}
 use Rattle.std.specs.List.{AllByRecursion, IsDistinct, filter_map}
-use Rattle.std.specs.Option.{option_map_or}
-use Rattle.std.specs.Map.{lookup, keys_of, remove_entry, values_of}
-use Rattle.moka_deque.specs.Deque.{moved_to_back}
+use Rattle.std.specs.Map.{lookup, keys_of, values_of}
+use Rattle.moka_deque.specs.Chain.{moved_before}
+use Rattle.moka_deque.specs.Deque.{first_id, moved_to_back}
+use Rattle.moka_deque.specs.IdList.{ids_without, is_listed}
+use Rattle.moka_index.specs.HashIndex.{HashIndex}
 use Rattle.moka_machine.specs.declared.entry.Entry.{Entry}
-use Rattle.moka_store.specs.declared.deques.Node.{Node}
-use Rattle.moka_machine.specs.Contents.{total_weight, Write, write_of}
+use Rattle.moka_machine.specs.declared.entry.Part.{Part}
+use Rattle.moka_machine.specs.declared.entry.Part.TheVariants.{Probation, Protected, Window}
+use Rattle.moka_machine.specs.Contents.{InOrder, Write, balanced, is_before, is_probation, is_protected, is_window, write_of}
+use Rattle.moka_store.specs.declared.marks.Marks.{Marks}
+use Rattle.moka_store.specs.declared.weights.Weights.{Weights}
+use Rattle.moka_store.specs.Indexed.{IsIndexed}
 
--- how many entries fit, with those that are there: as many as in the chain, and where writes are kept,
--- only as many more as there is room for writes
-abbrev pub capacity_of : {X : Type 0} → Bool → List (ℕ × X) → ℕ → ℕ → ℕ
-capacity_of true items capacity writes = min capacity (length items + writes)
-capacity_of false items capacity writes = capacity
+-- whether a part stands behind probation
+abbrev pub is_late : Part → Bool
+is_late part = not (is_probation part)
 
--- the room that is left once a write is taken out, if there is one
-abbrev pub room_after : Option ℕ → ℕ → ℕ
-room_after None room = room
-room_after (Some write) room = room + 1
+-- whether it is any part
+abbrev pub is_any : Part → Bool
+is_any part = true
 
--- the node names its place in the order of writing, if that is kept
-abbrev pub IsTied : Bool → List (ℕ × ℕ) → ℕ → Option ℕ → Type 0
-IsTied keeps writes id None = keeps ≡ false
-IsTied keeps writes id (Some write) = (keeps ≡ true) × (lookup (nat_eq write) writes ≡ Some id)
+-- all of a weight, or nothing
+abbrev pub share : Bool → ℕ → ℕ
+share true weight = weight
+share false weight = 0
 
--- the writes without this one, if there is one
-abbrev pub without_write : Option ℕ → List (ℕ × ℕ) → List (ℕ × ℕ)
-without_write None writes = writes
-without_write (Some write) writes = remove_entry (nat_eq write) writes
+-- ---- marks
 
--- the writes with this one at the back, if there is one
-abbrev pub with_write_last : Option ℕ → List (ℕ × ℕ) → List (ℕ × ℕ)
-with_write_last None writes = writes
-with_write_last (Some write) writes = moved_to_back write writes
+-- a mark once a node has left, which another may follow
+abbrev pub passed : ℕ → Option ℕ → Option ℕ → Option ℕ
+passed id next mark = if option_eq nat_eq mark (Some id) then next else mark
 
--- what a weight is of the window's: all of it, or nothing
-abbrev pub window_share : Bool → ℕ → ℕ
-window_share true weight = weight
-window_share false weight = 0
+-- a mark once a node is right before another, or at the back, and of this mark's parts or not
+abbrev pub joined : Bool → ℕ → Option ℕ → Option ℕ → Option ℕ
+joined later id next mark = if later && option_eq nat_eq mark next then Some id else mark
+
+-- the first node of the parts behind one
+abbrev pub behind : Part → Marks → Option ℕ
+behind Probation marks = marks.late
+behind Protected marks = marks.window
+behind Window marks = None
+
+-- the marks once a node of this part has come last of its part
+abbrev pub with_mark : ℕ → Part → Marks → Marks
+with_mark id part marks = record {
+  late = joined (is_late part) id (behind part marks) marks.late;
+  window = joined (is_window part) id (behind part marks) marks.window;
+}
+
+-- the nodes with one of them right before another, or at the back
+abbrev pub moved : {X : Type 0} → ℕ → Option ℕ → List (ℕ × X) → List (ℕ × X)
+moved id None nodes = moved_to_back id nodes
+moved id (Some next) nodes = moved_before id next nodes
+
+-- ---- writes
+
+-- the order of writing with a new node, where it is kept
+abbrev pub write_added : Bool → ℕ → List ℕ → List ℕ
+write_added true id ids = ids ++ id ∷ []
+write_added false id ids = ids
+
+-- with a node last
+abbrev pub write_last : Bool → ℕ → List ℕ → List ℕ
+write_last true id ids = ids_without id ids ++ id ∷ []
+write_last false id ids = ids
+
+-- and without one
+abbrev pub write_left : Bool → ℕ → List ℕ → List ℕ
+write_left true id ids = ids_without id ids
+write_left false id ids = ids
 
 module _ {K V : Type 0} where
-  -- the node, used at a moment
-  abbrev pub touched : ℕ → Node K V → Node K V
-  touched now n = record n { entry = record n.entry { accessed = now } }
+  -- the first node whose part passes a test
+  abbrev pub first_in : (Part → Bool) → List (ℕ × Entry K V) → Option ℕ
+  first_in test [] = None
+  first_in test (p ∷ nodes) = if test p.1.part then Some p.0 else first_in test nodes
 
-  -- the node with another's value, weight and moments
-  abbrev pub updated : Entry K V → Node K V → Node K V
-  updated update n = record n { entry = record update { key = n.entry.key; hash = n.entry.hash; in_window = n.entry.in_window } }
+  -- the marks are where the later parts begin
+  pub record AreMarks (nodes : List (ℕ × Entry K V)) (marks : Marks) : Type 0 where
+    pub late : marks.late ≡ first_in is_late nodes
+    pub window : marks.window ≡ first_in is_window nodes
 
-  -- the node, come from the window to main
-  abbrev pub promoted : Node K V → Node K V
-  promoted n = record n { entry = record n.entry { in_window = false } }
+  -- where a part begins: at its first node, or where it has none, at one of another part
+  abbrev pub start_of : Part → List (ℕ × Entry K V) → Option ℕ
+  start_of Probation nodes = first_id nodes
+  start_of Protected nodes = first_in is_late nodes
+  start_of Window nodes = first_in is_window nodes
 
-  -- the nodes with one more, the latest of its own: one of the window stands behind all, one of main before the first of the window
-  abbrev pub with_latest_node : ℕ × Node K V → List (ℕ × Node K V) → List (ℕ × Node K V)
-  with_latest_node p [] = p ∷ []
-  with_latest_node p (q ∷ items) = if q.1.entry.in_window && not p.1.entry.in_window then p ∷ q ∷ items else q ∷ with_latest_node p items
+  -- the nodes with one more, the latest of its part
+  abbrev pub latest_node : ℕ × Entry K V → List (ℕ × Entry K V) → List (ℕ × Entry K V)
+  latest_node p [] = p ∷ []
+  latest_node p (q ∷ nodes) = if is_before p.1.part q.1.part then p ∷ q ∷ nodes else q ∷ latest_node p nodes
 
-  -- the nodes once one has changed and is the latest of its own
-  abbrev pub relisted : (Node K V → Node K V) → ℕ → List (ℕ × Node K V) → List (ℕ × Node K V)
-  relisted change id items =
-      option_map_or (λ n. with_latest_node (id, change n) (remove_entry (nat_eq id) items)) (lookup (nat_eq id) items) items
+  -- ---- weights
 
-  -- the first node of the window
-  abbrev pub first_windowed : List (ℕ × Node K V) → Option ℕ
-  first_windowed [] = None
-  first_windowed (p ∷ items) = if p.1.entry.in_window then Some p.0 else first_windowed items
+  -- what the nodes weigh whose part passes a test
+  abbrev pub weight_in : (Part → Bool) → List (ℕ × Entry K V) → ℕ
+  weight_in test nodes = sum_by (λ p. share (test p.1.part) p.1.weight) nodes
 
-  -- behind a node of the window all are of the window
-  abbrev pub IsArranged : List (ℕ × Node K V) → Type 0
-  IsArranged [] = Unit {0}
-  IsArranged (p ∷ items) = (p.1.entry.in_window ≡ true → AllByRecursion (λ q. q.1.entry.in_window ≡ true) items) × IsArranged items
+  -- what all nodes weigh, and those of protected and of the window
+  abbrev pub weights_of : List (ℕ × Entry K V) → Weights
+  weights_of nodes = record { all = weight_in is_any nodes; protected = weight_in is_protected nodes; window = weight_in is_window nodes }
 
-  -- main stands before the window, and this is the window's first node
-  pub record IsWindowed (items : List (ℕ × Node K V)) (window : Option ℕ) : Type 0 where
-    pub arranged : IsArranged items
-    pub first : window ≡ first_windowed items
+  -- ---- what stays the same
 
-  -- what the nodes of the window weigh
-  abbrev pub windowed_weight : List (ℕ × Node K V) → ℕ
-  windowed_weight items = sum_by (λ p. window_share p.1.entry.in_window p.1.entry.weight) items
+  -- no id is lost, and under each is what was there, as far as this tells
+  abbrev pub SameBy : {X : Type 0} → (Entry K V → X) → List (ℕ × Entry K V) → List (ℕ × Entry K V) → Type 0
+  SameBy f old new = (id : ℕ) → option_map f (lookup (nat_eq id) new) ≡ option_map f (lookup (nat_eq id) old)
 
-  -- the entries under their nodes' ids
-  abbrev pub entries_under : List (ℕ × Node K V) → List (ℕ × Entry K V)
-  entries_under items = map (λ p. (p.0, p.1.entry)) items
+  -- an entry, whatever its part
+  abbrev pub bare : Entry K V → Entry K V
+  bare e = record e { part = Probation }
 
-  -- the write of the node that one names, if there is such a node
-  abbrev pub write_under : List (ℕ × Node K V) → ℕ × ℕ → Option (Write K)
-  write_under items w = option_map (λ n. write_of n.entry) (lookup (nat_eq w.1) items)
+  -- the first node of protected has become the last of probation
+  pub record Demotes (old new : List (ℕ × Entry K V)) : Type 0 where
+    pub front : List (Entry K V)
+    pub entry : Entry K V
+    pub back : List (Entry K V)
+    pub free : AllByRecursion (λ e. is_protected e.part ≡ false) front
+    pub here : is_protected entry.part ≡ true
+    pub stood : values_of old ≡ front ++ entry ∷ back
+    pub stands : values_of new ≡ front ++ record entry { part = Probation } ∷ back
+    pub order : InOrder Probation (values_of new)
+    pub same : SameBy bare old new
+    pub ids : keys_of new ≡ keys_of old
 
-  -- the writes of the nodes that these name
-  abbrev pub written_under : List (ℕ × Node K V) → List (ℕ × ℕ) → List (Write K)
-  written_under items writes = filter_map (write_under items) writes
+  -- protected is within its room: the entries are those that the machine has then
+  pub record IsBalanced (room : ℕ) (old new : List (ℕ × Entry K V)) : Type 0 where
+    pub entries : values_of new ≡ balanced room (values_of old)
+    pub order : InOrder Probation (values_of new)
+    pub same : SameBy bare old new
+    pub ids : keys_of new ≡ keys_of old
 
-  -- the chain and the deque name each other, no key stands twice, and the total is of all weights
-  pub record IsStored (eq : K → K → Bool) (keeps : Bool) (items : List (ℕ × Node K V)) (writes : List (ℕ × ℕ)) (total : ℕ) : Type 0 where
-    pub apart : (i j : ℕ) (m n : Node K V) → lookup (nat_eq i) items ≡ Some m → lookup (nat_eq j) items ≡ Some n
-        → eq m.entry.key n.entry.key ≡ true → i ≡ j
-    pub tied : (i : ℕ) (n : Node K V) → lookup (nat_eq i) items ≡ Some n → IsTied keeps writes i n.write
-    pub standing : (w i : ℕ) → lookup (nat_eq w) writes ≡ Some i → (n : Node K V) × (lookup (nat_eq i) items ≡ Some n) × (n.write ≡ Some w)
-    pub once : IsDistinct nat_eq (keys_of items)
-    pub written_once : IsDistinct nat_eq (keys_of writes)
-    pub small : All (λ p. p.1.entry.weight < 2 ^ 32) items
-    pub sum : total ≡ total_weight (values_of (entries_under items))
+  -- ---- writes
 
-  -- so it is, and this is what the window weighs
-  pub record IsWeighed (eq : K → K → Bool) (keeps : Bool) (items : List (ℕ × Node K V)) (writes : List (ℕ × ℕ)) (total windowed : ℕ) : Type 0 where
-    pub stored : IsStored eq keeps items writes total
-    pub share : windowed ≡ windowed_weight items
+  -- the write of a node
+  abbrev pub write_under : List (ℕ × Entry K V) → ℕ → Option (Write K)
+  write_under nodes id = option_map write_of (lookup (nat_eq id) nodes)
+
+  -- the writes of these nodes
+  abbrev pub written_under : List (ℕ × Entry K V) → List ℕ → List (Write K)
+  written_under nodes ids = filter_map (write_under nodes) ids
+
+  -- the order of writing has each node once where it is kept, and else nothing
+  pub record IsWritten (keeps : Bool) (nodes : List (ℕ × Entry K V)) (ids : List ℕ) : Type 0 where
+    pub once : IsDistinct nat_eq ids
+    pub standing : (id : ℕ) → is_listed ids id ≡ true → IsSome (lookup (nat_eq id) nodes)
+    pub listed : keeps ≡ true → (id : ℕ) → IsSome (lookup (nat_eq id) nodes) → is_listed ids id ≡ true
+    pub unkept : keeps ≡ false → ids ≡ []
+
+  -- ---- all of it
+
+  -- no id and no key stands twice
+  pub record AreKeyed (eq : K → K → Bool) (nodes : List (ℕ × Entry K V)) : Type 0 where
+    pub once : IsDistinct nat_eq (keys_of nodes)
+    pub apart : (i j : ℕ) (a b : Entry K V) → lookup (nat_eq i) nodes ≡ Some a → lookup (nat_eq j) nodes ≡ Some b
+        → eq a.key b.key ≡ true → i ≡ j
+
+  -- the parts stand in order, marks and weights are theirs, lengths and weights have 32 bits, and writes and index have each node
+  pub record IsStored (eq : K → K → Bool) (keeps : Bool) (nodes : List (ℕ × Entry K V)) (marks : Marks) (ids : List ℕ) (weights : Weights)
+      (index : HashIndex) : Type 0 where
+    pub keyed : AreKeyed eq nodes
+    pub order : InOrder Probation (values_of nodes)
+    pub marked : AreMarks nodes marks
+    pub few : length nodes < 2 ^ 32
+    pub small : AllByRecursion (λ p. p.1.weight < 2 ^ 32) nodes
+    pub weighed : weights ≡ weights_of nodes
+    pub written : IsWritten keeps nodes ids
+    pub indexed : IsIndexed nodes index

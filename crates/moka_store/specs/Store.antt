@@ -1,28 +1,52 @@
 -- What a contract sees of the store of a cache's entries, and of each change of it.
-use Rattle.std.specs.Prelude.{◌≡◌, ◌<◌, ◌≤◌, ℕ, suc, Bool, true, false, if◌then◌else◌, nat_eq, List, length, ◌∷◌, All, Some, None}
+use Rattle.std.specs.Prelude.{◌≡◌, ◌≤◌, ℕ, Bool, true, false, filter, nat_eq, List, length, ◌∷◌, All, Some, IsSome, option_map}
 use Rattle.std.specs.Map.{lookup, remove_entry, values_of}
+use Rattle.moka_deque.specs.IdList.{is_listed}
 use Rattle.moka_machine.specs.declared.entry.Entry.{Entry}
-use Rattle.moka_machine.specs.Contents.{Write, entry_at, entries_without, main_of, window_of, with_latest, write_of, writes_without}
-use Rattle.moka_machine.specs.Insert.{with_write}
+use Rattle.moka_machine.specs.declared.entry.Part.{Part}
+use Rattle.moka_machine.specs.declared.entry.Part.TheVariants.{Probation, Protected, Window}
+use Rattle.moka_machine.specs.Contents.{Contents, Write, after_moving, entries_without, entry_at, is_probation, is_protected, is_window, without}
+use Rattle.moka_machine.specs.Contents.{write_of, writes_without}
+use Rattle.moka_machine.specs.Insert.{after_arrival, after_update}
+use Rattle.moka_machine.specs.Lookup.{after_using}
 
--- the entries of main in order of use and behind them those of the window, each under the id of its node; the writes in their order, if they are kept;
--- how many entries fit with no allocation; and a number that the ids of all nodes are below
+-- the entries in three parts, probation, protected and the window, each in order of use and under the ids of their nodes; the writes in their order, if
+-- they are kept; and how many entries fit with no allocation
 pub record Store (K V : Type 0) : Type 0 where
   pub nodes : List (ℕ × Entry K V)
   pub written : List (Write K)
   pub keeps_writes : Bool
   pub capacity : ℕ
-  pub ids : ℕ
+
+-- whether one part is another
+abbrev pub is_of : Part → Part → Bool
+is_of Probation part = is_probation part
+is_of Protected part = is_protected part
+is_of Window part = is_window part
 
 module _ {K V : Type 0} where
-  -- the entries, main's and then the window's
+  -- the entries, probation's, then protected's, then the window's
   abbrev pub entries_of : Store K V → List (Entry K V)
   entries_of store = values_of store.nodes
 
-  -- under the id there is this entry now, and every other node is as it was
-  abbrev pub IsChangedAt : Store K V → ℕ → Entry K V → Store K V → Type 0
-  IsChangedAt old id entry new =
-      (v : ℕ) → lookup (nat_eq v) new.nodes ≡ (if nat_eq id v then Some entry else lookup (nat_eq v) old.nodes)
+  -- the entries of a part
+  abbrev pub those_of : Part → List (Entry K V) → List (Entry K V)
+  those_of part entries = filter (λ e. is_of part e.part) entries
+
+  -- the contents of a store
+  abbrev pub contents_of : Store K V → Contents K V
+  contents_of store = record { entries = entries_of store; written = store.written }
+
+  -- the store keeps its writes or not as before, and has the same capacity and no more nodes
+  pub record Continues (old new : Store K V) : Type 0 where
+    pub keeps : new.keeps_writes ≡ old.keeps_writes
+    pub capacity : new.capacity ≡ old.capacity
+    pub fewer : length new.nodes ≤ length old.nodes
+
+  -- these ids are those of nodes, and all nodes of this hash are among them
+  pub record AreCandidates (store : Store K V) (hash : ℕ) (ids : List ℕ) : Type 0 where
+    pub standing : (id : ℕ) → is_listed ids id ≡ true → IsSome (lookup (nat_eq id) store.nodes)
+    pub ahead : (id : ℕ) (e : Entry K V) → lookup (nat_eq id) store.nodes ≡ Some e → e.hash ≡ hash → is_listed ids id ≡ true
 
   module _ (eq : K → K → Bool) where
     -- every entry of this key has this hash
@@ -41,20 +65,16 @@ module _ {K V : Type 0} where
       pub first : entries_of store ≡ entry ∷ rest
       pub alone : entries_without eq entry.key (entries_of store) ≡ rest
 
-    -- it is that of the first entry, which is of main
-    pub record IsMainFront (store : Store K V) (id : ℕ) : Type 0 where
-      pub front : IsFront store id
-      pub main : front.entry.in_window ≡ false
-
-    -- it is that of the window's first entry; once it is gone, the others are the window, and main is what it was
-    pub record IsWindowFront (store : Store K V) (id : ℕ) : Type 0 where
+    -- it is that of the first entry of a part; once it is gone, the others are the part, and the other parts are what they were
+    pub record IsFrontOf (part : Part) (store : Store K V) (id : ℕ) : Type 0 where
       pub entry : Entry K V
       pub rest : List (Entry K V)
       pub stands : lookup (nat_eq id) store.nodes ≡ Some entry
-      pub windowed : entry.in_window ≡ true
-      pub first : window_of (entries_of store) ≡ entry ∷ rest
-      pub alone : window_of (entries_without eq entry.key (entries_of store)) ≡ rest
-      pub main : main_of (entries_without eq entry.key (entries_of store)) ≡ main_of (entries_of store)
+      pub here : is_of part entry.part ≡ true
+      pub first : those_of part (entries_of store) ≡ entry ∷ rest
+      pub alone : those_of part (entries_without eq entry.key (entries_of store)) ≡ rest
+      pub others : (other : Part) → is_of other entry.part ≡ false
+          → those_of other (entries_without eq entry.key (entries_of store)) ≡ those_of other (entries_of store)
 
     -- it is the node of the entry whose write is the oldest, and no other write has its key
     pub record IsOldest (store : Store K V) (id : ℕ) : Type 0 where
@@ -68,50 +88,41 @@ module _ {K V : Type 0} where
     pub record Removes (old : Store K V) (id : ℕ) (new : Store K V) : Type 0 where
       pub entry : Entry K V
       pub stood : lookup (nat_eq id) old.nodes ≡ Some entry
-      pub entries : entries_of new ≡ entries_without eq entry.key (entries_of old)
-      pub written : new.written ≡ writes_without eq entry.key old.written
-      pub keeps : new.keeps_writes ≡ old.keeps_writes
-      pub capacity : new.capacity ≡ old.capacity
+      pub contents : contents_of new ≡ without eq (contents_of old) entry.key
       pub nodes : new.nodes ≡ remove_entry (nat_eq id) old.nodes
-      pub fewer : length new.nodes ≤ length old.nodes
-      pub ids : new.ids ≡ old.ids
+      pub kept : Continues old new
 
-    -- what it is once the node's entry is another of the same key, the latest of its own
-    pub record Relists (old : Store K V) (id : ℕ) (entry latest : Entry K V) (new : Store K V) : Type 0 where
-      pub stood : lookup (nat_eq id) old.nodes ≡ Some entry
-      pub at : IsChangedAt old id latest new
-      pub entries : entries_of new ≡ with_latest latest (entries_without eq entry.key (entries_of old))
-      pub keeps : new.keeps_writes ≡ old.keeps_writes
-      pub capacity : new.capacity ≡ old.capacity
-      pub len : length new.nodes ≡ length old.nodes
-      pub ids : new.ids ≡ old.ids
-
-    -- what it is once the entry was used at a moment
-    pub record Touches (old : Store K V) (id now : ℕ) (new : Store K V) : Type 0 where
+    -- what it is once the entry was used at a moment, where protected has this room
+    pub record Uses (old : Store K V) (id room now : ℕ) (new : Store K V) : Type 0 where
       pub entry : Entry K V
-      pub relists : Relists old id entry (record entry { accessed = now }) new
-      pub written : new.written ≡ old.written
+      pub stood : lookup (nat_eq id) old.nodes ≡ Some entry
+      pub contents : contents_of new ≡ after_using eq room (record entry { accessed = now }) (contents_of old)
+      pub value : option_map (λ e. e.value) (lookup (nat_eq id) new.nodes) ≡ Some entry.value
+      pub kept : Continues old new
 
     -- what it is once the entry has another's value, weight and moments
-    pub record Updates (old : Store K V) (id : ℕ) (update : Entry K V) (new : Store K V) : Type 0 where
+    pub record Updates (old : Store K V) (id room : ℕ) (update : Entry K V) (new : Store K V) : Type 0 where
       pub entry : Entry K V
-      pub relists : Relists old id entry (record update { key = entry.key; hash = entry.hash; in_window = entry.in_window }) new
-      pub written : new.written ≡ with_write old.keeps_writes (writes_without eq entry.key old.written) entry.key update.modified
+      pub stood : lookup (nat_eq id) old.nodes ≡ Some entry
+      pub contents : contents_of new ≡ after_update eq old.keeps_writes room entry update (contents_of old)
+      pub kept : Continues old new
 
-    -- what it is once the entry has come from the window to main
+    -- what it is once the entry has come to probation
     pub record Promotes (old : Store K V) (id : ℕ) (new : Store K V) : Type 0 where
       pub entry : Entry K V
-      pub relists : Relists old id entry (record entry { in_window = false }) new
-      pub written : new.written ≡ old.written
+      pub stood : lookup (nat_eq id) old.nodes ≡ Some entry
+      pub contents : contents_of new ≡ after_moving eq (record entry { part = Probation }) (contents_of old)
+      pub kept : Continues old new
 
-    -- what it is once a new entry has entered, under the id of a new node
-    pub record Enters (old : Store K V) (entry : Entry K V) (id : ℕ) (new : Store K V) : Type 0 where
-      pub entries : entries_of new ≡ with_latest entry (entries_of old)
-      pub written : new.written ≡ with_write old.keeps_writes old.written entry.key entry.modified
+    -- what it is once a new entry has entered
+    pub record Enters (old : Store K V) (entry : Entry K V) (new : Store K V) : Type 0 where
+      pub contents : contents_of new ≡ after_arrival eq old.keeps_writes entry (contents_of old)
       pub keeps : new.keeps_writes ≡ old.keeps_writes
       pub capacity : new.capacity ≡ old.capacity
-      pub at : IsChangedAt old id entry new
-      pub len : length new.nodes ≡ suc (length old.nodes)
-      pub new_id : lookup (nat_eq id) old.nodes ≡ None
-      pub below : id < new.ids
-      pub ids : new.ids ≡ old.ids
+
+    -- what it is once a new entry has come in place of the node's
+    pub record Replaces (old : Store K V) (id : ℕ) (entry : Entry K V) (new : Store K V) : Type 0 where
+      pub gone : Entry K V
+      pub stood : lookup (nat_eq id) old.nodes ≡ Some gone
+      pub contents : contents_of new ≡ after_arrival eq old.keeps_writes entry (without eq (contents_of old) gone.key)
+      pub kept : Continues old new

@@ -1,11 +1,9 @@
-//! The entries of the cache for one thread, and how they come and leave.
+//! The entries of the cache for one thread.
 #![tactic(auto)]
 
-pub mod admit;
-mod deques;
-pub mod expire;
-pub mod invalidate;
+mod balance;
+mod indexing;
+mod marks;
 pub mod store;
-pub mod trim;
-pub mod walk;
-pub mod window;
+mod weights;
+mod writes;

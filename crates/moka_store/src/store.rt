@@ -1,132 +1,174 @@
-//! The entries of a cache in order of use and in order of writing, found by the hashes of their keys. Only here is an entry found, added, changed or
-//! removed.
-ghost use Rattle.std.specs.Prelude.{◌≡◌, ◌≤◌, ◌<◌, ◌+◌, ◌^◌, ◌++◌, ℕ, [], length, nat_eq};
-ghost use Rattle.std.specs.Prelude.{IfOk, IfSome, IsNone, IsOk, IsSome, None, OnErr, OnOk, Some};
+//! The entries of a cache: one list in order of use with its three parts, one in order of writing, and an index by hash. Only this module finds, adds,
+//! changes and removes entries.
+ghost use Rattle.std.specs.Prelude.{◌≡◌, ◌≤◌, ◌<◌, ◌+◌, ◌-◌, ◌^◌, ◌++◌, ℕ, [], length, nat_eq};
+ghost use Rattle.std.specs.Prelude.{IfOk, IfSome, IsNone, IsOk, IsSome, None, OnOk, Some};
 ghost use Rattle.std.specs.List.{IsDistinct};
 ghost use Rattle.std.specs.Map.{keys_of, lookup};
 ghost use Rattle.moka_deque.specs.Deque.{first_id, next_id};
-ghost use Rattle.moka_index.specs.HashIndex.{candidates};
 ghost use Rattle.moka_base.specs.Settings.{keeps_writes};
-ghost use Rattle.moka_machine.specs.Contents.{entry_at, entry_keys, main_of, no_contents, total_weight, window_of, writes_without};
-ghost use Rattle.moka_store.specs.Indexed.{IsIndexed};
-ghost use Rattle.moka_store.specs.Store.{Enters, HasHash, IsFound, IsFront, IsMainFront, IsOldest, IsWindowFront, Promotes, Removes, Touches, Updates};
-ghost use Rattle.moka_store.specs.Store.{entries_of};
-ghost use Rattle.moka_store.specs.Turns.{contents_of};
+ghost use Rattle.moka_machine.specs.Contents.{InOrder, entry_at, entry_keys, no_contents, total_weight, window_of, writes_without};
+ghost use Rattle.moka_machine.specs.declared.entry.Entry.{Entry as EntryValue};
+ghost use Rattle.moka_machine.specs.declared.entry.Part.TheVariants.{Probation};
+ghost use Rattle.moka_machine.specs.Lookup.{used_part};
+ghost use Rattle.moka_store.specs.Nodes.{start_of};
+ghost use Rattle.moka_store.specs.Store.{AreCandidates, Enters, HasHash, IsFound, IsFront, IsFrontOf, IsOldest, Promotes, Removes, Replaces, Updates, Uses};
+ghost use Rattle.moka_store.specs.Store.{contents_of, entries_of, is_of, those_of};
 
-use crate::deques::Deques;
-pub use crate::deques::Entries;
+use crate::balance::balance;
+use crate::indexing::index_all;
+use crate::marks::{Marks, settle};
+use crate::weights::Weights;
+use crate::writes::{add_write, remove_write, write_again};
 use moka_base::error::OutOfMemory;
 use moka_base::policy::Policy;
 use moka_base::time::Instant;
+use moka_deque::chain::{Chain, IdList, Iter};
 use moka_deque::deque::NodeId;
+use moka_index::candidates::Candidates;
 use moka_index::constants::MOST_IDS;
 use moka_index::hash_index::HashIndex;
-use moka_machine::entry::Entry;
+use moka_machine::entry::{Entry, Part};
 use std::alloc::{AllocError, Allocator, Global};
 use std::marker::Model;
 
-/// The entries of a cache. One is found by its hash in constant time on average.
+/// The entries of a cache. A look-up, an insert, a use and a removal take constant time on average.
 #[derive(Drop)]
 pub struct Store<K: Eq + Drop, V: Drop, A: Allocator + Clone + Drop = Global> {
-    deques: Deques<K, V, A>,
+    // Probation, protected and the window, one behind another, each in order of use.
+    entries: Chain<Entry<K, V>, A>,
+    marks: Marks,
+    weights: Weights,
+    // The same nodes in order of writing, where that is kept.
+    writes: IdList<A>,
+    keeps_writes: bool,
     index: HashIndex<A>,
+    // So many entries fit with no allocation.
+    ready: usize,
 }
 
 impl<K: Eq + Drop, V: Drop, A: Allocator + Clone + Drop> Model for Store<K, V, A> {
     ghost use Rattle.moka_store.specs.Store.{Store as StoreState};
-    ghost use Rattle.moka_store.specs.Indexed.{IsIndexed, indexed_capacity};
+    ghost use Rattle.moka_store.specs.Indexed.{HasRoom};
+    ghost use Rattle.moka_store.specs.Nodes.{IsStored, written_under};
 
     ghost Value = { StoreState K V };
 
-    ghost view = { λ s. record s.deques { capacity = indexed_capacity s.deques s.index } };
+    ghost view = { λ s. record {
+      nodes = s.entries.items;
+      written = written_under s.entries.items s.writes.ids;
+      keeps_writes = s.keeps_writes;
+      capacity = s.ready;
+    } };
 
-    ghost invariant = { λ s. IsIndexed s.deques.nodes s.index };
+    ghost invariant = { λ s. IsStored K.eq s.keeps_writes s.entries.items s.marks s.writes.ids s.weights s.index
+        × HasRoom s.keeps_writes s.ready s.entries s.writes s.index };
 }
 
 impl<K: Eq + Drop, V: Drop, A: Allocator + Clone + Drop> Store<K, V, A> {
-    /// A store without entries. It keeps the order of writing where there is a time to live.
+    /// An empty store, which allocates nothing. It keeps the order of writing if the policy has a time to live.
     pub fn new(alloc: A, policy: Policy) -> Result<Self, AllocError>
-        ensures { IfOk result (λ store. store
-            ≡ record { nodes = []; written = []; keeps_writes = keeps_writes policy; capacity = 0; ids = 0 }) }
+        ensures { IfOk result (λ store. store ≡ record { nodes = []; written = []; keeps_writes = keeps_writes policy; capacity = 0 }) }
     {
         Ok(Store {
-            deques: Deques::new(alloc.clone()?, policy)?,
+            entries: Chain::new(alloc.clone()?, alloc.clone()?),
+            marks: Marks::none(),
+            weights: Weights::none(),
+            writes: IdList::new(alloc.clone()?),
+            keeps_writes: policy.time_to_live().is_some(),
             index: HashIndex::new(alloc),
+            ready: 0,
         })
     }
 
-    /// Makes room for `additional` more entries. Where there is too little, there is room for twice as many entries as before then, but for no
-    /// more than `most` and no more than an index has ids for, or for those that are there and `additional`, if they are more.
+    /// Reserves capacity for `additional` more entries, doubling up to `most` or up to the most ids of an index.
     #[inline(always)]
     pub fn reserve(&mut self, additional: usize, most: usize) -> Result<(), OutOfMemory>
         ensures ok { OnOk result (length self.new.nodes + additional ≤ self.new.capacity) }
-        ensures had_room { 0 < additional → length self.old.nodes + additional ≤ self.old.capacity → IsOk result × (self.new ≡ self.old) }
-        ensures unchanged { self.new ≡ record self.old { capacity = self.new.capacity; ids = self.new.ids } }
+        ensures had_room { length self.old.nodes + additional ≤ self.old.capacity → IsOk result × (self.new ≡ self.old) }
+        ensures unchanged { self.new ≡ record self.old { capacity = self.new.capacity } }
     {
-        if self.deques.len().saturating_add(additional) > self.deques.ids() {
-            return self.grow(additional, most);
+        if self.entries.len().saturating_add(additional) <= self.ready {
+            return Ok(());
         }
-        self.deques.reserve_exact(additional)?;
-        index_all(&mut self.index, &self.deques, self.deques.ids())
+        self.grow(additional, most)
     }
 
-    /// Makes this room where there is too little. The index grows first, so that the lists are as they were where memory for it is refused.
+    /// Grows to this capacity. The index grows first, so a refusal of its memory leaves the lists as they were.
     #[cold]
     #[inline(never)]
     fn grow(&mut self, additional: usize, most: usize) -> Result<(), OutOfMemory>
-        requires { self.old.ids < length self.old.nodes + additional }
         ensures ok { OnOk result (length self.new.nodes + additional ≤ self.new.capacity) }
-        ensures unchanged { self.new ≡ record self.old { capacity = self.new.capacity; ids = self.new.ids } }
+        ensures unchanged { self.new ≡ record self.old { capacity = self.new.capacity } }
     {
-        let (len, ids) = (self.deques.len(), self.deques.ids());
+        let (len, ids) = (self.entries.len(), self.entries.capacity());
+        self.ready = 0;
         let needed = len.saturating_add(additional);
-        let target = needed.max(most.min(ids.saturating_mul(2)).min(MOST_IDS));
-        index_all(&mut self.index, &self.deques, target)?;
-        self.deques.reserve_exact(additional.max(target - len))?;
-        index_all(&mut self.index, &self.deques, self.deques.ids())
+        if needed > ids {
+            let target = needed.max(most.min(ids.saturating_mul(2)).min(MOST_IDS));
+            index_all(&mut self.index, &self.entries, target)?;
+            self.entries.reserve_exact(additional.max(target - len))?;
+        } else {
+            self.entries.reserve_exact(additional)?;
+        }
+        let ids = self.entries.capacity();
+        index_all(&mut self.index, &self.entries, ids)?;
+        if self.keeps_writes {
+            self.writes.reserve(ids)?;
+        }
+        self.ready = self.entries.fits();
+        Ok(())
     }
 
-    /// How many entries there are.
+    /// The number of entries.
     pub fn len(&self) -> usize
         ensures len { result ≡ length self.now.nodes }
 
-        // What holds of every store: no key stands twice, main is before the window, and each write has its entry.
+        // What holds of every store: no id and no key stands twice, the parts are in order, and each write has its entry.
+        ensures distinct { IsDistinct nat_eq (keys_of self.now.nodes) }
         ensures once { IsDistinct K.eq (entry_keys (entries_of self.now)) }
-        ensures arranged { entries_of self.now ≡ main_of (entries_of self.now) ++ window_of (entries_of self.now) }
+        ensures order { InOrder Probation (entries_of self.now) }
         ensures unwritten { (key : K) → entry_at K.eq key (entries_of self.now) ≡ None
             → writes_without K.eq key self.now.written ≡ self.now.written }
     {
-        self.deques.len()
+        self.entries.len()
     }
 
-    /// What all entries weigh together.
-    pub fn weight(&self) -> u128
+    /// Total weight of all entries.
+    pub fn weight(&self) -> u64
         ensures value { result ≡ total_weight (entries_of self.now) }
-        ensures small { result < 2 ^ 96 }
+        ensures small { result + (2 ^ 32 - 1) < 2 ^ 64 }
     {
-        self.deques.weight()
+        self.weights.all
     }
 
-    /// What the entries of the window weigh together.
-    pub fn window_weight(&self) -> u128
+    /// Total weight of the window's entries.
+    pub fn window_weight(&self) -> u64
         ensures value { result ≡ total_weight (window_of (entries_of self.now)) }
         ensures part { result ≤ total_weight (entries_of self.now) }
     {
-        self.deques.window_weight()
+        self.weights.window
     }
 
-    /// The node of the entry of this key, whose hash it is.
-    pub fn find(&self, key: &K, hash: u64) -> Option<NodeId>
-        requires { HasHash K.eq self.now key.now hash }
+    /// Begins a search: the ids of the nodes that may have this hash. A call that has other work to do begins early, so that memory answers meanwhile.
+    #[inline]
+    pub fn candidates(&self, hash: u64) -> Candidates<'_>
+        ensures { AreCandidates self.now hash result }
+    {
+        self.index.candidates(hash)
+    }
+
+    /// Ends a search: finds the node of the key among the candidates of its hash.
+    #[inline]
+    pub fn find_among(&self, candidates: Candidates<'_>, key: &K, hash: u64) -> Option<NodeId>
+        requires candidates { AreCandidates self.now hash candidates }
+        requires hashed { HasHash K.eq self.now key.now hash }
         ensures found { IfSome result (λ id. IsFound K.eq self.now key.now id) }
         ensures absent { IsNone result → entry_at K.eq key.now (entries_of self.now) ≡ None }
         ensures unwritten { IsNone result → writes_without K.eq key.now self.now.written ≡ self.now.written }
     {
-        // No two entries have one key.
-        let _ = self.deques.len();
-        for number in self.index.candidates(hash) {
+        for number in candidates {
             let id = NodeId::from_number(number);
-            let entry = self.deques.get(id);
+            let entry = self.entries.get(id);
             if entry.hash == hash && *key == entry.key {
                 return Some(id);
             }
@@ -134,105 +176,169 @@ impl<K: Eq + Drop, V: Drop, A: Allocator + Clone + Drop> Store<K, V, A> {
         None
     }
 
-    /// The entry of a node.
+    /// Finds the node of the key. The hash is the key's.
+    #[inline]
+    pub fn find(&self, key: &K, hash: u64) -> Option<NodeId>
+        requires { HasHash K.eq self.now key.now hash }
+        ensures found { IfSome result (λ id. IsFound K.eq self.now key.now id) }
+        ensures absent { IsNone result → entry_at K.eq key.now (entries_of self.now) ≡ None }
+        ensures unwritten { IsNone result → writes_without K.eq key.now self.now.written ≡ self.now.written }
+    {
+        self.find_among(self.candidates(hash), key, hash)
+    }
+
+    /// Returns the entry of a node.
+    #[inline]
     pub fn get(&self, id: NodeId) -> &Entry<K, V>
         requires { IsSome (lookup (nat_eq id) self.now.nodes) }
         ensures { lookup (nat_eq id) self.now.nodes ≡ Some result.now }
     {
-        self.deques.get(id)
+        self.entries.get(id)
     }
 
-    /// The entries: main's in order of use, least recent first, and behind them the window's.
-    pub fn iter(&self) -> Entries<'_, K, V, A>
+    /// Iterates over the entries of probation, then protected, then the window, each least recently used first.
+    pub fn iter(&self) -> Iter<'_, Entry<K, V>, A>
         ensures { result ≡ entries_of self.now }
     {
-        self.deques.iter()
+        self.entries.iter()
     }
 
-    /// The node of the first entry, which is main's least recently used one where main has any.
+    /// Returns the node of the first entry: main's least recently used one, if main isn't empty.
     pub fn front(&self) -> Option<NodeId>
         ensures found { IfSome result (λ id. IsFront K.eq self.now id) }
         ensures absent { IsNone result → contents_of self.now ≡ no_contents }
         ensures first { result ≡ first_id self.now.nodes }
     {
-        self.deques.front()
+        self.entries.front()
     }
 
-    /// The node of main's least recently used entry.
-    pub fn main_front(&self) -> Option<NodeId>
-        ensures found { IfSome result (λ id. IsMainFront K.eq self.now id) }
-        ensures absent { IsNone result → main_of (entries_of self.now) ≡ [] }
+    /// Returns the node of the least recently used entry of a part.
+    pub fn front_of(&self, part: Part) -> Option<NodeId>
+        ensures found { IfSome result (λ id. IsFrontOf K.eq part self.now id) }
+        ensures absent { IsNone result → those_of part (entries_of self.now) ≡ [] }
     {
-        self.deques.main_front()
+        let id = self.start_of(part)?;
+        if is_of(part, self.entries.get(id).part) {
+            Some(id)
+        } else {
+            None
+        }
     }
 
-    /// The node of the window's least recently used entry.
-    pub fn window_front(&self) -> Option<NodeId>
-        ensures found { IfSome result (λ id. IsWindowFront K.eq self.now id) }
-        ensures absent { IsNone result → window_of (entries_of self.now) ≡ [] }
+    /// The first node of a part, or a node of another part or none if it is empty.
+    fn start_of(&self, part: Part) -> Option<NodeId>
+        ensures { result ≡ start_of part self.now.nodes }
     {
-        self.deques.window_front()
+        match part {
+            Part::Probation => self.entries.front(),
+            Part::Protected => self.marks.late,
+            Part::Window => self.marks.window,
+        }
     }
 
-    /// The node of the entry behind this one.
+    /// Returns the node after this one.
     pub fn next(&self, id: NodeId) -> Option<NodeId>
         requires { IsSome (lookup (nat_eq id) self.now.nodes) }
         ensures value { result ≡ next_id id self.now.nodes }
         ensures distinct { IsDistinct nat_eq (keys_of self.now.nodes) }
+        ensures once { IsDistinct K.eq (entry_keys (entries_of self.now)) }
     {
-        self.deques.next(id)
+        self.entries.next(id)
     }
 
-    /// The node of the entry that was written the longest ago.
+    /// Returns the node of the least recently written entry.
     pub fn oldest(&self) -> Option<NodeId>
         ensures found { IfSome result (λ id. IsOldest K.eq self.now id) }
         ensures absent { IsNone result → self.now.written ≡ [] }
     {
-        self.deques.oldest()
+        self.writes.front()
     }
 
-    /// The entry becomes the most recently used one of its own: of main, or of the window.
-    pub fn touch(&mut self, id: NodeId, now: Instant)
+    /// Records an access: the entry becomes the most recently used one of its part. An entry of main moves to protected if it is no heavier than `room`,
+    /// protected's limit; protected's least recently used entries move back to probation until it is within that.
+    #[inline]
+    pub fn touch(&mut self, id: NodeId, room: u64, now: Instant)
         requires { IsSome (lookup (nat_eq id) self.old.nodes) }
-        ensures { Touches K.eq self.old id now self.new }
+        ensures { Uses K.eq self.old id room now self.new }
     {
-        // No id stands twice.
-        let _ = self.deques.len();
-        self.deques.touch(id, now);
+        let entry = self.entries.get(id);
+        let (part, weight) = (entry.part, entry.weight);
+        let used = used_part(room, part, weight);
+        self.weights.take(part, weight);
+        self.weights.add(used, weight);
+        self.marks.pass(&self.entries, id);
+        let entry = self.entries.get_mut(id);
+        entry.accessed = now;
+        entry.part = used;
+        settle(&mut self.entries, &mut self.marks, id, used);
+        balance(&mut self.entries, &mut self.marks, &mut self.weights, room);
     }
 
-    /// The entry gets another's value, weight and moments, and becomes the most recent one of its own and in the order of writing. It keeps its key.
-    pub fn update(&mut self, id: NodeId, update: Entry<K, V>)
+    /// Replaces an entry's value, weight and moments, and keeps its key. That is an access, as in `touch`, and a write.
+    pub fn update(&mut self, id: NodeId, room: u64, update: Entry<K, V>)
         requires { IsSome (lookup (nat_eq id) self.old.nodes) }
-        ensures { Updates K.eq self.old id update self.new }
+        ensures { Updates K.eq self.old id room update self.new }
     {
-        // No id stands twice.
-        let _ = self.deques.len();
-        self.deques.update(id, update);
+        let entry = self.entries.get(id);
+        let (part, weight) = (entry.part, entry.weight);
+        let used = used_part(room, part, update.weight);
+        self.weights.take(part, weight);
+        self.weights.add(used, update.weight);
+        self.marks.pass(&self.entries, id);
+        rewrite(self.entries.get_mut(id), used, update);
+        settle(&mut self.entries, &mut self.marks, id, used);
+        balance(&mut self.entries, &mut self.marks, &mut self.weights, room);
+        write_again(&mut self.writes, self.keeps_writes, id);
     }
 
-    /// The window's least recently used entry, which `window_front` tells, comes to main, as its most recent one. Its write stays where it is.
-    pub fn promote(&mut self, id: NodeId)
-        requires { IsWindowFront K.eq self.old id }
+    /// Moves an entry to probation, as its most recently used one. That is no write.
+    pub fn move_to_probation(&mut self, id: NodeId)
+        requires { IsSome (lookup (nat_eq id) self.old.nodes) }
         ensures { Promotes K.eq self.old id self.new }
     {
-        // No id stands twice.
-        let _ = self.deques.len();
-        self.deques.promote(id);
+        let entry = self.entries.get(id);
+        let (part, weight) = (entry.part, entry.weight);
+        self.weights.take(part, weight);
+        self.weights.add(Part::Probation, weight);
+        self.marks.pass(&self.entries, id);
+        self.entries.get_mut(id).part = Part::Probation;
+        settle(&mut self.entries, &mut self.marks, id, Part::Probation);
     }
 
-    /// A new entry, most recent of its own and in the order of writing. There must be room for it, and no entry of its key.
+    /// Adds an entry as the most recent of its part and in the order of writing. There must be capacity, and no entry of its key.
     pub fn enter(&mut self, entry: Entry<K, V>)
         requires room { length self.old.nodes < self.old.capacity }
         requires absent { entry_at K.eq entry.key (entries_of self.old) ≡ None }
-        ensures { (id : ℕ) × Enters K.eq self.old entry id self.new }
+        ensures { Enters K.eq self.old entry self.new }
     {
-        let hash = entry.hash;
-        let id = self.deques.enter(entry);
+        let (hash, part) = (entry.hash, entry.part);
+        self.weights.add(part, entry.weight);
+        let id = self.entries.push_reserved(entry);
+        settle(&mut self.entries, &mut self.marks, id, part);
+        add_write(&mut self.writes, self.keeps_writes, id);
         self.index.add(id.number(), hash);
     }
 
-    /// The entry leaves.
+    /// Removes an entry and adds another in its node, as `remove` and `enter` would. It spares the allocation of a node and half of the relinking. There
+    /// must be no entry of the new key.
+    pub fn replace(&mut self, id: NodeId, entry: Entry<K, V>)
+        requires stands { IsSome (lookup (nat_eq id) self.old.nodes) }
+        requires absent { entry_at K.eq entry.key (entries_of self.old) ≡ None }
+        ensures { Replaces K.eq self.old id entry self.new }
+    {
+        let (hash, part) = (entry.hash, entry.part);
+        let gone = self.entries.get(id);
+        self.index.remove(id.number(), gone.hash);
+        self.weights.take(gone.part, gone.weight);
+        self.weights.add(part, entry.weight);
+        self.marks.pass(&self.entries, id);
+        *self.entries.get_mut(id) = entry;
+        settle(&mut self.entries, &mut self.marks, id, part);
+        write_again(&mut self.writes, self.keeps_writes, id);
+        self.index.add(id.number(), hash);
+    }
+
+    /// Removes an entry.
     pub fn remove(&mut self, id: NodeId)
         requires { IsSome (lookup (nat_eq id) self.old.nodes) }
         ensures { Removes K.eq self.old id self.new }
@@ -240,74 +346,56 @@ impl<K: Eq + Drop, V: Drop, A: Allocator + Clone + Drop> Store<K, V, A> {
         drop(self.take(id));
     }
 
-    /// The entry leaves, and comes out.
+    /// Removes an entry and returns it.
     pub fn take(&mut self, id: NodeId) -> Entry<K, V>
         requires { IsSome (lookup (nat_eq id) self.old.nodes) }
         ensures value { lookup (nat_eq id) self.old.nodes ≡ Some result }
         ensures step { Removes K.eq self.old id self.new }
     {
-        // No id stands twice.
-        let _ = self.deques.len();
-        let hash = self.deques.get(id).hash;
-        self.index.remove(id.number(), hash);
-        self.deques.take(id)
+        self.marks.pass(&self.entries, id);
+        let entry = self.entries.unlink(id);
+        self.weights.take(entry.part, entry.weight);
+        remove_write(&mut self.writes, self.keeps_writes, id);
+        self.index.remove(id.number(), entry.hash);
+        entry
     }
 }
 
-/// Makes room in the index for all ids below this number.
-#[inline(always)]
-fn index_all<K: Eq + Drop, V: Drop, A: Allocator + Clone + Drop>(
-    index: &mut HashIndex<A>,
-    deques: &Deques<K, V, A>,
-    ids: usize,
-) -> Result<(), OutOfMemory>
-    requires bound { deques.now.ids ≤ ids }
-    requires indexed { IsIndexed deques.now.nodes index.old }
-    ensures indexed { IsIndexed deques.now.nodes index.new }
-    ensures room { OnOk result (ids ≤ index.new.ids) }
-    ensures had_room { ids ≤ index.old.ids → IsOk result × (index.new ≡ index.old) }
-    ensures err { OnErr result (index.new ≡ index.old) }
+/// The part of an entry after it was used.
+#[inline]
+fn used_part(room: u64, part: Part, weight: u32) -> Part
+    ensures { result ≡ used_part room part weight }
 {
-    if ids <= index.ids() {
-        return Ok(());
+    if is_of(Part::Window, part) {
+        return Part::Window;
     }
-    rebuild(index, deques, ids)
+    if 0 < room && u64::from(weight) <= room {
+        return Part::Protected;
+    }
+    Part::Probation
 }
 
-/// Makes the index anew, with room for all ids below this number.
-#[cold]
-#[inline(never)]
-fn rebuild<K: Eq + Drop, V: Drop, A: Allocator + Clone + Drop>(
-    index: &mut HashIndex<A>,
-    deques: &Deques<K, V, A>,
-    ids: usize,
-) -> Result<(), OutOfMemory>
-    requires bound { deques.now.ids ≤ ids }
-    requires indexed { IsIndexed deques.now.nodes index.old }
-    ensures indexed { IsIndexed deques.now.nodes index.new }
-    ensures room { OnOk result (ids ≤ index.new.ids) }
-    ensures err { OnErr result (index.new ≡ index.old) }
+/// Tells if two parts are the same.
+#[inline]
+fn is_of(part: Part, other: Part) -> bool
+    ensures { result ≡ is_of part other }
 {
-    index.clear_for(ids)?;
-    add_all(index, deques);
-    Ok(())
+    match (part, other) {
+        (Part::Probation, Part::Probation) => true,
+        (Part::Protected, Part::Protected) => true,
+        (Part::Window, Part::Window) => true,
+        _ => false,
+    }
 }
 
-/// Adds the ids of all nodes to an index that has none.
-fn add_all<K: Eq + Drop, V: Drop, A: Allocator + Clone + Drop>(
-    index: &mut HashIndex<A>,
-    deques: &Deques<K, V, A>,
-)
-    requires bound { deques.now.ids ≤ index.old.ids }
-    requires empty { (hash : ℕ) → candidates index.old hash ≡ [] }
-    ensures indexed { IsIndexed deques.now.nodes index.new }
-    ensures ids { index.new.ids ≡ index.old.ids }
+/// Replaces an entry's value, weight, moments and part, and keeps its key.
+#[inline]
+fn rewrite<K: Drop, V: Drop>(entry: &mut Entry<K, V>, part: Part, update: Entry<K, V>)
+    ensures { entry.new ≡ record update { key = entry.old.key; hash = entry.old.hash; part = part } }
 {
-    // All ids are below this number, and none stands twice.
-    let _ = (deques.ids(), deques.len());
-    let mut here = deques.front();
-    while let Some(id) = here {
-        index.add(id.number(), deques.get(id).hash);
-        here = deques.next(id);
-    }
+    entry.value = update.value;
+    entry.weight = update.weight;
+    entry.part = part;
+    entry.accessed = update.accessed;
+    entry.modified = update.modified;
 }

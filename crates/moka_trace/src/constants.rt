@@ -37,6 +37,8 @@ pub const DONE: u32 = 0;
 pub const OUT_OF_MEMORY: u32 = 1;
 /// An operation is of no kind that there is, or a load, or a table is too long. What came before it was made.
 pub const UNKNOWN_KIND: u32 = 2;
+/// A share is above 100. Nothing was made.
+pub const SHARE_TOO_LARGE: u32 = 3;
 
 /// What the hasher multiplies by: an odd number of 64 bits, so that no two words of a key have one hash.
 pub(crate) const MULTIPLIER: u64 = 0x517C_C1B7_2722_0A95;

@@ -5,7 +5,7 @@ ghost use Rattle.moka_engine.specs.CoreCall.{IsAtRest};
 use crate::Settings;
 use crate::constants::{
     DONE, GET, GET_AND_INSERT, INSERT, OUT_OF_MEMORY, READ_THROUGH, REMOVE_AND_INSERT,
-    UNKNOWN_KIND, UNLIMITED,
+    SHARE_TOO_LARGE, UNKNOWN_KIND, UNLIMITED,
 };
 use crate::hasher::MultiplyState;
 use crate::operation::Operation;
@@ -34,7 +34,7 @@ pub extern "C" fn moka_trace_play_core(
     operations: &[Operation],
     outcome: &mut Outcome,
 ) -> u32
-    ensures known { result ≤ UNKNOWN_KIND }
+    ensures known { result ≤ SHARE_TOO_LARGE }
     ensures done { result ≡ DONE → outcome.new.hits ≤ length operations.now }
     ensures refused { result ≢ DONE → outcome.new ≡ outcome.old }
 {
@@ -45,6 +45,7 @@ pub extern "C" fn moka_trace_play_core(
         }
         Err(PlayError::OutOfMemory) => OUT_OF_MEMORY,
         Err(PlayError::UnknownKind) => UNKNOWN_KIND,
+        Err(PlayError::ShareTooLarge) => SHARE_TOO_LARGE,
     }
 }
 

@@ -15,7 +15,7 @@ mod player;
 mod sketch;
 mod weigher;
 
-use crate::constants::{DONE, OUT_OF_MEMORY, UNKNOWN_KIND, UNLIMITED};
+use crate::constants::{DONE, OUT_OF_MEMORY, SHARE_TOO_LARGE, UNKNOWN_KIND, UNLIMITED};
 use crate::hasher::MultiplyState;
 use crate::operation::Operation;
 use crate::player::{Outcome, PlayError, play};
@@ -42,6 +42,9 @@ pub struct Settings {
     pub is_weighed: bool,
     /// Whether keys are hashed by std's default hash state in place of one multiplication.
     pub is_std_hashed: bool,
+    /// The shares of the window and of protected entries, in percent.
+    pub window_share: u8,
+    pub protected_share: u8,
 }
 
 /// Plays a trace on a new cache. What it gave is in `outcome` where the answer is `DONE`; else `outcome` is as it was.
@@ -52,7 +55,7 @@ pub extern "C" fn moka_trace_play(
     operations: &[Operation],
     outcome: &mut Outcome,
 ) -> u32
-    ensures known { result ≤ UNKNOWN_KIND }
+    ensures known { result ≤ SHARE_TOO_LARGE }
     ensures done { result ≡ DONE → outcome.new.hits ≤ length operations.now }
     ensures refused { result ≢ DONE → outcome.new ≡ outcome.old }
 {
@@ -63,6 +66,7 @@ pub extern "C" fn moka_trace_play(
         }
         Err(PlayError::OutOfMemory) => OUT_OF_MEMORY,
         Err(PlayError::UnknownKind) => UNKNOWN_KIND,
+        Err(PlayError::ShareTooLarge) => SHARE_TOO_LARGE,
     }
 }
 
@@ -102,7 +106,9 @@ fn play_hashed<S: BuildHasher + Drop>(
 
 /// A builder with all that is set but the weigher.
 fn builder_of(alloc: Global, settings: &Settings) -> CacheBuilder<u64, u64> {
-    let mut builder = Cache::builder(alloc);
+    let mut builder = Cache::builder(alloc)
+        .window_share(settings.window_share)
+        .protected_share(settings.protected_share);
     if settings.capacity != UNLIMITED {
         builder = builder.max_capacity(settings.capacity);
     }

@@ -30,12 +30,18 @@ pub struct Outcome {
 pub(crate) enum PlayError {
     OutOfMemory,
     UnknownKind,
+    ShareTooLarge,
 }
 
 impl From<BuildError> for PlayError {
-    // Nanoseconds of 64 bits are no duration that is too long, so it is memory that a builder is refused.
-    fn from(_error: BuildError) -> PlayError {
-        PlayError::OutOfMemory
+    // No duration is too long in nanoseconds of 64 bits.
+    fn from(error: BuildError) -> PlayError {
+        match error {
+            BuildError::WindowShareTooLarge | BuildError::ProtectedShareTooLarge => {
+                PlayError::ShareTooLarge
+            }
+            _ => PlayError::OutOfMemory,
+        }
     }
 }
 

@@ -1,4 +1,9 @@
+pub mod TurnLemmas
+pub mod RemovalLemmas
+pub mod BehindLemmas
+pub mod AdmissionLemmas
+pub mod WindowLemmas
+pub mod InsertLemmas
 pub mod CachedLemmas
 pub mod IterateLemmas
 pub mod RunLemmas
-pub mod InsertLemmas

@@ -5,20 +5,27 @@ use Rattle.moka_base.specs.Policy.{Policy}
 use Rattle.moka_base.specs.Settings.{keeps_writes}
 use Rattle.moka_sketch.specs.Sketch.{Table}
 use Rattle.moka_machine.specs.declared.entry.Entry.{Entry}
-use Rattle.moka_machine.specs.Contents.{Contents, entry_at}
+use Rattle.moka_machine.specs.declared.shares.PartLimits.{PartLimits}
+use Rattle.moka_machine.specs.declared.shares.Shares.{Shares}
+use Rattle.moka_machine.specs.Contents.{Contents, entry_at, is_window}
 use Rattle.moka_machine.specs.Insert.{after_admission, after_entering}
-use Rattle.moka_machine.specs.Window.{victims_of, windowed_limit}
+use Rattle.moka_machine.specs.Shares.{protected_room, windowed_limits}
+use Rattle.moka_machine.specs.Window.{victims_of}
 use Rattle.moka_store.specs.Store.{Store, entries_of}
 
--- each entry has the hash of its key, the writes are kept where there is a time to live, and without a window all entries are of main
-pub record IsCached {K V S : Type 0} (keys : Keys K S) (state : S) (policy : Policy) (store : Store K V) : Type 0 where
+-- each entry has the hash of its key, the writes are kept where there is a time to live, without a window all entries are of main, and what was computed of
+-- the shares is right
+pub record IsCached {K V S : Type 0} (keys : Keys K S) (state : S) (policy : Policy) (shares : Shares) (limits : Option PartLimits) (space : ℕ)
+    (store : Store K V) : Type 0 where
   pub hashed : All (λ e. e.hash ≡ keys.hash_of state e.key) (entries_of store)
   pub keeps : store.keeps_writes ≡ keeps_writes policy
-  pub main : windowed_limit policy.max_capacity ≡ None → All (λ e. e.in_window ≡ false) (entries_of store)
+  pub main : limits ≡ None → All (λ e. is_window e.part ≡ false) (entries_of store)
+  pub windowed : limits ≡ windowed_limits shares policy.max_capacity
+  pub room : space ≡ protected_room shares policy.max_capacity
 
--- a new entry was put, by the window where the limit has one, and whether it stays
-abbrev pub IsPut : {K V : Type 0} → (K → K → Bool) → Bool → Option ℕ → Option ℕ → Option Table → Entry K V → Contents K V → Bool → Contents K V → Type 0
+-- a new entry was put, by the window where there is one, and whether it stays
+abbrev pub IsPut : {K V : Type 0} → (K → K → Bool) → Bool → Option PartLimits → Option ℕ → Option Table → Entry K V → Contents K V → Bool → Contents K V → Type 0
 IsPut eq keeps None max sketch new old stays put =
     (put ≡ after_admission eq keeps new (victims_of max sketch new old.entries) old) × (stays ≡ is_some (victims_of max sketch new old.entries))
-IsPut eq keeps (Some limit) max sketch new old stays put =
-    (put ≡ after_entering eq keeps limit sketch new old) × (stays ≡ is_some (entry_at eq new.key put.entries))
+IsPut eq keeps (Some limits) max sketch new old stays put =
+    (put ≡ after_entering eq keeps limits sketch new old) × (stays ≡ is_some (entry_at eq new.key put.entries))

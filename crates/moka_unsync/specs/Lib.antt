@@ -1,4 +1,5 @@
 pub use Rattle.moka_machine.specs.Contents
+pub use Rattle.moka_machine.specs.Shares
 pub use Rattle.moka_machine.specs.CacheState
 pub mod Builder
 pub use Rattle.moka_machine.specs.Upkeep
@@ -18,3 +19,4 @@ pub use Rattle.moka_history.specs.Excluded
 pub mod CacheLends
 -- inside
 pub mod Cached
+pub mod Turns

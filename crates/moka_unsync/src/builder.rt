@@ -5,11 +5,13 @@ ghost use Rattle.moka_unsync.specs.Builder.{IsBuilt, new_builder, refusal_of};
 mod debug;
 
 use crate::cache::{Cache, Parts};
+use crate::part_limits::{default_shares, share_fault};
 use moka_base::error::BuildError;
 use moka_base::hash::FixedState;
 use moka_base::policy::Policy;
 use moka_base::settings::duration_fault;
 use moka_base::weigh::{UnitWeight, Weigh};
+use moka_machine::shares::Shares;
 use std::alloc::{Allocator, Global};
 use std::hash::{BuildHasher, Hash};
 use std::marker::{Model, PhantomData};
@@ -33,13 +35,14 @@ use std::time::Duration;
 ///     .build()?;
 /// ```
 ///
-/// A builder takes no memory. `build` and `build_with_hasher` refuse a duration of more than 1000 years, the time to live first, and want of memory for
-/// the room of `initial_capacity`.
+/// A builder takes no memory. `build` and `build_with_hasher` refuse a duration of more than 1000 years, the time to live first, then a share above 100%,
+/// the window's first, and then want of memory for the room of `initial_capacity`.
 #[derive(Drop)]
 pub struct CacheBuilder<K, V, W: Drop = UnitWeight, A: Allocator + Clone + Drop = Global> {
     alloc: A,
     policy: Policy,
     initial_capacity: usize,
+    shares: Shares,
     is_weighed: bool,
     weigher: W,
     entries: PhantomData<(K, V)>,
@@ -50,7 +53,13 @@ impl<K, V, W: Drop, A: Allocator + Clone + Drop> Model for CacheBuilder<K, V, W,
 
     ghost Value = { Builder W };
 
-    ghost view = { λ b. record { policy = b.policy; initial_capacity = b.initial_capacity; is_weighed = b.is_weighed; weigher = b.weigher } };
+    ghost view = { λ b. record {
+      policy = b.policy;
+      initial_capacity = b.initial_capacity;
+      shares = b.shares;
+      is_weighed = b.is_weighed;
+      weigher = b.weigher;
+    } };
 }
 
 impl<K, V, A: Allocator + Clone + Drop> CacheBuilder<K, V, UnitWeight, A> {
@@ -69,6 +78,7 @@ impl<K, V, A: Allocator + Clone + Drop> CacheBuilder<K, V, UnitWeight, A> {
             alloc,
             policy: Policy::new(None, None, None),
             initial_capacity: 0,
+            shares: default_shares(),
             is_weighed: false,
             weigher: UnitWeight,
             entries: PhantomData,
@@ -118,11 +128,41 @@ impl<K, V, W: Drop, A: Allocator + Clone + Drop> CacheBuilder<K, V, W, A> {
         }
     }
 
+    /// Sets the window's share of the capacity in percent, rounded down. The default is 1. New entries enter the window first: a larger one finds more keys
+    /// that are asked for again soon after they came, and fewer that are popular for long. With 0 there is no window. `build` refuses more than 100.
+    pub fn window_share(self, percent: u8) -> Self
+        ensures { result ≡ record self { shares = record self.shares { window = percent } } }
+    {
+        CacheBuilder {
+            shares: Shares {
+                window: percent,
+                ..self.shares
+            },
+            ..self
+        }
+    }
+
+    /// Sets the share of the main part for protected entries in percent, rounded down. The default is 0; Caffeine has 80. An entry of the main part is
+    /// protected at its first use there, and leaves after those that aren't. If protected entries outweigh their share, the least recently used ones are
+    /// protected no more. `build` refuses more than 100.
+    pub fn protected_share(self, percent: u8) -> Self
+        ensures { result ≡ record self { shares = record self.shares { protected = percent } } }
+    {
+        CacheBuilder {
+            shares: Shares {
+                protected: percent,
+                ..self.shares
+            },
+            ..self
+        }
+    }
+
     /// What says how much an entry weighs: a closure, or a type with an impl of `Weigh`. It is asked once for each insert that has its room.
     pub fn weigher<N: Weigh<K, V> + Drop>(self, weigher: N) -> CacheBuilder<K, V, N, A>
         ensures { result ≡ record {
           policy = self.policy;
           initial_capacity = self.initial_capacity;
+          shares = self.shares;
           is_weighed = true;
           weigher = weigher;
         } }
@@ -140,6 +180,7 @@ impl<K, V, W: Drop, A: Allocator + Clone + Drop> CacheBuilder<K, V, W, A> {
         ensures { result ≡ record {
           policy = self.policy;
           initial_capacity = self.initial_capacity;
+          shares = self.shares;
           is_weighed = is_weighed;
           weigher = weigher;
         } }
@@ -148,6 +189,7 @@ impl<K, V, W: Drop, A: Allocator + Clone + Drop> CacheBuilder<K, V, W, A> {
             alloc: self.alloc,
             policy: self.policy,
             initial_capacity: self.initial_capacity,
+            shares: self.shares,
             is_weighed,
             weigher,
             entries: PhantomData,
@@ -156,8 +198,8 @@ impl<K, V, W: Drop, A: Allocator + Clone + Drop> CacheBuilder<K, V, W, A> {
 }
 
 impl<K: Eq + Hash + Drop, V: Drop, W: Drop, A: Allocator + Clone + Drop> CacheBuilder<K, V, W, A> {
-    /// The cache, with std's default hash state. It is refused where a duration is longer than 1000 years, or for want of memory. Its key is fixed:
-    /// where strangers choose the keys, use `build_with_hasher` with a `RandomState`.
+    /// Builds the cache with std's default hash state. It is refused if a duration is longer than 1000 years or a share above 100, or for want of memory. The
+    /// hash state's key is fixed: if strangers choose the keys, use `build_with_hasher` with a `RandomState`.
     pub fn build(self) -> Result<Cache<K, V, FixedState, W, A>, BuildError>
         ensures ok { IfOk result (λ cache. IsBuilt self cache.settings.hash_state cache) }
         ensures err { IfErr result (λ error. error ≡ refusal_of self) }
@@ -177,11 +219,15 @@ impl<K: Eq + Hash + Drop, V: Drop, W: Drop, A: Allocator + Clone + Drop> CacheBu
         if let Some(fault) = duration_fault(policy.time_to_live(), policy.time_to_idle()) {
             return Err(fault);
         }
+        if let Some(fault) = share_fault(self.shares) {
+            return Err(fault);
+        }
         let cache = Cache::with_parts(
             self.alloc,
             Parts {
                 hash_state,
                 policy,
+                shares: self.shares,
                 is_weighed: self.is_weighed,
                 weigher: self.weigher,
                 initial_capacity: self.initial_capacity,

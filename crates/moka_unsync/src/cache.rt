@@ -14,15 +14,17 @@ ghost use Rattle.moka_machine.specs.GetOrInsert.{IsGotOrInserted, IsRefusedBehin
 ghost use Rattle.moka_machine.specs.Insert.{IsInserted, IsRefused, after_asking};
 ghost use Rattle.moka_machine.specs.Invalidate.{AnswersInTurn, after_invalidate, after_invalidate_all, after_invalidate_if};
 ghost use Rattle.moka_machine.specs.Iterate.{pair_behind, pairs_at};
-ghost use Rattle.moka_machine.specs.Window.{windowed_limit};
-ghost use Rattle.moka_store.specs.Store.{entries_of};
-ghost use Rattle.moka_store.specs.Turns.{contents_of};
-ghost use Rattle.moka_unsync.specs.Cached.{IsPut};
+ghost use Rattle.moka_machine.specs.Shares.{default_shares};
 
 mod debug;
 mod iter;
 
+use crate::admission::put_new;
 use crate::builder::CacheBuilder;
+use crate::part_limits::{protected_room, windowed_limits};
+use crate::removal::{clear, remove_key, remove_where, take_key};
+use crate::upkeep::{is_expired, upkeep};
+use crate::walk::next_unexpired;
 pub use iter::Iter;
 use moka_base::error::{BuildError, InsertError, OutOfMemory};
 use moka_base::hash::FixedState;
@@ -30,14 +32,10 @@ use moka_base::limits::Limits;
 use moka_base::policy::Policy;
 use moka_base::time::Instant;
 use moka_base::weigh::{UnitWeight, Weigh};
-use moka_machine::entry::Entry;
+use moka_machine::entry::{Entry, Part};
+use moka_machine::shares::{PartLimits, Shares};
 use moka_sketch::frequency_sketch::{FrequencySketch, sketch_capacity};
-use moka_store::admit::admit;
-use moka_store::expire::{is_expired, upkeep};
-use moka_store::invalidate::{clear, remove_key, remove_where, take_key};
 use moka_store::store::Store;
-use moka_store::walk::next_unexpired;
-use moka_store::window::{enter_window, windowed_limit};
 use std::alloc::{Allocator, Global};
 use std::hash::{BuildHasher, Hash};
 use std::marker::Model;
@@ -47,6 +45,7 @@ use std::marker::Model;
 pub(crate) struct Parts<S: Drop, W: Drop> {
     pub(crate) hash_state: S,
     pub(crate) policy: Policy,
+    pub(crate) shares: Shares,
     pub(crate) is_weighed: bool,
     pub(crate) weigher: W,
     pub(crate) initial_capacity: usize,
@@ -55,8 +54,8 @@ pub(crate) struct Parts<S: Drop, W: Drop> {
 /// A cache for one thread: a map that forgets, bounded by a number of entries or by their weight, with expiry by time to live and by time to idle.
 ///
 /// A look-up, an insert, an invalidation or a removal of a key first removes expired entries, and the least recently used ones while the weight is
-/// above the limit, each time a batch of `EVICTION_BATCH_SIZE` entries at most; by idleness a batch of the window and one of the rest. No read gives an
-/// expired entry that remained.
+/// above the limit, each time a batch of `EVICTION_BATCH_SIZE` entries at most; by time to idle a batch of the window and of each segment of the main
+/// part. No read gives an expired entry that remained.
 ///
 /// ```
 /// let now = Instant::from_secs(0);
@@ -78,9 +77,25 @@ pub(crate) struct Parts<S: Drop, W: Drop> {
 /// When the cache is full, a new entry is admitted only if its estimated frequency exceeds the sum of its victims', which are the least recently
 /// used entries: the size-aware TinyLFU of Caffeine, by Einziger, Friedman and Manes. Weights don't choose the victims.
 ///
-/// From a limit of 100 on, a hundredth of it, rounded down, is for a window, and the rest for the main part. A new entry goes into the window first, and
-/// that question is asked when the window, or all entries together, weigh too much: of the window's least recently used entries, each of which comes to
-/// the main part or leaves. So a key that is asked for again soon after it came is found, though nobody asked for it before. Below 100 there is no window.
+/// The window has 1% of the capacity, rounded down, and the main part the rest. A new entry goes into the window first. When the window or the whole cache
+/// is too heavy, the window's least recently used entries are the candidates that are admitted to the main part or leave. So a key that is asked for again
+/// soon after it came is found, though it has no frequency yet. Below a capacity of 100 there is no window.
+///
+/// Two settings of the builder change which keys stay:
+///
+/// - `protected_share(80)` makes the main part a segmented LRU, as in Caffeine: an entry that is used there again is protected, and leaves after those that
+///   aren't. It finds more keys if some stay popular, also between scans.
+/// - `window_share(20)` makes the window larger. It finds more keys if most are asked for again soon after they came, and fewer if some stay popular.
+///
+/// Hits of 100 calls at a capacity of 1% of the keys, by `bench/run hits`, where the traces are described:
+///
+/// | Trace | default | `protected_share(80)` | `window_share(20)` |
+/// |---|---|---|---|
+/// | Zipf 0.8 | 28.8 | 31.5 | 28.2 |
+/// | Zipf 0.99 | 57.2 | 58.5 | 56.5 |
+/// | scan mix | 26.2 | 28.8 | 26.3 |
+/// | drifting hot set | 54.9 | 54.9 | 54.6 |
+/// | asked soon again | 33.7 | 28.1 | 75.0 |
 ///
 /// # Expiry
 ///
@@ -103,10 +118,10 @@ pub(crate) struct Parts<S: Drop, W: Drop> {
 ///
 /// # What differs from mini-moka
 ///
-/// Moments are handed in. Building and inserting answer a `Result`: want of memory, and a duration of more than 1000 years, are named refusals in
-/// place of an abort or a panic. Counts and weights follow every removal. Keys are looked up by `&K`. `iter` and the predicate of
+/// Moments are handed in. Building and inserting answer a `Result`: want of memory, a duration of more than 1000 years and a share above 100 are named
+/// refusals in place of an abort or a panic. Counts and weights follow every removal. Keys are looked up by `&K`. `iter` and the predicate of
 /// `invalidate_entries_if` go in order of use, the window last, `iter` leaves expired entries out, and `Debug` shows every stored one. `remove` is added, and
-/// new entries enter a window.
+/// new entries enter a window, whose share and that of a protected segment can be set.
 pub struct Cache<
     K: Eq + Hash + Drop,
     V: Drop,
@@ -116,6 +131,11 @@ pub struct Cache<
 > {
     hash_state: S,
     limits: Limits,
+    shares: Shares,
+    // The limits of the parts, if there is a window.
+    windowed: Option<PartLimits>,
+    // The weight limit of protected.
+    room: u64,
     is_weighed: bool,
     weigher: W,
     store: Store<K, V, A>,
@@ -129,6 +149,9 @@ impl<K: Eq + Hash + Drop, V: Drop, S: BuildHasher + Drop, W: Drop, A: Allocator 
         let Cache {
             hash_state: _,
             limits: _,
+            shares: _,
+            windowed: _,
+            room: _,
             is_weighed: _,
             weigher: _,
             store: _,
@@ -147,12 +170,13 @@ impl<
     ghost use Rattle.moka_base.specs.Keys.{keys_by};
     ghost use Rattle.moka_machine.specs.CacheState.{CacheState};
     ghost use Rattle.moka_unsync.specs.Cached.{IsCached};
-    ghost use Rattle.moka_store.specs.Turns.{contents_of};
+    ghost use Rattle.moka_store.specs.Store.{contents_of};
 
     ghost Value = { CacheState K V S W };
 
     ghost view = { λ c. record {
       settings = record { hash_state = c.hash_state; policy = c.limits; is_weighed = c.is_weighed };
+      shares = c.shares;
       weigher = c.weigher;
       contents = contents_of c.store;
       sketch = c.sketch;
@@ -161,7 +185,7 @@ impl<
 
     ghost invariant = { λ c. IsCached
         (keys_by (record { eq = K.eq; hash_input = K.hash_input }) S.BuildHasher S.Hasher.Hasher)
-        c.hash_state c.limits c.store };
+        c.hash_state c.limits c.shares c.windowed c.room c.store };
 }
 
 impl<K: Eq + Hash + Drop, V: Drop, A: Allocator + Clone + Drop> Cache<
@@ -177,7 +201,7 @@ impl<K: Eq + Hash + Drop, V: Drop, A: Allocator + Clone + Drop> Cache<
           hash_state = cache.settings.hash_state;
           policy = record { max_capacity = Some max_capacity; time_to_live = None; time_to_idle = None };
           is_weighed = false;
-        }) cache.weigher cache.capacity) }
+        }) default_shares cache.weigher cache.capacity) }
         ensures err { IfErr result (λ error. error ≡ BuildError.OutOfMemory) }
     {
         CacheBuilder::new(alloc, max_capacity).build()
@@ -202,15 +226,20 @@ impl<
 
     /// A cache of these parts, with no entries.
     pub(crate) fn with_parts(alloc: A, parts: Parts<S, W>) -> Result<Self, OutOfMemory>
+        requires window { parts.shares.window ≤ 100 }
+        requires protected { parts.shares.protected ≤ 100 }
         ensures new { IfOk result (λ cache. cache ≡ new_cache
             (record { hash_state = parts.hash_state; policy = parts.policy; is_weighed = parts.is_weighed })
-            parts.weigher cache.capacity) }
+            parts.shares parts.weigher cache.capacity) }
         ensures room { IfOk result (λ cache. parts.initial_capacity ≤ cache.capacity) }
     {
         let store = empty_store(&alloc, parts.policy, parts.initial_capacity)?;
         Ok(Cache {
             hash_state: parts.hash_state,
             limits: Limits::new(parts.policy),
+            shares: parts.shares,
+            windowed: windowed_limits(parts.shares, parts.policy.max_capacity()),
+            room: protected_room(parts.shares, parts.policy.max_capacity()),
             is_weighed: parts.is_weighed,
             weigher: parts.weigher,
             store,
@@ -225,6 +254,13 @@ impl<
         self.limits.policy()
     }
 
+    /// The shares of the window and of protected entries, in percent.
+    pub fn shares(&self) -> Shares
+        ensures { result ≡ self.now.shares }
+    {
+        self.shares
+    }
+
     /// How many entries the cache has, expired ones among them that no call has removed yet. It takes constant time.
     pub fn entry_count(&self) -> u64
         ensures { result ≡ length self.now.contents.entries }
@@ -236,7 +272,7 @@ impl<
     pub fn weighted_size(&self) -> u64
         ensures { result ≡ weighted_size self.now.contents.entries }
     {
-        u64::try_from(self.store.weight()).unwrap_or(u64::MAX)
+        self.store.weight()
     }
 
     /// Whether the key has an unexpired entry. It is no use of it: neither its moments nor its place nor the popularity of the key change.
@@ -276,12 +312,14 @@ impl<
             ≡ found_by_get (keys_by K.Hash S.BuildHasher S.Hasher.Hasher) self.old key.now now }
     {
         upkeep(&mut self.store, &self.limits, now);
+        // The index is asked first, so that the processor waits for it and for the sketch at once.
+        let candidates = self.store.candidates(hash);
         self.sketch.increment(hash);
-        let id = self.store.find(key, hash)?;
+        let id = self.store.find_among(candidates, key, hash)?;
         if is_expired(&self.limits, self.store.get(id), now) {
             return None;
         }
-        self.store.touch(id, now);
+        self.store.touch(id, self.room, now);
         Some(&self.store.get(id).value)
     }
 
@@ -391,9 +429,7 @@ impl<
             (total_weight self.now.contents.entries) }
     {
         match self.limits.max_capacity() {
-            Some(limit) => {
-                self.sketch.table_len() == 0 && self.store.weight() >= u128::from(limit / 2)
-            }
+            Some(limit) => { self.sketch.table_len() == 0 && self.store.weight() >= limit / 2 }
             None => false,
         }
     }
@@ -420,7 +456,7 @@ impl<
         if limit == 0 {
             return 0;
         }
-        let weight = self.store.weight().min(u128::from(u64::MAX));
+        let weight = u128::from(self.store.weight());
         let entries = self.store.len() as u128 * weight / u128::from(limit);
         u64::try_from(entries).unwrap_or(u64::MAX)
     }
@@ -477,16 +513,17 @@ impl<
             weight: self.weigher.weigh(&key, &value),
             key,
             value,
-            in_window: false,
+            part: Part::Probation,
             accessed: now,
             modified: now,
         };
         match self.store.find(&entry.key, entry.hash) {
-            Some(id) => self.store.update(id, entry),
+            Some(id) => self.store.update(id, self.room, entry),
             None => {
                 if put_new(
                     &mut self.store,
                     self.limits.max_capacity(),
+                    &self.windowed,
                     &self.sketch,
                     entry,
                 ) {
@@ -554,27 +591,6 @@ fn copy_of<V: Clone>(value: &V) -> Result<V, InsertError>
     }
 }
 
-/// Puts a new entry in the store, or drops it where it is rejected: by the window, where the limit has one. Says whether it stays.
-fn put_new<K: Eq + Drop, V: Drop, A: Allocator + Clone + Drop>(
-    store: &mut Store<K, V, A>,
-    limit: Option<u64>,
-    sketch: &FrequencySketch<A>,
-    new: Entry<K, V>,
-) -> bool
-    requires room { length store.old.nodes < store.old.capacity }
-    requires absent { entry_at K.eq new.key (entries_of store.old) ≡ None }
-    requires main { new.in_window ≡ false }
-    requires all_main { windowed_limit limit ≡ None → All (λ e. e.in_window ≡ false) (entries_of store.old) }
-    ensures step { IsPut K.eq store.old.keeps_writes (windowed_limit limit) limit sketch.now new (contents_of store.old) result (contents_of store.new) }
-    ensures keeps { store.new.keeps_writes ≡ store.old.keeps_writes }
-    ensures capacity { store.new.capacity ≡ store.old.capacity }
-{
-    match windowed_limit(limit) {
-        Some(limit) => enter_window(store, limit, sketch, new),
-        None => admit(store, limit, sketch, new),
-    }
-}
-
 /// A store without entries, with this room.
 fn empty_store<K: Eq + Drop, V: Drop, A: Allocator + Clone + Drop>(
     alloc: &A,
@@ -586,7 +602,6 @@ fn empty_store<K: Eq + Drop, V: Drop, A: Allocator + Clone + Drop>(
       written = [];
       keeps_writes = keeps_writes policy;
       capacity = store.capacity;
-      ids = store.ids;
     }) }
     ensures room { IfOk result (λ store. room ≤ store.capacity) }
 {

@@ -1,10 +1,15 @@
 //! The cache for one thread.
 #![tactic(auto)]
 
+mod admission;
 pub mod builder;
 pub mod cache;
+mod part_limits;
+mod removal;
 pub mod runs;
+mod upkeep;
+mod walk;
 
 pub use moka_history::history;
 pub use moka_laws::laws;
-pub use moka_machine::{constants, entry};
+pub use moka_machine::{constants, entry, shares};

@@ -8,6 +8,8 @@ mod deque;
 #[cfg(test)]
 mod list;
 #[cfg(test)]
+mod shares;
+#[cfg(test)]
 mod sizes;
 #[cfg(test)]
 mod sketch;

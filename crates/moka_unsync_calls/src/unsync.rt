@@ -13,7 +13,7 @@ fn start() -> Instant {
 }
 
 /// Reasons for no cache, with their texts.
-const REASONS: [(BuildError, &str); 4] = [
+const REASONS: [(BuildError, &str); 6] = [
     (
         BuildError::TimeToLiveTooLong,
         "time_to_live is longer than 1000 years",
@@ -21,6 +21,11 @@ const REASONS: [(BuildError, &str); 4] = [
     (
         BuildError::TimeToIdleTooLong,
         "time_to_idle is longer than 1000 years",
+    ),
+    (BuildError::WindowShareTooLarge, "window_share is above 100"),
+    (
+        BuildError::ProtectedShareTooLarge,
+        "protected_share is above 100",
     ),
     (
         BuildError::CapacityTooLarge,
@@ -65,7 +70,7 @@ fn what_is_set_is_shown(rt: HostRuntime) -> Result<(), Fail> {
     let reply: Reply<u64> = Reply::Number(1);
     let text = format!(in rt.alloc(); "{builder:?} {call:?} {reply:?}")?;
     let shown =
-        "CacheBuilder { max_capacity: Some(3), time_to_live: None, time_to_idle: None, initial_capacity: 0, is_weighed: false } Get { key: 7, now: Instant { nanos: 0 } } Number(1)";
+        "CacheBuilder { max_capacity: Some(3), time_to_live: None, time_to_idle: None, initial_capacity: 0, window_share: 1, protected_share: 0, is_weighed: false } Get { key: 7, now: Instant { nanos: 0 } } Number(1)";
     assert!(rt; text.as_str() == shown);
     Ok(())
 }

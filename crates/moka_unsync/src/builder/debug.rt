@@ -10,6 +10,8 @@ impl<K, V, W: Drop, A: Allocator + Clone + Drop> Debug for CacheBuilder<K, V, W,
             .field("time_to_live", &self.policy.time_to_live())
             .field("time_to_idle", &self.policy.time_to_idle())
             .field("initial_capacity", &self.initial_capacity)
+            .field("window_share", &self.shares.window)
+            .field("protected_share", &self.shares.protected)
             .field("is_weighed", &self.is_weighed)
             .finish()
     }

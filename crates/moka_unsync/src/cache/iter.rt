@@ -4,10 +4,11 @@ ghost use Rattle.std.specs.Iterator.{at_most};
 ghost use Rattle.std.specs.Map.Iter.{TakesFirst, deref_pair};
 ghost use Rattle.moka_machine.specs.Iterate.{unexpired_pairs};
 
+use crate::upkeep::is_expired;
 use moka_base::limits::Limits;
 use moka_base::time::Instant;
-use moka_store::expire::is_expired;
-use moka_store::store::Entries;
+use moka_deque::chain::Iter as Entries;
+use moka_machine::entry::Entry;
 use std::alloc::{Allocator, Global};
 use std::fmt::{Debug, Formatter, Result, Write};
 use std::marker::Model;
@@ -23,7 +24,7 @@ use std::marker::Model;
 /// ```
 #[derive(Drop)]
 pub struct Iter<'a, K: Drop, V: Drop, A: Allocator = Global> {
-    entries: Entries<'a, K, V, A>,
+    entries: Entries<'a, Entry<K, V>, A>,
     limits: &'a Limits,
     now: Instant,
 }
@@ -39,7 +40,11 @@ impl<'a, K: Drop, V: Drop, A: Allocator> Model for Iter<'a, K, V, A> {
 
 impl<'a, K: Drop, V: Drop, A: Allocator> Iter<'a, K, V, A> {
     /// An iterator over those of the entries that are unexpired at a moment.
-    pub(crate) fn new(entries: Entries<'a, K, V, A>, limits: &'a Limits, now: Instant) -> Self
+    pub(crate) fn new(
+        entries: Entries<'a, Entry<K, V>, A>,
+        limits: &'a Limits,
+        now: Instant,
+    ) -> Self
         ensures { result ≡ unexpired_pairs limits.now now entries.entry }
     {
         Iter {

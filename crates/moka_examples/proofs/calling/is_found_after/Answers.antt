@@ -23,7 +23,7 @@ returns g c there =
       value,
       c.in_ok-_replies._replies.items,
       rw (asked, answered, reverse-reverse, reverse-reverse) served,
-      c.hits_are_current.ensures old.settings old.weigher old.capacity past c.run.new.cache _ c.args.key.now c.args.now value
+      c.hits_are_current.ensures old.settings old.shares old.weigher old.capacity past c.run.new.cache _ c.args.key.now c.args.now value
           (subst (λ cache. Leads keys g.W.Weigh.weighs cache past c.run.new.cache) c.requires.built leads)
           (ap Found (sym found ∙ c.get.ensures.value), refl),
     )

@@ -1,4 +1,5 @@
-use Rattle.std.proofs.Common.{nat_eq, ◌∙◌}
+use Rattle.std.proofs.Common.{nat_eq, ◌-◌, ◌∙◌}
+use Rattle.moka_deque.specs.Chained.{capacity_of}
 use Rattle.std.specs.Map.{remove_entry}
 use Rattle.moka_deque.proofs.ChainLemmas.{shows-unlinked}
 use Rattle.moka_deque.proofs.chain.Chain.unlink.Goals as goal
@@ -15,3 +16,7 @@ returns-clause-items g c =
     (shows-unlinked c.self.invariant c.number-number.result c.remove-element.result out.value out.updates out.len out.capacity
     c.unlink.ensures.step c.unlink.ensures.len).1
     ∙ (λ i. remove_entry (nat_eq (c.number-number.ensures i)) (c.self.view_is i).items)
+
+pub returns-clause-room_left : goal.returns-clause-room_left
+returns-clause-room_left g c =
+    (λ i. capacity_of c.remove-element.new.self c.unlink.new.self - (invariant_of-self g c).len i)

@@ -3,8 +3,8 @@ use Rattle.moka_base.specs.Keys.{keys_by}
 use Rattle.moka_unsync.proofs.CachedLemmas.{IsCached-touch, IsCached-upkeep, has_hash}
 use Rattle.moka_unsync.proofs.cache.Cache.get_hashed.Goals as goal
 
-pub find-requires : goal.find-requires
-find-requires g c =
+pub find_among-requires-clause-hashed : goal.find_among-requires-clause-hashed
+find_among-requires-clause-hashed g c =
     has_hash g.K.PartialEq.eq g.K.Hash.hash_input g.S.BuildHasher g.S.Hasher.Hasher g.met.K.Hash.respects_eq
     (IsCached-upkeep c.args.now c.self.invariant c.upkeep.ensures.step c.upkeep.ensures.kept)
     (subst (λ cache. c.args.hash ≡
@@ -19,4 +19,5 @@ invariant_of-self-then-is_expired g c = IsCached-upkeep c.args.now c.self.invari
 
 pub invariant_of-self-2 : goal.invariant_of-self-2
 invariant_of-self-2 g c =
-    IsCached-touch (IsCached-upkeep c.args.now c.self.invariant c.upkeep.ensures.step c.upkeep.ensures.kept) c.touch.ensures
+    IsCached-touch c.in_ok-id.id c.self.inside.room c.args.now c.upkeep.new.store c.touch.new.self
+    (IsCached-upkeep c.args.now c.self.invariant c.upkeep.ensures.step c.upkeep.ensures.kept) c.touch.ensures

@@ -1,16 +1,18 @@
-use Rattle.std.proofs.Common.{◌≡◌, ◌∙◌, ◌<◌, ◌≤◌, ◌+◌, ℕ, None, ap, arith, false, length, refl, rules, subst, sym, true}
+use Rattle.std.proofs.Common.{◌≡◌, ◌∙◌, ◌<◌, ◌≤◌, ◌+◌, ℕ, None, Some, ap, arith, length, refl, rules, subst, sym, true}
 use Rattle.moka_base.specs.Settings.{keeps_writes}
 use Rattle.moka_machine.specs.CacheState.{CacheState}
 use Rattle.moka_machine.specs.Contents.{entry_at}
+use Rattle.moka_deque.proofs.IdLemmas.{some_parts}
+use Rattle.moka_machine.specs.Insert.{after_update, new_entry}
 use Rattle.moka_machine.specs.Upkeep.{after_upkeep}
-use Rattle.moka_store.specs.Store.{entries_of}
+use Rattle.moka_store.specs.Store.{contents_of, entries_of}
 use Rattle.moka_base.specs.Keys.{keys_by}
 use Rattle.moka_machine.specs.declared.entry.Entry.{Entry}
-use Rattle.moka_machine.specs.Window.{windowed_limit}
-use Rattle.moka_store.specs.Turns.{contents_of}
+use Rattle.moka_machine.specs.declared.entry.Part.TheVariants.{Probation}
+use Rattle.moka_machine.specs.Shares.{windowed_limits}
 use Rattle.moka_unsync.specs.Cached.{IsCached, IsPut}
 use Rattle.moka_unsync.proofs.CachedLemmas.{IsCached-put, IsCached-room, IsCached-update, IsCached-upkeep, has_hash, length-entries}
-use Rattle.moka_unsync.proofs.InsertLemmas.{insert_drops, insert_stays, kept}
+use Rattle.moka_unsync.proofs.InsertLemmas.{insert_drops, insert_stays, insert_updates, kept}
 use Rattle.moka_unsync.proofs.cache.Cache.insert_hashed.Given.{Over}
 use Rattle.moka_unsync.proofs.cache.Cache.insert_hashed.Goals.{After-put_new, After-upkeep}
 use Rattle.moka_unsync.proofs.cache.Cache.insert_hashed.Goals as goal
@@ -32,8 +34,9 @@ find-requires g c =
 
 pub invariant_of-self-in-Some : goal.invariant_of-self-in-Some
 invariant_of-self-in-Some g c =
-    IsCached-update (IsCached-upkeep c.args.now (IsCached-room c.self.invariant c.reserve.ensures.unchanged) c.upkeep.ensures.step
-    c.upkeep.ensures.kept) c.update.ensures
+    IsCached-update c.in-Some.id c.self.inside.room _ c.upkeep.new.store c.update.new.self
+    (IsCached-upkeep c.args.now (IsCached-room c.self.invariant c.reserve.ensures.unchanged) c.upkeep.ensures.step c.upkeep.ensures.kept)
+    c.update.ensures
 
 -- and so it is where the new entry was put
 put_own : (g : Over) (c : After-put_new g) → c.args.hash
@@ -47,7 +50,7 @@ put_own g c =
 -- the verdict on the new entry keeps the parts tied
 admitted : (g : Over) (c : After-put_new g)
     → IsCached (keys_by (record { eq = g.K.PartialEq.eq; hash_input = g.K.Hash.hash_input }) g.S.BuildHasher g.S.Hasher.Hasher)
-    c.self.inside.hash_state c.self.inside.limits c.put_new.new.store
+    c.self.inside.hash_state c.self.inside.limits c.self.inside.shares c.self.inside.windowed c.self.inside.room c.put_new.new.store
 admitted g c =
     let new : Entry g.row.K.Denot g.row.V.Denot =
     record {
@@ -55,14 +58,14 @@ admitted g c =
       value = c.args.value;
       hash = c.args.hash;
       weight = c.weigh.result;
-      in_window = false;
+      part = Probation;
       accessed = c.args.now;
       modified = c.args.now;
     } in
     IsCached-put new c.self.inside.sketch c.put_new.result
     (IsCached-upkeep c.args.now (IsCached-room c.self.invariant c.reserve.ensures.unchanged) c.upkeep.ensures.step c.upkeep.ensures.kept)
     (put_own g c) refl
-    (subst (λ l. IsPut g.K.PartialEq.eq c.upkeep.new.store.keeps_writes (windowed_limit l) l c.self.inside.sketch new
+    (subst (λ l. IsPut g.K.PartialEq.eq c.upkeep.new.store.keeps_writes c.self.inside.windowed l c.self.inside.sketch new
     (contents_of c.upkeep.new.store) c.put_new.result (contents_of c.put_new.new.store)) c.max_capacity.ensures c.put_new.ensures.step)
     c.put_new.ensures.keeps
 
@@ -76,7 +79,7 @@ pub put_new-requires-clause-all_main : goal.put_new-requires-clause-all_main
 put_new-requires-clause-all_main g c =
     let is = IsCached-upkeep c.args.now (IsCached-room c.self.invariant c.reserve.ensures.unchanged) c.upkeep.ensures.step
     c.upkeep.ensures.kept in
-    λ none. is.main (ap windowed_limit (Rattle.std.proofs.Common.sym c.max_capacity.ensures) ∙ none)
+    λ none. is.main none
 
 -- room was made for the entry
 its_room : (g : Over) (c : After-upkeep g) → length (entries_of c.self.inside.store) < c.reserve.new.self.capacity
@@ -90,11 +93,30 @@ its_capacity : (g : Over) (c : After-upkeep g) → length (entries_of c.self.ins
 its_capacity g c fits =
     let room : length c.self.inside.store.nodes + 1 ≤ c.self.inside.store.capacity =
     omega (arith, length-entries c.self.inside.store, fits) in
-    ap (λ s. s.capacity) (c.reserve.ensures.had_room (omega arith) room).1
+    ap (λ s. s.capacity) (c.reserve.ensures.had_room room).1
 
 pub returns-in-Some-clause-step : goal.returns-in-Some-clause-step
 returns-in-Some-clause-step g c =
     let made = (goal.at.returns-in-Some-clause-step g c).After-upkeep in
+    let eq = g.K.PartialEq.eq in
+    let keys = keys_by (record { eq = eq; hash_input = g.K.Hash.hash_input }) g.S.BuildHasher g.S.Hasher.Hasher in
+    let start = c.self.inside.store in
+    let mid = c.upkeep.new.store in
+    let cache : CacheState g.row.K.Denot g.row.V.Denot g.row.S.Denot g.row.W.Denot = record {
+      settings = record { hash_state = c.self.inside.hash_state; policy = c.self.inside.limits; is_weighed = c.self.inside.is_weighed };
+      shares = c.self.inside.shares;
+      weigher = c.weigh.new.self;
+      contents = contents_of start;
+      sketch = c.self.inside.sketch;
+      capacity = c.reserve.new.self.capacity;
+    } in
+    let new : Entry g.row.K.Denot g.row.V.Denot =
+    new_entry keys c.self.inside.hash_state c.args.key c.args.value c.weigh.result c.args.now in
+    let found = (c.in-Some.ensures {u = tt}).found in
+    let is : contents_of mid ≡ kept eq cache new c.args.now true =
+    c.upkeep.ensures.step ∙ ap (λ s. after_upkeep eq c.self.inside.limits c.args.now (contents_of s)) c.reserve.ensures.unchanged in
+    let keeps = c.upkeep.ensures.kept.keeps ∙ (ap (λ s. s.keeps_writes) c.reserve.ensures.unchanged ∙ c.self.invariant.keeps) in
+    let own = some_parts c.update.ensures.entry found.0 (sym c.update.ensures.stood ∙ found.1) in
     rw (← c.self.view_is)
     (record {
       weight = c.weigh.result;
@@ -105,13 +127,19 @@ returns-in-Some-clause-step g c =
       kept = its_capacity g made;
       weighed = search rules;
       small = search rules;
-      step = search rules;
+      step =
+          insert_updates eq cache new c.args.now true found.0 (subst (λ s. entry_at eq c.args.key s.entries ≡ Some found.0) is found.2)
+          (contents_of c.update.new.self) c.update.new.self.capacity
+          (c.update.ensures.contents
+          ∙ (λ i. after_update eq (keeps i) (c.self.invariant.room i) (own i) new (is i)))
+          (c.update.ensures.kept.capacity ∙ c.upkeep.ensures.kept.capacity);
     })
 
 -- the cache with its room and its weigher asked
 abbrev its_cache : (g : Over) (c : After-put_new g) → CacheState g.row.K.Denot g.row.V.Denot g.row.S.Denot g.row.W.Denot
 its_cache g c = record {
   settings = record { hash_state = c.self.inside.hash_state; policy = c.self.inside.limits; is_weighed = c.self.inside.is_weighed };
+  shares = c.self.inside.shares;
   weigher = c.weigh.new.self;
   contents = contents_of c.self.inside.store;
   sketch = c.self.inside.sketch;
@@ -125,7 +153,7 @@ its_entry g c hash = record {
   value = c.args.value;
   hash = hash;
   weight = c.weigh.result;
-  in_window = false;
+  part = Probation;
   accessed = c.args.now;
   modified = c.args.now;
 }
@@ -150,21 +178,24 @@ its_absence g c =
 
 -- and what the new entry leaves
 its_put : (g : Over) (c : After-put_new g) → IsPut g.K.PartialEq.eq (keeps_writes c.self.inside.limits)
-    (windowed_limit c.self.inside.limits.max_capacity) c.self.inside.limits.max_capacity c.self.inside.sketch (its_entry g c (its_hash g c))
+    (windowed_limits c.self.inside.shares c.self.inside.limits.max_capacity) c.self.inside.limits.max_capacity c.self.inside.sketch (its_entry g c (its_hash g c))
     (kept g.K.PartialEq.eq (its_cache g c) (its_entry g c (its_hash g c)) c.args.now true) c.put_new.result (contents_of c.put_new.new.store)
 its_put g c =
     let keeps = c.upkeep.ensures.kept.keeps ∙ (ap (λ s. s.keeps_writes) c.reserve.ensures.unchanged ∙ c.self.invariant.keeps) in
     let eq = g.K.PartialEq.eq in
     let sketch = c.self.inside.sketch in
     let put = contents_of c.put_new.new.store in
-    subst (λ k. IsPut eq k (windowed_limit c.self.inside.limits.max_capacity) c.self.inside.limits.max_capacity sketch
-    (its_entry g c (its_hash g c)) (kept eq (its_cache g c) (its_entry g c (its_hash g c)) c.args.now true) c.put_new.result put) keeps
-    (subst (λ s. IsPut eq c.upkeep.new.store.keeps_writes (windowed_limit c.self.inside.limits.max_capacity) c.self.inside.limits.max_capacity
-    sketch (its_entry g c (its_hash g c)) s c.put_new.result put) (its_contents g c)
-    (subst (λ h. IsPut eq c.upkeep.new.store.keeps_writes (windowed_limit c.self.inside.limits.max_capacity) c.self.inside.limits.max_capacity
-    sketch (its_entry g c h) (contents_of c.upkeep.new.store) c.put_new.result put) (put_own g c)
-    (subst (λ l. IsPut eq c.upkeep.new.store.keeps_writes (windowed_limit l) l sketch (its_entry g c c.args.hash)
-    (contents_of c.upkeep.new.store) c.put_new.result put) c.max_capacity.ensures c.put_new.ensures.step)))
+    let new = its_entry g c (its_hash g c) in
+    let max = c.self.inside.limits.max_capacity in
+    subst (λ k. IsPut eq k (windowed_limits c.self.inside.shares max) max sketch new
+    (kept eq (its_cache g c) new c.args.now true) c.put_new.result put) keeps
+    (subst (λ w. IsPut eq c.upkeep.new.store.keeps_writes w max sketch new (kept eq (its_cache g c) new c.args.now true) c.put_new.result put)
+    c.self.invariant.windowed
+    (subst (λ s. IsPut eq c.upkeep.new.store.keeps_writes c.self.inside.windowed max sketch new s c.put_new.result put) (its_contents g c)
+    (subst (λ h. IsPut eq c.upkeep.new.store.keeps_writes c.self.inside.windowed max sketch (its_entry g c h) (contents_of c.upkeep.new.store)
+    c.put_new.result put) (put_own g c)
+    (subst (λ l. IsPut eq c.upkeep.new.store.keeps_writes c.self.inside.windowed l sketch (its_entry g c c.args.hash)
+    (contents_of c.upkeep.new.store) c.put_new.result put) c.max_capacity.ensures c.put_new.ensures.step))))
 
 pub returns-then-put_new-clause-step : goal.returns-then-put_new-clause-step
 returns-then-put_new-clause-step g c =

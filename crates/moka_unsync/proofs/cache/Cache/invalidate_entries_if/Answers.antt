@@ -23,6 +23,7 @@ returns g c =
             policy = c.self.inside.limits;
             is_weighed = c.self.inside.is_weighed;
           };
+          shares = c.self.inside.shares;
           weigher = c.self.inside.weigher;
           contents = step i;
           sketch = c.self.inside.sketch;

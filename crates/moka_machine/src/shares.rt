@@ -1,0 +1,16 @@
+//! How a limit is shared out among the parts of a cache.
+
+/// The window's part of a limit, and protected's of what the window leaves to main, in hundredths.
+#[derive(Clone, Copy, Debug, PartialEq, Eq)]
+pub struct Shares {
+    pub window: u8,
+    pub protected: u8,
+}
+
+/// How much all entries may weigh, those of the window, and those of protected.
+#[derive(Clone, Copy)]
+pub struct PartLimits {
+    pub all: u64,
+    pub window: u64,
+    pub protected: u64,
+}

@@ -1,0 +1,12 @@
+use Rattle.std.proofs.Common.{◌≡◌, length, IfSome}
+use Rattle.moka_deque.specs.Deque.{IsIn}
+use Rattle.moka_deque.proofs.WalkLemmas.{from_node}
+use Rattle.moka_store.proofs.IndexLemmas.{IsUpTo}
+use Rattle.moka_store.proofs.indexing.add_all.Given as goal
+
+abbrev pub invariant-loop-here : goal.invariant-loop-here
+invariant-loop-here g l =
+    IfSome l.here (λ id. IsIn l.entries.items id) × IsUpTo l.entries.items l.here l.index × (l.index.ids ≡ l.fn.index.ids)
+
+abbrev pub decreases-loop-here : goal.decreases-loop-here
+decreases-loop-here g l = length (from_node l.here l.entries.items)

@@ -1,0 +1,97 @@
+use Rattle.std.proofs.Common.{◌≡◌, ◌∙◌, ap, is_some, None, refl, subst, sym}
+use Rattle.moka_index.specs.HashIndex.{Adds, Removes as Unlists}
+use Rattle.moka_machine.specs.Contents.{entry_at}
+use Rattle.moka_store.specs.Nodes.{written_under}
+use Rattle.moka_store.specs.Store.{entries_of}
+use Rattle.moka_store.proofs.ChangeLemmas.{fits, heavier, parts_lighter, set_here, set_marks, set_once, settled, writes_replaced}
+use Rattle.moka_store.proofs.StepLemmas.{replaces_is}
+use Rattle.moka_store.proofs.StoreLemmas.{length-relisted, room-same, stored-replaced}
+use Rattle.moka_store.proofs.WeightLemmas.{share_all, share_protected, share_window}
+use Rattle.moka_store.proofs.WriteLemmas.{is_written}
+use Rattle.moka_store.proofs.store.Store.replace.Goals as goal
+
+pub take-requires-clause-all : goal.take-requires-clause-all
+take-requires-clause-all g c =
+    share_all c.self.inside.weights c.args.id c.get-gone.result.now c.self.inside.entries.items c.self.invariant.0.weighed c.get-gone.ensures
+
+pub take-requires-clause-protected : goal.take-requires-clause-protected
+take-requires-clause-protected g c =
+    share_protected c.self.inside.weights c.args.id c.get-gone.result.now c.self.inside.entries.items c.self.invariant.0.weighed
+    c.get-gone.ensures
+
+pub take-requires-clause-window : goal.take-requires-clause-window
+take-requires-clause-window g c =
+    share_window c.self.inside.weights c.args.id c.get-gone.result.now c.self.inside.entries.items c.self.invariant.0.weighed
+    c.get-gone.ensures
+
+pub add-requires-clause-protected : goal.add-requires-clause-protected
+add-requires-clause-protected g c =
+    (parts_lighter c.self.invariant.0 c.args.id c.get-gone.result.now c.get-gone.result.now c.get-gone.ensures c.take.new.self c.take.ensures).0
+
+pub add-requires-clause-window : goal.add-requires-clause-window
+add-requires-clause-window g c =
+    (parts_lighter c.self.invariant.0 c.args.id c.get-gone.result.now c.get-gone.result.now c.get-gone.ensures c.take.new.self c.take.ensures).1
+
+pub add-requires-clause-fits : goal.add-requires-clause-fits
+add-requires-clause-fits g c small =
+    fits c.self.invariant.0 c.args.id c.get-gone.result.now c.get-gone.result.now c.get-gone.ensures c.take.new.self c.take.ensures
+    c.args.entry.weight small
+
+pub settle-requires-clause-once : goal.settle-requires-clause-once
+settle-requires-clause-once g c =
+    let x = c.get_mut.result.now in
+    set_once c.self.invariant.0 c.args.id x (c.args.entry) c.get_mut.ensures.value
+
+pub settle-requires-clause-here : goal.settle-requires-clause-here
+settle-requires-clause-here g c =
+    let x = c.get_mut.result.now in
+    let e = c.args.entry in
+    (e, set_here c.self.invariant.0 c.args.id x e c.get_mut.ensures.value, refl)
+
+pub settle-requires-clause-marks : goal.settle-requires-clause-marks
+settle-requires-clause-marks g c =
+    let x = c.get_mut.result.now in
+    set_marks c.self.invariant.0 c.args.id x (c.args.entry) c.get_mut.ensures.value
+    c.pass.new.self c.pass.ensures
+
+pub write_again-requires : goal.write_again-requires
+write_again-requires g c kept = is_written c.self.invariant.0.written c.args.id (ap is_some c.get_mut.ensures.value) kept
+
+pub add-requires-2-clause-room : goal.add-requires-2-clause-room
+add-requires-2-clause-room g c =
+    rw (c.number-2.ensures, c.remove.ensures.step.ids) (c.self.invariant.0.indexed.below c.args.id (ap is_some c.get_mut.ensures.value))
+
+pub invariant_of-self : goal.invariant_of-self
+invariant_of-self g c =
+    let s = c.self.invariant.0 in
+    let nodes = c.self.inside.entries.items in
+    let y = c.get-gone.result.now in
+    let x = c.get_mut.result.now in
+    let e = c.args.entry in
+    let stood = c.get_mut.ensures.value in
+    let moved = settled s c.args.id x e stood c.settle.new.entries.items c.settle.ensures.items in
+    let weighed =
+    heavier s c.args.id y e c.get-gone.ensures c.take.new.self c.take.ensures e.part e.weight refl refl c.add.new.self c.add.ensures.value in
+    let absent = subst (λ v. entry_at g.K.PartialEq.eq e.key (entries_of v) ≡ None) (sym c.self.view_is) c.requires.absent in
+    let left = subst (λ i. Unlists c.self.inside.index i c.remove.new.self) c.number.ensures c.remove.ensures.step in
+    let added = subst (λ i. Adds c.remove.new.self i e.hash c.add-2.new.self) c.number-2.ensures c.add-2.ensures.step in (
+      stored-replaced g.met.K.Eq.laws s c.args.id x e stood c.add.ensures.small c.settle.new.entries.items c.settle.new.marks c.add.new.self moved
+          c.settle.ensures.marks weighed absent c.write_again.new.writes.ids c.write_again.ensures.ids c.remove.new.self c.add-2.new.self left added,
+      room-same c.self.invariant.1 c.settle.new.entries c.write_again.new.writes c.add-2.new.self (ap (λ v. v.capacity) c.settle.ensures.unchanged)
+          c.write_again.ensures.capacity (c.add-2.ensures.step.ids ∙ c.remove.ensures.step.ids)
+          (ap (λ v. v.room) c.settle.ensures.unchanged)
+          (length-relisted g.met.K.Eq.laws s c.args.id x e stood c.add.ensures.small c.settle.new.entries.items c.settle.new.marks c.add.new.self moved
+          c.settle.ensures.marks weighed),
+    )
+
+pub returns : goal.returns
+returns g c =
+    let s = c.self.invariant.0 in
+    let x = c.get_mut.result.now in
+    let e = c.args.entry in
+    let stood = c.get_mut.ensures.value in
+    let moved = settled s c.args.id x e stood c.settle.new.entries.items c.settle.ensures.items in
+    rw (← c.self.view_is)
+    (replaces_is g.met.K.Eq.laws _ _ s.keyed c.args.id x stood refl refl e moved
+    ((λ i. written_under c.settle.new.entries.items (c.write_again.ensures.ids i))
+    ∙ writes_replaced g.met.K.Eq.laws s c.args.id x e stood c.settle.new.entries.items moved))

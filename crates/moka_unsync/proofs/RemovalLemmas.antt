@@ -1,0 +1,159 @@
+-- Lemmas on what invalidations take out of the store.
+use Rattle.std.proofs.Common.{◌≡◌, ◌<◌, ℕ, Bool, true, false, not, nat_eq, List, [], ◌∷◌, filter, length, Option, Some, None, is_some}
+use Rattle.std.proofs.Common.{IfSome, unwrap_or, refl, sym, ap, ◌∙◌, inl, inr, arith, subst}
+use Rattle.std.proofs.lemmas.Bool.{cases_Bool, cond-true, cond-false, false≢true}
+use Rattle.std.specs.Borrow.{Bor}
+use Rattle.std.specs.Cmp.{IsEquivalence}
+use Rattle.std.specs.List.{IsDistinct}
+use Rattle.std.specs.Map.{lookup, remove_entry, keys_of as ids_of, values_of}
+use Rattle.moka_deque.specs.Deque.{IsIn, first_id, next_id}
+use Rattle.moka_machine.specs.declared.entry.Entry.{Entry}
+use Rattle.moka_machine.specs.Contents.{Contents, after_leaving, entry_at, entries_without, entry_keys, without, writes_without}
+use Rattle.moka_machine.specs.Invalidate.{AnswersAt, AnswersInTurn, chosen}
+use Rattle.moka_machine.proofs.ContentsLemmas.{found_key}
+use Rattle.moka_store.specs.Store.{Store, IsFound, Removes, contents_of, entries_of}
+use Rattle.moka_deque.proofs.WalkLemmas.{from_first, from_next, from_node, from_none, from_stays, next_stays}
+
+module _ {K V : Type 0} (eq : K → K → Bool) where
+  -- a key without an entry takes none with it
+  entries-absent : (key : K) (entries : List (Entry K V)) → entry_at eq key entries ≡ None → entries_without eq key entries ≡ entries
+  entries-absent key [] h = refl
+  entries-absent key (e ∷ es) h =
+      elim (cases_Bool (eq key e.key)) [
+        | inl equal ↦ absurd (false≢true (sym (ap is_some (sym (cond-true (eq key e.key) (Some e) (entry_at eq key es) equal) ∙ h))))
+        | inr differ ↦
+            cond-true (not (eq key e.key)) _ _ (ap not differ)
+            ∙ ap (λ l. e ∷ l) (entries-absent key es (sym (cond-false (eq key e.key) (Some e) (entry_at eq key es) differ) ∙ h))
+      ]
+
+  -- where neither entry nor write has the key, nothing leaves
+  pub without-absent : (key : K) (store : Store K V) → entry_at eq key (entries_of store) ≡ None
+      → writes_without eq key store.written ≡ store.written → contents_of store ≡ without eq (contents_of store) key
+  without-absent key store none unwritten =
+      λ i. record { entries = sym (entries-absent key (entries_of store) none) i; written = sym unwritten i }
+
+  -- equal keys take the same with them
+  without-equal : IsEquivalence eq → (key other : K) → eq key other ≡ true → (contents : Contents K V)
+      → without eq contents other ≡ without eq contents key
+  without-equal laws key other equal contents =
+      λ i. record {
+        entries = filter (λ e. not (sym (laws.congr key other e.key equal) i)) contents.entries;
+        written = filter (λ w. not (sym (laws.congr key other w.key equal) i)) contents.written;
+      }
+
+  -- an entry that left took its key with it
+  pub left : (old new : Store K V) (id : ℕ) (r : Removes eq old id new) → contents_of new ≡ without eq (contents_of old) r.entry.key
+  left old new id r = r.contents
+
+  -- the entry of the key left
+  pub without-found : IsEquivalence eq → (key : K) (old new : Store K V) (id : ℕ) → IsFound eq old key id → Removes eq old id new
+      → contents_of new ≡ without eq (contents_of old) key
+  without-found laws key old new id found r =
+      let same : r.entry ≡ found.0 = ap (λ o. unwrap_or o r.entry) (sym r.stood ∙ found.1) in
+      left old new id r
+      ∙ without-equal laws key r.entry.key (subst (λ e. eq key e.key ≡ true) (sym same) (found_key eq key found.0 (entries_of old) found.2))
+      (contents_of old)
+
+-- ---- a walk through the nodes
+
+-- the entries from a node on
+abbrev pub entries_from : {K V : Type 0} → Option ℕ → Store K V → List (Entry K V)
+entries_from here store = values_of (from_node here store.nodes)
+
+-- the walk is at a node, which has this entry, and goes on to the next
+pub record IsStop {K V : Type 0} (store : Store K V) (here after : Option ℕ) (id : ℕ) (e : Entry K V) : Type 0 where
+  pub distinct : IsDistinct nat_eq (ids_of store.nodes)
+  pub stands : lookup (nat_eq id) store.nodes ≡ Some e
+  pub here_is : here ≡ Some id
+  pub after_is : after ≡ next_id id store.nodes
+
+module _ {K V : Type 0} {store : Store K V} {here after : Option ℕ} {id : ℕ} {e : Entry K V} (at : IsStop store here after id e) where
+  from_here : from_node here store.nodes ≡ (id, e) ∷ from_node after store.nodes
+  from_here =
+      ap (λ o. from_node o store.nodes) at.here_is
+      ∙ (from_next id e store.nodes at.distinct at.stands ∙ ap (λ o. (id, e) ∷ from_node o store.nodes) (sym at.after_is))
+
+  -- fewer are left
+  pub fewer_from : length (from_node after store.nodes) < length (from_node here store.nodes)
+  fewer_from = rw from_here (grind (arith))
+
+  module _ (eq : K → K → Bool) (new : Store K V) (r : Removes eq store id new) where
+    -- what is behind it stays
+    behind_stays : from_node after new.nodes ≡ from_node after store.nodes
+    behind_stays =
+        ap (from_node after) r.nodes
+        ∙ (ap (λ o. from_node o (remove_entry (nat_eq id) store.nodes)) at.after_is
+        ∙ (from_stays id store.nodes at.distinct ∙ ap (λ o. from_node o store.nodes) (sym at.after_is)))
+
+    -- the node behind it is still there
+    pub next_remains : IfSome after (λ j. IsIn new.nodes j)
+    next_remains =
+        subst (λ o. IfSome o (λ j. IsIn new.nodes j)) (sym at.after_is)
+        (subst (λ nodes. IfSome (next_id id store.nodes) (λ j. IsIn nodes j)) (sym r.nodes) (next_stays id store.nodes))
+
+    -- and fewer are left
+    pub fewer_left : length (from_node after new.nodes) < length (from_node here store.nodes)
+    fewer_left = rw behind_stays fewer_from
+
+    -- its entry has left
+    entry_left : contents_of new ≡ without eq (contents_of store) e.key
+    entry_left =
+        left eq store new id r
+        ∙ ap (λ f. without eq (contents_of store) f.key) (ap (λ o. unwrap_or o r.entry) (sym r.stood ∙ at.stands))
+
+-- ---- a predicate on its way through the nodes
+
+module _ {P K V : Type 0} (eq : K → K → Bool) (calls : P → Bor K → Bor V → Bool → P → Type 0) where
+  -- a call answered so
+  pub answered : (predicate : P) (key : Bor K) (value : Bor V) (e : Entry K V) (answer said : Bool) (next : P)
+      → calls predicate key value answer next → key.now ≡ e.key → value.now ≡ e.value → answer ≡ said
+      → AnswersAt calls predicate e said next
+  answered predicate key value e answer said next called k v is =
+      record { key = key; value = value; shown = (k, v); called = subst (λ b. calls predicate key value b next) is called }
+
+  -- what a predicate answers for the rest makes up, with what it has answered, its answers for all, and those that it chooses leave
+  abbrev pub Remaining : P → Contents K V → P → Contents K V → List (Entry K V) → Type 0
+  Remaining first begun predicate contents rest =
+      (answers : List Bool) → AnswersInTurn calls predicate rest answers
+      → (all : List Bool) × AnswersInTurn calls first begun.entries all
+      × (after_leaving eq (entry_keys (chosen answers rest)) contents ≡ after_leaving eq (entry_keys (chosen all begun.entries)) begun)
+
+  pub remaining_first : (predicate : P) (store : Store K V) (here : Option ℕ) → here ≡ first_id store.nodes
+      → Remaining predicate (contents_of store) predicate (contents_of store) (entries_from here store)
+  remaining_first predicate store here h answers told =
+      let all : entries_from here store ≡ entries_of store =
+      ap (λ o. values_of (from_node o store.nodes)) h ∙ ap values_of (from_first store.nodes) in (
+        answers,
+        subst (λ es. AnswersInTurn calls predicate es answers) all told,
+        ap (λ es. after_leaving eq (entry_keys (chosen answers es)) (contents_of store)) all,
+      )
+
+  module _ (first predicate next : P) (begun : Contents K V) {store : Store K V} {here after : Option ℕ} {id : ℕ} {e : Entry K V}
+      (at : IsStop store here after id e) where
+    asked : Remaining first begun predicate (contents_of store) (entries_from here store)
+        → Remaining first begun predicate (contents_of store) (e ∷ entries_from after store)
+    asked so_far = subst (Remaining first begun predicate (contents_of store)) (ap values_of (from_here at)) so_far
+
+    -- an entry that stays
+    pub remaining_kept : AnswersAt calls predicate e false next
+        → Remaining first begun predicate (contents_of store) (entries_from here store)
+        → Remaining first begun next (contents_of store) (entries_from after store)
+    remaining_kept told so_far answers rest = asked so_far (false ∷ answers) (false, next, answers, refl, told, rest)
+
+    -- an entry that leaves
+    pub remaining_left : AnswersAt calls predicate e true next → (new : Store K V) → Removes eq store id new
+        → Remaining first begun predicate (contents_of store) (entries_from here store)
+        → Remaining first begun next (contents_of new) (entries_from after new)
+    remaining_left told new r so_far =
+        subst (λ c. Remaining first begun next c (entries_from after new)) (sym (entry_left at eq new r))
+        (subst (Remaining first begun next (without eq (contents_of store) e.key)) (ap values_of (sym (behind_stays at eq new r)))
+        (λ answers rest. asked so_far (true ∷ answers) (true, next, answers, refl, told, rest)))
+
+  -- at the end all have been asked
+  pub remaining_none : (first predicate : P) (begun : Contents K V) (store : Store K V) (here : Option ℕ) → here ≡ None
+      → Remaining first begun predicate (contents_of store) (entries_from here store)
+      → (all : List Bool) × AnswersInTurn calls first begun.entries all
+      × (contents_of store ≡ after_leaving eq (entry_keys (chosen all begun.entries)) begun)
+  remaining_none first predicate begun store here h so_far =
+      let none : entries_from here store ≡ [] = ap (λ o. values_of (from_node o store.nodes)) h ∙ ap values_of (from_none store.nodes) in
+      (subst (Remaining first begun predicate (contents_of store)) none so_far) [] refl

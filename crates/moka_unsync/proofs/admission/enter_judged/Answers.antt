@@ -1,0 +1,106 @@
+use Rattle.std.proofs.Common.{◌≡◌, ◌∙◌, ◌-◌, ◌<◌, None, Some, ap, arith, is_some, refl, subst, sym}
+use Rattle.moka_machine.specs.Contents.{entry_at, main_of, total_weight, window_of}
+use Rattle.moka_machine.specs.Insert.{after_admission, after_entry}
+use Rattle.moka_machine.specs.Upkeep.{least_recent}
+use Rattle.moka_machine.specs.Shares.{main_limit}
+use Rattle.moka_machine.specs.Window.{after_candidates, victims_of}
+use Rattle.moka_machine.proofs.EnteringLemmas.{absent-judged, after_judging, entering-is_judged, entering-is_kept, entering_excess}
+use Rattle.moka_machine.proofs.EnteringLemmas.{excess_left, inside, outside, stands-arrived, stands-kept}
+use Rattle.moka_store.specs.Store.{contents_of, entries_of}
+use Rattle.moka_unsync.proofs.WindowLemmas.{entered_last}
+use Rattle.moka_unsync.proofs.admission.enter_judged.Given.{Over}
+use Rattle.moka_unsync.proofs.admission.enter_judged.Goals.{After-admit, After-enter, After-judge_candidates}
+use Rattle.moka_unsync.proofs.admission.enter_judged.Goals as goal
+
+enough_is : (g : Over) (c : After-judge_candidates g)
+    → c.args.enough ≡ entering_excess c.args.limits.now c.args.new (entries_of c.args.store.now)
+enough_is g c = c.requires.enough
+
+-- the window's old entries were judged
+judged_is : (g : Over) (c : After-judge_candidates g) → contents_of c.judge_candidates.new.store
+    ≡ after_judging g.K.PartialEq.eq c.args.limits.now c.args.sketch.now c.args.new (contents_of c.args.store.now)
+judged_is g c =
+    c.judge_candidates.ensures.step
+    ∙ ap (λ n. after_candidates g.K.PartialEq.eq c.args.limits.now c.args.sketch.now (least_recent n (window_of (entries_of c.args.store.now)))
+    (contents_of c.args.store.now)) (enough_is g c)
+
+left_is : (g : Over) (c : After-judge_candidates g)
+    → c.judge_candidates.result ≡ excess_left c.args.limits.now c.args.new (entries_of c.args.store.now)
+left_is g c =
+    c.judge_candidates.ensures.value
+    ∙ ap (λ n. n - total_weight (least_recent n (window_of (entries_of c.args.store.now)))) (enough_is g c)
+
+absent : (g : Over) (c : After-judge_candidates g)
+    → entry_at g.K.PartialEq.eq c.args.new.key (entries_of c.judge_candidates.new.store) ≡ None
+absent g c =
+    ap (λ s. entry_at g.K.PartialEq.eq c.args.new.key s.entries) (judged_is g c)
+    ∙ absent-judged g.K.PartialEq.eq g.met.K.Eq.laws c.args.store.now.keeps_writes c.args.limits.now c.args.sketch.now c.args.new
+    (contents_of c.args.store.now) c.requires.absent
+
+pub admit-requires-clause-absent : goal.admit-requires-clause-absent
+admit-requires-clause-absent g c = absent g (goal.at.admit-requires-clause-absent g c).After-judge_candidates
+
+-- the new entry was judged as the last of them
+arrived : (g : Over) (c : After-admit g) → contents_of c.admit.new.store ≡ after_admission g.K.PartialEq.eq
+    c.judge_candidates.new.store.keeps_writes (outside c.args.new)
+    (victims_of (Some c.main_limit.result) c.args.sketch.now (outside c.args.new) (main_of (entries_of c.judge_candidates.new.store)))
+    (contents_of c.judge_candidates.new.store)
+arrived g c =
+    c.admit.ensures.step
+    ∙ ap (λ e. after_admission g.K.PartialEq.eq c.judge_candidates.new.store.keeps_writes e
+    (victims_of (Some c.main_limit.result) c.args.sketch.now e (main_of (entries_of c.judge_candidates.new.store)))
+    (contents_of c.judge_candidates.new.store)) (λ i. record c.args.new { part = c.requires.probation i })
+
+pub returns-then-judge_candidates-gt0-clause-value : goal.returns-then-judge_candidates-gt0-clause-value
+returns-then-judge_candidates-gt0-clause-value g c =
+    let at = goal.at.returns-then-judge_candidates-gt0-clause-value g c in
+    c.admit.ensures.value
+    ∙ ap (λ e. is_some (victims_of (Some c.main_limit.result) c.args.sketch.now e (main_of (entries_of c.judge_candidates.new.store))))
+    (λ i. record c.args.new { part = c.requires.probation i })
+    ∙ sym (ap (λ s. is_some (entry_at g.K.PartialEq.eq c.args.new.key s.entries)) (arrived g at.After-admit)
+    ∙ stands-arrived g.K.PartialEq.eq g.met.K.Eq.laws c.judge_candidates.new.store.keeps_writes c.args.limits.now c.args.sketch.now c.args.new
+    (victims_of (Some c.main_limit.result) c.args.sketch.now (outside c.args.new) (main_of (entries_of c.judge_candidates.new.store)))
+    (contents_of c.judge_candidates.new.store) (absent g at.After-judge_candidates))
+
+pub returns-then-judge_candidates-gt0-clause-step : goal.returns-then-judge_candidates-gt0-clause-step
+returns-then-judge_candidates-gt0-clause-step g c =
+    let at = goal.at.returns-then-judge_candidates-gt0-clause-step g c in
+    let eq = g.K.PartialEq.eq in
+    arrived g at.After-admit
+    ∙ (ap (λ k. after_admission eq k (outside c.args.new) (victims_of (Some c.main_limit.result) c.args.sketch.now (outside c.args.new)
+    (main_of (contents_of c.judge_candidates.new.store).entries)) (contents_of c.judge_candidates.new.store))
+    c.judge_candidates.ensures.kept.keeps
+    ∙ (ap (λ l. after_admission eq c.args.store.now.keeps_writes (outside c.args.new) (victims_of (Some l) c.args.sketch.now
+    (outside c.args.new) (main_of (contents_of c.judge_candidates.new.store).entries)) (contents_of c.judge_candidates.new.store))
+    c.main_limit.ensures
+    ∙ (ap (λ s. after_admission eq c.args.store.now.keeps_writes (outside c.args.new) (victims_of (Some (main_limit c.args.limits.now))
+    c.args.sketch.now (outside c.args.new) (main_of s.entries)) s) (judged_is g at.After-judge_candidates)
+    ∙ sym (entering-is_judged eq g.met.K.Eq.laws c.args.store.now.keeps_writes c.args.limits.now c.args.sketch.now c.args.new
+    (contents_of c.args.store.now) c.requires.absent c.requires.unwritten
+    (subst (λ n. 0 < n) (left_is g at.After-judge_candidates) c.if-judge_candidates-gt0.true)))))
+
+pub enter-requires-clause-absent : goal.enter-requires-clause-absent
+enter-requires-clause-absent g c = absent g (goal.at.enter-requires-clause-absent g c).After-judge_candidates
+
+-- the new entry is in the window
+entered : (g : Over) (c : After-enter g) → contents_of c.enter.new.self
+    ≡ after_entry g.K.PartialEq.eq c.args.store.now.keeps_writes (inside c.args.new) (contents_of c.judge_candidates.new.store)
+entered g c =
+    entered_last g.K.PartialEq.eq c.args.store.now.keeps_writes c.judge_candidates.new.store c.enter.new.self (inside c.args.new) refl
+    c.judge_candidates.ensures.kept.keeps c.enter.ensures
+
+pub returns-clause-value : goal.returns-clause-value
+returns-clause-value g c =
+    let at = goal.at.returns-clause-value g c in
+    sym (ap (λ s. is_some (entry_at g.K.PartialEq.eq c.args.new.key s.entries)) (entered g at.After-enter)
+    ∙ stands-kept g.K.PartialEq.eq g.met.K.Eq.laws c.args.store.now.keeps_writes c.args.limits.now c.args.sketch.now c.args.new
+    (contents_of c.judge_candidates.new.store))
+
+pub returns-clause-step : goal.returns-clause-step
+returns-clause-step g c =
+    let at = goal.at.returns-clause-step g c in
+    entered g at.After-enter
+    ∙ (ap (after_entry g.K.PartialEq.eq c.args.store.now.keeps_writes (inside c.args.new)) (judged_is g at.After-judge_candidates)
+    ∙ sym (entering-is_kept g.K.PartialEq.eq g.met.K.Eq.laws c.args.store.now.keeps_writes c.args.limits.now c.args.sketch.now c.args.new
+    (contents_of c.args.store.now) c.requires.absent c.requires.unwritten
+    (sym (left_is g at.After-judge_candidates) ∙ grind (arith, c.if-judge_candidates-gt0.false))))

@@ -1,0 +1,21 @@
+use Rattle.std.proofs.Common.{◌≡◌, ◌∙◌, ◌-◌, ap, sym}
+use Rattle.moka_deque.proofs.IdLemmas.{some_parts}
+use Rattle.moka_unsync.proofs.TurnLemmas.{continued}
+use Rattle.moka_unsync.proofs.WindowLemmas.{next_candidates, next_lacking}
+use Rattle.moka_unsync.proofs.admission.judge_candidates.Goals as goal
+
+pub loop-lacking-preserved : goal.loop-lacking-preserved
+loop-lacking-preserved g c =
+    let eq = g.K.PartialEq.eq in
+    let (front, judged, rest) = c.judge.ensures.step in
+    let own : c.get.result.now ≡ front.entry = some_parts c.get.result.now front.entry (sym c.get.ensures ∙ front.stands) in
+    let lacking : c.saturating_sub-lacking.result ≡ c.loop-lacking.lacking - front.entry.weight =
+    c.saturating_sub-lacking.ensures ∙ ap (λ w. c.loop-lacking.lacking - w) (c.from.ensures ∙ ap (λ e. e.weight) own) in
+    let was = c.loop-lacking.invariant in
+    rw lacking (
+      next_candidates eq c.args.limits.now c.args.sketch.now c.loop-lacking.store c.judge.new.store c.in-Some.id c.loop-lacking.lacking front
+          c.loop-lacking-test.true judged rest ∙ was.0,
+      next_lacking eq c.args.limits.now c.args.sketch.now c.loop-lacking.store c.judge.new.store c.in-Some.id c.loop-lacking.lacking front
+          c.loop-lacking-test.true judged rest ∙ was.1,
+      continued was.2 c.judge.ensures.kept,
+    )

@@ -1,0 +1,16 @@
+use Rattle.std.proofs.Common.{◌≡◌, ◌-◌, length}
+use Rattle.moka_machine.specs.Contents.{total_weight, window_of}
+use Rattle.moka_machine.specs.Upkeep.{least_recent}
+use Rattle.moka_machine.specs.Window.{after_candidates}
+use Rattle.moka_store.specs.Store.{Continues, contents_of, entries_of}
+use Rattle.moka_unsync.proofs.admission.judge_candidates.Given as goal
+
+abbrev pub invariant-loop-lacking : goal.invariant-loop-lacking
+invariant-loop-lacking g l =
+    (after_candidates g.K.PartialEq.eq l.limits l.sketch (least_recent l.lacking (window_of (entries_of l.store))) (contents_of l.store)
+    ≡ after_candidates g.K.PartialEq.eq l.limits l.sketch (least_recent l.fn.enough (window_of (entries_of l.fn.store))) (contents_of l.fn.store))
+    × (l.lacking - total_weight (least_recent l.lacking (window_of (entries_of l.store)))
+    ≡ l.fn.enough - total_weight (least_recent l.fn.enough (window_of (entries_of l.fn.store)))) × Continues l.fn.store l.store
+
+abbrev pub decreases-loop-lacking : goal.decreases-loop-lacking
+decreases-loop-lacking g l = length (window_of (entries_of l.store))

@@ -1,0 +1,14 @@
+use Rattle.std.proofs.Common.{◌≡◌, ◌-◌, ◌∙◌, suc, ap, sym, arith}
+use Rattle.moka_machine.specs.Upkeep.{after_live_expiry}
+use Rattle.moka_store.specs.Store.{contents_of}
+use Rattle.moka_unsync.proofs.upkeep.expire_by_write.Goals as goal
+
+pub loop-left-preserved : goal.loop-left-preserved
+loop-left-preserved g c =
+    let some = c.loop-left-test.true in let same : suc (c.loop-left.left - 1) ≡ c.loop-left.left = omega arith in
+    let was = c.loop-left.invariant in let kept = c.if-expire_oldest.ensures.kept in
+    let fewer = kept.fewer in let fewer_were = was.1.fewer in (
+      sym (c.if-expire_oldest.ensures.turn (c.loop-left.left - 1))
+          ∙ ap (λ left. after_live_expiry g.K.PartialEq.eq c.args.limits.now c.args.now left (contents_of c.loop-left.store)) same ∙ was.0,
+      record { keeps = kept.keeps ∙ was.1.keeps; capacity = kept.capacity ∙ was.1.capacity; fewer = omega arith },
+    )

@@ -1,0 +1,13 @@
+use Rattle.std.proofs.Common.{◌≡◌}
+use Rattle.moka_machine.specs.Upkeep.{after_live_expiry}
+use Rattle.moka_machine.specs.declared.constants.TheConstants.{EVICTION_BATCH_SIZE}
+use Rattle.moka_store.specs.Store.{Continues, contents_of}
+use Rattle.moka_unsync.proofs.upkeep.expire_by_write.Given as goal
+
+abbrev pub invariant-loop-left : goal.invariant-loop-left
+invariant-loop-left g l =
+    (after_live_expiry g.K.PartialEq.eq l.limits l.now l.left (contents_of l.store) ≡ after_live_expiry g.K.PartialEq.eq l.limits l.now
+    EVICTION_BATCH_SIZE (contents_of l.fn.store)) × Continues l.fn.store l.store
+
+abbrev pub decreases-loop-left : goal.decreases-loop-left
+decreases-loop-left g l = l.left

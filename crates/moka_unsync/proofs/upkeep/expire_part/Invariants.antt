@@ -1,0 +1,15 @@
+use Rattle.std.proofs.Common.{◌≡◌, false}
+use Rattle.moka_machine.specs.declared.constants.TheConstants.{EVICTION_BATCH_SIZE}
+use Rattle.moka_machine.specs.declared.entry.Part.{Part}
+use Rattle.moka_store.specs.Store.{Continues, contents_of, entries_of, is_of, those_of}
+use Rattle.moka_unsync.specs.Turns.{after_idle_of}
+use Rattle.moka_unsync.proofs.upkeep.expire_part.Given as goal
+
+abbrev pub invariant-loop-left : goal.invariant-loop-left
+invariant-loop-left g l =
+    (after_idle_of g.K.PartialEq.eq l.part l.limits l.now l.left (contents_of l.store) ≡ after_idle_of g.K.PartialEq.eq l.part l.limits l.now
+    EVICTION_BATCH_SIZE (contents_of l.fn.store)) × Continues l.fn.store l.store
+    × ((other : Part) → is_of other l.part ≡ false → those_of other (entries_of l.store) ≡ those_of other (entries_of l.fn.store))
+
+abbrev pub decreases-loop-left : goal.decreases-loop-left
+decreases-loop-left g l = l.left

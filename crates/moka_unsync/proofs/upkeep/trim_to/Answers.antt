@@ -1,0 +1,17 @@
+use Rattle.moka_machine.specs.Upkeep.{after_eviction}
+use Rattle.moka_store.specs.Store.{contents_of}
+use Rattle.moka_unsync.proofs.TurnLemmas.{continued, last_turn, next_turn}
+use Rattle.moka_unsync.proofs.upkeep.trim_to.Goals as goal
+
+pub loop-left-preserved : goal.loop-left-preserved
+loop-left-preserved g c =
+    let done = c.if-trim_front.ensures {u = tt} in (
+      next_turn (after_eviction g.K.PartialEq.eq c.args.limit) c.loop-left.left (contents_of c.loop-left.store)
+          (contents_of c.trim_front.new.store) _ c.loop-left-test.true c.loop-left.invariant.0 done.turn,
+      continued c.loop-left.invariant.1 done.kept,
+    )
+
+pub returns-after-loop-left-clause-step : goal.returns-after-loop-left-clause-step
+returns-after-loop-left-clause-step g c =
+    last_turn g.K.PartialEq.eq c.args.limit c.loop-left.left (contents_of c.loop-left.store) _ c.loop-left-test.false
+    c.loop-left.invariant.0

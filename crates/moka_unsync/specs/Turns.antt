@@ -1,0 +1,25 @@
+-- What a batch of entries leaves that go one after another. No public clause cites this module.
+use Rattle.std.specs.Prelude.{◌≡◌, ℕ, suc, Bool, true, false, List, take, Option, option_map}
+use Rattle.moka_base.specs.Policy.{Policy}
+use Rattle.moka_machine.specs.declared.entry.Part.{Part}
+use Rattle.moka_machine.specs.Contents.{Contents, after_leaving, entry_keys, main_of}
+use Rattle.moka_machine.specs.Upkeep.{after_idle}
+use Rattle.moka_store.specs.Store.{those_of}
+
+-- one left and the others are up to further turns, or none is left to leave
+abbrev pub IsTurn : {X : Type 0} → (ℕ → X → X) → Bool → X → X → Type 0
+IsTurn batch true old new = (most : ℕ) → batch (suc most) old ≡ batch most new
+IsTurn batch false old new = (new ≡ old) × ((most : ℕ) → batch most old ≡ old)
+
+-- as many entries from the front, where there is a number
+abbrev pub counted : {X : Type 0} → List X → Option ℕ → Option (List X)
+counted entries count = option_map (λ n. take n entries) count
+
+module _ {K V : Type 0} (eq : K → K → Bool) where
+  -- the contents once so many of main's least recently used entries have left
+  abbrev pub after_eviction_of : ℕ → Contents K V → Contents K V
+  after_eviction_of count contents = after_leaving eq (entry_keys (take count (main_of contents.entries))) contents
+
+  -- the contents once the longest beginning of a part that was idle too long has left, but at most so many
+  abbrev pub after_idle_of : Part → Policy → ℕ → ℕ → Contents K V → Contents K V
+  after_idle_of part policy now most contents = after_idle eq policy now most (those_of part contents.entries) contents

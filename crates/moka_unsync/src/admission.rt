@@ -1,0 +1,406 @@
+// Admission of new entries by TinyLFU, size-aware as in Caffeine. A new entry first enters the window, if there is one; entries that leave the window are
+// the candidates for main.
+ghost use Rattle.std.specs.Prelude.{◌≡◌, ◌<◌, ◌≤◌, ◌-◌, ◌+◌, ◌^◌, ◌++◌, ◌∷◌, [], ℕ, All, IfSome, IsNone, List, None, Some, false, is_some, length};
+ghost use Rattle.moka_base.specs.Admission.{outvoted};
+ghost use Rattle.moka_base.specs.Prefix.{shortest_prefix};
+ghost use Rattle.moka_sketch.specs.Sketch.{estimate};
+ghost use Rattle.moka_machine.specs.Contents.{after_moving, entry_at, is_window, main_of, total_weight, window_of, writes_without};
+ghost use Rattle.moka_machine.specs.declared.entry.Entry.{Entry as EntryValue};
+ghost use Rattle.moka_machine.specs.declared.entry.Part.TheVariants.{Probation, Window};
+ghost use Rattle.moka_machine.specs.Insert.{after_admission, after_arrival, after_entering, after_entry};
+ghost use Rattle.moka_machine.specs.Shares.{main_limit};
+ghost use Rattle.moka_machine.specs.Upkeep.{least_recent};
+ghost use Rattle.moka_machine.specs.Window.{after_candidate, after_candidates, excess, victims_of};
+ghost use Rattle.moka_store.specs.Store.{Continues, IsFront, IsFrontOf, contents_of, entries_of};
+ghost use Rattle.moka_unsync.specs.Cached.{IsPut};
+ghost use Rattle.moka_unsync.specs.Turns.{IsTurn, after_eviction_of, counted};
+
+use moka_deque::deque::NodeId;
+use moka_machine::entry::{Entry, Part};
+use moka_machine::shares::PartLimits;
+use moka_sketch::frequency_sketch::FrequencySketch;
+use moka_store::store::Store;
+use std::alloc::Allocator;
+
+/// Stores a new entry, or drops it if it is rejected. Returns whether it was stored.
+#[inline]
+pub(crate) fn put_new<K: Eq + Drop, V: Drop, A: Allocator + Clone + Drop>(
+    store: &mut Store<K, V, A>,
+    limit: Option<u64>,
+    windowed: &Option<PartLimits>,
+    sketch: &FrequencySketch<A>,
+    new: Entry<K, V>,
+) -> bool
+    requires room { length store.old.nodes < store.old.capacity }
+    requires absent { entry_at K.eq new.key (entries_of store.old) ≡ None }
+    requires unwritten { writes_without K.eq new.key store.old.written ≡ store.old.written }
+    requires probation { new.part ≡ Probation }
+    requires all_main { windowed.now ≡ None → All (λ e. is_window e.part ≡ false) (entries_of store.old) }
+    ensures step { IsPut K.eq store.old.keeps_writes windowed.now limit sketch.now new (contents_of store.old) result (contents_of store.new) }
+    ensures keeps { store.new.keeps_writes ≡ store.old.keeps_writes }
+    ensures capacity { store.new.capacity ≡ store.old.capacity }
+{
+    match windowed {
+        Some(limits) => enter_window(store, limits, sketch, new),
+        None => admit(store, limit, sketch, new),
+    }
+}
+
+/// Stores a new entry in place of its victims in main, or drops it if it is rejected. Returns whether it was stored.
+fn admit<K: Eq + Drop, V: Drop, A: Allocator + Clone + Drop>(
+    store: &mut Store<K, V, A>,
+    limit: Option<u64>,
+    sketch: &FrequencySketch<A>,
+    new: Entry<K, V>,
+) -> bool
+    requires room { length store.old.nodes < store.old.capacity }
+    requires absent { entry_at K.eq new.key (entries_of store.old) ≡ None }
+    ensures value { result ≡ is_some (victims_of limit sketch.now new (main_of (entries_of store.old))) }
+    ensures step { contents_of store.new ≡ after_admission K.eq store.old.keeps_writes new
+        (victims_of limit sketch.now new (main_of (entries_of store.old))) (contents_of store.old) }
+    ensures keeps { store.new.keeps_writes ≡ store.old.keeps_writes }
+    ensures capacity { store.new.capacity ≡ store.old.capacity }
+{
+    let Some(count) = victim_count(store, limit, sketch, &new) else {
+        return false;
+    };
+    enter_for(store, count, new);
+    true
+}
+
+/// Number of LRU entries of main to evict for `new`, or `None` if it is rejected.
+#[inline]
+fn victim_count<K: Eq + Drop, V: Drop, A: Allocator + Clone + Drop>(
+    store: &Store<K, V, A>,
+    limit: Option<u64>,
+    sketch: &FrequencySketch<A>,
+    new: &Entry<K, V>,
+) -> Option<usize>
+    ensures { counted (main_of (entries_of store.now)) result ≡ victims_of limit sketch.now new.now (main_of (entries_of store.now)) }
+{
+    let Some(limit) = limit else {
+        return Some(0);
+    };
+    if main_weight(store) + u64::from(new.weight) <= limit {
+        return Some(0);
+    }
+    if u64::from(new.weight) > limit {
+        return None;
+    }
+    outvoted_count(store, sketch, new)
+}
+
+/// Total weight of main's entries.
+#[inline]
+fn main_weight<K: Eq + Drop, V: Drop, A: Allocator + Clone + Drop>(store: &Store<K, V, A>) -> u64
+    ensures value { result ≡ total_weight (main_of (entries_of store.now)) }
+    ensures small { result + (2 ^ 32 - 1) < 2 ^ 64 }
+{
+    store.weight() - store.window_weight()
+}
+
+/// Number of LRU entries of main that together weigh as much as `new`, or `None` if it isn't used more often than all of them together.
+fn outvoted_count<K: Eq + Drop, V: Drop, A: Allocator + Clone + Drop>(
+    store: &Store<K, V, A>,
+    sketch: &FrequencySketch<A>,
+    new: &Entry<K, V>,
+) -> Option<usize>
+    ensures { counted (main_of (entries_of store.now)) result
+        ≡ outvoted (λ e. e.weight) (λ e. estimate sketch.now e.hash) (estimate sketch.now new.now.hash)
+        (shortest_prefix (λ e. e.weight) new.now.weight (main_of (entries_of store.now))) }
+{
+    let candidate = sketch.frequency(new.hash);
+    // For the proof: there are at most `usize::MAX` entries, and main stands before the window.
+    let _ = store.len();
+    let mut lacking = new.weight;
+    let mut votes = 0;
+    let mut count = 0;
+    let mut entries = store.iter();
+    // The candidate's frequency is at most 15, so few votes are read before they are as many.
+    while votes < candidate {
+        if lacking == 0 {
+            return Some(count);
+        }
+        let Some(victim) = entries.next() else {
+            return None;
+        };
+        if is_windowed(victim) {
+            // Main ends here.
+            return None;
+        }
+        votes += sketch.frequency(victim.hash);
+        lacking = lacking.saturating_sub(victim.weight);
+        count += 1;
+    }
+    None
+}
+
+/// Tells if an entry is in the window.
+#[inline]
+fn is_windowed<K: Drop, V: Drop>(entry: &Entry<K, V>) -> bool
+    ensures { result ≡ is_window entry.now.part }
+{
+    matches!(entry.part, Part::Window)
+}
+
+/// Evicts `count` LRU entries of main and stores the new one in the last one's node.
+#[inline]
+fn enter_for<K: Eq + Drop, V: Drop, A: Allocator + Clone + Drop>(
+    store: &mut Store<K, V, A>,
+    count: usize,
+    new: Entry<K, V>,
+)
+    requires room { length store.old.nodes < store.old.capacity }
+    requires absent { entry_at K.eq new.key (entries_of store.old) ≡ None }
+    ensures step { contents_of store.new ≡ after_arrival K.eq store.old.keeps_writes new (after_eviction_of K.eq count (contents_of store.old)) }
+    ensures keeps { store.new.keeps_writes ≡ store.old.keeps_writes }
+    ensures capacity { store.new.capacity ≡ store.old.capacity }
+{
+    if count == 0 {
+        store.enter(new);
+        return;
+    }
+    evict(store, count - 1);
+    match main_front(store) {
+        Some(id) => store.replace(id, new),
+        None => store.enter(new),
+    }
+}
+
+/// Evicts `count` LRU entries of main.
+#[inline]
+fn evict<K: Eq + Drop, V: Drop, A: Allocator + Clone + Drop>(
+    store: &mut Store<K, V, A>,
+    count: usize,
+)
+    ensures step { (more : ℕ) → after_eviction_of K.eq (count + more) (contents_of store.old) ≡ after_eviction_of K.eq more (contents_of store.new) }
+    ensures kept { Continues store.old store.new }
+{
+    let mut left = count;
+    while left > 0 && evict_front(store) {
+        left -= 1;
+    }
+}
+
+/// Evicts main's least recently used entry, if there is one.
+fn evict_front<K: Eq + Drop, V: Drop, A: Allocator + Clone + Drop>(
+    store: &mut Store<K, V, A>,
+) -> bool
+    ensures turn { IsTurn (after_eviction_of K.eq)
+        result (contents_of store.old) (contents_of store.new) }
+    ensures kept { Continues store.old store.new }
+{
+    let Some(id) = main_front(store) else {
+        return false;
+    };
+    store.remove(id);
+    true
+}
+
+/// Returns the node of main's least recently used entry.
+#[inline]
+fn main_front<K: Eq + Drop, V: Drop, A: Allocator + Clone + Drop>(
+    store: &Store<K, V, A>,
+) -> Option<NodeId>
+    ensures found { IfSome result (λ id. (front : IsFront K.eq store.now id) × (is_window front.entry.part ≡ false)) }
+    ensures absent { IsNone result → main_of (entries_of store.now) ≡ [] }
+{
+    // For the proof: if the first entry is in the window, all are.
+    let _ = store.len();
+    let id = store.front()?;
+    if is_windowed(store.get(id)) {
+        return None;
+    }
+    Some(id)
+}
+
+/// Stores a new entry in the window. Then the window's least recently used entries move to main if they are admitted there, or leave the store, until its
+/// weight is within its share. Returns whether the new entry was stored.
+#[inline]
+fn enter_window<K: Eq + Drop, V: Drop, A: Allocator + Clone + Drop>(
+    store: &mut Store<K, V, A>,
+    limits: &PartLimits,
+    sketch: &FrequencySketch<A>,
+    mut new: Entry<K, V>,
+) -> bool
+    requires room { length store.old.nodes < store.old.capacity }
+    requires absent { entry_at K.eq new.key (entries_of store.old) ≡ None }
+    requires unwritten { writes_without K.eq new.key store.old.written ≡ store.old.written }
+    requires probation { new.part ≡ Probation }
+    ensures value { result ≡ is_some (entry_at K.eq new.key (entries_of store.new)) }
+    ensures step { contents_of store.new ≡ after_entering K.eq store.old.keeps_writes limits.now sketch.now new (contents_of store.old) }
+    ensures keeps { store.new.keeps_writes ≡ store.old.keeps_writes }
+    ensures capacity { store.new.capacity ≡ store.old.capacity }
+{
+    let enough = excess(store, limits, new.weight);
+    if enough == 0 {
+        new.part = Part::Window;
+        store.enter(new);
+        return true;
+    }
+    match last_candidate(store, enough) {
+        Some(id) => {
+            new.part = Part::Window;
+            judge_last(store, limits, sketch, id, new);
+            true
+        }
+        None => enter_judged(store, limits, sketch, enough, new),
+    }
+}
+
+/// Returns the window's least recently used entry if it alone weighs `enough`.
+#[inline]
+fn last_candidate<K: Eq + Drop, V: Drop, A: Allocator + Clone + Drop>(
+    store: &Store<K, V, A>,
+    enough: u64,
+) -> Option<NodeId>
+    ensures { IfSome result (λ id. (front : IsFrontOf K.eq Window store.now id) × (enough ≤ front.entry.weight)) }
+{
+    let id = store.front_of(Part::Window)?;
+    if u64::from(store.get(id).weight) < enough {
+        return None;
+    }
+    Some(id)
+}
+
+/// Does the same if several entries are judged, or the new one is. The weight that has to leave the window is `enough`.
+#[cold]
+#[inline(never)]
+fn enter_judged<K: Eq + Drop, V: Drop, A: Allocator + Clone + Drop>(
+    store: &mut Store<K, V, A>,
+    limits: &PartLimits,
+    sketch: &FrequencySketch<A>,
+    enough: u64,
+    mut new: Entry<K, V>,
+) -> bool
+    requires room { length store.old.nodes < store.old.capacity }
+    requires absent { entry_at K.eq new.key (entries_of store.old) ≡ None }
+    requires unwritten { writes_without K.eq new.key store.old.written ≡ store.old.written }
+    requires probation { new.part ≡ Probation }
+    requires enough { enough ≡ excess limits.now (entries_of store.old ++ record new { part = Window } ∷ []) }
+    ensures value { result ≡ is_some (entry_at K.eq new.key (entries_of store.new)) }
+    ensures step { contents_of store.new ≡ after_entering K.eq store.old.keeps_writes limits.now sketch.now new (contents_of store.old) }
+    ensures keeps { store.new.keeps_writes ≡ store.old.keeps_writes }
+    ensures capacity { store.new.capacity ≡ store.old.capacity }
+{
+    if judge_candidates(store, limits, sketch, enough) > 0 {
+        // The new entry is the last candidate, so it comes to main or leaves without having stood in the window.
+        return admit(store, Some(main_limit(limits)), sketch, new);
+    }
+    new.part = Part::Window;
+    store.enter(new);
+    true
+}
+
+/// The weight limit of main.
+#[inline]
+fn main_limit(limits: &PartLimits) -> u64
+    ensures { result ≡ main_limit limits.now }
+{
+    limits.all.saturating_sub(limits.window)
+}
+
+/// The weight that has to leave the window once an entry of this weight is in it.
+#[inline]
+fn excess<K: Eq + Drop, V: Drop, A: Allocator + Clone + Drop>(
+    store: &Store<K, V, A>,
+    limits: &PartLimits,
+    weight: u32,
+) -> u64
+    ensures { (new : EntryValue K V) → new.part ≡ Window → new.weight ≡ weight → result ≡ excess limits.now (entries_of store.now ++ new ∷ []) }
+{
+    let all = store.weight() + u64::from(weight);
+    let window = store.window_weight() + u64::from(weight);
+    let above_share = window.saturating_sub(limits.window);
+    above_share.max(all.saturating_sub(limits.all))
+}
+
+/// Judges the window's entries, least recently used first, until `enough` weight has left the window. Returns how much is lacking then.
+fn judge_candidates<K: Eq + Drop, V: Drop, A: Allocator + Clone + Drop>(
+    store: &mut Store<K, V, A>,
+    limits: &PartLimits,
+    sketch: &FrequencySketch<A>,
+    enough: u64,
+) -> u64
+    ensures value { result ≡ enough - total_weight (least_recent enough (window_of (entries_of store.old))) }
+    ensures step { contents_of store.new ≡ after_candidates K.eq limits.now sketch.now (least_recent enough (window_of (entries_of store.old)))
+        (contents_of store.old) }
+    ensures kept { Continues store.old store.new }
+{
+    let mut lacking = enough;
+    while lacking > 0 {
+        let Some(id) = store.front_of(Part::Window) else {
+            return lacking;
+        };
+        lacking = lacking.saturating_sub(u64::from(store.get(id).weight));
+        judge(store, limits, sketch, id);
+    }
+    lacking
+}
+
+/// Judges the window's least recently used entry: it moves to main in place of its victims, or leaves.
+fn judge<K: Eq + Drop, V: Drop, A: Allocator + Clone + Drop>(
+    store: &mut Store<K, V, A>,
+    limits: &PartLimits,
+    sketch: &FrequencySketch<A>,
+    id: NodeId,
+)
+    requires { IsFrontOf K.eq Window store.old id }
+    ensures step { (front : IsFrontOf K.eq Window store.old id)
+        × (contents_of store.new ≡ after_candidate K.eq limits.now sketch.now (contents_of store.old) front.entry)
+        × (window_of (entries_of store.new) ≡ front.rest) }
+    ensures kept { Continues store.old store.new }
+{
+    // For the proof: no key stands twice.
+    let _ = store.len();
+    match victim_count(store, Some(main_limit(limits)), sketch, store.get(id)) {
+        Some(count) => {
+            evict(store, count);
+            promote_front(store);
+        }
+        None => store.remove(id),
+    }
+}
+
+/// Does the same and stores a new entry in the window, in the node of an entry that leaves, if one does.
+#[inline]
+fn judge_last<K: Eq + Drop, V: Drop, A: Allocator + Clone + Drop>(
+    store: &mut Store<K, V, A>,
+    limits: &PartLimits,
+    sketch: &FrequencySketch<A>,
+    id: NodeId,
+    new: Entry<K, V>,
+)
+    requires room { length store.old.nodes < store.old.capacity }
+    requires absent { entry_at K.eq new.key (entries_of store.old) ≡ None }
+    requires window { new.part ≡ Window }
+    requires front { IsFrontOf K.eq Window store.old id }
+    ensures step { (front : IsFrontOf K.eq Window store.old id)
+        × (contents_of store.new
+        ≡ after_entry K.eq store.old.keeps_writes new (after_candidate K.eq limits.now sketch.now (contents_of store.old) front.entry)) }
+    ensures keeps { store.new.keeps_writes ≡ store.old.keeps_writes }
+    ensures capacity { store.new.capacity ≡ store.old.capacity }
+{
+    // For the proof: no key stands twice.
+    let _ = store.len();
+    match victim_count(store, Some(main_limit(limits)), sketch, store.get(id)) {
+        Some(count) => {
+            // The candidate is still the window's first entry after this.
+            enter_for(store, count, new);
+            promote_front(store);
+        }
+        None => store.replace(id, new),
+    }
+}
+
+/// Moves the window's least recently used entry to main, if there is one.
+#[inline]
+fn promote_front<K: Eq + Drop, V: Drop, A: Allocator + Clone + Drop>(store: &mut Store<K, V, A>)
+    ensures step { (c : EntryValue K V) (ws : List (EntryValue K V)) → window_of (entries_of store.old) ≡ c ∷ ws
+        → contents_of store.new ≡ after_moving K.eq (record c { part = Probation }) (contents_of store.old) }
+    ensures kept { Continues store.old store.new }
+{
+    if let Some(id) = store.front_of(Part::Window) {
+        store.move_to_probation(id);
+    }
+}

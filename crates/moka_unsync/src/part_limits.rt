@@ -1,0 +1,81 @@
+// The limits of a cache's parts: the window, and main's protected entries.
+ghost use Rattle.std.specs.Prelude.{◌≡◌, ◌≤◌};
+ghost use Rattle.moka_machine.specs.Shares.{default_shares, hundredths, limits_of, protected_room, windowed_limits};
+ghost use Rattle.moka_unsync.specs.Builder.{share_fault};
+
+use moka_base::error::BuildError;
+use moka_machine::constants::{PROTECTED_SHARE, WINDOW_SHARE};
+use moka_machine::shares::{PartLimits, Shares};
+
+/// The default shares.
+pub(crate) fn default_shares() -> Shares
+    ensures { result ≡ default_shares }
+{
+    Shares {
+        window: WINDOW_SHARE,
+        protected: PROTECTED_SHARE,
+    }
+}
+
+/// The reason to refuse these shares, if there is one. The window's share is tested first.
+pub(crate) fn share_fault(shares: Shares) -> Option<BuildError>
+    ensures { result ≡ share_fault shares }
+{
+    if shares.window > 100 {
+        return Some(BuildError::WindowShareTooLarge);
+    }
+    if shares.protected > 100 {
+        return Some(BuildError::ProtectedShareTooLarge);
+    }
+    None
+}
+
+/// A share of a weight in hundredths, rounded down. The product doesn't overflow.
+fn hundredths(share: u8, weight: u64) -> u64
+    requires { share ≤ 100 }
+    ensures value { result ≡ hundredths share weight }
+    ensures part { result ≤ weight }
+{
+    let share = u64::from(share);
+    weight / 100 * share + weight % 100 * share / 100
+}
+
+/// The limits of the parts for a limit of the whole.
+fn limits_of(shares: Shares, limit: u64) -> PartLimits
+    requires window { shares.window ≤ 100 }
+    requires protected { shares.protected ≤ 100 }
+    ensures { result ≡ limits_of shares limit }
+{
+    let window = hundredths(shares.window, limit);
+    PartLimits {
+        all: limit,
+        window,
+        protected: hundredths(shares.protected, limit - window),
+    }
+}
+
+/// The limits of the parts if there is a window, which is one that can hold an entry.
+pub(crate) fn windowed_limits(shares: Shares, limit: Option<u64>) -> Option<PartLimits>
+    requires window { shares.window ≤ 100 }
+    requires protected { shares.protected ≤ 100 }
+    ensures { result ≡ windowed_limits shares limit }
+{
+    let limits = limits_of(shares, limit?);
+    if limits.window == 0 {
+        None
+    } else {
+        Some(limits)
+    }
+}
+
+/// The weight limit of the protected entries, which is 0 in a cache without a limit.
+pub(crate) fn protected_room(shares: Shares, limit: Option<u64>) -> u64
+    requires window { shares.window ≤ 100 }
+    requires protected { shares.protected ≤ 100 }
+    ensures { result ≡ protected_room shares limit }
+{
+    match limit {
+        Some(limit) => limits_of(shares, limit).protected,
+        None => 0,
+    }
+}

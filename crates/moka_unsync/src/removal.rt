@@ -1,0 +1,69 @@
+// Removals that the owner asks for: of a key, of all entries, and of those that a predicate chooses.
+ghost use Rattle.std.specs.Prelude.{◌≡◌, Bool, List};
+ghost use Rattle.moka_machine.specs.Contents.{after_leaving, entry_at, entry_keys, no_contents, without};
+ghost use Rattle.moka_machine.specs.Invalidate.{AnswersInTurn, chosen};
+ghost use Rattle.moka_store.specs.Store.{Continues, HasHash, contents_of, entries_of};
+
+use moka_machine::entry::Entry;
+use moka_store::store::Store;
+use std::alloc::Allocator;
+
+/// Removes the entry of the key, if there is one. The hash is the key's.
+pub(crate) fn remove_key<K: Eq + Drop, V: Drop, A: Allocator + Clone + Drop>(
+    store: &mut Store<K, V, A>,
+    key: &K,
+    hash: u64,
+)
+    requires { HasHash K.eq store.old key.now hash }
+    ensures step { contents_of store.new ≡ without K.eq (contents_of store.old) key.now }
+    ensures kept { Continues store.old store.new }
+{
+    drop(take_key(store, key, hash));
+}
+
+/// Takes out the entry of the key, expired or not, if there is one. The hash is the key's.
+pub(crate) fn take_key<K: Eq + Drop, V: Drop, A: Allocator + Clone + Drop>(
+    store: &mut Store<K, V, A>,
+    key: &K,
+    hash: u64,
+) -> Option<Entry<K, V>>
+    requires { HasHash K.eq store.old key.now hash }
+    ensures value { result ≡ entry_at K.eq key.now (entries_of store.old) }
+    ensures step { contents_of store.new ≡ without K.eq (contents_of store.old) key.now }
+    ensures kept { Continues store.old store.new }
+{
+    let id = store.find(key, hash)?;
+    Some(store.take(id))
+}
+
+/// Removes all entries.
+pub(crate) fn clear<K: Eq + Drop, V: Drop, A: Allocator + Clone + Drop>(store: &mut Store<K, V, A>)
+    ensures step { contents_of store.new ≡ no_contents }
+    ensures kept { Continues store.old store.new }
+{
+    while let Some(id) = store.front() {
+        store.remove(id);
+    }
+}
+
+/// Removes the entries for which the predicate returns `true`. It is called once for each entry, in order of use.
+pub(crate) fn remove_where<
+    K: Eq + Drop,
+    V: Drop,
+    A: Allocator + Clone + Drop,
+    F: FnMut(&K, &V) -> bool,
+>(store: &mut Store<K, V, A>, mut predicate: F)
+    requires { F.IsAlwaysCallable predicate }
+    ensures step { (answers : List Bool) × AnswersInTurn F.step predicate (entries_of store.old) answers
+        × (contents_of store.new ≡ after_leaving K.eq (entry_keys (chosen answers (entries_of store.old))) (contents_of store.old)) }
+    ensures kept { Continues store.old store.new }
+{
+    let mut here = store.front();
+    while let Some(id) = here {
+        here = store.next(id);
+        let entry = store.get(id);
+        if predicate(&entry.key, &entry.value) {
+            store.remove(id);
+        }
+    }
+}
