@@ -14,7 +14,7 @@ use std::alloc::Allocator;
 
 /// Moves protected's least recently used entries to probation until protected weighs no more than `room`. This changes their part and a mark, and no link.
 /// One call may move many light entries; it is O(1) per access, amortized.
-#[inline]
+#[inline(always)]
 pub(crate) fn balance<K: Drop, V: Drop, A: Allocator>(
     entries: &mut Chain<Entry<K, V>, A>,
     marks: &mut Marks,
@@ -36,6 +36,8 @@ pub(crate) fn balance<K: Drop, V: Drop, A: Allocator>(
 }
 
 /// Makes protected's first entry probation's last.
+#[cold]
+#[inline(never)]
 fn demote_first<K: Drop, V: Drop, A: Allocator>(
     entries: &mut Chain<Entry<K, V>, A>,
     marks: &mut Marks,

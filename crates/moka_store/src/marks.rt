@@ -30,6 +30,7 @@ impl Marks {
     }
 
     /// The first node after a part.
+    #[inline(always)]
     fn behind(&self, part: Part) -> Option<NodeId>
         ensures { result ≡ behind part self.now }
     {
@@ -41,7 +42,7 @@ impl Marks {
     }
 
     /// Moves the marks off a node that is about to leave its place.
-    #[inline]
+    #[inline(always)]
     pub(crate) fn pass<K: Drop, V: Drop, A: Allocator>(
         &mut self,
         entries: &Chain<Entry<K, V>, A>,
@@ -58,6 +59,7 @@ impl Marks {
     }
 
     /// Sets the marks for a node that has become the last of its part.
+    #[inline(always)]
     fn join(&mut self, id: NodeId, part: Part)
         ensures { self.new ≡ with_mark id part self.old }
     {
@@ -81,7 +83,7 @@ impl Marks {
 }
 
 /// A mark, moved to the next node if it is at this one.
-#[inline]
+#[inline(always)]
 fn pass<K: Drop, V: Drop, A: Allocator>(
     mark: &mut Option<NodeId>,
     entries: &Chain<Entry<K, V>, A>,
@@ -96,7 +98,7 @@ fn pass<K: Drop, V: Drop, A: Allocator>(
 }
 
 /// Moves a node right before another, or to the back.
-#[inline]
+#[inline(always)]
 fn place<K: Drop, V: Drop, A: Allocator>(
     entries: &mut Chain<Entry<K, V>, A>,
     id: NodeId,
@@ -114,7 +116,7 @@ fn place<K: Drop, V: Drop, A: Allocator>(
 }
 
 /// Moves a node to the back, if it isn't there.
-#[inline]
+#[inline(always)]
 fn to_back<K: Drop, V: Drop, A: Allocator>(entries: &mut Chain<Entry<K, V>, A>, id: NodeId)
     requires { IsIn entries.old.items id }
     ensures items { entries.new.items ≡ moved id None entries.old.items }
@@ -126,7 +128,7 @@ fn to_back<K: Drop, V: Drop, A: Allocator>(entries: &mut Chain<Entry<K, V>, A>, 
 }
 
 /// Makes a node the last of its part. The marks are those of the other nodes.
-#[inline]
+#[inline(always)]
 pub(crate) fn settle<K: Drop, V: Drop, A: Allocator>(
     entries: &mut Chain<Entry<K, V>, A>,
     marks: &mut Marks,

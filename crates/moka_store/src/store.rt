@@ -150,7 +150,7 @@ impl<K: Eq + Drop, V: Drop, A: Allocator + Clone + Drop> Store<K, V, A> {
     }
 
     /// Begins a search: the ids of the nodes that may have this hash. A call that has other work to do begins early, so that memory answers meanwhile.
-    #[inline]
+    #[inline(always)]
     pub fn candidates(&self, hash: u64) -> Candidates<'_>
         ensures { AreCandidates self.now hash result }
     {
@@ -158,7 +158,7 @@ impl<K: Eq + Drop, V: Drop, A: Allocator + Clone + Drop> Store<K, V, A> {
     }
 
     /// Ends a search: finds the node of the key among the candidates of its hash.
-    #[inline]
+    #[inline(always)]
     pub fn find_among(&self, candidates: Candidates<'_>, key: &K, hash: u64) -> Option<NodeId>
         requires candidates { AreCandidates self.now hash candidates }
         requires hashed { HasHash K.eq self.now key.now hash }
@@ -177,7 +177,7 @@ impl<K: Eq + Drop, V: Drop, A: Allocator + Clone + Drop> Store<K, V, A> {
     }
 
     /// Finds the node of the key. The hash is the key's.
-    #[inline]
+    #[inline(always)]
     pub fn find(&self, key: &K, hash: u64) -> Option<NodeId>
         requires { HasHash K.eq self.now key.now hash }
         ensures found { IfSome result (λ id. IsFound K.eq self.now key.now id) }
@@ -188,7 +188,7 @@ impl<K: Eq + Drop, V: Drop, A: Allocator + Clone + Drop> Store<K, V, A> {
     }
 
     /// Returns the entry of a node.
-    #[inline]
+    #[inline(always)]
     pub fn get(&self, id: NodeId) -> &Entry<K, V>
         requires { IsSome (lookup (nat_eq id) self.now.nodes) }
         ensures { lookup (nat_eq id) self.now.nodes ≡ Some result.now }
@@ -256,7 +256,7 @@ impl<K: Eq + Drop, V: Drop, A: Allocator + Clone + Drop> Store<K, V, A> {
 
     /// Records an access: the entry becomes the most recently used one of its part. An entry of main moves to protected if it is no heavier than `room`,
     /// protected's limit; protected's least recently used entries move back to probation until it is within that.
-    #[inline]
+    #[inline(always)]
     pub fn touch(&mut self, id: NodeId, room: u64, now: Instant)
         requires { IsSome (lookup (nat_eq id) self.old.nodes) }
         ensures { Uses K.eq self.old id room now self.new }
@@ -292,6 +292,7 @@ impl<K: Eq + Drop, V: Drop, A: Allocator + Clone + Drop> Store<K, V, A> {
     }
 
     /// Moves an entry to probation, as its most recently used one. That is no write.
+    #[inline]
     pub fn move_to_probation(&mut self, id: NodeId)
         requires { IsSome (lookup (nat_eq id) self.old.nodes) }
         ensures { Promotes K.eq self.old id self.new }
@@ -306,6 +307,7 @@ impl<K: Eq + Drop, V: Drop, A: Allocator + Clone + Drop> Store<K, V, A> {
     }
 
     /// Adds an entry as the most recent of its part and in the order of writing. There must be capacity, and no entry of its key.
+    #[inline]
     pub fn enter(&mut self, entry: Entry<K, V>)
         requires room { length self.old.nodes < self.old.capacity }
         requires absent { entry_at K.eq entry.key (entries_of self.old) ≡ None }
@@ -321,6 +323,7 @@ impl<K: Eq + Drop, V: Drop, A: Allocator + Clone + Drop> Store<K, V, A> {
 
     /// Removes an entry and adds another in its node, as `remove` and `enter` would. It spares the allocation of a node and half of the relinking. There
     /// must be no entry of the new key.
+    #[inline]
     pub fn replace(&mut self, id: NodeId, entry: Entry<K, V>)
         requires stands { IsSome (lookup (nat_eq id) self.old.nodes) }
         requires absent { entry_at K.eq entry.key (entries_of self.old) ≡ None }
@@ -362,7 +365,7 @@ impl<K: Eq + Drop, V: Drop, A: Allocator + Clone + Drop> Store<K, V, A> {
 }
 
 /// The part of an entry after it was used.
-#[inline]
+#[inline(always)]
 fn used_part(room: u64, part: Part, weight: u32) -> Part
     ensures { result ≡ used_part room part weight }
 {
@@ -376,7 +379,7 @@ fn used_part(room: u64, part: Part, weight: u32) -> Part
 }
 
 /// Tells if two parts are the same.
-#[inline]
+#[inline(always)]
 fn is_of(part: Part, other: Part) -> bool
     ensures { result ≡ is_of part other }
 {

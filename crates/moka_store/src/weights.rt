@@ -26,7 +26,7 @@ impl Weights {
     }
 
     /// Adds an entry.
-    #[inline]
+    #[inline(always)]
     pub(crate) fn add(&mut self, part: Part, weight: u32)
         requires fits { weight < 2 ^ 32 → self.old.all + weight < 2 ^ 64 }
         requires protected { self.old.protected ≤ self.old.all }
@@ -48,7 +48,7 @@ impl Weights {
     }
 
     /// Takes an entry off.
-    #[inline]
+    #[inline(always)]
     pub(crate) fn take(&mut self, part: Part, weight: u32)
         requires all { weight ≤ self.old.all }
         requires protected { share (is_protected part) weight ≤ self.old.protected }

@@ -8,7 +8,7 @@ use moka_deque::deque::NodeId;
 use std::alloc::Allocator;
 
 /// Adds the write of a new node.
-#[inline]
+#[inline(always)]
 pub(crate) fn add_write<A: Allocator>(writes: &mut IdList<A>, keeps_writes: bool, id: NodeId)
     requires room { keeps_writes ≡ true → id < writes.old.capacity }
     requires absent { is_listed writes.old.ids id ≡ false }
@@ -21,7 +21,7 @@ pub(crate) fn add_write<A: Allocator>(writes: &mut IdList<A>, keeps_writes: bool
 }
 
 /// Makes a node's write the last.
-#[inline]
+#[inline(always)]
 pub(crate) fn write_again<A: Allocator>(writes: &mut IdList<A>, keeps_writes: bool, id: NodeId)
     requires { keeps_writes ≡ true → is_listed writes.old.ids id ≡ true }
     ensures ids { writes.new.ids ≡ write_last keeps_writes id writes.old.ids }
@@ -33,7 +33,7 @@ pub(crate) fn write_again<A: Allocator>(writes: &mut IdList<A>, keeps_writes: bo
 }
 
 /// Removes the write of a node.
-#[inline]
+#[inline(always)]
 pub(crate) fn remove_write<A: Allocator>(writes: &mut IdList<A>, keeps_writes: bool, id: NodeId)
     requires { keeps_writes ≡ true → is_listed writes.old.ids id ≡ true }
     ensures ids { writes.new.ids ≡ write_left keeps_writes id writes.old.ids }

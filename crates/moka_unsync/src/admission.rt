@@ -23,7 +23,7 @@ use moka_store::store::Store;
 use std::alloc::Allocator;
 
 /// Stores a new entry, or drops it if it is rejected. Returns whether it was stored.
-#[inline]
+#[inline(always)]
 pub(crate) fn put_new<K: Eq + Drop, V: Drop, A: Allocator + Clone + Drop>(
     store: &mut Store<K, V, A>,
     limit: Option<u64>,
@@ -91,7 +91,7 @@ fn victim_count<K: Eq + Drop, V: Drop, A: Allocator + Clone + Drop>(
 }
 
 /// Total weight of main's entries.
-#[inline]
+#[inline(always)]
 fn main_weight<K: Eq + Drop, V: Drop, A: Allocator + Clone + Drop>(store: &Store<K, V, A>) -> u64
     ensures value { result ≡ total_weight (main_of (entries_of store.now)) }
     ensures small { result + (2 ^ 32 - 1) < 2 ^ 64 }
@@ -136,7 +136,7 @@ fn outvoted_count<K: Eq + Drop, V: Drop, A: Allocator + Clone + Drop>(
 }
 
 /// Tells if an entry is in the window.
-#[inline]
+#[inline(always)]
 fn is_windowed<K: Drop, V: Drop>(entry: &Entry<K, V>) -> bool
     ensures { result ≡ is_window entry.now.part }
 {
@@ -144,7 +144,7 @@ fn is_windowed<K: Drop, V: Drop>(entry: &Entry<K, V>) -> bool
 }
 
 /// Evicts `count` LRU entries of main and stores the new one in the last one's node.
-#[inline]
+#[inline(always)]
 fn enter_for<K: Eq + Drop, V: Drop, A: Allocator + Clone + Drop>(
     store: &mut Store<K, V, A>,
     count: usize,
@@ -168,7 +168,7 @@ fn enter_for<K: Eq + Drop, V: Drop, A: Allocator + Clone + Drop>(
 }
 
 /// Evicts `count` LRU entries of main.
-#[inline]
+#[inline(always)]
 fn evict<K: Eq + Drop, V: Drop, A: Allocator + Clone + Drop>(
     store: &mut Store<K, V, A>,
     count: usize,
@@ -198,7 +198,7 @@ fn evict_front<K: Eq + Drop, V: Drop, A: Allocator + Clone + Drop>(
 }
 
 /// Returns the node of main's least recently used entry.
-#[inline]
+#[inline(always)]
 fn main_front<K: Eq + Drop, V: Drop, A: Allocator + Clone + Drop>(
     store: &Store<K, V, A>,
 ) -> Option<NodeId>
@@ -216,7 +216,7 @@ fn main_front<K: Eq + Drop, V: Drop, A: Allocator + Clone + Drop>(
 
 /// Stores a new entry in the window. Then the window's least recently used entries move to main if they are admitted there, or leave the store, until its
 /// weight is within its share. Returns whether the new entry was stored.
-#[inline]
+#[inline(always)]
 fn enter_window<K: Eq + Drop, V: Drop, A: Allocator + Clone + Drop>(
     store: &mut Store<K, V, A>,
     limits: &PartLimits,
@@ -249,7 +249,7 @@ fn enter_window<K: Eq + Drop, V: Drop, A: Allocator + Clone + Drop>(
 }
 
 /// Returns the window's least recently used entry if it alone weighs `enough`.
-#[inline]
+#[inline(always)]
 fn last_candidate<K: Eq + Drop, V: Drop, A: Allocator + Clone + Drop>(
     store: &Store<K, V, A>,
     enough: u64,
@@ -293,7 +293,7 @@ fn enter_judged<K: Eq + Drop, V: Drop, A: Allocator + Clone + Drop>(
 }
 
 /// The weight limit of main.
-#[inline]
+#[inline(always)]
 fn main_limit(limits: &PartLimits) -> u64
     ensures { result ≡ main_limit limits.now }
 {
@@ -301,7 +301,7 @@ fn main_limit(limits: &PartLimits) -> u64
 }
 
 /// The weight that has to leave the window once an entry of this weight is in it.
-#[inline]
+#[inline(always)]
 fn excess<K: Eq + Drop, V: Drop, A: Allocator + Clone + Drop>(
     store: &Store<K, V, A>,
     limits: &PartLimits,
@@ -363,7 +363,7 @@ fn judge<K: Eq + Drop, V: Drop, A: Allocator + Clone + Drop>(
 }
 
 /// Does the same and stores a new entry in the window, in the node of an entry that leaves, if one does.
-#[inline]
+#[inline(always)]
 fn judge_last<K: Eq + Drop, V: Drop, A: Allocator + Clone + Drop>(
     store: &mut Store<K, V, A>,
     limits: &PartLimits,
@@ -394,7 +394,7 @@ fn judge_last<K: Eq + Drop, V: Drop, A: Allocator + Clone + Drop>(
 }
 
 /// Moves the window's least recently used entry to main, if there is one.
-#[inline]
+#[inline(always)]
 fn promote_front<K: Eq + Drop, V: Drop, A: Allocator + Clone + Drop>(store: &mut Store<K, V, A>)
     ensures step { (c : EntryValue K V) (ws : List (EntryValue K V)) → window_of (entries_of store.old) ≡ c ∷ ws
         → contents_of store.new ≡ after_moving K.eq (record c { part = Probation }) (contents_of store.old) }
