@@ -1,18 +1,20 @@
 -- Lemmas on how a chain is laid out.
 use Rattle.std.proofs.Common.{◌≡◌, ◌⊎◌, ℕ, suc, ◌+◌, ◌-◌, ◌<◌, ◌≤◌, true, false, cond, nat_eq, eq-eqb, List, [], ◌∷◌, ◌++◌, length, Option}
-use Rattle.std.proofs.Common.{Some, None, is_some, IsSome, nat_le, refl, sym, ap, subst, ◌∙◌, inl, inr, arith, length-append}
+use Rattle.std.proofs.Common.{Some, None, slice_index_or, is_some, IsSome, nat_le, refl, sym, ap, subst, ◌∙◌, inl, inr, arith, length-append}
 use Rattle.std.proofs.lemmas.Bool.{cases_Bool, cond-true, cond-false, eqb-true, false≢true, le-leb, leb-true}
 use Rattle.std.specs.Map.{lookup, remove_entry, set_value}
+use Rattle.std.proofs.lemmas.List.{get_or_default}
 use Rattle.std.proofs.lemmas.Map.{length-set_value}
 use Rattle.std.proofs.lemmas.Grind.{common_steps}
 use Rattle.slab.proofs.SlabLemmas.{Updates-with_value}
 use Rattle.slab.specs.Slab.{Slab, get, slab_len, Updates, with_value}
 use Rattle.moka_deque.specs.declared.chain.links.LinkTable.{LinkTable}
+use Rattle.moka_deque.specs.declared.chain.links.Links.{Links}
 use Rattle.moka_deque.specs.declared.chain.links.TheConstants.{NONE}
 use Rattle.moka_deque.specs.Chain.{inserted, moved_before}
 use Rattle.moka_deque.specs.Chained.{IsChained, IsThreaded, before_rest, capacity_of, items_of, walk}
-use Rattle.moka_deque.specs.Deque.{moved_to_back}
-use Rattle.moka_deque.specs.Links.{IsPlace, Lengthened, LinkedBack, LinkedBefore, Unlinked, links_at, next_at, prev_at}
+use Rattle.moka_deque.specs.Deque.{moved_to_back, next_id}
+use Rattle.moka_deque.specs.Links.{APART, IsPlace, Lengthened, LinkedBack, LinkedBefore, Unlinked, links_at, next_at, prev_at}
 use Rattle.moka_deque.specs.Nodes.{AreApart, follower, preceder}
 use Rattle.moka_deque.proofs.DequeLemmas.{AreApart-push, AreApart-remove, AreApart-set, absent-remove}
 use Rattle.moka_deque.proofs.DequeLemmas.{absent-set, absent_head, absent_tail, differs}
@@ -22,7 +24,7 @@ use Rattle.moka_deque.proofs.DequeLemmas.{lookup-same, lookup-set, nat_eq-same, 
 use Rattle.moka_deque.proofs.IdLemmas.{moved-found}
 use Rattle.moka_deque.proofs.InsertedLemmas.{AreApart-inserted, length-inserted, lookup-inserted, moved_before-inserted}
 use Rattle.moka_deque.proofs.NodesLemmas.{follower-inserted, follower-push, follower-remove, follower-set, follower_absent}
-use Rattle.moka_deque.proofs.NodesLemmas.{follower_behind, follower_place, last_place}
+use Rattle.moka_deque.proofs.NodesLemmas.{follower_behind, follower_place, last_place, linked_next}
 use Rattle.moka_deque.proofs.NodesLemmas.{preceder-inserted, preceder-push, preceder-remove, preceder-set, preceder_absent, preceder_place}
 
 module _ {T : Type 0} (element : ℕ → Option T) (following preceding : ℕ → ℕ) (es : List (ℕ × T))
@@ -522,3 +524,15 @@ pub shows-moved_before : {T A : Type 0} {slots : Slab T} {links mid links_new : 
 shows-moved_before {slots = slots} {links = links} {mid = mid} {links_new = links_new} id next h found next_found other out mid_len before new_len =
     shows slots links_new (moved_before id next (items_of slots links))
     (chained-found_before slots links mid links_new (items_of slots links) id next h found next_found other out mid_len before new_len)
+
+-- the link of a node leads to the one behind it
+pub leads_next : {T A : Type 0} {slots : Slab T} {links : LinkTable A} → IsChained slots links (items_of slots links) → (id : ℕ)
+    → IsSome (lookup (nat_eq id) (items_of slots links)) → (at : Links) → at ≡ slice_index_or links.links.items id at
+    → cond (nat_eq at.next NONE) None (Some at.next) ≡ next_id id (items_of slots links)
+leads_next {slots = slots} {links = links} h id found at read =
+    let items = items_of slots links in let not_end = differs NONE id items h.threaded.end found in
+    let within : id < length links.links.items = h.linked id (ap is_some (h.threaded.elements id) ∙ found) in
+    let link : at.next ≡ next_at links id =
+    ap (λ (l : Links). l.next) (read ∙ get_or_default links.links.items id at APART within)
+    ∙ sym (cond-false (nat_eq NONE id) links.first (links_at links.links.items id).next not_end) in
+    ap (λ l. cond (nat_eq l NONE) None (Some l)) (link ∙ h.threaded.next id) ∙ linked_next NONE NONE id items not_end h.threaded.end found

@@ -29,11 +29,6 @@ module _ {A : Type 0} where
   abbrev pub IsNumbered : LinkTable A → Type 0
   IsNumbered t = length t.links.items ≤ NONE
 
--- the links in one direction are those of old, but for one
-abbrev pub RelinksAt : (ℕ → ℕ) → (ℕ → ℕ) → ℕ → ℕ → Type 0
-RelinksAt old new at to = (id : ℕ) → new id ≡ (if nat_eq at id then to else old id)
-
-module _ {A : Type 0} where
   -- there may be links for more nodes, which have no neighbours yet
   pub record Lengthened (old new : LinkTable A) : Type 0 where
     pub longer : length old.links.items ≤ length new.links.items

@@ -1,18 +1,16 @@
 //! A list whose links lie apart from its elements, for an owner that moves nodes often: a move touches eight bytes at each of five nodes at most, and no
 //! element. It has no cursor.
-ghost use Rattle.std.specs.Prelude.{◌≡◌, ◌≢◌, ℕ, ◌+◌, ◌<◌, ◌≤◌, ◌-◌, ◌^◌, [], ◌∷◌, ◌++◌, ◌↔◌, nat_eq, if◌then◌else◌, length, IsTrue, IsOk, OnOk, Some, None};
+ghost use Rattle.std.specs.Prelude.{◌≡◌, ◌≢◌, ℕ, ◌+◌, ◌<◌, ◌≤◌, ◌-◌, ◌^◌, [], ◌∷◌, ◌++◌, ◌↔◌, nat_eq, length, IsTrue, IsOk, OnOk, Some, None};
 ghost use Rattle.std.specs.Borrow.{sem};
 ghost use Rattle.std.specs.List.{IsDistinct};
 ghost use Rattle.std.specs.Map.{lookup, keys_of, remove_entry, values_of};
 ghost use Rattle.moka_deque.specs.Chain.{moved_before};
 ghost use Rattle.moka_deque.specs.Deque.{IsIn, first_id, moved_to_back, next_id};
-ghost use Rattle.moka_deque.specs.declared.chain.links.TheConstants.{NONE};
 
 mod ids;
 mod iter;
 mod links;
 
-use crate::deque::NodeId;
 pub use ids::IdList;
 pub use iter::Iter;
 use links::{LinkTable, NONE};
@@ -20,6 +18,38 @@ use moka_base::error::OutOfMemory;
 use slab::Slab;
 use std::alloc::{AllocError, Allocator, Global};
 use std::marker::Model;
+
+/// The name of a node of one list. Once the node has left the list, a later node may get the same name.
+#[derive(Clone, Copy, Debug, PartialEq, Eq)]
+pub struct NodeId {
+    pub(crate) number: usize,
+}
+
+impl Model for NodeId {
+    ghost use Rattle.std.specs.Prelude.{ℕ};
+
+    ghost Value = { ℕ };
+
+    ghost view = { λ id. id.number };
+
+    ghost inverse = { λ n. record { number = n } };
+}
+
+impl NodeId {
+    /// The number of the node, for an owner that keeps its ids as numbers.
+    pub fn number(self) -> usize
+        ensures { result ≡ self }
+    {
+        self.number
+    }
+
+    /// The id with this number.
+    pub fn from_number(number: usize) -> NodeId
+        ensures { result ≡ number }
+    {
+        NodeId { number }
+    }
+}
 
 /// A list of elements under ids, at most as many as 32 bits number.
 ///
@@ -144,7 +174,7 @@ impl<T, A: Allocator> Chain<T, A> {
     pub fn contains(&self, id: NodeId) -> bool
         ensures { IsTrue result ↔ IsIn self.now.items id }
     {
-        self.slots.contains(id.number())
+        self.slots.contains(id.number)
     }
 
     /// The element of the node, which must be in the chain: `contains` tells.
@@ -152,7 +182,7 @@ impl<T, A: Allocator> Chain<T, A> {
         requires { IsIn self.now.items id }
         ensures { lookup (nat_eq id) self.now.items ≡ Some result.now }
     {
-        &self.slots[id.number()]
+        &self.slots[id.number]
     }
 
     /// The element of the node for writing. The node must be in the chain, which `contains` tells.
@@ -161,14 +191,20 @@ impl<T, A: Allocator> Chain<T, A> {
         ensures* writes_back { sem 𝓛 (lends_element T.row A.row A.Allocator self.entry id result) }
         ensures value { lookup (nat_eq id) self.old.items ≡ Some result.now }
     {
-        &mut self.slots[id.number()]
+        &mut self.slots[id.number]
     }
 
     /// The node at the front.
     pub fn front(&self) -> Option<NodeId>
         ensures { result ≡ first_id self.now.items }
     {
-        node_at(self.links.first)
+        let first = self.links.first;
+        if first == NONE {
+            return None;
+        }
+        Some(NodeId {
+            number: first as usize,
+        })
     }
 
     /// The node after this one. The node must be in the chain, which `contains` tells.
@@ -176,7 +212,13 @@ impl<T, A: Allocator> Chain<T, A> {
         requires { IsIn self.now.items id }
         ensures { result ≡ next_id id self.now.items }
     {
-        node_at(self.links.next(id.number()))
+        let next = self.links.links[id.number].next;
+        if next == NONE {
+            return None;
+        }
+        Some(NodeId {
+            number: next as usize,
+        })
     }
 
     /// Puts the element at the back, in room that was reserved. It allocates nothing.
@@ -192,7 +234,7 @@ impl<T, A: Allocator> Chain<T, A> {
     {
         let id = self.slots.insert_reserved(element);
         self.links.link_back(id);
-        NodeId::from_number(id)
+        NodeId { number: id }
     }
 
     /// Takes out the node, which must be in the chain: `contains` tells.
@@ -205,9 +247,8 @@ impl<T, A: Allocator> Chain<T, A> {
         ensures room_left { self.new.room ≡ self.new.capacity - length self.new.items }
         ensures unchanged { self.new ≡ record self.old { items = self.new.items; room = self.new.room } }
     {
-        let number = id.number();
-        let element = self.slots.remove(number);
-        self.links.unlink(number);
+        let element = self.slots.remove(id.number);
+        self.links.unlink(id.number);
         element
     }
 
@@ -219,9 +260,8 @@ impl<T, A: Allocator> Chain<T, A> {
         ensures room { self.new.room ≡ self.old.room }
         ensures unchanged { self.new ≡ record self.old { items = self.new.items } }
     {
-        let number = id.number();
-        self.links.unlink(number);
-        self.links.link_back(number);
+        self.links.unlink(id.number);
+        self.links.link_back(id.number);
     }
 
     /// Moves the node to right before the node `next`, in constant time: for an owner that keeps its nodes in an order and has found where one belongs. No
@@ -235,9 +275,8 @@ impl<T, A: Allocator> Chain<T, A> {
         ensures room { self.new.room ≡ self.old.room }
         ensures unchanged { self.new ≡ record self.old { items = self.new.items } }
     {
-        let number = id.number();
-        self.links.unlink(number);
-        self.links.link_before(number, next.number());
+        self.links.unlink(id.number);
+        self.links.link_before(id.number, next.number);
     }
 
     /// An iterator over the elements from front to back.
@@ -251,14 +290,4 @@ impl<T, A: Allocator> Chain<T, A> {
             left: self.slots.len(),
         }
     }
-}
-
-// What a link leads to, if it leads to a node.
-fn node_at(link: u32) -> Option<NodeId>
-    ensures { result ≡ (if nat_eq link NONE then None else Some link) }
-{
-    if link == NONE {
-        return None;
-    }
-    Some(NodeId::from_number(link as usize))
 }

@@ -12,6 +12,7 @@ mod iter;
 mod linked;
 mod nodes;
 
+pub use crate::chain::NodeId;
 pub use cursor::Cursor;
 use cursor::{advanced, entered, pass};
 pub use iter::Iter;
@@ -49,38 +50,6 @@ impl CacheRegion {
         ensures { result ≡ (number_of self == number) }
     {
         self as usize == number
-    }
-}
-
-/// The name of a node of one list. Once the node has left the list, a later node may get the same name.
-#[derive(Clone, Copy, Debug, PartialEq, Eq)]
-pub struct NodeId {
-    number: usize,
-}
-
-impl Model for NodeId {
-    ghost use Rattle.std.specs.Prelude.{ℕ};
-
-    ghost Value = { ℕ };
-
-    ghost view = { λ id. id.number };
-
-    ghost inverse = { λ n. record { number = n } };
-}
-
-impl NodeId {
-    /// The number of the node, for an owner that keeps its ids as numbers.
-    pub fn number(self) -> usize
-        ensures { result ≡ self }
-    {
-        self.number
-    }
-
-    /// The id with this number.
-    pub fn from_number(number: usize) -> NodeId
-        ensures { result ≡ number }
-    {
-        NodeId { number }
     }
 }
 

@@ -36,9 +36,7 @@ impl Link {
         requires { id < 2 ^ 64 - 1 }
         ensures { result ≡ Some id }
     {
-        Link {
-            number: id.number(),
-        }
+        Link { number: id.number }
     }
 
     /// The id, if there is one.
@@ -49,6 +47,8 @@ impl Link {
         if self.number == NONE {
             return None;
         }
-        Some(NodeId::from_number(self.number))
+        Some(NodeId {
+            number: self.number,
+        })
     }
 }

@@ -1,11 +1,12 @@
 -- The ids of a group whose bits are set, one after another.
-use Rattle.std.proofs.Common.{◌≡◌, ℕ, zero, suc, ◌-◌, ◌*◌, ◌/◌, ◌%◌, ◌^◌, ◌<◌, ◌≤◌, nat_eq, List, [], ◌∷◌, length, get_or}
+use Rattle.std.proofs.Common.{◌≡◌, ℕ, zero, suc, ◌-◌, ◌*◌, ◌/◌, ◌%◌, ◌^◌, ◌<◌, ◌≤◌, nat_eq, List, [], ◌∷◌, length, get_or, replicate}
 use Rattle.std.proofs.Common.{refl, sym, ap, subst, ◌∙◌, inl, inr, arith}
 use Rattle.std.specs.Int.Count.{count_trailing_zeros, under}
 use Rattle.std.proofs.lemmas.Bool.{cases_eq, cond-false, cond-true, eq-eqb}
-use Rattle.std.proofs.lemmas.Nat.Bits.{bit_at_lowest, bit_at-suc}
+use Rattle.std.proofs.lemmas.Nat.Bits.{bit_at_lowest, bit_at-suc, bit_at-trailing_zeros}
 use Rattle.std.proofs.Math.Nat.{mod-eq_of_lt}
 use Rattle.std.specs.Int.{bit_at}
+use mir.Syntax.{w64}
 use native.Mathlib.Numerals.{unary_clauses}
 use Rattle.moka_index.specs.HashIndex.{chosen}
 
@@ -102,3 +103,28 @@ chosen_first (suc k) bits (id ∷ ids) some few long =
 -- a bit of a number below 2 ^ 64 is a number of 64 bits
 pub bit_small : (p bits : ℕ) → p ≤ bits → bits < 2 ^ 64 → 1 * p % 2 ^ 64 ≡ p
 bit_small p bits least few = ap (λ n. n % 2 ^ 64) (omega arith) ∙ mod-eq_of_lt (omega arith)
+
+-- the lowest of some places of a group, as bits, and what is left without it
+pub record TakesFirst (bits : ℕ) (ids : List ℕ) (place : ℕ) : Type 0 where
+  pub within : place < 10
+  pub least : 2 ^ place ≤ bits
+  pub set : bit_at bits place ≡ 1
+  pub is : chosen bits ids ≡ get_or ids place 0 ∷ chosen (bits - 2 ^ place) ids
+  pub rest : (other : ℕ) → bit_at (bits - 2 ^ place) other ≡ 1 → bit_at bits other ≡ 1
+
+-- the trailing zeros of some places of a group say which is the lowest
+pub takes_first : (bits : ℕ) (ids : List ℕ) → length ids ≡ 10 → 0 < bits → bits < 1024 → TakesFirst bits ids (count_trailing_zeros 64 bits)
+takes_first bits ids len some few =
+    let first = chosen_first 64 bits ids some (subst (λ n. bits < 2 ^ n) (sym len) few) (omega arith) in
+    let within : count_trailing_zeros 64 bits < length ids = first.within in
+    record {
+      within = omega arith;
+      least = first.least;
+      set = (bit_at-trailing_zeros w64 bits some (omega (arith, few))).1;
+      is = first.is 0;
+      rest = first.rest;
+    }
+
+-- which places they are tells it, whatever the ids
+pub lowest : (bits : ℕ) → 0 < bits → bits < 1024 → TakesFirst bits (replicate 10 0) (count_trailing_zeros 64 bits)
+lowest bits some few = takes_first bits (replicate 10 0) refl some few

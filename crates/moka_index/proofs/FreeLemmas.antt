@@ -110,7 +110,7 @@ free_cell groups ids id far probed room absent =
     false≢true (sym (absent hashed.0) ∙ subst (λ i. is_candidate (shown groups ids far) hashed.0 i ≡ true) (sym is)
     (under_candidate groups ids far hashed.0 cell probed hashed.1))) in
     let low : found.0 < ids = found.1 in
-    let share : ids ≤ 6 * length groups = probed.room in
+    let share : ids ≤ 5 * length groups = probed.room in
     (found.0, omega arith, found.2)
 
 -- and so a group that has one

@@ -7,11 +7,18 @@ use Rattle.std.proofs.lemmas.Bool.{cases_eq}
 use Rattle.std.proofs.lemmas.List.{get_or-set_other, get_or-set_same, length-set}
 use Rattle.moka_index.specs.declared.group.Group.{Group}
 use Rattle.moka_index.specs.HashIndex.{group_at, places_with}
-use Rattle.moka_index.specs.Probed.{AreShaped, PutsIn, SameBut, distance_at, id_at, is_free, tag_at, with_id, without}
+use Rattle.moka_index.specs.Probed.{AreShaped, SameBut, distance_at, id_at, is_free, tag_at, with_id, without}
 use Rattle.moka_index.proofs.StandsLemmas.{bit_with, cell_group, cell_place}
 
 abbrev nowhere : Group
 nowhere = record { marks = []; passed = 0; ids = [] }
+
+-- an id is put at a free place of a group
+pub record PutsIn (old : List Group) (at tag distance id : ℕ) (new : List Group) : Type 0 where
+  pub place : ℕ
+  pub within : place < 10
+  pub free : is_free old (at * 10 + place) ≡ true
+  pub is : new ≡ slice_set old at (with_id (group_at old at) place tag distance id)
 
 -- an id stands at a place that was free, and all else is as it was
 pub record Puts (old : List Group) (cell tag distance id : ℕ) (new : List Group) : Type 0 where

@@ -1,6 +1,7 @@
 -- What is left of a search, as it goes on.
 use Rattle.std.proofs.Common.{◌≡◌, ◌≢◌, ◌⊎◌, ℕ, suc, ◌+◌, ◌-◌, ◌*◌, ◌%◌, ◌^◌, ◌<◌, ◌≤◌, true, false, List, [], ◌∷◌, ◌++◌, length, get_or}
 use Rattle.std.proofs.Common.{sym, ap, subst, ◌∙◌, inl, inr, arith}
+use Rattle.std.specs.Int.Count.{count_trailing_zeros}
 use Rattle.std.specs.Prelude.{Bool, if◌then◌else◌, min}
 use Rattle.std.proofs.lemmas.Bool.{cases_Bool, cases_eq, cond-false, cond-true}
 use Rattle.moka_index.specs.declared.group.Group.{Group}
@@ -8,8 +9,7 @@ use Rattle.std.proofs.lemmas.Nat.{div_below}
 use Rattle.std.proofs.Math.Nat.{mod-lt, mul_comm, mul-lt-mul_of_pos_right}
 use Rattle.moka_index.specs.declared.constants.TheConstants.{FAR, SPREAD}
 use Rattle.moka_index.specs.HashIndex.{home_of, after, chosen, ends_at, group_at, places_of, rest_of, tagged}
-use Rattle.moka_index.proofs.ChosenLemmas.{chosen_none}
-use Rattle.moka_index.specs.Probed.{TakesFirst}
+use Rattle.moka_index.proofs.ChosenLemmas.{TakesFirst, bit_small, chosen_none, takes_first}
 
 nowhere : Group
 nowhere = record { marks = []; passed = 0; ids = [] }
@@ -20,7 +20,7 @@ module _ (groups : List Group) (tag : ℕ) (far : Bool) where
       if ends_at (group_at groups at) far then [] else tagged groups tag far left (distance + 1) (after (length groups) at)
 
   -- the lowest of the places that are left comes first
-  pub first_of : (left distance at bits place : ℕ) (group : Group) → ((d : Group) → group ≡ get_or groups at d)
+  first_of : (left distance at bits place : ℕ) (group : Group) → ((d : Group) → group ≡ get_or groups at d)
       → TakesFirst bits group.ids place
       → rest_of groups tag far left distance at bits ≡ get_or group.ids place 0 ∷ rest_of groups tag far left distance at (bits - 2 ^ place)
   unfolding later_on nowhere
@@ -28,6 +28,19 @@ module _ (groups : List Group) (tag : ℕ) (far : Bool) where
       subst (λ g. chosen bits g.ids ++ later_on left distance at
       ≡ get_or group.ids place 0 ∷ (chosen (bits - 2 ^ place) g.ids ++ later_on left distance at)) (is nowhere)
       (ap (λ xs. xs ++ later_on left distance at) takes.is)
+
+  -- by its trailing zeros, as the code takes it out
+  pub yields : (left distance at bits : ℕ) (group : Group) → ((d : Group) → group ≡ get_or groups at d) → length group.ids ≡ 10 → 0 < bits
+      → bits < 1024
+      → rest_of groups tag far left distance at bits
+      ≡ get_or group.ids (count_trailing_zeros 64 bits) 0
+      ∷ rest_of groups tag far left distance at (bits - 1 * 2 ^ count_trailing_zeros 64 bits % 2 ^ 64)
+  yields left distance at bits group is len some few =
+      let place = count_trailing_zeros 64 bits in
+      let takes = takes_first bits group.ids len some few in
+      first_of left distance at bits place group is takes
+      ∙ ap (λ p. get_or group.ids place 0 ∷ rest_of groups tag far left distance at (bits - p))
+      (sym (bit_small (2 ^ place) bits takes.least (omega (arith, few))))
 
   -- none is left where there is no place and the search ends, or the group is the last
   pub none_of : (left distance at : ℕ) → (ends_at (group_at groups at) far ≡ true) ⊎ (left ≡ 0) → rest_of groups tag far left distance at 0 ≡ []

@@ -470,7 +470,7 @@ all_free len cell =
       | inr is ↦ ap (λ g. nat_eq (get_or g.marks (cell % 10) 0) 0) is ∙ ap (λ m. nat_eq m 0) (get_or_past {X = ℕ} [] (cell % 10) 0 (omega arith))
     ]
 
-lies_cleared : (len ids : ℕ) → ids ≤ 6 * len → 10 * len < 2 ^ 32 → IsProbed (replicate len FREE) ids false
+lies_cleared : (len ids : ℕ) → ids ≤ 5 * len → 10 * len < 2 ^ 32 → IsProbed (replicate len FREE) ids false
 unfolding nowhere
 lies_cleared len ids fits most =
     let is_len : length (replicate len FREE) ≡ len = length-replicate len FREE in
@@ -491,7 +491,7 @@ lies_cleared len ids fits most =
       says_far = λ cell taken. absurd (false≢true (sym taken ∙ all_free len cell));
     }
 
-pub cleared : (groups : List Group) (len ids : ℕ) → groups ≡ replicate len FREE → ids ≤ 6 * len → 10 * len < 2 ^ 32 → IsCleared groups ids
+pub cleared : (groups : List Group) (len ids : ℕ) → groups ≡ replicate len FREE → ids ≤ 5 * len → 10 * len < 2 ^ 32 → IsCleared groups ids
 cleared groups len ids is fits most =
     subst (λ xs. IsCleared xs ids) (sym is) (
     let lies = lies_cleared len ids fits most in

@@ -6,10 +6,10 @@ use Rattle.std.proofs.lemmas.Bool.{cases_eq, cases_lt, cases_order, cond-false, 
 use Rattle.moka_index.specs.declared.constants.TheConstants.{FAR, PLACES}
 use Rattle.moka_index.specs.declared.group.Group.{Group}
 use Rattle.moka_index.specs.HashIndex.{Adds, Removes, group_at, home_of, is_candidate, tag_of}
-use Rattle.moka_index.specs.Probed.{AreShaped, CountsWay, IsProbed, IsUnder, PutsIn, SameBut, distance_at, id_at, is_free, passes, passing}
+use Rattle.moka_index.specs.Probed.{AreShaped, CountsWay, IsProbed, IsUnder, SameBut, distance_at, id_at, is_free, passes, passing}
 use Rattle.moka_index.specs.Probed.{steps, tag_at, tally, without}
 use Rattle.moka_index.proofs.FreeLemmas.{passed_fits}
-use Rattle.moka_index.proofs.PutLemmas.{Frees, Puts, frees, puts}
+use Rattle.moka_index.proofs.PutLemmas.{Frees, Puts, PutsIn, frees, puts}
 use Rattle.moka_index.proofs.RestLemmas.{home_below}
 use Rattle.moka_index.proofs.StandsLemmas.{cell_below, cell_group, shown, steps_below, steps_round, steps_up, steps_walk, tag_some}
 use Rattle.moka_index.proofs.StandsLemmas.{tally_some, walk, walk_steps}

@@ -2,7 +2,7 @@
 use Rattle.std.specs.Prelude.{◌≡◌, ◌≢◌, ℕ, zero, suc, ◌+◌, ◌-◌, ◌*◌, ◌/◌, ◌%◌, ◌<◌, ◌≤◌, Bool, true, false, nat_eq, nat_lt, nat_le, if◌then◌else◌, min}
 use Rattle.std.specs.Int.{bit_at}
 use Rattle.std.specs.List.{list_any}
-use Rattle.std.specs.Prelude.{List, ◌∷◌, ◌^◌, length, replicate, slice_index_or, slice_set}
+use Rattle.std.specs.Prelude.{List, ◌^◌, length, replicate, slice_index_or, slice_set}
 use Rattle.moka_index.specs.declared.constants.TheConstants.{FAR, PLACES, SHARE}
 use Rattle.moka_index.specs.declared.group.Group.{Group}
 use Rattle.moka_index.specs.HashIndex.{chosen, group_at, home_of, places_of, tag_of}
@@ -10,14 +10,6 @@ use Rattle.moka_index.specs.HashIndex.{chosen, group_at, home_of, places_of, tag
 -- a group without ids
 abbrev pub FREE : Group
 FREE = record { marks = replicate 20 0; passed = 0; ids = replicate 10 0 }
-
--- the lowest of some places of a group, as bits, and what is left without it
-pub record TakesFirst (bits : ℕ) (ids : List ℕ) (place : ℕ) : Type 0 where
-  pub within : place < PLACES
-  pub least : 2 ^ place ≤ bits
-  pub set : bit_at bits place ≡ 1
-  pub is : chosen bits ids ≡ slice_index_or ids place 0 ∷ chosen (bits - 2 ^ place) ids
-  pub rest : (other : ℕ) → bit_at (bits - 2 ^ place) other ≡ 1 → bit_at bits other ≡ 1
 
 -- the id stands at one of some places of a group, as bits
 abbrev pub is_among : ℕ → ℕ → List ℕ → Bool
@@ -92,13 +84,6 @@ pub record IsProbed (groups : List Group) (ids : ℕ) (far : Bool) : Type 0 wher
   pub hashed : (cell : ℕ) → is_free groups cell ≡ false → (hash : ℕ) × IsUnder groups hash cell
   pub counted : (at : ℕ) → at < length groups → (group_at groups at).passed ≡ tally (passes groups at) (PLACES * length groups)
   pub says_far : (cell : ℕ) → is_free groups cell ≡ false → distance_at groups cell ≡ FAR → far ≡ true
-
--- an id is put at a free place of a group
-pub record PutsIn (old : List Group) (at tag distance id : ℕ) (new : List Group) : Type 0 where
-  pub place : ℕ
-  pub within : place < PLACES
-  pub free : is_free old (at * PLACES + place) ≡ true
-  pub is : new ≡ slice_set old at (with_id (group_at old at) place tag distance id)
 
 -- all places but one have what they had
 pub record SameBut (old : List Group) (cell : ℕ) (new : List Group) : Type 0 where

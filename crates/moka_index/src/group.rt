@@ -1,7 +1,7 @@
 // A group of places for ids, and where a hash belongs.
 ghost use Rattle.std.specs.Prelude.{◌≡◌, ◌<◌, ◌≤◌, false, min, IfNone, IfSome};
-ghost use Rattle.moka_index.specs.HashIndex.{after, ends_at, groups_of, home_of, places_at, places_of, places_with, tag_of};
-ghost use Rattle.moka_index.specs.Probed.{FREE, HasAt, TakesFirst, is_among, with_id, without};
+ghost use Rattle.moka_index.specs.HashIndex.{after, groups_of, home_of, places_of, places_with, tag_of};
+ghost use Rattle.moka_index.specs.Probed.{FREE, HasAt, is_among, with_id, without};
 ghost use Rattle.moka_index.specs.declared.constants.TheConstants.{FAR, MOST_IDS, PLACES};
 
 use crate::constants::{FAR, PLACES, SHARE, SPREAD};
@@ -30,25 +30,15 @@ impl Group {
         }
     }
 
-    /// The places with `tag`, as bits. Tag 0 gives the free places.
-    pub(crate) fn places_with(&self, tag: u8) -> u64
-        ensures places { result ≡ places_with self.now tag }
+    /// The free places, as bits.
+    pub(crate) fn free_places(&self) -> u64
+        ensures places { result ≡ places_with self.now 0 }
         ensures bound { result < 1024 }
     {
         u8x16::from_slice(&self.marks)
-            .simd_eq(u8x16::splat(tag))
+            .simd_eq(u8x16::splat(0))
             .to_bitmask()
             % 1024
-    }
-
-    /// The places with `distance`, as bits.
-    fn places_at(&self, distance: u8) -> u64
-        ensures { result ≡ places_at self.now distance }
-    {
-        u8x16::from_slice(&self.marks[4..])
-            .simd_eq(u8x16::splat(distance))
-            .to_bitmask()
-            >> 6
     }
 
     /// The places with `tag` and `distance`, as bits.
@@ -57,7 +47,10 @@ impl Group {
         ensures places { result ≡ places_of self.now tag (min distance FAR) }
         ensures bound { result < 1024 }
     {
-        self.places_with(tag) & self.places_at(distance.min(FAR) as u8)
+        let distance = distance.min(FAR) as u8;
+        let tagged = u8x16::from_slice(&self.marks).simd_eq(u8x16::splat(tag));
+        let distant = u8x16::from_slice(&self.marks[4..]).simd_eq(u8x16::splat(distance));
+        tagged.to_bitmask() % 1024 & distant.to_bitmask() >> 6
     }
 
     /// The place of `id`, if it stands here with `tag` and `distance`.
@@ -67,21 +60,13 @@ impl Group {
     {
         let mut found = self.places_of(tag, distance);
         while found != 0 {
-            let place = self.first(found);
+            let place = found.trailing_zeros() as usize;
             if self.ids[place] == id {
                 return Some(place);
             }
             found -= 1 << place;
         }
         None
-    }
-
-    /// Returns true if a search ends here: no id has passed this group. If `far`, some ids may be counted by no group, so no search ends early.
-    #[inline(always)]
-    pub(crate) fn ends(&self, far: bool) -> bool
-        ensures { result ≡ ends_at self.now far }
-    {
-        !far && self.passed == 0
     }
 
     /// Puts `id` at `place`.
@@ -101,15 +86,6 @@ impl Group {
     {
         self.marks[place] = 0;
     }
-
-    /// The lowest of `places`.
-    pub(crate) fn first(&self, places: u64) -> usize
-        requires some { 0 < places }
-        requires few { places < 1024 }
-        ensures { TakesFirst places self.now.ids result }
-    {
-        places.trailing_zeros() as usize
-    }
 }
 
 /// The number of groups of a table with room for `ids` ids.
@@ -121,20 +97,14 @@ pub(crate) fn groups_of(ids: usize) -> usize
     ids / SHARE + 1
 }
 
-/// The group at which a search for `hash` starts.
+/// The group at which a search for `hash` starts, and the tag of `hash`, which is never 0.
 #[inline(always)]
-pub(crate) fn home_of(groups: usize, hash: u64) -> usize
-    ensures { result ≡ home_of groups hash }
+pub(crate) fn probe_of(groups: usize, hash: u64) -> (usize, u8)
+    ensures home { result.0 ≡ home_of groups hash }
+    ensures tag { result.1 ≡ tag_of groups hash }
 {
-    (u128::from(hash.wrapping_mul(SPREAD)) * groups as u128 >> 64) as usize
-}
-
-/// The tag of `hash`, which is never 0.
-#[inline(always)]
-pub(crate) fn tag_of(groups: usize, hash: u64) -> u8
-    ensures { result ≡ tag_of groups hash }
-{
-    ((u128::from(hash.wrapping_mul(SPREAD)) * groups as u128 >> 56) % 256).max(1) as u8
+    let spread = u128::from(hash.wrapping_mul(SPREAD)) * groups as u128;
+    ((spread >> 64) as usize, ((spread >> 56) % 256).max(1) as u8)
 }
 
 /// The group after `at`, round and round.

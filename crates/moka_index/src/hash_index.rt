@@ -1,19 +1,19 @@
 //! An index from hashes to ids, by open addressing over groups of ten places. It keeps eight bits of each hash beside the id, so that its
 //! owner, which has the hash and the key of each id, is seldom asked in vain.
 ghost use Rattle.std.specs.Prelude.{◌≡◌, ℕ, ◌<◌, ◌≤◌, [], false, true, max, IsOk, OnOk, OnErr};
+ghost use Rattle.std.specs.Iterator.{YieldsFirst, item_count};
 ghost use Rattle.moka_index.specs.HashIndex.{candidates, is_candidate, Adds, Removes};
 
-use crate::candidates::Candidates;
 use crate::constants::{FAR, MOST_IDS};
-use crate::group::{Group, groups_of, home_of, tag_of};
-use crate::table::{count, free_group, place_of, put, refill, take_back};
+use crate::group::{Group, after, groups_of, probe_of};
+use crate::table::{count, free_place, place_of, refill, take_back};
 use moka_base::error::OutOfMemory;
 use std::alloc::{Allocator, Global};
 use std::marker::Model;
 
 /// An index from hashes to ids.
 ///
-/// The table has a group of ten places for every six ids. An id stands in the first group with a free place, from its hash's home on, and
+/// The table has a group of ten places for every five ids. An id stands in the first group with a free place, from its hash's home on, and
 /// each group that it passed counts it. A search ends at a group that no id has passed, or after one round.
 #[derive(Drop)]
 pub struct HashIndex<A: Allocator = Global> {
@@ -57,7 +57,7 @@ impl<A: Allocator> HashIndex<A> {
     /// Forgets all ids, and makes room for those below `ids`. The owner adds its ids again: it has their hashes, of which the index keeps
     /// only a part.
     ///
-    /// This is the only call that takes memory, and only for more room than there was: about 11 bytes an id. It is refused for more than
+    /// This is the only call that takes memory, and only for more room than there was: about 13 bytes an id. It is refused for more than
     /// `MOST_IDS` ids.
     pub fn clear_for(&mut self, ids: usize) -> Result<(), OutOfMemory>
         ensures empty { OnOk result ((hash : ℕ) → candidates self.new hash ≡ []) }
@@ -87,8 +87,7 @@ impl<A: Allocator> HashIndex<A> {
         ensures { result ≡ candidates self.now hash }
     {
         let len = self.groups.len();
-        let tag = tag_of(len, hash);
-        let at = home_of(len, hash);
+        let (at, tag) = probe_of(len, hash);
         let found = match self.groups.get(at) {
             Some(group) => group.places_of(tag, 0),
             None => 0,
@@ -110,10 +109,9 @@ impl<A: Allocator> HashIndex<A> {
         requires absent { (other : ℕ) → is_candidate self.old other id ≡ false }
         ensures step { Adds self.old id hash self.new }
     {
-        let len = self.groups.len();
-        let home = home_of(len, hash);
-        let (at, distance) = free_group(&self.groups, home);
-        put(&mut self.groups, at, tag_of(len, hash), distance, id as u32);
+        let (home, tag) = probe_of(self.groups.len(), hash);
+        let (at, distance, place) = free_place(&self.groups, home);
+        self.groups[at].put(place, tag, distance, id as u32);
         if distance < FAR {
             count(&mut self.groups, home, distance);
         } else {
@@ -126,12 +124,63 @@ impl<A: Allocator> HashIndex<A> {
         requires { is_candidate self.old hash id ≡ true }
         ensures step { Removes self.old id self.new }
     {
-        let len = self.groups.len();
-        let home = home_of(len, hash);
-        let (at, distance, place) = place_of(&self.groups, hash, id as u32);
+        let (home, at, distance, place) = place_of(&self.groups, hash, id as u32);
         self.groups[at].clear(place);
         if distance < FAR {
             take_back(&mut self.groups, home, distance);
         }
+    }
+}
+
+/// An iterator over the candidates of a hash. A contract sees the ids that are left.
+#[derive(Drop)]
+pub struct Candidates<'a> {
+    pub(crate) groups: &'a [Group],
+    pub(crate) at: usize,
+    pub(crate) tag: u8,
+    /// The number of groups from the home to this one.
+    pub(crate) distance: usize,
+    pub(crate) far: bool,
+    /// The places of this group that are left, as bits.
+    pub(crate) found: u64,
+    /// The number of groups that are left after this one.
+    pub(crate) left: usize,
+}
+
+impl<'a> Model for Candidates<'a> {
+    ghost use Rattle.std.specs.Prelude.{◌≡◌, ℕ, List, ◌+◌, ◌^◌, ◌<◌, ◌≤◌, length};
+    ghost use Rattle.moka_index.specs.HashIndex.{rest_of};
+
+    ghost Value = { List ℕ };
+
+    ghost view = { λ it. rest_of it.groups.now it.tag it.far it.left it.distance it.at it.found };
+
+    ghost invariant = { λ it. (it.found < 1024) × (length it.groups.now ≤ it.at → (it.found ≡ 0) × (it.left ≡ 0)) × (it.distance + it.left < 2 ^ 64) };
+}
+
+impl<'a> Iterator for Candidates<'a> {
+    type Item = usize;
+
+    ghost next_gives = { YieldsFirst (λ ids. ids) };
+
+    ghost remaining = { item_count (λ ids. ids) };
+
+    fn next(&mut self) -> Option<usize> {
+        while let Some(group) = self.groups.get(self.at) {
+            if self.found != 0 {
+                let place = self.found.trailing_zeros() as usize;
+                self.found -= 1 << place;
+                return Some(group.ids[place] as usize);
+            }
+            // A search ends at a group that no id has passed. If `far`, some ids may be counted by no group, so none ends early.
+            if self.left == 0 || !self.far && group.passed == 0 {
+                return None;
+            }
+            self.left -= 1;
+            self.distance += 1;
+            self.at = after(self.groups.len(), self.at);
+            self.found = self.groups[self.at].places_of(self.tag, self.distance);
+        }
+        None
     }
 }

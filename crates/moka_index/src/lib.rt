@@ -1,7 +1,6 @@
 //! An index from hashes to ids.
 #![tactic(auto)]
 
-pub mod candidates;
 pub mod constants;
 pub mod group;
 pub mod hash_index;

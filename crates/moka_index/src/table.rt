@@ -1,11 +1,11 @@
 // The table of an index.
-ghost use Rattle.std.specs.Prelude.{◌≡◌, ◌≢◌, ℕ, ◌+◌, ◌*◌, ◌^◌, ◌<◌, ◌≤◌, length, min, replicate};
+ghost use Rattle.std.specs.Prelude.{◌≡◌, ◌≢◌, ℕ, ◌+◌, ◌*◌, ◌^◌, ◌<◌, ◌≤◌, true, length, replicate};
 ghost use Rattle.std.specs.Vec.{vec_capacity};
 ghost use Rattle.moka_index.specs.HashIndex.{group_at, home_of, places_with};
-ghost use Rattle.moka_index.specs.Probed.{AreShaped, CountsWay, FREE, IsUnder, PutsIn, id_at, steps};
-ghost use Rattle.moka_index.specs.declared.constants.TheConstants.{FAR, PLACES};
+ghost use Rattle.moka_index.specs.Probed.{AreShaped, CountsWay, FREE, IsUnder, id_at, is_free, steps};
+ghost use Rattle.moka_index.specs.declared.constants.TheConstants.{PLACES};
 
-use crate::group::{Group, after, home_of, tag_of};
+use crate::group::{Group, after, probe_of};
 use std::alloc::Allocator;
 
 /// Makes a table of `len` groups without ids, in capacity that was reserved.
@@ -17,58 +17,45 @@ pub(crate) fn refill<A: Allocator>(groups: &mut Vec<Group, A>, len: usize)
     groups.resize(len, Group::free()).unwrap();
 }
 
-/// The first group with a free place, from `home` on, round and round, and its distance.
-pub(crate) fn free_group(groups: &[Group], home: usize) -> (usize, usize)
+/// The first free place, from the group `home` on, round and round: its group, the group's distance, and the place there.
+pub(crate) fn free_place(groups: &[Group], home: usize) -> (usize, usize, usize)
     requires inside { home < length groups.now }
     requires small { length groups.now < 2 ^ 32 }
+    requires shaped { AreShaped groups.now }
     requires room { (at : ℕ) × (at < length groups.now) × (places_with (group_at groups.now at) 0 ≢ 0) }
-    ensures inside { result.0 < length groups.now }
-    ensures free { places_with (group_at groups.now result.0) 0 ≢ 0 }
+    ensures inside { (result.0 < length groups.now) × (result.2 < PLACES) }
     ensures distance { result.1 ≡ steps (length groups.now) home result.0 }
+    ensures free { is_free groups.now (result.0 * PLACES + result.2) ≡ true }
 {
     let mut at = home;
     let mut distance = 0;
-    while groups[at].places_with(0) == 0 {
+    loop {
+        let free = groups[at].free_places();
+        if free != 0 {
+            return (at, distance, free.trailing_zeros() as usize);
+        }
         at = after(groups.len(), at);
         distance += 1;
     }
-    (at, distance)
 }
 
-/// Puts `id` at a free place of the group `at`, which is `distance` groups after its home.
-pub(crate) fn put<A: Allocator>(
-    groups: &mut Vec<Group, A>,
-    at: usize,
-    tag: u8,
-    distance: usize,
-    id: u32,
-)
-    requires inside { at < length groups.old.items }
-    requires shaped { AreShaped groups.old.items }
-    requires free { places_with (group_at groups.old.items at) 0 ≢ 0 }
-    ensures { PutsIn groups.old.items at tag (min distance FAR) id groups.new.items }
-{
-    let group = &mut groups[at];
-    let place = group.first(group.places_with(0));
-    group.put(place, tag, distance, id);
-}
-
-/// The group of `id`, which has this `hash`, its distance and its place there.
-pub(crate) fn place_of(groups: &[Group], hash: u64, id: u32) -> (usize, usize, usize)
+/// The home of `hash`, and where its `id` stands: the group, the group's distance, and the place there.
+pub(crate) fn place_of(groups: &[Group], hash: u64, id: u32) -> (usize, usize, usize, usize)
     requires small { length groups.now < 2 ^ 32 }
     requires shaped { AreShaped groups.now }
     requires stands { (cell : ℕ) × IsUnder groups.now hash cell × (id_at groups.now cell ≡ id) }
-    ensures inside { (result.0 < length groups.now) × (result.2 < PLACES) }
-    ensures distance { result.1 ≡ steps (length groups.now) (home_of (length groups.now) hash) result.0 }
-    ensures under { IsUnder groups.now hash (result.0 * PLACES + result.2) }
-    ensures is { id_at groups.now (result.0 * PLACES + result.2) ≡ id }
+    ensures home { result.0 ≡ home_of (length groups.now) hash }
+    ensures inside { (result.1 < length groups.now) × (result.3 < PLACES) }
+    ensures distance { result.2 ≡ steps (length groups.now) result.0 result.1 }
+    ensures under { IsUnder groups.now hash (result.1 * PLACES + result.3) }
+    ensures is { id_at groups.now (result.1 * PLACES + result.3) ≡ id }
 {
-    let tag = tag_of(groups.len(), hash);
-    let mut at = home_of(groups.len(), hash);
+    let (home, tag) = probe_of(groups.len(), hash);
+    let mut at = home;
     let mut distance = 0;
     loop {
         if let Some(place) = groups[at].place_of(tag, distance, id) {
-            return (at, distance, place);
+            return (home, at, distance, place);
         }
         at = after(groups.len(), at);
         distance += 1;

@@ -45,35 +45,41 @@ take_while-none : {X : Type 0} (test : X → Bool) (xs : List X) → ((x : X) �
 take_while-none test [] fails = refl
 take_while-none test (x ∷ xs) fails = take_while-cons test x xs ∙ cond-false (test x) (x ∷ take_while test xs) [] (fails x)
 
-module _ (policy : Policy) (unbounded : IsUnbounded policy) (now : ℕ) where
+module _ (policy : Policy) (lasting : (policy.time_to_live ≡ None) × (policy.time_to_idle ≡ None)) (now : ℕ) where
   -- nothing has lived too long
   lives : (modified : ℕ) → live_expired (live_nanos policy) modified now ≡ false
-  lives modified = ap (λ o. live_expired (option_map as_nanos o) modified now) unbounded.1
+  lives modified = ap (λ o. live_expired (option_map as_nanos o) modified now) lasting.0
 
   -- nor was idle too long
   used : (accessed : ℕ) → idle_expired (idle_nanos policy) accessed now ≡ false
-  used accessed = ap (λ o. idle_expired (option_map as_nanos o) accessed now) unbounded.2
+  used accessed = ap (λ o. idle_expired (option_map as_nanos o) accessed now) lasting.1
 
   -- no entry is expired
   unexpired-same : {K V : Type 0} (o : Option (Entry K V)) → unexpired policy now o ≡ o
   unexpired-same None = refl
   unexpired-same (Some e) = cond-false (is_expired policy now e) None (Some e) (λ i. lives e.modified i || used e.accessed i)
 
-  -- nothing leaves
-  upkeep-same : {K V : Type 0} (eq : K → K → Bool) (contents : Contents K V) → after_upkeep eq policy now contents ≡ contents
-  upkeep-same {K = K} {V = V} eq contents =
+  -- nothing leaves by time
+  pub expiry-same : {K V : Type 0} (eq : K → K → Bool) (contents : Contents K V) → after_expiry eq policy now contents ≡ contents
+  expiry-same {K = K} {V = V} eq contents =
       let none_lived : take EVICTION_BATCH_SIZE (take_while (has_lived policy now) contents.written) ≡ [] =
       ap (take EVICTION_BATCH_SIZE) (take_while-none (has_lived policy now) contents.written (λ w. lives w.modified))
       ∙ take-nil EVICTION_BATCH_SIZE in
       let none_idle = λ (es : List (Entry K V)). ap (take EVICTION_BATCH_SIZE) (take_while-none (is_idle policy now) es (λ e. used e.accessed))
       ∙ take-nil EVICTION_BATCH_SIZE in
-      ap (λ limit. after_trim eq limit (after_expiry eq policy now contents)) unbounded.0
-      ∙ (ap (after_idle_expiry eq policy now EVICTION_BATCH_SIZE) (ap (λ l. after_leaving eq (map (λ w. w.key) l) contents) none_lived)
+      ap (after_idle_expiry eq policy now EVICTION_BATCH_SIZE) (ap (λ l. after_leaving eq (map (λ w. w.key) l) contents) none_lived)
       ∙ (ap (λ l. after_leaving eq (entry_keys l) (after_idle eq policy now EVICTION_BATCH_SIZE (probation_of contents.entries)
       (after_idle eq policy now EVICTION_BATCH_SIZE (window_of contents.entries) contents))) (none_idle (protected_of contents.entries))
       ∙ (ap (λ l. after_leaving eq (entry_keys l) (after_idle eq policy now EVICTION_BATCH_SIZE (window_of contents.entries) contents))
       (none_idle (probation_of contents.entries))
-      ∙ ap (λ l. after_leaving eq (entry_keys l) contents) (none_idle (window_of contents.entries)))))
+      ∙ ap (λ l. after_leaving eq (entry_keys l) contents) (none_idle (window_of contents.entries))))
+
+module _ (policy : Policy) (unbounded : IsUnbounded policy) (now : ℕ) where
+  -- nothing leaves without limits
+  upkeep-same : {K V : Type 0} (eq : K → K → Bool) (contents : Contents K V) → after_upkeep eq policy now contents ≡ contents
+  upkeep-same eq contents =
+      ap (λ limit. after_trim eq limit (after_expiry eq policy now contents)) unbounded.0
+      ∙ expiry-same policy (unbounded.1, unbounded.2) now eq contents
 
 -- ---- what stands at a key
 
@@ -319,7 +325,7 @@ module _ {K V : Type 0} where
   pairs-unexpired policy unbounded now (e ∷ es) =
       let fresh = filter (λ e. not (is_expired policy now e)) es in
       ap pairs_of (cond-true (not (is_expired policy now e)) (e ∷ fresh) fresh
-      (λ i. not (lives policy unbounded now e.modified i || used policy unbounded now e.accessed i)))
+      (λ i. not (lives policy (unbounded.1, unbounded.2) now e.modified i || used policy (unbounded.1, unbounded.2) now e.accessed i)))
       ∙ ap (λ l. (e.key, e.value) ∷ l) (pairs-unexpired policy unbounded now es)
 
 -- ---- what a step does
@@ -365,7 +371,7 @@ module _ {K V S W : Type 0} (keys : Keys K S) where
   seen_in_map : (cache : CacheState K V S W) → IsUnbounded cache.settings.policy → (key : K) (now : ℕ)
       → found_by_peek keys cache key now ≡ value_at keys key (pairs_of cache.contents.entries)
   seen_in_map cache unbounded key now =
-      ap (option_map (λ e. e.value)) (unexpired-same cache.settings.policy unbounded now (entry_at keys.eq key cache.contents.entries))
+      ap (option_map (λ e. e.value)) (unexpired-same cache.settings.policy (unbounded.1, unbounded.2) now (entry_at keys.eq key cache.contents.entries))
       ∙ sym (value-pairs keys key cache.contents.entries)
 
   -- and so does a get or a removal
@@ -414,7 +420,7 @@ module _ {K V S W : Type 0} (keys : Keys K S) (weighs : W → K → V → ℕ �
     answers_as_map old new (ContainsKey other now) answer unbounded known step =
         step.0
         ∙ ap Truth (ap (λ c. is_some (unexpired_at keys.eq old.settings.policy now other c)) (look-same keys old unbounded now)
-        ∙ (ap is_some (unexpired-same old.settings.policy unbounded now (entry_at keys.eq other old.contents.entries))
+        ∙ (ap is_some (unexpired-same old.settings.policy (unbounded.1, unbounded.2) now (entry_at keys.eq other old.contents.entries))
         ∙ (told_by_value (entry_at keys.eq other old.contents.entries)
         ∙ ap is_some (sym (value-pairs keys other old.contents.entries)))))
     answers_as_map old new (Insert other value now) answer unbounded known (inl (done, inserted)) = done
@@ -455,7 +461,7 @@ module _ {K V S W : Type 0} (keys : Keys K S) (weighs : W → K → V → ℕ �
         ∙ (ap (λ c. value_at keys key (pairs_of (after_search keys.eq (room_of old) old.settings.policy now other c).entries))
         (look-same keys old unbounded now)
         ∙ (ap (λ o. value_at keys key (pairs_of (after_use keys.eq (room_of old) now o old.contents).entries))
-        (unexpired-same old.settings.policy unbounded now (entry_at keys.eq other old.contents.entries))
+        (unexpired-same old.settings.policy (unbounded.1, unbounded.2) now (entry_at keys.eq other old.contents.entries))
         ∙ same_value key (after_use keys.eq (room_of old) now (entry_at keys.eq other old.contents.entries) old.contents).entries old.contents.entries
         (value-used laws key (room_of old) now other (entry_at keys.eq other old.contents.entries) old.contents refl)))
     values_as_map old new (Peek other now) answer unbounded known step key = ap (cached_value key) step.1

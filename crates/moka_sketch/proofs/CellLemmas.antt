@@ -228,6 +228,11 @@ counters_of-replicate (suc n) =
 
 -- ---- one counter of a table
 
+-- a shift and a mask read one of a group
+pub counter_read : (group j : ℕ) → j < 4 → bit_and (group / 2 ^ (4 * j)) 15 ≡ get_or (counters_of_group group) j 0
+unfolding counters_of_group
+counter_read group j below = and_mask (group / 2 ^ (4 * j)) 4 ∙ sym (get_or-digits 4 j group below)
+
 -- nor is one of a group
 counter_small : (group j : ℕ) → j < 4 → get_or (counters_of_group group) j 0 ≤ 15
 unfolding counters_of_group

@@ -1,6 +1,6 @@
 -- The sum of all counters of 32 groups, as lanes add up neighbours: the two counters of each byte, then the two bytes of each group, then all groups.
 use Rattle.std.proofs.Common.{◌≡◌, ℕ, ◌+◌, ◌*◌, ◌/◌, ◌%◌, ◌^◌, ◌<◌, ◌≤◌, List, [], ◌∷◌, ◌++◌, length, map, replicate}
-use Rattle.std.proofs.Common.{refl, sym, ◌∙◌, ap, arith, bit_and, sum}
+use Rattle.std.proofs.Common.{sym, ◌∙◌, ap, arith, bit_and, sum}
 use Rattle.std.proofs.lemmas.Nat.{and_block, and_mask}
 use Rattle.std.proofs.lemmas.List.{length-map, map-id}
 use Rattle.std.proofs.lemmas.List.Sums.{sum_by-cons, sum_by-append, sum_by-le}

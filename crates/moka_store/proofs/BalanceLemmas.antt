@@ -14,8 +14,8 @@ use Rattle.moka_machine.specs.declared.entry.Part.{Part}
 use Rattle.moka_machine.specs.declared.entry.Part.TheVariants.{Probation, Protected, Window}
 use Rattle.moka_machine.specs.Contents.{InOrder, balanced, demoted, is_before, is_protected, is_window, protected_of, total_weight}
 use Rattle.moka_machine.proofs.PartLemmas.{demoted-first, order-sooner}
-use Rattle.moka_store.specs.declared.marks.Marks.{Marks}
-use Rattle.moka_store.specs.declared.weights.Weights.{Weights}
+use Rattle.moka_store.specs.declared.parts.Marks.{Marks}
+use Rattle.moka_store.specs.declared.parts.Weights.{Weights}
 use Rattle.moka_store.specs.Nodes.{AreMarks, Demotes, bare, first_in, is_any, is_late, share, start_of, weight_in, weights_of}
 use Rattle.moka_store.specs.Store.{those_of}
 use Rattle.moka_deque.proofs.DequeLemmas.{lookup-other, lookup-set, nat_eq-same, remove-other, remove-same, set-other, set-same}

@@ -10,8 +10,8 @@ use Rattle.moka_machine.specs.declared.entry.Entry.{Entry}
 use Rattle.moka_machine.specs.declared.entry.Part.{Part}
 use Rattle.moka_machine.specs.Contents.{is_protected, is_window, write_of, writes_without}
 use Rattle.moka_machine.specs.Insert.{with_write}
-use Rattle.moka_store.specs.declared.marks.Marks.{Marks}
-use Rattle.moka_store.specs.declared.weights.Weights.{Weights}
+use Rattle.moka_store.specs.declared.parts.Marks.{Marks}
+use Rattle.moka_store.specs.declared.parts.Weights.{Weights}
 use Rattle.moka_store.specs.Nodes.{AreMarks, IsBalanced, IsStored, SameBy, bare, is_any, latest_node, passed, share, weight_in, weights_of, write_last}
 use Rattle.moka_store.specs.Nodes.{write_under, written_under}
 use Rattle.moka_deque.proofs.DequeLemmas.{lookup-set, nat_eq-same}
@@ -19,7 +19,7 @@ use Rattle.moka_store.proofs.LatestLemmas.{lookup-relisted}
 use Rattle.moka_store.proofs.MarkLemmas.{marks-passed}
 use Rattle.moka_store.proofs.NodeLemmas.{keys-set, remove-set}
 use Rattle.moka_store.proofs.SameLemmas.{same-bare, same-found, same-relisted}
-use Rattle.moka_store.proofs.WeightLemmas.{parts_less, weight-removed, weight-small, weights-latest, weights-removed}
+use Rattle.moka_store.proofs.WeightLemmas.{parts_less, share_all, weight-removed, weight-small, weights-latest, weights-removed}
 use Rattle.moka_store.proofs.WriteLemmas.{under-last, under-same}
 
 module _ {K V : Type 0} {eq : K → K → Bool} {keeps : Bool} {nodes : List (ℕ × Entry K V)} {marks : Marks} {ids : List ℕ} {weights : Weights}
@@ -74,6 +74,36 @@ module _ {K V : Type 0} {eq : K → K → Bool} {keeps : Bool} {nodes : List (�
           protected = mid.protected + share (is_protected (part_is i)) (w_is i);
           window = mid.window + share (is_window (part_is i)) (w_is i);
         }))
+
+  -- its weight taken off, and what each part weighs then
+  abbrev pub without_it : Weights
+  without_it = record {
+    all = weights.all - x.weight;
+    protected = weights.protected - share (is_protected x.part) x.weight;
+    window = weights.window - share (is_window x.part) x.weight;
+  }
+
+  -- another part has room for its weight
+  pub shift_fits : (without_it.protected + x.weight ≤ weights.all) × (without_it.window + x.weight ≤ weights.all)
+  shift_fits =
+      let (protected, window) = parts_lighter without_it refl in
+      let all = share_all weights id x nodes s.weighed stood in
+      (omega (arith, protected, all), omega (arith, window, all))
+
+  -- the weights with its own in another part
+  pub shifted : e.weight ≡ x.weight → (new : Weights) → new ≡ record {
+    all = weights.all;
+    protected = without_it.protected + share (is_protected e.part) x.weight;
+    window = without_it.window + share (is_window e.part) x.weight;
+  } → new ≡ weights_of (latest_node (id, e) (remove_entry (nat_eq id) nodes))
+  shifted same new new_is =
+      let all = share_all weights id x nodes s.weighed stood in
+      let back : weights.all ≡ weights.all - x.weight + x.weight = omega (arith, all) in
+      heavier without_it refl e.part x.weight refl (sym same) new (new_is ∙ (λ i. record {
+        all = back i;
+        protected = without_it.protected + share (is_protected e.part) x.weight;
+        window = without_it.window + share (is_window e.part) x.weight;
+      }))
 
   -- the writes are the same where its own is
   pub writes_kept : write_of e ≡ write_of x → (new : List (ℕ × Entry K V)) → new ≡ latest_node (id, e) (remove_entry (nat_eq id) nodes)

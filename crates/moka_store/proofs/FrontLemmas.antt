@@ -20,7 +20,7 @@ use Rattle.moka_deque.proofs.DequeLemmas.{lookup-other, nat_eq-same, remove-othe
 use Rattle.moka_deque.proofs.IdLemmas.{not_none, some_parts}
 use Rattle.moka_deque.proofs.InsertedLemmas.{apart_from_distinct}
 use Rattle.moka_store.proofs.MarkLemmas.{first-here, first-later, first_is}
-use Rattle.moka_store.proofs.NodeLemmas.{values-removed}
+use Rattle.moka_store.proofs.NodeLemmas.{keys_once, values-removed}
 use Rattle.moka_store.proofs.WriteLemmas.{under-without}
 
 -- ---- the first of all
@@ -231,6 +231,7 @@ front_of_is laws part store s id e start stood here =
       first = part-first part id e store.nodes a stood (start-first part id e store.nodes a start stood here);
       alone = ap (those_of part) (sym left);
       others = λ other not_it. ap (those_of other) (sym left) ∙ part-without other id e store.nodes stood not_it;
+      once = keys_once s;
     }
 
 -- where the part begins with none, or with one of another, there is none

@@ -13,7 +13,7 @@ use Rattle.moka_machine.specs.declared.entry.Part.{Part}
 use Rattle.moka_machine.specs.declared.entry.Part.TheVariants.{Probation, Protected, Window}
 use Rattle.moka_machine.specs.Contents.{InOrder, is_before, is_window}
 use Rattle.moka_machine.proofs.PartLemmas.{one_first}
-use Rattle.moka_store.specs.declared.marks.Marks.{Marks}
+use Rattle.moka_store.specs.declared.parts.Marks.{Marks}
 use Rattle.moka_store.specs.Nodes.{AreMarks, behind, first_in, is_late, joined, latest_node, moved, passed, with_mark}
 use Rattle.moka_deque.proofs.DequeLemmas.{absent_head, absent_tail, lookup-other, nat_eq-same, nat_eq_comm, remove-other, remove-same}
 use Rattle.moka_deque.proofs.IdLemmas.{IsDistinct-removed, lookup-removed, moved-found, not_none, some_parts}

@@ -10,8 +10,8 @@ use Rattle.moka_deque.specs.IdList.{IdList}
 use Rattle.moka_index.specs.HashIndex.{HashIndex, candidates, Adds, Removes as Unlists}
 use Rattle.moka_machine.specs.declared.entry.Entry.{Entry}
 use Rattle.moka_machine.specs.Contents.{entry_at}
-use Rattle.moka_store.specs.declared.marks.Marks.{Marks}
-use Rattle.moka_store.specs.declared.weights.Weights.{Weights}
+use Rattle.moka_store.specs.declared.parts.Marks.{Marks}
+use Rattle.moka_store.specs.declared.parts.Weights.{Weights}
 use Rattle.moka_store.specs.Indexed.{HasRoom}
 use Rattle.moka_store.specs.Nodes.{AreMarks, IsBalanced, IsStored, SameBy, bare, latest_node, weights_of}
 use Rattle.moka_store.specs.Nodes.{write_added, write_last, write_left}

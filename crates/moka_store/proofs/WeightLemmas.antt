@@ -8,7 +8,7 @@ use Rattle.std.specs.Map.{lookup, remove_entry, values_of}
 use Rattle.moka_machine.specs.declared.entry.Entry.{Entry}
 use Rattle.moka_machine.specs.declared.entry.Part.{Part}
 use Rattle.moka_machine.specs.Contents.{is_protected, is_window, total_weight}
-use Rattle.moka_store.specs.declared.weights.Weights.{Weights}
+use Rattle.moka_store.specs.declared.parts.Weights.{Weights}
 use Rattle.moka_store.specs.Nodes.{is_any, latest_node, share, weight_in, weights_of}
 use Rattle.moka_deque.proofs.DequeLemmas.{lookup-other, remove-other, remove-same}
 use Rattle.moka_deque.proofs.IdLemmas.{not_none, some_parts}

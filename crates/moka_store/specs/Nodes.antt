@@ -12,8 +12,8 @@ use Rattle.moka_machine.specs.declared.entry.Entry.{Entry}
 use Rattle.moka_machine.specs.declared.entry.Part.{Part}
 use Rattle.moka_machine.specs.declared.entry.Part.TheVariants.{Probation, Protected, Window}
 use Rattle.moka_machine.specs.Contents.{InOrder, Write, balanced, is_before, is_probation, is_protected, is_window, write_of}
-use Rattle.moka_store.specs.declared.marks.Marks.{Marks}
-use Rattle.moka_store.specs.declared.weights.Weights.{Weights}
+use Rattle.moka_store.specs.declared.parts.Marks.{Marks}
+use Rattle.moka_store.specs.declared.parts.Weights.{Weights}
 use Rattle.moka_store.specs.Indexed.{IsIndexed}
 
 -- whether a part stands behind probation

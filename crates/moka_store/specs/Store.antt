@@ -1,11 +1,12 @@
 -- What a contract sees of the store of a cache's entries, and of each change of it.
 use Rattle.std.specs.Prelude.{◌≡◌, ◌≤◌, ℕ, Bool, true, false, filter, nat_eq, List, length, ◌∷◌, All, Some, IsSome, option_map}
+use Rattle.std.specs.List.{IsDistinct}
 use Rattle.std.specs.Map.{lookup, remove_entry, values_of}
 use Rattle.moka_deque.specs.IdList.{is_listed}
 use Rattle.moka_machine.specs.declared.entry.Entry.{Entry}
 use Rattle.moka_machine.specs.declared.entry.Part.{Part}
 use Rattle.moka_machine.specs.declared.entry.Part.TheVariants.{Probation, Protected, Window}
-use Rattle.moka_machine.specs.Contents.{Contents, Write, after_moving, entries_without, entry_at, is_probation, is_protected, is_window, without}
+use Rattle.moka_machine.specs.Contents.{Contents, Write, after_moving, entries_without, entry_at, entry_keys, is_probation, is_protected, is_window, without}
 use Rattle.moka_machine.specs.Contents.{write_of, writes_without}
 use Rattle.moka_machine.specs.Insert.{after_arrival, after_update}
 use Rattle.moka_machine.specs.Lookup.{after_using}
@@ -65,7 +66,7 @@ module _ {K V : Type 0} where
       pub first : entries_of store ≡ entry ∷ rest
       pub alone : entries_without eq entry.key (entries_of store) ≡ rest
 
-    -- it is that of the first entry of a part; once it is gone, the others are the part, and the other parts are what they were
+    -- it is that of the first entry of a part, where no key stands twice; once it is gone, the others are the part, and the other parts are what they were
     pub record IsFrontOf (part : Part) (store : Store K V) (id : ℕ) : Type 0 where
       pub entry : Entry K V
       pub rest : List (Entry K V)
@@ -75,6 +76,7 @@ module _ {K V : Type 0} where
       pub alone : those_of part (entries_without eq entry.key (entries_of store)) ≡ rest
       pub others : (other : Part) → is_of other entry.part ≡ false
           → those_of other (entries_without eq entry.key (entries_of store)) ≡ those_of other (entries_of store)
+      pub once : IsDistinct eq (entry_keys (entries_of store))
 
     -- it is the node of the entry whose write is the oldest, and no other write has its key
     pub record IsOldest (store : Store K V) (id : ℕ) : Type 0 where

@@ -1,9 +1,7 @@
 //! The entries of the cache for one thread.
 #![tactic(auto)]
 
-mod balance;
 mod indexing;
-mod marks;
+mod parts;
 pub mod store;
-mod weights;
 mod writes;

@@ -14,19 +14,15 @@ ghost use Rattle.moka_store.specs.Nodes.{start_of};
 ghost use Rattle.moka_store.specs.Store.{AreCandidates, Enters, HasHash, IsFound, IsFront, IsFrontOf, IsOldest, Promotes, Removes, Replaces, Updates, Uses};
 ghost use Rattle.moka_store.specs.Store.{contents_of, entries_of, is_of, those_of};
 
-use crate::balance::balance;
 use crate::indexing::index_all;
-use crate::marks::{Marks, settle};
-use crate::weights::Weights;
+use crate::parts::{Marks, Weights, balance, is_of, settle};
 use crate::writes::{add_write, remove_write, write_again};
 use moka_base::error::OutOfMemory;
 use moka_base::policy::Policy;
 use moka_base::time::Instant;
-use moka_deque::chain::{Chain, IdList, Iter};
-use moka_deque::deque::NodeId;
-use moka_index::candidates::Candidates;
+use moka_deque::chain::{Chain, IdList, Iter, NodeId};
 use moka_index::constants::MOST_IDS;
-use moka_index::hash_index::HashIndex;
+use moka_index::hash_index::{Candidates, HashIndex};
 use moka_machine::entry::{Entry, Part};
 use std::alloc::{AllocError, Allocator, Global};
 use std::marker::Model;
@@ -121,14 +117,7 @@ impl<K: Eq + Drop, V: Drop, A: Allocator + Clone + Drop> Store<K, V, A> {
 
     /// The number of entries.
     pub fn len(&self) -> usize
-        ensures len { result ≡ length self.now.nodes }
-
-        // What holds of every store: no id and no key stands twice, the parts are in order, and each write has its entry.
-        ensures distinct { IsDistinct nat_eq (keys_of self.now.nodes) }
-        ensures once { IsDistinct K.eq (entry_keys (entries_of self.now)) }
-        ensures order { InOrder Probation (entries_of self.now) }
-        ensures unwritten { (key : K) → entry_at K.eq key (entries_of self.now) ≡ None
-            → writes_without K.eq key self.now.written ≡ self.now.written }
+        ensures { result ≡ length self.now.nodes }
     {
         self.entries.len()
     }
@@ -198,7 +187,9 @@ impl<K: Eq + Drop, V: Drop, A: Allocator + Clone + Drop> Store<K, V, A> {
 
     /// Iterates over the entries of probation, then protected, then the window, each least recently used first.
     pub fn iter(&self) -> Iter<'_, Entry<K, V>, A>
-        ensures { result ≡ entries_of self.now }
+        ensures value { result ≡ entries_of self.now }
+        ensures few { length result < 2 ^ 32 }
+        ensures order { InOrder Probation (entries_of self.now) }
     {
         self.entries.iter()
     }
@@ -208,6 +199,7 @@ impl<K: Eq + Drop, V: Drop, A: Allocator + Clone + Drop> Store<K, V, A> {
         ensures found { IfSome result (λ id. IsFront K.eq self.now id) }
         ensures absent { IsNone result → contents_of self.now ≡ no_contents }
         ensures first { result ≡ first_id self.now.nodes }
+        ensures order { InOrder Probation (entries_of self.now) }
     {
         self.entries.front()
     }
@@ -261,15 +253,13 @@ impl<K: Eq + Drop, V: Drop, A: Allocator + Clone + Drop> Store<K, V, A> {
         requires { IsSome (lookup (nat_eq id) self.old.nodes) }
         ensures { Uses K.eq self.old id room now self.new }
     {
-        let entry = self.entries.get(id);
-        let (part, weight) = (entry.part, entry.weight);
-        let used = used_part(room, part, weight);
-        self.weights.take(part, weight);
-        self.weights.add(used, weight);
         self.marks.pass(&self.entries, id);
         let entry = self.entries.get_mut(id);
+        let (part, weight) = (entry.part, entry.weight);
+        let used = used_part(room, part, weight);
         entry.accessed = now;
         entry.part = used;
+        self.weights.shift(part, used, weight);
         settle(&mut self.entries, &mut self.marks, id, used);
         balance(&mut self.entries, &mut self.marks, &mut self.weights, room);
     }
@@ -279,13 +269,12 @@ impl<K: Eq + Drop, V: Drop, A: Allocator + Clone + Drop> Store<K, V, A> {
         requires { IsSome (lookup (nat_eq id) self.old.nodes) }
         ensures { Updates K.eq self.old id room update self.new }
     {
-        let entry = self.entries.get(id);
-        let (part, weight) = (entry.part, entry.weight);
-        let used = used_part(room, part, update.weight);
-        self.weights.take(part, weight);
-        self.weights.add(used, update.weight);
         self.marks.pass(&self.entries, id);
-        rewrite(self.entries.get_mut(id), used, update);
+        let entry = self.entries.get_mut(id);
+        let used = used_part(room, entry.part, update.weight);
+        self.weights.take(entry.part, entry.weight);
+        self.weights.add(used, update.weight);
+        rewrite(entry, used, update);
         settle(&mut self.entries, &mut self.marks, id, used);
         balance(&mut self.entries, &mut self.marks, &mut self.weights, room);
         write_again(&mut self.writes, self.keeps_writes, id);
@@ -297,12 +286,11 @@ impl<K: Eq + Drop, V: Drop, A: Allocator + Clone + Drop> Store<K, V, A> {
         requires { IsSome (lookup (nat_eq id) self.old.nodes) }
         ensures { Promotes K.eq self.old id self.new }
     {
-        let entry = self.entries.get(id);
-        let (part, weight) = (entry.part, entry.weight);
-        self.weights.take(part, weight);
-        self.weights.add(Part::Probation, weight);
         self.marks.pass(&self.entries, id);
-        self.entries.get_mut(id).part = Part::Probation;
+        let entry = self.entries.get_mut(id);
+        let (part, weight) = (entry.part, entry.weight);
+        entry.part = Part::Probation;
+        self.weights.shift(part, Part::Probation, weight);
         settle(&mut self.entries, &mut self.marks, id, Part::Probation);
     }
 
@@ -330,12 +318,12 @@ impl<K: Eq + Drop, V: Drop, A: Allocator + Clone + Drop> Store<K, V, A> {
         ensures { Replaces K.eq self.old id entry self.new }
     {
         let (hash, part) = (entry.hash, entry.part);
-        let gone = self.entries.get(id);
+        self.marks.pass(&self.entries, id);
+        let gone = self.entries.get_mut(id);
         self.index.remove(id.number(), gone.hash);
         self.weights.take(gone.part, gone.weight);
         self.weights.add(part, entry.weight);
-        self.marks.pass(&self.entries, id);
-        *self.entries.get_mut(id) = entry;
+        *gone = entry;
         settle(&mut self.entries, &mut self.marks, id, part);
         write_again(&mut self.writes, self.keeps_writes, id);
         self.index.add(id.number(), hash);
@@ -369,26 +357,13 @@ impl<K: Eq + Drop, V: Drop, A: Allocator + Clone + Drop> Store<K, V, A> {
 fn used_part(room: u64, part: Part, weight: u32) -> Part
     ensures { result ≡ used_part room part weight }
 {
-    if is_of(Part::Window, part) {
+    if matches!(part, Part::Window) {
         return Part::Window;
     }
     if 0 < room && u64::from(weight) <= room {
         return Part::Protected;
     }
     Part::Probation
-}
-
-/// Tells if two parts are the same.
-#[inline(always)]
-fn is_of(part: Part, other: Part) -> bool
-    ensures { result ≡ is_of part other }
-{
-    match (part, other) {
-        (Part::Probation, Part::Probation) => true,
-        (Part::Protected, Part::Protected) => true,
-        (Part::Window, Part::Window) => true,
-        _ => false,
-    }
 }
 
 /// Replaces an entry's value, weight, moments and part, and keeps its key.

@@ -3,8 +3,7 @@ ghost use Rattle.std.specs.Prelude.{◌≡◌, ◌<◌, false, true};
 ghost use Rattle.moka_deque.specs.IdList.{is_listed};
 ghost use Rattle.moka_store.specs.Nodes.{write_added, write_last, write_left};
 
-use moka_deque::chain::IdList;
-use moka_deque::deque::NodeId;
+use moka_deque::chain::{IdList, NodeId};
 use std::alloc::Allocator;
 
 /// Adds the write of a new node.

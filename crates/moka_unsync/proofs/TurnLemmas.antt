@@ -1,6 +1,7 @@
 -- Lemmas on entries that leave one after another: those that make up a weight, and those that were idle too long.
-use Rattle.std.proofs.Common.{◌≡◌, ◌<◌, ◌≤◌, ◌+◌, ◌-◌, ℕ, zero, suc, Bool, true, false, nat_eq, List, [], ◌∷◌, take, take_while, Option, Some, None, option_map, unwrap_or}
+use Rattle.std.proofs.Common.{◌≡◌, ◌<◌, ◌≤◌, ◌+◌, ◌-◌, ◌^◌, ◌||◌, ℕ, zero, suc, Bool, true, false, nat_eq, List, [], ◌∷◌, take, take_while, Option, Some, None, option_map, unwrap_or}
 use Rattle.std.proofs.Common.{is_some, refl, sym, ap, ◌∙◌, arith, subst}
+use Rattle.std.proofs.Math.Seq.{take-nil}
 use Rattle.std.proofs.lemmas.Bool.{cond-false, cond-true, false≢true}
 use Rattle.std.proofs.lemmas.List.Sums.{sum_by-cons, take_while-cons}
 use Rattle.std.specs.Map.{lookup}
@@ -8,11 +9,22 @@ use Rattle.moka_base.specs.Policy.{Policy}
 use Rattle.moka_machine.specs.declared.entry.Part.{Part}
 use Rattle.moka_machine.specs.declared.entry.Part.TheVariants.{Probation, Protected, Window}
 use Rattle.moka_base.specs.Prefix.{shortest_prefix}
+use Rattle.moka_machine.specs.declared.constants.TheConstants.{EVICTION_BATCH_SIZE}
 use Rattle.moka_machine.specs.declared.entry.Entry.{Entry}
 use Rattle.moka_machine.specs.Contents.{Contents, entry_keys, after_leaving, total_weight, without}
-use Rattle.moka_machine.specs.Upkeep.{after_eviction, is_idle, least_recent}
+use Rattle.moka_machine.specs.Upkeep.{after_eviction, after_trim, is_idle, least_recent}
 use Rattle.moka_store.specs.Store.{Continues, IsFront, IsFrontOf, Removes, Store, contents_of, entries_of, is_of, those_of}
 use Rattle.moka_unsync.specs.Turns.{after_idle_of}
+
+-- a policy by which no entry expires has no durations
+pub lasting : (policy : Policy) → (is_some policy.time_to_live || is_some policy.time_to_idle) ≡ false
+    → (policy.time_to_live ≡ None) × (policy.time_to_idle ≡ None)
+lasting policy h = by policy.time_to_live policy.time_to_idle h
+  where
+    by : {X Y : Type 0} (live : Option X) (idle : Option Y) → (is_some live || is_some idle) ≡ false → (live ≡ None) × (idle ≡ None)
+    by None None h = (refl, refl)
+    by None (Some idle) h = absurd (false≢true (sym h))
+    by (Some live) idle h = absurd (false≢true (sym h))
 
 module _ {K V : Type 0} where
   unwrap_cons : (e : Entry K V) (es : List (Entry K V)) (o : Option (List (Entry K V)))
@@ -47,6 +59,22 @@ module _ {K V : Type 0} where
 
       weights : total_weight old.entries - limit - e.weight ≡ total_weight es - limit
       weights = rw total (grind (arith))
+
+  -- a weight above the limit is trimmed, and there is a limit then
+  pub trim-above : (eq : K → K → Bool) (max : Option ℕ) (most weight : ℕ) → most ≡ unwrap_or max (2 ^ 64 - 1) → most < weight → weight < 2 ^ 64
+      → (contents : Contents K V) → after_eviction eq most EVICTION_BATCH_SIZE contents ≡ after_trim eq max contents
+  trim-above eq None most weight is above small contents = absurd (grind (arith, is, above, small))
+  trim-above eq (Some limit) most weight is above small contents = ap (λ l. after_eviction eq l EVICTION_BATCH_SIZE contents) is
+
+  -- one within it is not
+  pub trim-within : (eq : K → K → Bool) (max : Option ℕ) (most : ℕ) → most ≡ unwrap_or max (2 ^ 64 - 1) → (contents : Contents K V)
+      → total_weight contents.entries ≤ most → contents ≡ after_trim eq max contents
+  trim-within eq None most is contents within = refl
+  trim-within eq (Some limit) most is contents within =
+      let none : total_weight contents.entries - limit ≡ 0 = grind (arith, is, within) in
+      sym (ap (λ w. after_leaving eq (entry_keys (take EVICTION_BATCH_SIZE (least_recent w contents.entries))) contents) none
+      ∙ (ap (λ (l : List (Entry K V)). after_leaving eq (entry_keys (take EVICTION_BATCH_SIZE l)) contents) (least_recent-none contents.entries)
+      ∙ ap (λ (l : List (Entry K V)). after_leaving eq (entry_keys l) contents) (take-nil EVICTION_BATCH_SIZE)))
 
   -- a node's entry is the one that left
   pub left_is : (eq : K → K → Bool) (old new : Store K V) (id : ℕ) (e : Entry K V) → lookup (nat_eq id) old.nodes ≡ Some e → Removes eq old id new

@@ -1,5 +1,5 @@
 -- How the parts of a cache are tied. No public clause cites this module.
-use Rattle.std.specs.Prelude.{◌≡◌, ℕ, Bool, false, All, is_some, Option, Some, None}
+use Rattle.std.specs.Prelude.{◌≡◌, ◌-◌, ◌^◌, ◌||◌, ℕ, Bool, false, All, is_some, unwrap_or, Option, Some, None}
 use Rattle.moka_base.specs.Keys.{Keys}
 use Rattle.moka_base.specs.Policy.{Policy}
 use Rattle.moka_base.specs.Settings.{keeps_writes}
@@ -12,6 +12,11 @@ use Rattle.moka_machine.specs.Insert.{after_admission, after_entering}
 use Rattle.moka_machine.specs.Shares.{protected_room, windowed_limits}
 use Rattle.moka_machine.specs.Window.{victims_of}
 use Rattle.moka_store.specs.Store.{Store, entries_of}
+
+-- a policy has entries expire or not, and has this limit, or none and then the largest number
+pub record IsBounded (policy : Policy) (expires : Bool) (max_weight : ℕ) : Type 0 where
+  pub expiring : expires ≡ (is_some policy.time_to_live || is_some policy.time_to_idle)
+  pub limited : max_weight ≡ unwrap_or policy.max_capacity (2 ^ 64 - 1)
 
 -- each entry has the hash of its key, the writes are kept where there is a time to live, without a window all entries are of main, and what was computed of
 -- the shares is right

@@ -15,39 +15,15 @@ ghost use Rattle.moka_store.specs.Store.{Continues, IsFront, IsFrontOf, contents
 ghost use Rattle.moka_unsync.specs.Cached.{IsPut};
 ghost use Rattle.moka_unsync.specs.Turns.{IsTurn, after_eviction_of, counted};
 
-use moka_deque::deque::NodeId;
+use moka_deque::chain::NodeId;
 use moka_machine::entry::{Entry, Part};
 use moka_machine::shares::PartLimits;
 use moka_sketch::frequency_sketch::FrequencySketch;
 use moka_store::store::Store;
 use std::alloc::Allocator;
 
-/// Stores a new entry, or drops it if it is rejected. Returns whether it was stored.
-#[inline(always)]
-pub(crate) fn put_new<K: Eq + Drop, V: Drop, A: Allocator + Clone + Drop>(
-    store: &mut Store<K, V, A>,
-    limit: Option<u64>,
-    windowed: &Option<PartLimits>,
-    sketch: &FrequencySketch<A>,
-    new: Entry<K, V>,
-) -> bool
-    requires room { length store.old.nodes < store.old.capacity }
-    requires absent { entry_at K.eq new.key (entries_of store.old) ≡ None }
-    requires unwritten { writes_without K.eq new.key store.old.written ≡ store.old.written }
-    requires probation { new.part ≡ Probation }
-    requires all_main { windowed.now ≡ None → All (λ e. is_window e.part ≡ false) (entries_of store.old) }
-    ensures step { IsPut K.eq store.old.keeps_writes windowed.now limit sketch.now new (contents_of store.old) result (contents_of store.new) }
-    ensures keeps { store.new.keeps_writes ≡ store.old.keeps_writes }
-    ensures capacity { store.new.capacity ≡ store.old.capacity }
-{
-    match windowed {
-        Some(limits) => enter_window(store, limits, sketch, new),
-        None => admit(store, limit, sketch, new),
-    }
-}
-
 /// Stores a new entry in place of its victims in main, or drops it if it is rejected. Returns whether it was stored.
-fn admit<K: Eq + Drop, V: Drop, A: Allocator + Clone + Drop>(
+pub(crate) fn admit<K: Eq + Drop, V: Drop, A: Allocator + Clone + Drop>(
     store: &mut Store<K, V, A>,
     limit: Option<u64>,
     sketch: &FrequencySketch<A>,
@@ -110,8 +86,6 @@ fn outvoted_count<K: Eq + Drop, V: Drop, A: Allocator + Clone + Drop>(
         (shortest_prefix (λ e. e.weight) new.now.weight (main_of (entries_of store.now))) }
 {
     let candidate = sketch.frequency(new.hash);
-    // For the proof: there are at most `usize::MAX` entries, and main stands before the window.
-    let _ = store.len();
     let mut lacking = new.weight;
     let mut votes = 0;
     let mut count = 0;
@@ -205,8 +179,6 @@ fn main_front<K: Eq + Drop, V: Drop, A: Allocator + Clone + Drop>(
     ensures found { IfSome result (λ id. (front : IsFront K.eq store.now id) × (is_window front.entry.part ≡ false)) }
     ensures absent { IsNone result → main_of (entries_of store.now) ≡ [] }
 {
-    // For the proof: if the first entry is in the window, all are.
-    let _ = store.len();
     let id = store.front()?;
     if is_windowed(store.get(id)) {
         return None;
@@ -217,7 +189,7 @@ fn main_front<K: Eq + Drop, V: Drop, A: Allocator + Clone + Drop>(
 /// Stores a new entry in the window. Then the window's least recently used entries move to main if they are admitted there, or leave the store, until its
 /// weight is within its share. Returns whether the new entry was stored.
 #[inline(always)]
-fn enter_window<K: Eq + Drop, V: Drop, A: Allocator + Clone + Drop>(
+pub(crate) fn enter_window<K: Eq + Drop, V: Drop, A: Allocator + Clone + Drop>(
     store: &mut Store<K, V, A>,
     limits: &PartLimits,
     sketch: &FrequencySketch<A>,
@@ -351,8 +323,6 @@ fn judge<K: Eq + Drop, V: Drop, A: Allocator + Clone + Drop>(
         × (window_of (entries_of store.new) ≡ front.rest) }
     ensures kept { Continues store.old store.new }
 {
-    // For the proof: no key stands twice.
-    let _ = store.len();
     match victim_count(store, Some(main_limit(limits)), sketch, store.get(id)) {
         Some(count) => {
             evict(store, count);
@@ -381,8 +351,6 @@ fn judge_last<K: Eq + Drop, V: Drop, A: Allocator + Clone + Drop>(
     ensures keeps { store.new.keeps_writes ≡ store.old.keeps_writes }
     ensures capacity { store.new.capacity ≡ store.old.capacity }
 {
-    // For the proof: no key stands twice.
-    let _ = store.len();
     match victim_count(store, Some(main_limit(limits)), sketch, store.get(id)) {
         Some(count) => {
             // The candidate is still the window's first entry after this.

@@ -19,16 +19,15 @@ ghost use Rattle.moka_machine.specs.Shares.{default_shares};
 mod debug;
 mod iter;
 
-use crate::admission::put_new;
+use crate::admission::{admit, enter_window};
 use crate::builder::CacheBuilder;
 use crate::part_limits::{protected_room, windowed_limits};
 use crate::removal::{clear, remove_key, remove_where, take_key};
-use crate::upkeep::{is_expired, upkeep};
+use crate::upkeep::Bounds;
 use crate::walk::next_unexpired;
 pub use iter::Iter;
 use moka_base::error::{BuildError, InsertError, OutOfMemory};
 use moka_base::hash::FixedState;
-use moka_base::limits::Limits;
 use moka_base::policy::Policy;
 use moka_base::time::Instant;
 use moka_base::weigh::{UnitWeight, Weigh};
@@ -114,7 +113,7 @@ pub(crate) struct Parts<S: Drop, W: Drop> {
 /// window. Only building and inserting allocate. An insert
 /// within the cache's capacity allocates at most the sketch's table, and can't be refused. Beyond it the cache doubles its capacity, without a weigher
 /// up to one above the limit, and rebuilds the index. So a cache without a weigher whose `initial_capacity` is above its limit refuses no insert. A
-/// cache has at most 2^31 entries.
+/// cache has at most 2,000,000,000 entries.
 ///
 /// # What differs from mini-moka
 ///
@@ -130,12 +129,14 @@ pub struct Cache<
     A: Allocator + Clone + Drop = Global,
 > {
     hash_state: S,
-    limits: Limits,
+    bounds: Bounds,
     shares: Shares,
     // The limits of the parts, if there is a window.
     windowed: Option<PartLimits>,
     // The weight limit of protected.
     room: u64,
+    // The largest useful capacity of the store.
+    most_entries: usize,
     is_weighed: bool,
     weigher: W,
     store: Store<K, V, A>,
@@ -148,10 +149,11 @@ impl<K: Eq + Hash + Drop, V: Drop, S: BuildHasher + Drop, W: Drop, A: Allocator 
     fn drop(self) {
         let Cache {
             hash_state: _,
-            limits: _,
+            bounds: _,
             shares: _,
             windowed: _,
             room: _,
+            most_entries: _,
             is_weighed: _,
             weigher: _,
             store: _,
@@ -175,7 +177,7 @@ impl<
     ghost Value = { CacheState K V S W };
 
     ghost view = { λ c. record {
-      settings = record { hash_state = c.hash_state; policy = c.limits; is_weighed = c.is_weighed };
+      settings = record { hash_state = c.hash_state; policy = c.bounds; is_weighed = c.is_weighed };
       shares = c.shares;
       weigher = c.weigher;
       contents = contents_of c.store;
@@ -185,7 +187,7 @@ impl<
 
     ghost invariant = { λ c. IsCached
         (keys_by (record { eq = K.eq; hash_input = K.hash_input }) S.BuildHasher S.Hasher.Hasher)
-        c.hash_state c.limits c.shares c.windowed c.room c.store };
+        c.hash_state c.bounds c.shares c.windowed c.room c.store };
 }
 
 impl<K: Eq + Hash + Drop, V: Drop, A: Allocator + Clone + Drop> Cache<
@@ -236,10 +238,11 @@ impl<
         let store = empty_store(&alloc, parts.policy, parts.initial_capacity)?;
         Ok(Cache {
             hash_state: parts.hash_state,
-            limits: Limits::new(parts.policy),
+            bounds: Bounds::new(parts.policy),
             shares: parts.shares,
             windowed: windowed_limits(parts.shares, parts.policy.max_capacity()),
             room: protected_room(parts.shares, parts.policy.max_capacity()),
+            most_entries: most_entries(parts.policy, parts.is_weighed),
             is_weighed: parts.is_weighed,
             weigher: parts.weigher,
             store,
@@ -251,7 +254,7 @@ impl<
     pub fn policy(&self) -> Policy
         ensures { result ≡ self.now.settings.policy }
     {
-        self.limits.policy()
+        self.bounds.policy()
     }
 
     /// The shares of the window and of protected entries, in percent.
@@ -282,10 +285,10 @@ impl<
         ensures step { self.new
             ≡ after_look (keys_by K.Hash S.BuildHasher S.Hasher.Hasher) self.old now }
     {
-        upkeep(&mut self.store, &self.limits, now);
+        self.bounds.upkeep(&mut self.store, now);
         let hash = self.hash_state.hash_one(key);
         match self.store.find(key, hash) {
-            Some(id) => !is_expired(&self.limits, self.store.get(id), now),
+            Some(id) => !self.bounds.is_expired(self.store.get(id), now),
             None => false,
         }
     }
@@ -311,12 +314,12 @@ impl<
         ensures value { option_copied result
             ≡ found_by_get (keys_by K.Hash S.BuildHasher S.Hasher.Hasher) self.old key.now now }
     {
-        upkeep(&mut self.store, &self.limits, now);
+        self.bounds.upkeep(&mut self.store, now);
         // The index is asked first, so that the processor waits for it and for the sketch at once.
         let candidates = self.store.candidates(hash);
         self.sketch.increment(hash);
         let id = self.store.find_among(candidates, key, hash)?;
-        if is_expired(&self.limits, self.store.get(id), now) {
+        if self.bounds.is_expired(self.store.get(id), now) {
             return None;
         }
         self.store.touch(id, self.room, now);
@@ -332,7 +335,7 @@ impl<
         let hash = self.hash_state.hash_one(key);
         let id = self.store.find(key, hash)?;
         let entry = self.store.get(id);
-        if is_expired(&self.limits, entry, now) {
+        if self.bounds.is_expired(entry, now) {
             return None;
         }
         Some(&entry.value)
@@ -344,9 +347,8 @@ impl<
             ≡ after_invalidate (keys_by K.Hash S.BuildHasher S.Hasher.Hasher) self.old key.now now }
     {
         let hash = self.hash_state.hash_one(key);
-        let store = &mut self.store;
-        upkeep(store, &self.limits, now);
-        remove_key(store, key, hash);
+        self.bounds.upkeep(&mut self.store, now);
+        remove_key(&mut self.store, key, hash);
     }
 
     /// Removes the entry of the key, if there is one, and returns its value, unless it is expired. The value is moved out, so it needs no `Clone`.
@@ -360,10 +362,10 @@ impl<
         ensures step { self.new
             ≡ after_invalidate (keys_by K.Hash S.BuildHasher S.Hasher.Hasher) self.old key.now now }
     {
-        upkeep(&mut self.store, &self.limits, now);
+        self.bounds.upkeep(&mut self.store, now);
         let hash = self.hash_state.hash_one(key);
         let entry = take_key(&mut self.store, key, hash)?;
-        if is_expired(&self.limits, &entry, now) {
+        if self.bounds.is_expired(&entry, now) {
             return None;
         }
         Some(entry.value)
@@ -393,9 +395,7 @@ impl<
         ensures value { result ≡ pairs_at self.now now }
         ensures fits { length result < 2 ^ 64 }
     {
-        // There are at most `usize::MAX` entries to count.
-        let _ = self.store.len();
-        Iter::new(self.store.iter(), &self.limits, now)
+        Iter::new(self.store.iter(), &self.bounds, now)
     }
 
     /// The unexpired entry behind that of a key, in the order of `iter`: so a walk can be broken off, and go on from the last key that it met. The answer is
@@ -405,44 +405,33 @@ impl<
             ≡ pair_behind (keys_by K.Hash S.BuildHasher S.Hasher.Hasher) self.now key.now now }
     {
         let hash = self.hash_state.hash_one(key);
-        let entry = next_unexpired(&self.store, &self.limits, key, hash, now)?;
+        let entry = next_unexpired(&self.store, &self.bounds, key, hash, now)?;
         Some((&entry.key, &entry.value))
     }
 
     /// Asks for the sketch's table, if the cache is at least half full and has none.
+    #[inline(always)]
     fn enable_sketch(&mut self)
         ensures { (refused : Bool) × (self.new ≡ after_asking K.eq refused self.old) }
     {
-        let Some(limit) = self.limits.max_capacity() else {
+        if self.sketch.table_len() == 0 {
+            self.ask_for_table();
+        }
+    }
+
+    #[cold]
+    #[inline(never)]
+    fn ask_for_table(&mut self)
+        ensures { (refused : Bool) × (self.new ≡ after_asking K.eq refused self.old) }
+    {
+        let Some(limit) = self.bounds.policy().max_capacity() else {
             return;
         };
-        if self.enables_sketch() {
+        if self.sketch.table_len() == 0 && self.store.weight() >= limit / 2 {
             let cap = sketch_capacity(self.expected_entries(limit));
             // Without memory for it the sketch stays off, and is asked for again at the next new entry.
             let _ = self.sketch.ensure_capacity(cap);
         }
-    }
-
-    /// Whether the cache asks for a table: it has a limit, no table yet, and at least half of the limit, rounded down.
-    fn enables_sketch(&self) -> bool
-        ensures { result ≡ enables_sketch self.now.settings.policy.max_capacity self.now.sketch
-            (total_weight self.now.contents.entries) }
-    {
-        match self.limits.max_capacity() {
-            Some(limit) => { self.sketch.table_len() == 0 && self.store.weight() >= limit / 2 }
-            None => false,
-        }
-    }
-
-    /// For how many entries room is made at most, as far as more than that never come: for those of the limit, and one that is looked at.
-    fn most_entries(&self) -> usize {
-        if self.is_weighed {
-            return usize::MAX;
-        }
-        let limit = self.limits.max_capacity().unwrap_or(u64::MAX);
-        usize::try_from(limit)
-            .unwrap_or(usize::MAX)
-            .saturating_add(1)
     }
 
     /// How many entries there is room for at the present mean weight, as far as 64 bits tell.
@@ -503,11 +492,10 @@ impl<
         ensures error { IfErr result (λ error. error ≡ InsertError.OutOfMemory) }
         ensures ready { W.ready self.new.weigher }
     {
-        let most = self.most_entries();
-        if self.store.reserve(1, most).is_err() {
+        if self.store.reserve(1, self.most_entries).is_err() {
             return Err(InsertError::OutOfMemory);
         }
-        upkeep(&mut self.store, &self.limits, now);
+        self.bounds.upkeep(&mut self.store, now);
         let entry = Entry {
             hash,
             weight: self.weigher.weigh(&key, &value),
@@ -519,17 +507,19 @@ impl<
         };
         match self.store.find(&entry.key, entry.hash) {
             Some(id) => self.store.update(id, self.room, entry),
-            None => {
-                if put_new(
-                    &mut self.store,
-                    self.limits.max_capacity(),
-                    &self.windowed,
-                    &self.sketch,
-                    entry,
-                ) {
-                    self.enable_sketch();
+            None => match &self.windowed {
+                Some(limits) => {
+                    if enter_window(&mut self.store, limits, &self.sketch, entry) {
+                        self.enable_sketch();
+                    }
                 }
-            }
+                None => {
+                    let limit = self.bounds.policy().max_capacity();
+                    if admit(&mut self.store, limit, &self.sketch, entry) {
+                        self.enable_sketch();
+                    }
+                }
+            },
         }
         Ok(())
     }
@@ -577,6 +567,17 @@ impl<
         self.insert_hashed(key, hash, value, now)?;
         Ok(copy)
     }
+}
+
+/// The largest useful capacity of a store: the limit plus one candidate, or any number if entries have weights.
+fn most_entries(policy: Policy, is_weighed: bool) -> usize {
+    if is_weighed {
+        return usize::MAX;
+    }
+    let limit = policy.max_capacity().unwrap_or(u64::MAX);
+    usize::try_from(limit)
+        .unwrap_or(usize::MAX)
+        .saturating_add(1)
 }
 
 /// A clone of a value.

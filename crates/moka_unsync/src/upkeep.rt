@@ -1,33 +1,87 @@
 // The work that each call does first: it removes expired entries, by write and then by use, and entries above the limit, in batches.
 ghost use Rattle.std.specs.Prelude.{◌≡◌, false};
 ghost use Rattle.moka_machine.specs.declared.constants.TheConstants.{EVICTION_BATCH_SIZE};
-ghost use Rattle.moka_machine.specs.Upkeep.{after_eviction, after_expiry, after_idle_expiry, after_live_expiry, after_trim, after_upkeep, is_expired};
+ghost use Rattle.moka_machine.specs.Upkeep.{after_eviction, after_expiry, after_idle_expiry, after_live_expiry, after_upkeep, is_expired};
 ghost use Rattle.moka_store.specs.Store.{Continues, contents_of, entries_of, is_of, those_of};
 ghost use Rattle.moka_unsync.specs.Turns.{IsTurn, after_idle_of};
 
 use moka_base::limits::Limits;
+use moka_base::policy::Policy;
 use moka_base::time::Instant;
 use moka_machine::constants::EVICTION_BATCH_SIZE;
 use moka_machine::entry::{Entry, Part};
 use moka_store::store::Store;
 use std::alloc::Allocator;
+use std::marker::Model;
 
-/// Removes expired entries, and then entries above the limit. Each call does so first.
-#[inline(always)]
-pub(crate) fn upkeep<K: Eq + Drop, V: Drop, A: Allocator + Clone + Drop>(
-    store: &mut Store<K, V, A>,
-    limits: &Limits,
-    now: Instant,
-)
-    ensures step { contents_of store.new ≡ after_upkeep K.eq limits.now now (contents_of store.old) }
-    ensures kept { Continues store.old store.new }
-{
-    expire(store, limits, now);
-    trim(store, limits.max_capacity());
+/// The limits of a cache, with what each call asks of them first. A contract sees the policy alone.
+#[derive(Drop)]
+pub(crate) struct Bounds {
+    limits: Limits,
+    // If entries expire.
+    expires: bool,
+    // The weight limit of all entries, which they can't exceed if there is none.
+    max_weight: u64,
+}
+
+impl Model for Bounds {
+    ghost use Rattle.moka_base.specs.Policy.{Policy as PolicyState};
+    ghost use Rattle.moka_unsync.specs.Cached.{IsBounded};
+
+    ghost Value = { PolicyState };
+
+    ghost view = { λ b. b.limits };
+
+    ghost invariant = { λ b. IsBounded b.limits b.expires b.max_weight };
+}
+
+impl Bounds {
+    /// The bounds of a policy.
+    pub(crate) fn new(policy: Policy) -> Bounds
+        ensures { result ≡ policy }
+    {
+        Bounds {
+            limits: Limits::new(policy),
+            expires: policy.time_to_live().is_some() || policy.time_to_idle().is_some(),
+            max_weight: policy.max_capacity().unwrap_or(u64::MAX),
+        }
+    }
+
+    /// Returns the policy.
+    pub(crate) fn policy(&self) -> Policy
+        ensures { result ≡ self.now }
+    {
+        self.limits.policy()
+    }
+
+    /// Removes expired entries, and then entries above the limit. Each call does so first.
+    #[inline(always)]
+    pub(crate) fn upkeep<K: Eq + Drop, V: Drop, A: Allocator + Clone + Drop>(
+        &self,
+        store: &mut Store<K, V, A>,
+        now: Instant,
+    )
+        ensures step { contents_of store.new ≡ after_upkeep K.eq self.now now (contents_of store.old) }
+        ensures kept { Continues store.old store.new }
+    {
+        if self.expires {
+            expire(store, &self.limits, now);
+        }
+        if store.weight() > self.max_weight {
+            trim_to(store, self.max_weight);
+        }
+    }
+
+    /// Tells if an entry is past its time to live or its time to idle.
+    #[inline(always)]
+    pub(crate) fn is_expired<K: Drop, V: Drop>(&self, entry: &Entry<K, V>, now: Instant) -> bool
+        ensures { result ≡ is_expired self.now now entry.now }
+    {
+        self.expires && is_expired(&self.limits, entry, now)
+    }
 }
 
 /// Removes a batch by time to live and a batch by time to idle, if these are set.
-#[inline(always)]
 fn expire<K: Eq + Drop, V: Drop, A: Allocator + Clone + Drop>(
     store: &mut Store<K, V, A>,
     limits: &Limits,
@@ -138,22 +192,7 @@ fn expire_front<K: Eq + Drop, V: Drop, A: Allocator + Clone + Drop>(
     true
 }
 
-/// Removes a batch if the weight is above the limit.
-#[inline(always)]
-fn trim<K: Eq + Drop, V: Drop, A: Allocator + Clone + Drop>(
-    store: &mut Store<K, V, A>,
-    limit: Option<u64>,
-)
-    ensures step { contents_of store.new ≡ after_trim K.eq limit (contents_of store.old) }
-    ensures kept { Continues store.old store.new }
-{
-    if let Some(limit) = limit {
-        if store.weight() > limit {
-            trim_to(store, limit);
-        }
-    }
-}
-
+/// Removes a batch of the least recently used entries while the weight is above the limit.
 #[cold]
 #[inline(never)]
 fn trim_to<K: Eq + Drop, V: Drop, A: Allocator + Clone + Drop>(
@@ -189,13 +228,8 @@ fn trim_front<K: Eq + Drop, V: Drop, A: Allocator + Clone + Drop>(
     true
 }
 
-/// Tells if an entry is past its time to live or its time to idle.
 #[inline]
-pub(crate) fn is_expired<K: Drop, V: Drop>(
-    limits: &Limits,
-    entry: &Entry<K, V>,
-    now: Instant,
-) -> bool
+fn is_expired<K: Drop, V: Drop>(limits: &Limits, entry: &Entry<K, V>, now: Instant) -> bool
     ensures { result ≡ is_expired limits.now now entry.now }
 {
     limits.has_lived(entry.modified, now) || limits.is_idle(entry.accessed, now)

@@ -3,8 +3,7 @@ ghost use Rattle.std.specs.Prelude.{◌≡◌, option_copied};
 ghost use Rattle.moka_machine.specs.Iterate.{entries_behind, first_unexpired};
 ghost use Rattle.moka_store.specs.Store.{HasHash, entries_of};
 
-use crate::upkeep::is_expired;
-use moka_base::limits::Limits;
+use crate::upkeep::Bounds;
 use moka_base::time::Instant;
 use moka_machine::entry::Entry;
 use moka_store::store::Store;
@@ -13,18 +12,18 @@ use std::alloc::Allocator;
 /// Returns the first live entry after that of the key. The hash is the key's.
 pub(crate) fn next_unexpired<'a, K: Eq + Drop, V: Drop, A: Allocator + Clone + Drop>(
     store: &'a Store<K, V, A>,
-    limits: &Limits,
+    bounds: &Bounds,
     key: &K,
     hash: u64,
     now: Instant,
 ) -> Option<&'a Entry<K, V>>
     requires { HasHash K.eq store.now key.now hash }
-    ensures { option_copied result ≡ first_unexpired limits.now now (entries_behind K.eq key.now (entries_of store.now)) }
+    ensures { option_copied result ≡ first_unexpired bounds.now now (entries_behind K.eq key.now (entries_of store.now)) }
 {
     let mut here = store.next(store.find(key, hash)?);
     while let Some(id) = here {
         let entry = store.get(id);
-        if !is_expired(limits, entry, now) {
+        if !bounds.is_expired(entry, now) {
             return Some(entry);
         }
         here = store.next(id);

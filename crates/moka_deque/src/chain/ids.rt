@@ -2,8 +2,8 @@
 ghost use Rattle.std.specs.Prelude.{◌≡◌, ◌<◌, ◌≤◌, [], ◌∷◌, ◌++◌, false, true, IsOk, OnOk};
 ghost use Rattle.moka_deque.specs.IdList.{first_of, ids_without, is_listed};
 
-use crate::chain::links::{LinkTable, NONE};
-use crate::deque::NodeId;
+use crate::chain::NodeId;
+use crate::chain::links::LinkTable;
 use moka_base::error::OutOfMemory;
 use std::alloc::{Allocator, Global};
 use std::marker::Model;
@@ -62,7 +62,9 @@ impl<A: Allocator> IdList<A> {
         if self.len == 0 {
             return None;
         }
-        Some(NodeId::from_number(self.links.first as usize))
+        Some(NodeId {
+            number: self.links.first as usize,
+        })
     }
 
     /// Puts an id at the back, which isn't in the list and for which room was made. It allocates nothing.
@@ -72,7 +74,7 @@ impl<A: Allocator> IdList<A> {
         ensures ids { self.new.ids ≡ self.old.ids ++ id ∷ [] }
         ensures capacity { self.new.capacity ≡ self.old.capacity }
     {
-        self.links.link_back(id.number());
+        self.links.link_back(id.number);
         self.len += 1;
     }
 
@@ -82,7 +84,7 @@ impl<A: Allocator> IdList<A> {
         ensures ids { self.new.ids ≡ ids_without id self.old.ids }
         ensures capacity { self.new.capacity ≡ self.old.capacity }
     {
-        self.links.unlink(id.number());
+        self.links.unlink(id.number);
         self.len -= 1;
     }
 
@@ -92,8 +94,7 @@ impl<A: Allocator> IdList<A> {
         ensures ids { self.new.ids ≡ ids_without id self.old.ids ++ id ∷ [] }
         ensures capacity { self.new.capacity ≡ self.old.capacity }
     {
-        let number = id.number();
-        self.links.unlink(number);
-        self.links.link_back(number);
+        self.links.unlink(id.number);
+        self.links.link_back(id.number);
     }
 }

@@ -42,7 +42,7 @@ impl<'a, T, A: Allocator> Iterator for Iter<'a, T, A> {
         }
         let (slots, links, id) = (self.slots, self.links, self.next as usize);
         self.left -= 1;
-        self.next = links.next(id);
+        self.next = links.links[id].next;
         Some(&slots[id])
     }
 }

@@ -2,8 +2,8 @@
 //
 // `NONE` stands for the place before the first node and behind the last, so that the ends need no cases: its next node is the first, and its previous
 // one the last. A node that is not in the chain has no neighbours.
-ghost use Rattle.std.specs.Prelude.{◌≡◌, ℕ, ◌<◌, ◌≤◌, if◌then◌else◌, length, OnOk};
-ghost use Rattle.moka_deque.specs.Links.{IsNumbered, IsPlace, Lengthened, LinkedBack, LinkedBefore, RelinksAt, Unlinked, next_at, prev_at};
+ghost use Rattle.std.specs.Prelude.{◌≡◌, ℕ, ◌<◌, ◌≤◌, length, OnOk};
+ghost use Rattle.moka_deque.specs.Links.{IsNumbered, IsPlace, Lengthened, LinkedBack, LinkedBefore, Unlinked, next_at, prev_at};
 
 use std::alloc::{AllocError, Allocator, Global};
 
@@ -53,15 +53,6 @@ impl<A: Allocator> LinkTable<A> {
         self.links.len()
     }
 
-    /// The node behind this one.
-    pub(crate) fn next(&self, id: usize) -> u32
-        requires numbered { IsNumbered self.now }
-        requires here { id < length self.now.links.items }
-        ensures { result ≡ next_at self.now id }
-    {
-        self.links[id].next
-    }
-
     /// Makes room for the links of `len` nodes in all. Those that are new have no neighbours.
     pub(crate) fn grow(&mut self, len: usize) -> Result<(), AllocError>
         requires { IsNumbered self.old }
@@ -89,10 +80,19 @@ impl<A: Allocator> LinkTable<A> {
         ensures step { IsPlace self.old (prev_at self.old id) → IsPlace self.old (next_at self.old id) → Unlinked self.old self.new id }
         ensures len { length self.new.links.items ≡ length self.old.links.items }
     {
-        let Links { next, prev } = self.links[id];
-        self.set_next(prev, next);
-        self.set_prev(next, prev);
-        self.links[id] = APART;
+        let links = self.links.as_mut_slice();
+        let Links { next, prev } = links[id];
+        if (prev as usize) < links.len() {
+            links[prev as usize].next = next;
+        } else {
+            self.first = next;
+        }
+        if (next as usize) < links.len() {
+            links[next as usize].prev = prev;
+        } else {
+            self.last = prev;
+        }
+        links[id] = APART;
     }
 
     /// Puts a node, which has no neighbours, behind the last.
@@ -103,11 +103,16 @@ impl<A: Allocator> LinkTable<A> {
         ensures len { length self.new.links.items ≡ length self.old.links.items }
     {
         let last = self.last;
-        self.links[id] = Links {
+        let links = self.links.as_mut_slice();
+        links[id] = Links {
             next: NONE,
             prev: last,
         };
-        self.set_next(last, id as u32);
+        if (last as usize) < links.len() {
+            links[last as usize].next = id as u32;
+        } else {
+            self.first = id as u32;
+        }
         self.last = id as u32;
     }
 
@@ -119,43 +124,17 @@ impl<A: Allocator> LinkTable<A> {
         ensures step { IsPlace self.old (prev_at self.old behind) → LinkedBefore self.old self.new id behind }
         ensures len { length self.new.links.items ≡ length self.old.links.items }
     {
-        let prev = self.links[behind].prev;
-        self.links[id] = Links {
+        let links = self.links.as_mut_slice();
+        let prev = links[behind].prev;
+        links[id] = Links {
             next: behind as u32,
             prev,
         };
-        self.set_next(prev, id as u32);
-        self.links[behind].prev = id as u32;
-    }
-
-    /// Writes which node is behind this one.
-    fn set_next(&mut self, id: u32, next: u32)
-        requires { IsNumbered self.old }
-        ensures next { IsPlace self.old id → RelinksAt (next_at self.old) (next_at self.new) id next }
-        ensures prev { (q : ℕ) → prev_at self.new q ≡ prev_at self.old q }
-        ensures last { self.new.last ≡ self.old.last }
-        ensures len { length self.new.links.items ≡ length self.old.links.items }
-    {
-        let at = id as usize;
-        if at < self.links.len() {
-            self.links[at].next = next;
+        if (prev as usize) < links.len() {
+            links[prev as usize].next = id as u32;
         } else {
-            self.first = next;
+            self.first = id as u32;
         }
-    }
-
-    /// Writes which node is before this one.
-    fn set_prev(&mut self, id: u32, prev: u32)
-        requires { IsNumbered self.old }
-        ensures prev { IsPlace self.old id → RelinksAt (prev_at self.old) (prev_at self.new) id prev }
-        ensures next { (q : ℕ) → next_at self.new q ≡ next_at self.old q }
-        ensures len { length self.new.links.items ≡ length self.old.links.items }
-    {
-        let at = id as usize;
-        if at < self.links.len() {
-            self.links[at].prev = prev;
-        } else {
-            self.last = prev;
-        }
+        links[behind].prev = id as u32;
     }
 }

@@ -1,9 +1,9 @@
 // The counters of a hash in a table's groups, four a group, of which that of depth 0 is in the lowest bits. It stands on what `Cells.antt` says of groups.
-ghost use Rattle.std.specs.Prelude.{◌≡◌, ◌+◌, ◌*◌, ◌/◌, ◌%◌, ◌<◌, slice_index, nat_lt};
+ghost use Rattle.std.specs.Prelude.{◌≡◌, ◌<◌, slice_index, nat_lt};
 ghost use Rattle.std.specs.Int.{IsPowerOfTwo};
 ghost use Rattle.moka_sketch.specs.Sketch.{cell, estimate_in, grown_at, grows_in, incremented_counters, index_of, position_of};
-ghost use Rattle.moka_sketch.specs.Cells.{counters_of, counters_of_group, places_of};
-ghost use Rattle.moka_sketch.specs.declared.constants.TheConstants.{DEPTHS, GROUPS_PER_WORD, MAX_FREQUENCY};
+ghost use Rattle.moka_sketch.specs.Cells.{counters_of, places_of};
+ghost use Rattle.moka_sketch.specs.declared.constants.TheConstants.{DEPTHS, MAX_FREQUENCY};
 
 use crate::constants::{COUNTER_BITS, DEPTHS, GROUPS_PER_WORD, MAX_FREQUENCY};
 
@@ -66,8 +66,9 @@ fn counter_at(groups: &[u16], hash: u64, depth: usize) -> u16
     ensures { let at = position_of (cell (places_of groups.now) hash depth) in
         result ≡ slice_index (counters_of groups.now) at }
 {
-    let index = group_index(groups.len(), hash, depth);
-    counter_of(groups[index], depth)
+    let word = index_of(groups.len() / GROUPS_PER_WORD, hash, depth);
+    let group = groups[GROUPS_PER_WORD * word + (hash % 4) as usize];
+    (group >> (COUNTER_BITS * depth)) & FULL
 }
 
 /// Adds one to the hash's counter at a depth, if that is below the most. Returns whether it was.
@@ -79,28 +80,12 @@ fn grow(groups: &mut [u16], hash: u64, depth: usize) -> bool
     ensures grew { let at = position_of (cell (places_of groups.old) hash depth) in
         result ≡ nat_lt (slice_index (counters_of groups.old) at) MAX_FREQUENCY }
 {
-    let index = group_index(groups.len(), hash, depth);
+    let word = index_of(groups.len() / GROUPS_PER_WORD, hash, depth);
+    let index = GROUPS_PER_WORD * word + (hash % 4) as usize;
     let group = groups[index];
-    let count = counter_of(group, depth);
+    let shift = COUNTER_BITS * depth;
+    let count = (group >> shift) & FULL;
     let grows = count < FULL;
-    groups[index] = group + (u16::from(grows) << (COUNTER_BITS * depth));
+    groups[index] = group + (u16::from(grows) << shift);
     grows
-}
-
-/// The group that has the hash's counter at a depth, among `len` groups. Two hashes that differ modulo 4 have none in common.
-fn group_index(len: usize, hash: u64, depth: usize) -> usize
-    requires len { IsPowerOfTwo (len / GROUPS_PER_WORD) }
-    requires depth { depth < DEPTHS }
-    ensures value { result ≡ GROUPS_PER_WORD * index_of (len / GROUPS_PER_WORD) hash depth + hash % 4 }
-    ensures within { result < len }
-{
-    GROUPS_PER_WORD * index_of(len / GROUPS_PER_WORD, hash, depth) + (hash % 4) as usize
-}
-
-/// The counter of a group at a depth.
-fn counter_of(group: u16, depth: usize) -> u16
-    requires { depth < DEPTHS }
-    ensures { result ≡ slice_index (counters_of_group group) depth }
-{
-    (group >> (COUNTER_BITS * depth)) & FULL
 }

@@ -4,8 +4,7 @@ ghost use Rattle.std.specs.Iterator.{at_most};
 ghost use Rattle.std.specs.Map.Iter.{TakesFirst, deref_pair};
 ghost use Rattle.moka_machine.specs.Iterate.{unexpired_pairs};
 
-use crate::upkeep::is_expired;
-use moka_base::limits::Limits;
+use crate::upkeep::Bounds;
 use moka_base::time::Instant;
 use moka_deque::chain::Iter as Entries;
 use moka_machine::entry::Entry;
@@ -25,7 +24,7 @@ use std::marker::Model;
 #[derive(Drop)]
 pub struct Iter<'a, K: Drop, V: Drop, A: Allocator = Global> {
     entries: Entries<'a, Entry<K, V>, A>,
-    limits: &'a Limits,
+    bounds: &'a Bounds,
     now: Instant,
 }
 
@@ -35,21 +34,21 @@ impl<'a, K: Drop, V: Drop, A: Allocator> Model for Iter<'a, K, V, A> {
 
     ghost Value = { List (K × V) };
 
-    ghost view = { λ it. unexpired_pairs it.limits.now it.now it.entries };
+    ghost view = { λ it. unexpired_pairs it.bounds.now it.now it.entries };
 }
 
 impl<'a, K: Drop, V: Drop, A: Allocator> Iter<'a, K, V, A> {
     /// An iterator over those of the entries that are unexpired at a moment.
     pub(crate) fn new(
         entries: Entries<'a, Entry<K, V>, A>,
-        limits: &'a Limits,
+        bounds: &'a Bounds,
         now: Instant,
     ) -> Self
-        ensures { result ≡ unexpired_pairs limits.now now entries.entry }
+        ensures { result ≡ unexpired_pairs bounds.now now entries.entry }
     {
         Iter {
             entries,
-            limits,
+            bounds,
             now,
         }
     }
@@ -64,7 +63,7 @@ impl<'a, K: Drop, V: Drop, A: Allocator> Iterator for Iter<'a, K, V, A> {
 
     fn next(&mut self) -> Option<(&'a K, &'a V)> {
         while let Some(entry) = self.entries.next() {
-            if !is_expired(self.limits, entry, self.now) {
+            if !self.bounds.is_expired(entry, self.now) {
                 return Some((&entry.key, &entry.value));
             }
         }
@@ -76,7 +75,7 @@ impl<'a, K: Drop, V: Drop, A: Allocator> Iterator for Iter<'a, K, V, A> {
 impl<'a, K: Drop, V: Drop, A: Allocator> Debug for Iter<'a, K, V, A> {
     fn fmt<T: Write>(&self, f: &mut Formatter<T>) -> Result {
         f.debug_struct("Iter")
-            .field("policy", &self.limits.policy())
+            .field("policy", &self.bounds.policy())
             .field("now", &self.now)
             .finish_non_exhaustive()
     }

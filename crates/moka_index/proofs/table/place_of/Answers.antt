@@ -47,7 +47,9 @@ returns-in-Some-clause-distance c =
     let n = length c.args.groups.now in let home = home_of n c.args.hash in let s = c.loop-place.distance in
     let led : steps n home (walk n home s) ≡ s - 0 =
     steps_walk n home 0 s (home_below n c.args.hash (omega (arith, c.loop-place.invariant.near))) c.loop-place.invariant.near (omega arith) in
-    let there : steps n home c.loop-place.at ≡ s - 0 = ap (steps n home) c.loop-place.invariant.way ∙ led in omega arith
+    let there : steps n home c.loop-place.at ≡ s - 0 = ap (steps n home) c.loop-place.invariant.way ∙ led in
+    let same : steps n c.probe_of-home.result.0 c.loop-place.at ≡ steps n home c.loop-place.at =
+    ap (λ h. steps n h c.loop-place.at) c.probe_of-home.ensures.home in omega (arith, same, there)
 
 pub returns-in-Some-clause-under : goal.returns-in-Some-clause-under
 returns-in-Some-clause-under c =
@@ -56,7 +58,7 @@ returns-in-Some-clause-under c =
     subst (λ a. IsUnder groups hash (a * 10 + place)) (sym c.loop-place.invariant.way)
     (found_under groups hash s place c.requires.shaped c.loop-place.invariant.near c.in-Some.ensures.some.within
     (subst (λ a. bit_at (places_of (group_at groups a) (tag_of n hash) (min s FAR)) place ≡ 1) c.loop-place.invariant.way
-    (subst (λ t. bit_at (places_of (group_at groups c.loop-place.at) t (min s FAR)) place ≡ 1) c.tag_of-tag.ensures c.in-Some.ensures.some.set)))
+    (subst (λ t. bit_at (places_of (group_at groups c.loop-place.at) t (min s FAR)) place ≡ 1) c.probe_of-home.ensures.tag c.in-Some.ensures.some.set)))
 
 pub returns-in-Some-clause-is : goal.returns-in-Some-clause-is
 returns-in-Some-clause-is c =
@@ -65,7 +67,7 @@ returns-in-Some-clause-is c =
 pub loop-place-preserved : goal.loop-place-preserved
 loop-place-preserved c =
     let groups = c.args.groups.now in let n = length groups in let hash = c.args.hash in let id = c.args.id in let distance = c.loop-place.distance in
-    let home = home_of n hash in let tag = c.tag_of-tag.result in
+    let home = home_of n hash in let tag = c.probe_of-home.result.1 in
     let positive : 0 < n = omega (arith, c.loop-place.invariant.near) in
     let inside : home < n = home_below n hash positive in
     let here : is_among id (places_of (group_at groups (walk n home distance)) tag (min distance FAR)) (group_at groups (walk n home distance)).ids ≡ false =
@@ -85,7 +87,7 @@ loop-place-preserved c =
     let found : is_among id (places_of (group_at groups q) tag (min s FAR)) (group_at groups q).ids ≡ true =
     subst (λ i. is_among i (places_of (group_at groups q) tag (min s FAR)) (group_at groups q).ids ≡ true) stands.2
     (subst (λ t. is_among (id_at groups cell) (places_of (group_at groups q) t (min s FAR)) (group_at groups q).ids ≡ true)
-    (sym c.tag_of-tag.ensures) (under_among groups hash cell c.requires.shaped stands.1)) in
+    (sym c.probe_of-home.ensures.tag) (under_among groups hash cell c.requires.shaped stands.1)) in
     let short : s < n = steps_below n home q inside below in
     let farther : distance + 1 < n =
     elim (cases_lt s (distance + 1)) [

@@ -23,7 +23,7 @@ returns-in-Some-clause-step g c =
     c.in-Some.ensures {u = tt}
     ∙ (ap (λ l. victims_of (Some l) c.args.sketch.now c.get.result.now main) c.main_limit.ensures
     ∙ ap (λ e. victims_of (Some (main_limit c.args.limits.now)) c.args.sketch.now e main) own) in
-    let once = c.len.ensures.once in
+    let once = f.once in
     let evicted : contents_of c.evict.new.store ≡ after_eviction_of eq c.in-Some.count (contents_of c.args.store.now) =
     sym (c.evict.ensures.step 0 ∙ eviction_none eq (contents_of c.evict.new.store))
     ∙ ap (λ n. after_eviction_of eq n (contents_of c.args.store.now)) (plus_none c.in-Some.count) in
@@ -46,7 +46,7 @@ returns-in-None-clause-step g c =
     c.in-None.ensures {u = tt}
     ∙ (ap (λ l. victims_of (Some l) c.args.sketch.now c.get.result.now main) c.main_limit.ensures
     ∙ ap (λ e. victims_of (Some (main_limit c.args.limits.now)) c.args.sketch.now e main) own) in
-    let once = c.len.ensures.once in
+    let once = f.once in
     let judged =
     rejected eq laws c.args.limits.now c.args.sketch.now c.args.store.now c.args.id f once c.remove.new.self none c.remove.ensures in
     (f, judged, rest_is eq laws c.args.limits.now c.args.sketch.now c.args.store.now c.args.id f once c.remove.new.self judged)

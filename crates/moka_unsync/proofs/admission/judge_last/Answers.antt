@@ -19,7 +19,7 @@ returns-in-Some-clause-step g c =
     c.in-Some.ensures {u = tt}
     ∙ (ap (λ l. victims_of (Some l) c.args.sketch.now c.get.result.now main) c.main_limit.ensures
     ∙ ap (λ e. victims_of (Some (main_limit c.args.limits.now)) c.args.sketch.now e main) own) in
-    let once = c.len.ensures.once in
+    let once = f.once in
     let keeps = c.args.store.now.keeps_writes in
     let waits : is_window c.args.new.part ≡ true = ap is_window c.requires.window in
     let stays =
@@ -42,7 +42,7 @@ returns-in-None-clause-step g c =
     c.in-None.ensures {u = tt}
     ∙ (ap (λ l. victims_of (Some l) c.args.sketch.now c.get.result.now main) c.main_limit.ensures
     ∙ ap (λ e. victims_of (Some (main_limit c.args.limits.now)) c.args.sketch.now e main) own) in
-    let once = c.len.ensures.once in
+    let once = f.once in
     let waits : is_window c.args.new.part ≡ true = ap is_window c.requires.window in (
       f,
       replaced_last eq laws c.args.limits.now c.args.sketch.now c.args.store.now c.args.id f once c.args.new waits c.args.store.now.keeps_writes

@@ -1,5 +1,4 @@
-use Rattle.std.proofs.Common.{◌∙◌, ◌<◌, ◌≤◌, arith, length, subst, sym}
-use Rattle.std.proofs.lemmas.Map.Entries.{length-values_of}
+use Rattle.std.proofs.Common.{◌∙◌, ◌<◌, ◌≤◌, ap, arith, length, subst, sym}
 use Rattle.moka_machine.specs.Contents.{main_of}
 use Rattle.moka_sketch.specs.Sketch.{estimate}
 use Rattle.moka_store.specs.Store.{entries_of}
@@ -10,8 +9,8 @@ use Rattle.moka_unsync.proofs.admission.outvoted_count.Goals as goal
 pub loop-votes-init : goal.loop-votes-init
 loop-votes-init g c =
     subst (λ rest. IsMainWalk (λ e. estimate c.args.sketch.now e.hash) c.args.new.now.weight (entries_of c.args.store.now) rest
-    0 c.args.new.now.weight 0) (sym c.iter-entries.ensures)
-    (main_start (λ e. estimate c.args.sketch.now e.hash) c.args.new.now.weight (entries_of c.args.store.now) (main_and_window (entries_of c.args.store.now) c.len.ensures.order))
+    0 c.args.new.now.weight 0) (sym c.iter-entries.ensures.value)
+    (main_start (λ e. estimate c.args.sketch.now e.hash) c.args.new.now.weight (entries_of c.args.store.now) (main_and_window (entries_of c.args.store.now) c.iter-entries.ensures.order))
 
 pub returns-then-lacking-eq0 : goal.returns-then-lacking-eq0
 returns-then-lacking-eq0 g c =
@@ -59,7 +58,7 @@ overflow_add-count g c =
     let counted : c.loop-votes.count < length (main_of all) =
     walk_counts (λ e. e.weight) (λ e. estimate c.args.sketch.now e.hash) c.args.new.now.weight (main_of all) c.in-Some.victim.now ahead
     c.loop-votes.count c.loop-votes.lacking c.loop-votes.votes walk in
-    grind (arith, counted, main_shorter all, length-values_of c.args.store.now.nodes, c.len.ensures.len, c.len.type_inv)
+    grind (arith, counted, main_shorter all, ap length c.iter-entries.ensures.value, c.iter-entries.ensures.few)
 
 pub loop-votes-preserved : goal.loop-votes-preserved
 loop-votes-preserved g c =

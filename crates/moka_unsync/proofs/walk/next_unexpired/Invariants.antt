@@ -10,8 +10,8 @@ use Rattle.moka_unsync.proofs.walk.next_unexpired.Given as goal
 abbrev pub invariant-loop-here : goal.invariant-loop-here
 invariant-loop-here g l =
     IfSome l.here (λ id. IsIn l.fn.store.nodes id)
-    × (first_unexpired l.fn.limits l.fn.now (entries_behind g.K.PartialEq.eq l.fn.key (entries_of l.fn.store))
-    ≡ first_unexpired l.fn.limits l.fn.now (values_of (from_node l.here l.fn.store.nodes)))
+    × (first_unexpired l.fn.bounds l.fn.now (entries_behind g.K.PartialEq.eq l.fn.key (entries_of l.fn.store))
+    ≡ first_unexpired l.fn.bounds l.fn.now (values_of (from_node l.here l.fn.store.nodes)))
 
 abbrev pub decreases-loop-here : goal.decreases-loop-here
 decreases-loop-here g l = length (from_node l.here l.fn.store.nodes)

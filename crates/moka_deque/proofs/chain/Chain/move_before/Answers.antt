@@ -9,12 +9,12 @@ use Rattle.moka_deque.proofs.chain.Chain.move_before.Goals as goal
 -- what the chain holds after both changes
 shown : (g : Over) (c : goal.After-link_before g)
     → Shows c.self.inside.slots c.link_before.new.self
-    (moved_before c.number-number.result c.number.result (items_of c.self.inside.slots c.self.inside.links))
+    (moved_before c.id.inside.number c.next.inside.number (items_of c.self.inside.slots c.self.inside.links))
 shown g c =
-    let found = rw (← c.self.view_is, ← c.number-number.ensures) at c.requires.here in
-    let next_found = rw (← c.self.view_is, ← c.number.ensures) at c.requires.next in
-    let other = rw (← c.number-number.ensures, ← c.number.ensures) at c.requires.apart in
-    shows-moved_before c.number-number.result c.number.result c.self.invariant found next_found (ne_eqb _ _ other) c.unlink.ensures.step
+    let found = rw (← c.self.view_is, ← c.id.view_is) at c.requires.here in
+    let next_found = rw (← c.self.view_is, ← c.next.view_is) at c.requires.next in
+    let other = rw (← c.id.view_is, ← c.next.view_is) at c.requires.apart in
+    shows-moved_before c.id.inside.number c.next.inside.number c.self.invariant found next_found (ne_eqb _ _ other) c.unlink.ensures.step
     c.unlink.ensures.len c.link_before.ensures.step c.link_before.ensures.len
 
 pub invariant_of-self : goal.invariant_of-self
@@ -22,4 +22,4 @@ invariant_of-self g c = (shown g c).0
 
 pub returns-clause-items : goal.returns-clause-items
 returns-clause-items g c =
-    (shown g c).1 ∙ (λ i. moved_before (c.number-number.ensures i) (c.number.ensures i) (c.self.view_is i).items)
+    (shown g c).1 ∙ (λ i. moved_before (c.id.view_is i) (c.next.view_is i) (c.self.view_is i).items)

@@ -5,13 +5,13 @@ use Rattle.moka_deque.proofs.chain.Chain.move_to_back.Goals as goal
 
 pub invariant_of-self : goal.invariant_of-self
 invariant_of-self g c =
-    let found = rw (← c.self.view_is, ← c.number-number.ensures) at c.requires in
-    (shows-moved c.number-number.result c.self.invariant found c.unlink.ensures.step c.unlink.ensures.len c.link_back.ensures.step
+    let found = rw (← c.self.view_is, ← c.id.view_is) at c.requires in
+    (shows-moved c.id.inside.number c.self.invariant found c.unlink.ensures.step c.unlink.ensures.len c.link_back.ensures.step
     c.link_back.ensures.len).0
 
 pub returns-clause-items : goal.returns-clause-items
 returns-clause-items g c =
-    let found = rw (← c.self.view_is, ← c.number-number.ensures) at c.requires in
-    (shows-moved c.number-number.result c.self.invariant found c.unlink.ensures.step c.unlink.ensures.len c.link_back.ensures.step
+    let found = rw (← c.self.view_is, ← c.id.view_is) at c.requires in
+    (shows-moved c.id.inside.number c.self.invariant found c.unlink.ensures.step c.unlink.ensures.len c.link_back.ensures.step
     c.link_back.ensures.len).1
-    ∙ (λ i. moved_to_back (c.number-number.ensures i) (c.self.view_is i).items)
+    ∙ (λ i. moved_to_back (c.id.view_is i) (c.self.view_is i).items)

@@ -1,4 +1,4 @@
-use Rattle.std.proofs.Common.{◌++◌, ◌∷◌, [], sym, ◌∙◌}
+use Rattle.std.proofs.Common.{◌++◌, ◌∷◌, [], ap, ◌∙◌}
 use Rattle.moka_deque.proofs.ChainLemmas.{shows-pushed}
 use Rattle.moka_deque.proofs.chain.Chain.push_reserved.Goals as goal
 
@@ -13,11 +13,10 @@ returns-clause-items g c =
     let some = rw (← c.self.view_is) at c.requires in let made = c.insert_reserved-id.ensures in
     (shows-pushed c.self.invariant c.insert_reserved-id.result c.args.element some made.was_vacant made.updates made.len made.key_in_range
     made.capacity c.link_back.ensures.step c.link_back.ensures.len).0.1
-    ∙ (λ i. (c.self.view_is i).items ++ (sym c.from_number.ensures i, c.args.element) ∷ [])
+    ∙ ap (λ v. v.items ++ (c.insert_reserved-id.result, c.args.element) ∷ []) c.self.view_is
 
 pub returns-clause-below : goal.returns-clause-below
 returns-clause-below g c =
     let some = rw (← c.self.view_is) at c.requires in let made = c.insert_reserved-id.ensures in
-    rw c.from_number.ensures
-    ((shows-pushed c.self.invariant c.insert_reserved-id.result c.args.element some made.was_vacant made.updates made.len made.key_in_range
-    made.capacity c.link_back.ensures.step c.link_back.ensures.len).1)
+    (shows-pushed c.self.invariant c.insert_reserved-id.result c.args.element some made.was_vacant made.updates made.len made.key_in_range
+    made.capacity c.link_back.ensures.step c.link_back.ensures.len).1

@@ -7,15 +7,15 @@ use Rattle.moka_deque.proofs.chain.Chain.unlink.Goals as goal
 pub invariant_of-self : goal.invariant_of-self
 invariant_of-self g c =
     let out = c.remove-element.ensures in
-    (shows-unlinked c.self.invariant c.number-number.result c.remove-element.result out.value out.updates out.len out.capacity
+    (shows-unlinked c.self.invariant c.id.inside.number c.remove-element.result out.value out.updates out.len out.capacity
     c.unlink.ensures.step c.unlink.ensures.len).0
 
 pub returns-clause-items : goal.returns-clause-items
 returns-clause-items g c =
     let out = c.remove-element.ensures in
-    (shows-unlinked c.self.invariant c.number-number.result c.remove-element.result out.value out.updates out.len out.capacity
+    (shows-unlinked c.self.invariant c.id.inside.number c.remove-element.result out.value out.updates out.len out.capacity
     c.unlink.ensures.step c.unlink.ensures.len).1
-    ∙ (λ i. remove_entry (nat_eq (c.number-number.ensures i)) (c.self.view_is i).items)
+    ∙ (λ i. remove_entry (nat_eq (c.id.view_is i)) (c.self.view_is i).items)
 
 pub returns-clause-room_left : goal.returns-clause-room_left
 returns-clause-room_left g c =

@@ -9,28 +9,28 @@ returns g c =
     let groups = c.self.inside.groups.items in
     let n = length groups in
     let len : c.len-len.result ≡ n = search rules in
-    let home : c.home_of-at.result ≡ home_of n c.args.hash = c.home_of-at.ensures ∙ ap (λ m. home_of m c.args.hash) len in
-    let tag : c.tag_of-tag.result ≡ tag_of n c.args.hash = c.tag_of-tag.ensures ∙ ap (λ m. tag_of m c.args.hash) len in
+    let home : c.probe_of-at.result.0 ≡ home_of n c.args.hash = c.probe_of-at.ensures.home ∙ ap (λ m. home_of m c.args.hash) len in
+    let tag : c.probe_of-at.result.1 ≡ tag_of n c.args.hash = c.probe_of-at.ensures.tag ∙ ap (λ m. tag_of m c.args.hash) len in
     let same : c.deref.result.now ≡ groups = c.deref.ensures.value in
     let same2 : c.deref-2.result.now ≡ groups = c.deref-2.ensures.value in
     let left : c.saturating_sub.result ≡ n - 1 = c.saturating_sub.ensures ∙ ap (λ m. m - 1) len in
     let far = c.self.inside.far in let t = tag_of n c.args.hash in
-    ap (λ xs. rest_of xs c.tag_of-tag.result far c.saturating_sub.result 0 c.home_of-at.result c.match-get.found) same2
-    ∙ ap (λ t'. rest_of groups t' far c.saturating_sub.result 0 c.home_of-at.result c.match-get.found) tag
-    ∙ ap (λ l. rest_of groups t far l 0 c.home_of-at.result c.match-get.found) left
+    ap (λ xs. rest_of xs c.probe_of-at.result.1 far c.saturating_sub.result 0 c.probe_of-at.result.0 c.match-get.found) same2
+    ∙ ap (λ t'. rest_of groups t' far c.saturating_sub.result 0 c.probe_of-at.result.0 c.match-get.found) tag
+    ∙ ap (λ l. rest_of groups t far l 0 c.probe_of-at.result.0 c.match-get.found) left
     ∙ elim c.match-get.branch [
       | in-Some w ↦
-          let at = c.home_of-at.result in
+          let at = c.probe_of-at.result.0 in
           let inside : at < n = subst (λ xs. at < length xs) same w.in-Some.ensures.lookup.3.0 in
           let is : w.in-Some.group.now ≡ group_at groups at = w.in-Some.ensures.lookup.3.1 _ ∙ ap (λ xs. group_at xs at) same in
-          let found : c.match-get.found ≡ places_of w.in-Some.group.now c.tag_of-tag.result 0 =
+          let found : c.match-get.found ≡ places_of w.in-Some.group.now c.probe_of-at.result.1 0 =
           w.found-is ∙ w.places_of-found.ensures.places in
           ap (rest_of groups t far (n - 1) 0 at)
-          (found ∙ ap (λ g. places_of g c.tag_of-tag.result 0) is ∙ ap (λ t'. places_of (group_at groups at) t' 0) tag)
+          (found ∙ ap (λ g. places_of g c.probe_of-at.result.1 0) is ∙ ap (λ t'. places_of (group_at groups at) t' 0) tag)
           ∙ rest_whole groups t far at (λ none. absurd (omega arith))
           ∙ ap (tagged groups t far n 0) home ∙ ap (λ v. candidates v c.args.hash) c.self.view_is
       | in-None w ↦
-          let at = c.home_of-at.result in
+          let at = c.probe_of-at.result.0 in
           let past : n ≤ at = subst (λ xs. length xs ≤ at) same w.in-None.ensures.lookup.3 in
           let past' : n ≤ home_of n c.args.hash = subst (λ a. n ≤ a) home past in
           ap (rest_of groups t far (n - 1) 0 at) w.found-is
@@ -43,7 +43,7 @@ pub invariant_of-result : goal.invariant_of-result
 invariant_of-result g c =
     let groups = c.self.inside.groups.items in let n = length groups in
     let len : c.len-len.result ≡ n = search rules in
-    let home : c.home_of-at.result ≡ home_of n c.args.hash = c.home_of-at.ensures ∙ ap (λ m. home_of m c.args.hash) len in
+    let home : c.probe_of-at.result.0 ≡ home_of n c.args.hash = c.probe_of-at.ensures.home ∙ ap (λ m. home_of m c.args.hash) len in
     let same : c.deref.result.now ≡ groups = c.deref.ensures.value in
     let same2 : c.deref-2.result.now ≡ groups = c.deref-2.ensures.value in
     let left : c.saturating_sub.result ≡ n - 1 = c.saturating_sub.ensures ∙ ap (λ m. m - 1) len in
@@ -55,11 +55,11 @@ invariant_of-result g c =
       λ past. (
         elim c.match-get.branch [
           | in-Some w ↦
-              let inside : c.home_of-at.result < n = subst (λ xs. c.home_of-at.result < length xs) same w.in-Some.ensures.lookup.3.0 in
-              let past' : n ≤ c.home_of-at.result = subst (λ xs. length xs ≤ c.home_of-at.result) same2 past in absurd (omega arith)
+              let inside : c.probe_of-at.result.0 < n = subst (λ xs. c.probe_of-at.result.0 < length xs) same w.in-Some.ensures.lookup.3.0 in
+              let past' : n ≤ c.probe_of-at.result.0 = subst (λ xs. length xs ≤ c.probe_of-at.result.0) same2 past in absurd (omega arith)
           | in-None w ↦ w.found-is
         ],
-        left ∙ none_left n c.args.hash (subst (λ a. n ≤ a) home (subst (λ xs. length xs ≤ c.home_of-at.result) same2 past)),
+        left ∙ none_left n c.args.hash (subst (λ a. n ≤ a) home (subst (λ xs. length xs ≤ c.probe_of-at.result.0) same2 past)),
       ),
       omega arith,
     )

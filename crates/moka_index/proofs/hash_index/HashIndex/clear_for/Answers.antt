@@ -8,13 +8,13 @@ pub invariant_of-self : goal.invariant_of-self
 invariant_of-self g c =
     let len : c.len-len.result ≡ length c.self.inside.groups.items = search rules in
     (cleared c.refill.new.groups.items c.len-len.result c.self.inside.ids c.refill.ensures
-    (subst (λ n. c.self.inside.ids ≤ 6 * n) (sym len) c.self.invariant.room) (subst (λ n. 10 * n < 2 ^ 32) (sym len) c.self.invariant.most)).lies
+    (subst (λ n. c.self.inside.ids ≤ 5 * n) (sym len) c.self.invariant.room) (subst (λ n. 10 * n < 2 ^ 32) (sym len) c.self.invariant.most)).lies
 
 pub returns-then-ids-self-clause-empty : goal.returns-then-ids-self-clause-empty
 returns-then-ids-self-clause-empty g c =
     let len : c.len-len.result ≡ length c.self.inside.groups.items = search rules in
     (cleared c.refill.new.groups.items c.len-len.result c.self.inside.ids c.refill.ensures
-    (subst (λ n. c.self.inside.ids ≤ 6 * n) (sym len) c.self.invariant.room) (subst (λ n. 10 * n < 2 ^ 32) (sym len) c.self.invariant.most)).empty
+    (subst (λ n. c.self.inside.ids ≤ 5 * n) (sym len) c.self.invariant.room) (subst (λ n. 10 * n < 2 ^ 32) (sym len) c.self.invariant.most)).empty
 
 pub invariant_of-self-2 : goal.invariant_of-self-2
 invariant_of-self-2 g c =

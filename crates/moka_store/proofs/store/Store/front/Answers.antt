@@ -8,3 +8,6 @@ returns-clause-found g c =
 pub returns-clause-absent : goal.returns-clause-absent
 returns-clause-absent g c =
     rw (← c.self.view_is) (λ none. front_absent c.self.inside.entries.items c.self.inside.writes.ids c.front.result c.front.ensures none)
+
+pub returns-clause-order : goal.returns-clause-order
+returns-clause-order g c = rw (← c.self.view_is) c.self.invariant.0.order

@@ -12,66 +12,65 @@ use Rattle.moka_store.proofs.store.Store.replace.Goals as goal
 
 pub take-requires-clause-all : goal.take-requires-clause-all
 take-requires-clause-all g c =
-    share_all c.self.inside.weights c.args.id c.get-gone.result.now c.self.inside.entries.items c.self.invariant.0.weighed c.get-gone.ensures
+    share_all c.self.inside.weights c.args.id c.get_mut-gone.result.now c.self.inside.entries.items c.self.invariant.0.weighed c.get_mut-gone.ensures.value
 
 pub take-requires-clause-protected : goal.take-requires-clause-protected
 take-requires-clause-protected g c =
-    share_protected c.self.inside.weights c.args.id c.get-gone.result.now c.self.inside.entries.items c.self.invariant.0.weighed
-    c.get-gone.ensures
+    share_protected c.self.inside.weights c.args.id c.get_mut-gone.result.now c.self.inside.entries.items c.self.invariant.0.weighed
+    c.get_mut-gone.ensures.value
 
 pub take-requires-clause-window : goal.take-requires-clause-window
 take-requires-clause-window g c =
-    share_window c.self.inside.weights c.args.id c.get-gone.result.now c.self.inside.entries.items c.self.invariant.0.weighed
-    c.get-gone.ensures
+    share_window c.self.inside.weights c.args.id c.get_mut-gone.result.now c.self.inside.entries.items c.self.invariant.0.weighed
+    c.get_mut-gone.ensures.value
 
 pub add-requires-clause-protected : goal.add-requires-clause-protected
 add-requires-clause-protected g c =
-    (parts_lighter c.self.invariant.0 c.args.id c.get-gone.result.now c.get-gone.result.now c.get-gone.ensures c.take.new.self c.take.ensures).0
+    (parts_lighter c.self.invariant.0 c.args.id c.get_mut-gone.result.now c.get_mut-gone.result.now c.get_mut-gone.ensures.value c.take.new.self c.take.ensures).0
 
 pub add-requires-clause-window : goal.add-requires-clause-window
 add-requires-clause-window g c =
-    (parts_lighter c.self.invariant.0 c.args.id c.get-gone.result.now c.get-gone.result.now c.get-gone.ensures c.take.new.self c.take.ensures).1
+    (parts_lighter c.self.invariant.0 c.args.id c.get_mut-gone.result.now c.get_mut-gone.result.now c.get_mut-gone.ensures.value c.take.new.self c.take.ensures).1
 
 pub add-requires-clause-fits : goal.add-requires-clause-fits
 add-requires-clause-fits g c small =
-    fits c.self.invariant.0 c.args.id c.get-gone.result.now c.get-gone.result.now c.get-gone.ensures c.take.new.self c.take.ensures
+    fits c.self.invariant.0 c.args.id c.get_mut-gone.result.now c.get_mut-gone.result.now c.get_mut-gone.ensures.value c.take.new.self c.take.ensures
     c.args.entry.weight small
 
 pub settle-requires-clause-once : goal.settle-requires-clause-once
 settle-requires-clause-once g c =
-    let x = c.get_mut.result.now in
-    set_once c.self.invariant.0 c.args.id x (c.args.entry) c.get_mut.ensures.value
+    let x = c.get_mut-gone.result.now in
+    set_once c.self.invariant.0 c.args.id x (c.args.entry) c.get_mut-gone.ensures.value
 
 pub settle-requires-clause-here : goal.settle-requires-clause-here
 settle-requires-clause-here g c =
-    let x = c.get_mut.result.now in
+    let x = c.get_mut-gone.result.now in
     let e = c.args.entry in
-    (e, set_here c.self.invariant.0 c.args.id x e c.get_mut.ensures.value, refl)
+    (e, set_here c.self.invariant.0 c.args.id x e c.get_mut-gone.ensures.value, refl)
 
 pub settle-requires-clause-marks : goal.settle-requires-clause-marks
 settle-requires-clause-marks g c =
-    let x = c.get_mut.result.now in
-    set_marks c.self.invariant.0 c.args.id x (c.args.entry) c.get_mut.ensures.value
+    let x = c.get_mut-gone.result.now in
+    set_marks c.self.invariant.0 c.args.id x (c.args.entry) c.get_mut-gone.ensures.value
     c.pass.new.self c.pass.ensures
 
 pub write_again-requires : goal.write_again-requires
-write_again-requires g c kept = is_written c.self.invariant.0.written c.args.id (ap is_some c.get_mut.ensures.value) kept
+write_again-requires g c kept = is_written c.self.invariant.0.written c.args.id (ap is_some c.get_mut-gone.ensures.value) kept
 
 pub add-requires-2-clause-room : goal.add-requires-2-clause-room
 add-requires-2-clause-room g c =
-    rw (c.number-2.ensures, c.remove.ensures.step.ids) (c.self.invariant.0.indexed.below c.args.id (ap is_some c.get_mut.ensures.value))
+    rw (c.number-2.ensures, c.remove.ensures.step.ids) (c.self.invariant.0.indexed.below c.args.id (ap is_some c.get_mut-gone.ensures.value))
 
 pub invariant_of-self : goal.invariant_of-self
 invariant_of-self g c =
     let s = c.self.invariant.0 in
     let nodes = c.self.inside.entries.items in
-    let y = c.get-gone.result.now in
-    let x = c.get_mut.result.now in
+    let x = c.get_mut-gone.result.now in
     let e = c.args.entry in
-    let stood = c.get_mut.ensures.value in
+    let stood = c.get_mut-gone.ensures.value in
     let moved = settled s c.args.id x e stood c.settle.new.entries.items c.settle.ensures.items in
     let weighed =
-    heavier s c.args.id y e c.get-gone.ensures c.take.new.self c.take.ensures e.part e.weight refl refl c.add.new.self c.add.ensures.value in
+    heavier s c.args.id x e stood c.take.new.self c.take.ensures e.part e.weight refl refl c.add.new.self c.add.ensures.value in
     let absent = subst (λ v. entry_at g.K.PartialEq.eq e.key (entries_of v) ≡ None) (sym c.self.view_is) c.requires.absent in
     let left = subst (λ i. Unlists c.self.inside.index i c.remove.new.self) c.number.ensures c.remove.ensures.step in
     let added = subst (λ i. Adds c.remove.new.self i e.hash c.add-2.new.self) c.number-2.ensures c.add-2.ensures.step in (
@@ -87,9 +86,9 @@ invariant_of-self g c =
 pub returns : goal.returns
 returns g c =
     let s = c.self.invariant.0 in
-    let x = c.get_mut.result.now in
+    let x = c.get_mut-gone.result.now in
     let e = c.args.entry in
-    let stood = c.get_mut.ensures.value in
+    let stood = c.get_mut-gone.ensures.value in
     let moved = settled s c.args.id x e stood c.settle.new.entries.items c.settle.ensures.items in
     rw (← c.self.view_is)
     (replaces_is g.met.K.Eq.laws _ _ s.keyed c.args.id x stood refl refl e moved

@@ -1,175 +1,145 @@
 use Rattle.std.proofs.Common.{◌∙◌, ◌<◌, ◌^◌, ap, is_some, refl, subst, sym}
-use Rattle.moka_deque.proofs.IdLemmas.{some_parts}
 use Rattle.moka_machine.specs.Contents.{writes_without}
 use Rattle.moka_machine.specs.Insert.{with_write}
-use Rattle.moka_machine.specs.Lookup.{used_part}
 use Rattle.moka_store.specs.Nodes.{written_under}
 use Rattle.moka_store.proofs.ChangeLemmas.{fits, found_balanced, heavier, parts_lighter, set_here, set_marks, set_once, settled, writes_last}
+use Rattle.moka_store.proofs.RelistLemmas.{length-settled, stored-settled}
 use Rattle.moka_store.proofs.StepLemmas.{updates_is}
-use Rattle.moka_store.proofs.StoreLemmas.{length-balanced, length-relisted, room-same, stored-balanced, stored-relisted, stored-written}
+use Rattle.moka_store.proofs.StoreLemmas.{length-balanced, room-same, stored-balanced, stored-written}
 use Rattle.moka_store.proofs.WeightLemmas.{share_all, share_protected, share_window}
 use Rattle.moka_store.proofs.WriteLemmas.{is_written}
 use Rattle.moka_store.proofs.store.Store.update.Goals as goal
 
 pub take-requires-clause-all : goal.take-requires-clause-all
 take-requires-clause-all g c =
-    share_all c.self.inside.weights c.args.id c.get-entry.result.now c.self.inside.entries.items c.self.invariant.0.weighed c.get-entry.ensures
+    share_all c.self.inside.weights c.args.id c.get_mut-entry.result.now c.self.inside.entries.items c.self.invariant.0.weighed c.get_mut-entry.ensures.value
 
 pub take-requires-clause-protected : goal.take-requires-clause-protected
 take-requires-clause-protected g c =
-    share_protected c.self.inside.weights c.args.id c.get-entry.result.now c.self.inside.entries.items c.self.invariant.0.weighed
-    c.get-entry.ensures
+    share_protected c.self.inside.weights c.args.id c.get_mut-entry.result.now c.self.inside.entries.items c.self.invariant.0.weighed c.get_mut-entry.ensures.value
 
 pub take-requires-clause-window : goal.take-requires-clause-window
 take-requires-clause-window g c =
-    share_window c.self.inside.weights c.args.id c.get-entry.result.now c.self.inside.entries.items c.self.invariant.0.weighed
-    c.get-entry.ensures
+    share_window c.self.inside.weights c.args.id c.get_mut-entry.result.now c.self.inside.entries.items c.self.invariant.0.weighed c.get_mut-entry.ensures.value
 
 pub add-requires-clause-protected : goal.add-requires-clause-protected
 add-requires-clause-protected g c =
-    (parts_lighter c.self.invariant.0 c.args.id c.get-entry.result.now c.get-entry.result.now c.get-entry.ensures c.take.new.self c.take.ensures).0
+    (parts_lighter c.self.invariant.0 c.args.id c.get_mut-entry.result.now c.get_mut-entry.result.now c.get_mut-entry.ensures.value c.take.new.self c.take.ensures).0
 
 pub add-requires-clause-window : goal.add-requires-clause-window
 add-requires-clause-window g c =
-    (parts_lighter c.self.invariant.0 c.args.id c.get-entry.result.now c.get-entry.result.now c.get-entry.ensures c.take.new.self c.take.ensures).1
+    (parts_lighter c.self.invariant.0 c.args.id c.get_mut-entry.result.now c.get_mut-entry.result.now c.get_mut-entry.ensures.value c.take.new.self c.take.ensures).1
 
 pub add-requires-clause-fits : goal.add-requires-clause-fits
 add-requires-clause-fits g c small =
-    fits c.self.invariant.0 c.args.id c.get-entry.result.now c.get-entry.result.now c.get-entry.ensures c.take.new.self c.take.ensures
-    c.args.update.weight small
+    fits c.self.invariant.0 c.args.id c.get_mut-entry.result.now c.get_mut-entry.result.now c.get_mut-entry.ensures.value c.take.new.self c.take.ensures c.args.update.weight small
 
 pub settle-requires-clause-once : goal.settle-requires-clause-once
 settle-requires-clause-once g c =
-    let x = c.get_mut.result.now in
-    set_once c.self.invariant.0 c.args.id x (c.rewrite.new.entry) c.get_mut.ensures.value
+    let x = c.get_mut-entry.result.now in
+    set_once c.self.invariant.0 c.args.id x c.rewrite.new.entry c.get_mut-entry.ensures.value
 
 pub settle-requires-clause-here : goal.settle-requires-clause-here
 settle-requires-clause-here g c =
-    let x = c.get_mut.result.now in
+    let x = c.get_mut-entry.result.now in
     let e = c.rewrite.new.entry in
-    (e, set_here c.self.invariant.0 c.args.id x e c.get_mut.ensures.value, ap (λ z. z.part) c.rewrite.ensures)
+    (e, set_here c.self.invariant.0 c.args.id x e c.get_mut-entry.ensures.value, ap (λ z. z.part) c.rewrite.ensures)
 
 pub settle-requires-clause-marks : goal.settle-requires-clause-marks
 settle-requires-clause-marks g c =
-    let x = c.get_mut.result.now in
-    set_marks c.self.invariant.0 c.args.id x (c.rewrite.new.entry) c.get_mut.ensures.value
-    c.pass.new.self c.pass.ensures
+    let x = c.get_mut-entry.result.now in
+    set_marks c.self.invariant.0 c.args.id x c.rewrite.new.entry c.get_mut-entry.ensures.value c.pass.new.self c.pass.ensures
 
 pub balance-requires-clause-once : goal.balance-requires-clause-once
 balance-requires-clause-once g c =
     let s = c.self.invariant.0 in
-    let nodes = c.self.inside.entries.items in
-    let y = c.get-entry.result.now in
-    let x = c.get_mut.result.now in
+    let x = c.get_mut-entry.result.now in
     let e = c.rewrite.new.entry in
-    let stood = c.get_mut.ensures.value in
-    let same = some_parts y x (sym c.get-entry.ensures ∙ stood) in
-    let moved = settled s c.args.id x e stood c.settle.new.entries.items c.settle.ensures.items in
+    let stood = c.get_mut-entry.ensures.value in
     let weighed =
-    heavier s c.args.id y e c.get-entry.ensures c.take.new.self c.take.ensures c.used_part-used.result c.args.update.weight
-    (sym (ap (λ z. z.part) c.rewrite.ensures)) (sym (ap (λ z. z.weight) c.rewrite.ensures))
-    c.add.new.self c.add.ensures.value in
+    heavier s c.args.id x e stood c.take.new.self c.take.ensures c.used_part-used.result c.args.update.weight
+    (sym (ap (λ z. z.part) c.rewrite.ensures)) (sym (ap (λ z. z.weight) c.rewrite.ensures)) c.add.new.self c.add.ensures.value in
+    let small = subst (λ z. z.weight < 2 ^ 32) (sym c.rewrite.ensures) c.add.ensures.small in
     let after =
-    stored-relisted g.met.K.Eq.laws s c.args.id x e stood (subst (λ z. z.weight < 2 ^ 32) (sym c.rewrite.ensures) c.add.ensures.small) c.settle.new.entries.items
-    c.settle.new.marks c.add.new.self moved c.settle.ensures.marks weighed
-    (ap (λ z. z.key) c.rewrite.ensures) (ap (λ z. z.hash) c.rewrite.ensures) in
+    stored-settled g.met.K.Eq.laws s c.args.id x e stood small c.settle.new.entries.items c.settle.ensures.items
+    c.settle.new.marks c.settle.ensures.marks c.add.new.self weighed (ap (λ z. z.key) c.rewrite.ensures) (ap (λ z. z.hash) c.rewrite.ensures) in
     after.keyed.once
 
 pub balance-requires-clause-order : goal.balance-requires-clause-order
 balance-requires-clause-order g c =
     let s = c.self.invariant.0 in
-    let nodes = c.self.inside.entries.items in
-    let y = c.get-entry.result.now in
-    let x = c.get_mut.result.now in
+    let x = c.get_mut-entry.result.now in
     let e = c.rewrite.new.entry in
-    let stood = c.get_mut.ensures.value in
-    let same = some_parts y x (sym c.get-entry.ensures ∙ stood) in
-    let moved = settled s c.args.id x e stood c.settle.new.entries.items c.settle.ensures.items in
+    let stood = c.get_mut-entry.ensures.value in
     let weighed =
-    heavier s c.args.id y e c.get-entry.ensures c.take.new.self c.take.ensures c.used_part-used.result c.args.update.weight
-    (sym (ap (λ z. z.part) c.rewrite.ensures)) (sym (ap (λ z. z.weight) c.rewrite.ensures))
-    c.add.new.self c.add.ensures.value in
+    heavier s c.args.id x e stood c.take.new.self c.take.ensures c.used_part-used.result c.args.update.weight
+    (sym (ap (λ z. z.part) c.rewrite.ensures)) (sym (ap (λ z. z.weight) c.rewrite.ensures)) c.add.new.self c.add.ensures.value in
+    let small = subst (λ z. z.weight < 2 ^ 32) (sym c.rewrite.ensures) c.add.ensures.small in
     let after =
-    stored-relisted g.met.K.Eq.laws s c.args.id x e stood (subst (λ z. z.weight < 2 ^ 32) (sym c.rewrite.ensures) c.add.ensures.small) c.settle.new.entries.items
-    c.settle.new.marks c.add.new.self moved c.settle.ensures.marks weighed
-    (ap (λ z. z.key) c.rewrite.ensures) (ap (λ z. z.hash) c.rewrite.ensures) in
+    stored-settled g.met.K.Eq.laws s c.args.id x e stood small c.settle.new.entries.items c.settle.ensures.items
+    c.settle.new.marks c.settle.ensures.marks c.add.new.self weighed (ap (λ z. z.key) c.rewrite.ensures) (ap (λ z. z.hash) c.rewrite.ensures) in
     after.order
 
 pub balance-requires-clause-weighed : goal.balance-requires-clause-weighed
 balance-requires-clause-weighed g c =
     let s = c.self.invariant.0 in
-    let nodes = c.self.inside.entries.items in
-    let y = c.get-entry.result.now in
-    let x = c.get_mut.result.now in
+    let x = c.get_mut-entry.result.now in
     let e = c.rewrite.new.entry in
-    let stood = c.get_mut.ensures.value in
-    let same = some_parts y x (sym c.get-entry.ensures ∙ stood) in
-    let moved = settled s c.args.id x e stood c.settle.new.entries.items c.settle.ensures.items in
+    let stood = c.get_mut-entry.ensures.value in
     let weighed =
-    heavier s c.args.id y e c.get-entry.ensures c.take.new.self c.take.ensures c.used_part-used.result c.args.update.weight
-    (sym (ap (λ z. z.part) c.rewrite.ensures)) (sym (ap (λ z. z.weight) c.rewrite.ensures))
-    c.add.new.self c.add.ensures.value in
+    heavier s c.args.id x e stood c.take.new.self c.take.ensures c.used_part-used.result c.args.update.weight
+    (sym (ap (λ z. z.part) c.rewrite.ensures)) (sym (ap (λ z. z.weight) c.rewrite.ensures)) c.add.new.self c.add.ensures.value in
+    let small = subst (λ z. z.weight < 2 ^ 32) (sym c.rewrite.ensures) c.add.ensures.small in
     let after =
-    stored-relisted g.met.K.Eq.laws s c.args.id x e stood (subst (λ z. z.weight < 2 ^ 32) (sym c.rewrite.ensures) c.add.ensures.small) c.settle.new.entries.items
-    c.settle.new.marks c.add.new.self moved c.settle.ensures.marks weighed
-    (ap (λ z. z.key) c.rewrite.ensures) (ap (λ z. z.hash) c.rewrite.ensures) in
+    stored-settled g.met.K.Eq.laws s c.args.id x e stood small c.settle.new.entries.items c.settle.ensures.items
+    c.settle.new.marks c.settle.ensures.marks c.add.new.self weighed (ap (λ z. z.key) c.rewrite.ensures) (ap (λ z. z.hash) c.rewrite.ensures) in
     after.weighed
 
 pub invariant_of-self : goal.invariant_of-self
 invariant_of-self g c =
     let s = c.self.invariant.0 in
-    let nodes = c.self.inside.entries.items in
-    let y = c.get-entry.result.now in
-    let x = c.get_mut.result.now in
+    let x = c.get_mut-entry.result.now in
     let e = c.rewrite.new.entry in
-    let stood = c.get_mut.ensures.value in
-    let same = some_parts y x (sym c.get-entry.ensures ∙ stood) in
-    let moved = settled s c.args.id x e stood c.settle.new.entries.items c.settle.ensures.items in
+    let stood = c.get_mut-entry.ensures.value in
     let weighed =
-    heavier s c.args.id y e c.get-entry.ensures c.take.new.self c.take.ensures c.used_part-used.result c.args.update.weight
-    (sym (ap (λ z. z.part) c.rewrite.ensures)) (sym (ap (λ z. z.weight) c.rewrite.ensures))
-    c.add.new.self c.add.ensures.value in
+    heavier s c.args.id x e stood c.take.new.self c.take.ensures c.used_part-used.result c.args.update.weight
+    (sym (ap (λ z. z.part) c.rewrite.ensures)) (sym (ap (λ z. z.weight) c.rewrite.ensures)) c.add.new.self c.add.ensures.value in
+    let small = subst (λ z. z.weight < 2 ^ 32) (sym c.rewrite.ensures) c.add.ensures.small in
     let after =
-    stored-relisted g.met.K.Eq.laws s c.args.id x e stood (subst (λ z. z.weight < 2 ^ 32) (sym c.rewrite.ensures) c.add.ensures.small) c.settle.new.entries.items
-    c.settle.new.marks c.add.new.self moved c.settle.ensures.marks weighed
-    (ap (λ z. z.key) c.rewrite.ensures) (ap (λ z. z.hash) c.rewrite.ensures) in (
+    stored-settled g.met.K.Eq.laws s c.args.id x e stood small c.settle.new.entries.items c.settle.ensures.items
+    c.settle.new.marks c.settle.ensures.marks c.add.new.self weighed (ap (λ z. z.key) c.rewrite.ensures) (ap (λ z. z.hash) c.rewrite.ensures) in (
       stored-written g.met.K.Eq.laws (stored-balanced g.met.K.Eq.laws after c.args.room c.balance.new.entries.items c.balance.new.marks
           c.balance.new.weights c.balance.ensures.step c.balance.ensures.marks c.balance.ensures.weighed) c.args.id
-          (found_balanced s c.args.id x e stood c.args.room c.settle.new.entries.items c.balance.new.entries.items moved c.balance.ensures.step)
+          (found_balanced s c.args.id x e stood c.args.room c.settle.new.entries.items c.balance.new.entries.items
+          (settled s c.args.id x e stood c.settle.new.entries.items c.settle.ensures.items) c.balance.ensures.step)
           c.write_again.new.writes.ids c.write_again.ensures.ids,
       room-same c.self.invariant.1 c.balance.new.entries c.write_again.new.writes c.self.inside.index
           (ap (λ v. v.capacity) c.balance.ensures.unchanged ∙ ap (λ v. v.capacity) c.settle.ensures.unchanged) c.write_again.ensures.capacity refl
           (ap (λ v. v.room) c.balance.ensures.unchanged ∙ ap (λ v. v.room) c.settle.ensures.unchanged)
           (length-balanced c.settle.new.entries.items c.balance.new.entries.items c.balance.ensures.step
-          ∙ length-relisted g.met.K.Eq.laws s c.args.id x e stood (subst (λ z. z.weight < 2 ^ 32) (sym c.rewrite.ensures) c.add.ensures.small)
-          c.settle.new.entries.items c.settle.new.marks c.add.new.self moved c.settle.ensures.marks weighed),
+          ∙ length-settled g.met.K.Eq.laws s c.args.id x e stood small c.settle.new.entries.items c.settle.ensures.items
+          c.settle.new.marks c.settle.ensures.marks c.add.new.self weighed),
     )
 
 pub returns : goal.returns
 returns g c =
     let s = c.self.invariant.0 in
-    let nodes = c.self.inside.entries.items in
-    let y = c.get-entry.result.now in
-    let x = c.get_mut.result.now in
+    let x = c.get_mut-entry.result.now in
     let e = c.rewrite.new.entry in
-    let stood = c.get_mut.ensures.value in
-    let same = some_parts y x (sym c.get-entry.ensures ∙ stood) in
+    let stood = c.get_mut-entry.ensures.value in
     let moved = settled s c.args.id x e stood c.settle.new.entries.items c.settle.ensures.items in
-    let weighed =
-    heavier s c.args.id y e c.get-entry.ensures c.take.new.self c.take.ensures c.used_part-used.result c.args.update.weight
-    (sym (ap (λ z. z.part) c.rewrite.ensures)) (sym (ap (λ z. z.weight) c.rewrite.ensures))
-    c.add.new.self c.add.ensures.value in
     rw (← c.self.view_is)
     (updates_is g.met.K.Eq.laws _ _ s.keyed c.args.id x stood refl refl c.args.room e c.settle.new.entries.items moved c.balance.ensures.step c.args.update
     (c.rewrite.ensures ∙ (λ i. record c.args.update {
       key = x.key;
       hash = x.hash;
-      part = (c.used_part-used.ensures ∙ ap (λ z. used_part c.args.room z.part c.args.update.weight) same) i;
+      part = c.used_part-used.ensures i;
     }))
     ((λ i. written_under c.balance.new.entries.items (c.write_again.ensures.ids i))
     ∙ (writes_last g.met.K.Eq.laws s c.args.id x e stood c.args.room c.settle.new.entries.items c.balance.new.entries.items moved c.balance.ensures.step
-    ∙ (λ i. with_write c.self.inside.keeps_writes (writes_without g.K.PartialEq.eq x.key (written_under nodes c.self.inside.writes.ids))
+    ∙ (λ i. with_write c.self.inside.keeps_writes
+    (writes_without g.K.PartialEq.eq x.key (written_under c.self.inside.entries.items c.self.inside.writes.ids))
     (c.rewrite.ensures i).key (c.rewrite.ensures i).modified))))
 
 pub write_again-requires : goal.write_again-requires
-write_again-requires g c kept = is_written c.self.invariant.0.written c.args.id (ap is_some c.get_mut.ensures.value) kept
+write_again-requires g c kept = is_written c.self.invariant.0.written c.args.id (ap is_some c.get_mut-entry.ensures.value) kept

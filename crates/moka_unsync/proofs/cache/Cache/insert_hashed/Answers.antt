@@ -1,20 +1,22 @@
-use Rattle.std.proofs.Common.{◌≡◌, ◌∙◌, ◌<◌, ◌≤◌, ◌+◌, ℕ, None, Some, ap, arith, length, refl, rules, subst, sym, true}
+use Rattle.std.proofs.Common.{◌≡◌, ◌∙◌, ◌<◌, ◌≤◌, ◌+◌, ℕ, Bool, Option, None, Some, ap, arith, is_some, length, refl, rules, subst, sym, true}
 use Rattle.moka_base.specs.Settings.{keeps_writes}
 use Rattle.moka_machine.specs.CacheState.{CacheState}
-use Rattle.moka_machine.specs.Contents.{entry_at}
+use Rattle.moka_machine.specs.Contents.{entry_at, main_of}
 use Rattle.moka_deque.proofs.IdLemmas.{some_parts}
-use Rattle.moka_machine.specs.Insert.{after_update, new_entry}
+use Rattle.moka_machine.specs.Insert.{after_admission, after_update, new_entry}
 use Rattle.moka_machine.specs.Upkeep.{after_upkeep}
-use Rattle.moka_store.specs.Store.{contents_of, entries_of}
+use Rattle.moka_machine.specs.Window.{victims_of}
+use Rattle.moka_store.specs.Store.{Store, contents_of, entries_of}
 use Rattle.moka_base.specs.Keys.{keys_by}
 use Rattle.moka_machine.specs.declared.entry.Entry.{Entry}
 use Rattle.moka_machine.specs.declared.entry.Part.TheVariants.{Probation}
+use Rattle.moka_machine.specs.declared.shares.PartLimits.{PartLimits}
 use Rattle.moka_machine.specs.Shares.{windowed_limits}
 use Rattle.moka_unsync.specs.Cached.{IsCached, IsPut}
 use Rattle.moka_unsync.proofs.CachedLemmas.{IsCached-put, IsCached-room, IsCached-update, IsCached-upkeep, has_hash, length-entries}
-use Rattle.moka_unsync.proofs.InsertLemmas.{insert_drops, insert_stays, insert_updates, kept}
+use Rattle.moka_unsync.proofs.InsertLemmas.{insert_drops, insert_stays, insert_updates, kept, put_main, stays_main}
 use Rattle.moka_unsync.proofs.cache.Cache.insert_hashed.Given.{Over}
-use Rattle.moka_unsync.proofs.cache.Cache.insert_hashed.Goals.{After-put_new, After-upkeep}
+use Rattle.moka_unsync.proofs.cache.Cache.insert_hashed.Goals.{After-upkeep, After-weigh}
 use Rattle.moka_unsync.proofs.cache.Cache.insert_hashed.Goals as goal
 
 -- the hash is that of the key
@@ -38,8 +40,8 @@ invariant_of-self-in-Some g c =
     (IsCached-upkeep c.args.now (IsCached-room c.self.invariant c.reserve.ensures.unchanged) c.upkeep.ensures.step c.upkeep.ensures.kept)
     c.update.ensures
 
--- and so it is where the new entry was put
-put_own : (g : Over) (c : After-put_new g) → c.args.hash
+-- the hash is that of the key once the weigher was asked
+put_own : (g : Over) (c : After-weigh g) → c.args.hash
     ≡ (keys_by (record { eq = g.K.PartialEq.eq; hash_input = g.K.Hash.hash_input }) g.S.BuildHasher g.S.Hasher.Hasher).hash_of
     c.self.inside.hash_state c.args.key
 put_own g c =
@@ -47,39 +49,133 @@ put_own g c =
     (keys_by (record { eq = g.K.PartialEq.eq; hash_input = g.K.Hash.hash_input }) g.S.BuildHasher g.S.Hasher.Hasher).hash_of
     cache.settings.hash_state c.args.key) (sym c.self.view_is) c.requires.hashed
 
+-- the cache with its room and its weigher asked
+abbrev its_cache : (g : Over) (c : After-weigh g) → CacheState g.row.K.Denot g.row.V.Denot g.row.S.Denot g.row.W.Denot
+its_cache g c = record {
+  settings = record { hash_state = c.self.inside.hash_state; policy = c.self.inside.bounds; is_weighed = c.self.inside.is_weighed };
+  shares = c.self.inside.shares;
+  weigher = c.weigh.new.self;
+  contents = contents_of c.self.inside.store;
+  sketch = c.self.inside.sketch;
+  capacity = c.reserve.new.self.capacity;
+}
+
+-- the entry, with a hash
+abbrev its_entry : (g : Over) (c : After-weigh g) → ℕ → Entry g.row.K.Denot g.row.V.Denot
+its_entry g c hash = record {
+  key = c.args.key;
+  value = c.args.value;
+  hash = hash;
+  weight = c.weigh.result;
+  part = Probation;
+  accessed = c.args.now;
+  modified = c.args.now;
+}
+
+abbrev its_hash : (g : Over) (c : After-weigh g) → ℕ
+its_hash g c =
+    (keys_by (record { eq = g.K.PartialEq.eq; hash_input = g.K.Hash.hash_input }) g.S.BuildHasher g.S.Hasher.Hasher).hash_of
+    c.self.inside.hash_state c.args.key
+
+-- the contents that upkeep leaves
+its_contents : (g : Over) (c : After-weigh g)
+    → contents_of c.upkeep.new.store ≡ kept g.K.PartialEq.eq (its_cache g c) (its_entry g c (its_hash g c)) c.args.now true
+its_contents g c =
+    c.upkeep.ensures.step ∙ ap (λ s. after_upkeep g.K.PartialEq.eq c.self.inside.bounds c.args.now (contents_of s))
+    c.reserve.ensures.unchanged
+
+its_absence : (g : Over) (c : After-weigh g) → entry_at g.K.PartialEq.eq c.args.key (entries_of c.upkeep.new.store) ≡ None
+    → entry_at g.K.PartialEq.eq c.args.key (kept g.K.PartialEq.eq (its_cache g c) (its_entry g c (its_hash g c)) c.args.now true).entries ≡ None
+its_absence g c absent = subst (λ contents. entry_at g.K.PartialEq.eq c.args.key contents.entries ≡ None) (its_contents g c) absent
+
+-- what the new entry leaves, as it was put
+abbrev IsPutThere : (g : Over) (c : After-weigh g) → Option PartLimits → Store g.row.K.Denot g.row.V.Denot → Bool → Type 0
+IsPutThere g c windowed put stays =
+    IsPut g.K.PartialEq.eq c.upkeep.new.store.keeps_writes windowed c.self.inside.bounds.max_capacity c.self.inside.sketch
+    (its_entry g c c.args.hash) (contents_of c.upkeep.new.store) stays (contents_of put)
+
+-- and as the machine says
+its_put : (g : Over) (c : After-weigh g) (put : Store g.row.K.Denot g.row.V.Denot) (stays : Bool) → IsPutThere g c c.self.inside.windowed put stays
+    → IsPut g.K.PartialEq.eq (keeps_writes c.self.inside.bounds)
+    (windowed_limits c.self.inside.shares c.self.inside.bounds.max_capacity) c.self.inside.bounds.max_capacity c.self.inside.sketch
+    (its_entry g c (its_hash g c)) (kept g.K.PartialEq.eq (its_cache g c) (its_entry g c (its_hash g c)) c.args.now true) stays (contents_of put)
+its_put g c put stays step =
+    let keeps = c.upkeep.ensures.kept.keeps ∙ (ap (λ s. s.keeps_writes) c.reserve.ensures.unchanged ∙ c.self.invariant.keeps) in
+    let eq = g.K.PartialEq.eq in
+    let sketch = c.self.inside.sketch in
+    let left = contents_of put in
+    let new = its_entry g c (its_hash g c) in
+    let max = c.self.inside.bounds.max_capacity in
+    subst (λ k. IsPut eq k (windowed_limits c.self.inside.shares max) max sketch new (kept eq (its_cache g c) new c.args.now true) stays left) keeps
+    (subst (λ w. IsPut eq c.upkeep.new.store.keeps_writes w max sketch new (kept eq (its_cache g c) new c.args.now true) stays left)
+    c.self.invariant.windowed
+    (subst (λ s. IsPut eq c.upkeep.new.store.keeps_writes c.self.inside.windowed max sketch new s stays left) (its_contents g c)
+    (subst (λ h. IsPut eq c.upkeep.new.store.keeps_writes c.self.inside.windowed max sketch (its_entry g c h) (contents_of c.upkeep.new.store)
+    stays left) (put_own g c) step)))
+
 -- the verdict on the new entry keeps the parts tied
-admitted : (g : Over) (c : After-put_new g)
+admitted : (g : Over) (c : After-weigh g) (put : Store g.row.K.Denot g.row.V.Denot) (stays : Bool)
+    → IsPut g.K.PartialEq.eq c.upkeep.new.store.keeps_writes c.self.inside.windowed c.self.inside.bounds.max_capacity c.self.inside.sketch
+    (its_entry g c c.args.hash) (contents_of c.upkeep.new.store) stays (contents_of put) → put.keeps_writes ≡ c.upkeep.new.store.keeps_writes
     → IsCached (keys_by (record { eq = g.K.PartialEq.eq; hash_input = g.K.Hash.hash_input }) g.S.BuildHasher g.S.Hasher.Hasher)
-    c.self.inside.hash_state c.self.inside.limits c.self.inside.shares c.self.inside.windowed c.self.inside.room c.put_new.new.store
-admitted g c =
-    let new : Entry g.row.K.Denot g.row.V.Denot =
-    record {
-      key = c.args.key;
-      value = c.args.value;
-      hash = c.args.hash;
-      weight = c.weigh.result;
-      part = Probation;
-      accessed = c.args.now;
-      modified = c.args.now;
-    } in
-    IsCached-put new c.self.inside.sketch c.put_new.result
+    c.self.inside.hash_state c.self.inside.bounds c.self.inside.shares c.self.inside.windowed c.self.inside.room put
+admitted g c put stays step keeps =
+    IsCached-put (its_entry g c c.args.hash) c.self.inside.sketch stays
     (IsCached-upkeep c.args.now (IsCached-room c.self.invariant c.reserve.ensures.unchanged) c.upkeep.ensures.step c.upkeep.ensures.kept)
-    (put_own g c) refl
-    (subst (λ l. IsPut g.K.PartialEq.eq c.upkeep.new.store.keeps_writes c.self.inside.windowed l c.self.inside.sketch new
-    (contents_of c.upkeep.new.store) c.put_new.result (contents_of c.put_new.new.store)) c.max_capacity.ensures c.put_new.ensures.step)
-    c.put_new.ensures.keeps
+    (put_own g c) refl step keeps
 
-pub invariant_of-self-then-put_new : goal.invariant_of-self-then-put_new
-invariant_of-self-then-put_new g c = admitted g (goal.at.invariant_of-self-then-put_new g c).After-put_new
+-- what an entry leaves that enters the window
+its_entering : (g : Over) (c : After-weigh g) (limits : PartLimits) → c.self.inside.windowed ≡ Some limits
+    → (put : Store g.row.K.Denot g.row.V.Denot) (stays : Bool) → IsPutThere g c (Some limits) put stays
+    → IsPutThere g c c.self.inside.windowed put stays
+its_entering g c limits some put stays step = subst (λ w. IsPutThere g c w put stays) (sym some) step
 
-pub invariant_of-self-else-put_new : goal.invariant_of-self-else-put_new
-invariant_of-self-else-put_new g c = admitted g (goal.at.invariant_of-self-else-put_new g c).After-put_new
+-- and one that is judged where there is no window
+its_admission : (g : Over) (c : After-weigh g) → c.self.inside.windowed ≡ None → (put : Store g.row.K.Denot g.row.V.Denot) (stays : Bool) (max : Option ℕ)
+    → max ≡ c.self.inside.bounds.max_capacity
+    → (contents_of put ≡ after_admission g.K.PartialEq.eq c.upkeep.new.store.keeps_writes (its_entry g c c.args.hash)
+    (victims_of max c.self.inside.sketch (its_entry g c c.args.hash) (main_of (entries_of c.upkeep.new.store))) (contents_of c.upkeep.new.store))
+    → stays ≡ is_some (victims_of max c.self.inside.sketch (its_entry g c c.args.hash) (main_of (entries_of c.upkeep.new.store)))
+    → IsPutThere g c c.self.inside.windowed put stays
+its_admission g c none put stays max max_is step value =
+    let eq = g.K.PartialEq.eq in
+    let new = its_entry g c c.args.hash in
+    let old = c.upkeep.new.store in
+    let all = (IsCached-upkeep c.args.now (IsCached-room c.self.invariant c.reserve.ensures.unchanged) c.upkeep.ensures.step
+    c.upkeep.ensures.kept).main none in
+    subst (λ w. IsPutThere g c w put stays) (sym none)
+    (subst (λ l. IsPut eq old.keeps_writes None l c.self.inside.sketch new (contents_of old) stays (contents_of put)) max_is (
+      put_main eq old.keeps_writes max c.self.inside.sketch new (contents_of old) (contents_of put) all step,
+      stays_main max c.self.inside.sketch new (entries_of old) stays all value,
+    ))
 
-pub put_new-requires-clause-all_main : goal.put_new-requires-clause-all_main
-put_new-requires-clause-all_main g c =
-    let is = IsCached-upkeep c.args.now (IsCached-room c.self.invariant c.reserve.ensures.unchanged) c.upkeep.ensures.step
-    c.upkeep.ensures.kept in
-    λ none. is.main none
+pub invariant_of-self-then-enter_window : goal.invariant_of-self-then-enter_window
+invariant_of-self-then-enter_window g c =
+    let at = (goal.at.invariant_of-self-then-enter_window g c).After-weigh in
+    let put = its_entering g at c.in-Some-windowed.limits c.in-Some-windowed.is c.enter_window.new.store c.enter_window.result
+    (c.enter_window.ensures.step, c.enter_window.ensures.value) in
+    admitted g at c.enter_window.new.store c.enter_window.result put c.enter_window.ensures.keeps
+
+pub invariant_of-self-else-enter_window : goal.invariant_of-self-else-enter_window
+invariant_of-self-else-enter_window g c =
+    let at = (goal.at.invariant_of-self-else-enter_window g c).After-weigh in
+    let put = its_entering g at c.in-Some-windowed.limits c.in-Some-windowed.is c.enter_window.new.store c.enter_window.result
+    (c.enter_window.ensures.step, c.enter_window.ensures.value) in
+    admitted g at c.enter_window.new.store c.enter_window.result put c.enter_window.ensures.keeps
+
+pub invariant_of-self-then-admit : goal.invariant_of-self-then-admit
+invariant_of-self-then-admit g c =
+    let at = (goal.at.invariant_of-self-then-admit g c).After-weigh in
+    let put = its_admission g at c.in-None-windowed.is c.admit.new.store c.admit.result c.max_capacity-limit.result
+    (c.max_capacity-limit.ensures ∙ ap (λ p. p.max_capacity) c.policy.ensures) c.admit.ensures.step c.admit.ensures.value in
+    admitted g at c.admit.new.store c.admit.result put c.admit.ensures.keeps
+
+pub invariant_of-self-else-admit : goal.invariant_of-self-else-admit
+invariant_of-self-else-admit g c =
+    let at = (goal.at.invariant_of-self-else-admit g c).After-weigh in
+    let put = its_admission g at c.in-None-windowed.is c.admit.new.store c.admit.result c.max_capacity-limit.result
+    (c.max_capacity-limit.ensures ∙ ap (λ p. p.max_capacity) c.policy.ensures) c.admit.ensures.step c.admit.ensures.value in
+    admitted g at c.admit.new.store c.admit.result put c.admit.ensures.keeps
 
 -- room was made for the entry
 its_room : (g : Over) (c : After-upkeep g) → length (entries_of c.self.inside.store) < c.reserve.new.self.capacity
@@ -103,7 +199,7 @@ returns-in-Some-clause-step g c =
     let start = c.self.inside.store in
     let mid = c.upkeep.new.store in
     let cache : CacheState g.row.K.Denot g.row.V.Denot g.row.S.Denot g.row.W.Denot = record {
-      settings = record { hash_state = c.self.inside.hash_state; policy = c.self.inside.limits; is_weighed = c.self.inside.is_weighed };
+      settings = record { hash_state = c.self.inside.hash_state; policy = c.self.inside.bounds; is_weighed = c.self.inside.is_weighed };
       shares = c.self.inside.shares;
       weigher = c.weigh.new.self;
       contents = contents_of start;
@@ -114,7 +210,7 @@ returns-in-Some-clause-step g c =
     new_entry keys c.self.inside.hash_state c.args.key c.args.value c.weigh.result c.args.now in
     let found = (c.in-Some.ensures {u = tt}).found in
     let is : contents_of mid ≡ kept eq cache new c.args.now true =
-    c.upkeep.ensures.step ∙ ap (λ s. after_upkeep eq c.self.inside.limits c.args.now (contents_of s)) c.reserve.ensures.unchanged in
+    c.upkeep.ensures.step ∙ ap (λ s. after_upkeep eq c.self.inside.bounds c.args.now (contents_of s)) c.reserve.ensures.unchanged in
     let keeps = c.upkeep.ensures.kept.keeps ∙ (ap (λ s. s.keeps_writes) c.reserve.ensures.unchanged ∙ c.self.invariant.keeps) in
     let own = some_parts c.update.ensures.entry found.0 (sym c.update.ensures.stood ∙ found.1) in
     rw (← c.self.view_is)
@@ -135,72 +231,13 @@ returns-in-Some-clause-step g c =
           (c.update.ensures.kept.capacity ∙ c.upkeep.ensures.kept.capacity);
     })
 
--- the cache with its room and its weigher asked
-abbrev its_cache : (g : Over) (c : After-put_new g) → CacheState g.row.K.Denot g.row.V.Denot g.row.S.Denot g.row.W.Denot
-its_cache g c = record {
-  settings = record { hash_state = c.self.inside.hash_state; policy = c.self.inside.limits; is_weighed = c.self.inside.is_weighed };
-  shares = c.self.inside.shares;
-  weigher = c.weigh.new.self;
-  contents = contents_of c.self.inside.store;
-  sketch = c.self.inside.sketch;
-  capacity = c.reserve.new.self.capacity;
-}
-
--- the entry, with a hash
-abbrev its_entry : (g : Over) (c : After-put_new g) → ℕ → Entry g.row.K.Denot g.row.V.Denot
-its_entry g c hash = record {
-  key = c.args.key;
-  value = c.args.value;
-  hash = hash;
-  weight = c.weigh.result;
-  part = Probation;
-  accessed = c.args.now;
-  modified = c.args.now;
-}
-
-abbrev its_hash : (g : Over) (c : After-put_new g) → ℕ
-its_hash g c =
-    (keys_by (record { eq = g.K.PartialEq.eq; hash_input = g.K.Hash.hash_input }) g.S.BuildHasher g.S.Hasher.Hasher).hash_of
-    c.self.inside.hash_state c.args.key
-
--- the contents that upkeep leaves
-its_contents : (g : Over) (c : After-put_new g)
-    → contents_of c.upkeep.new.store ≡ kept g.K.PartialEq.eq (its_cache g c) (its_entry g c (its_hash g c)) c.args.now true
-its_contents g c =
-    c.upkeep.ensures.step ∙ ap (λ s. after_upkeep g.K.PartialEq.eq c.self.inside.limits c.args.now (contents_of s))
-    c.reserve.ensures.unchanged
-
-its_absence : (g : Over) (c : After-put_new g) → entry_at g.K.PartialEq.eq c.args.key
-    (kept g.K.PartialEq.eq (its_cache g c) (its_entry g c (its_hash g c)) c.args.now true).entries ≡ None
-its_absence g c =
+pub returns-then-enter_window-clause-step : goal.returns-then-enter_window-clause-step
+returns-then-enter_window-clause-step g c =
+    let made = (goal.at.returns-then-enter_window-clause-step g c).After-upkeep in
+    let at = (goal.at.returns-then-enter_window-clause-step g c).After-weigh in
     let absent : entry_at g.K.PartialEq.eq c.args.key (entries_of c.upkeep.new.store) ≡ None = search rules in
-    subst (λ contents. entry_at g.K.PartialEq.eq c.args.key contents.entries ≡ None) (its_contents g c) absent
-
--- and what the new entry leaves
-its_put : (g : Over) (c : After-put_new g) → IsPut g.K.PartialEq.eq (keeps_writes c.self.inside.limits)
-    (windowed_limits c.self.inside.shares c.self.inside.limits.max_capacity) c.self.inside.limits.max_capacity c.self.inside.sketch (its_entry g c (its_hash g c))
-    (kept g.K.PartialEq.eq (its_cache g c) (its_entry g c (its_hash g c)) c.args.now true) c.put_new.result (contents_of c.put_new.new.store)
-its_put g c =
-    let keeps = c.upkeep.ensures.kept.keeps ∙ (ap (λ s. s.keeps_writes) c.reserve.ensures.unchanged ∙ c.self.invariant.keeps) in
-    let eq = g.K.PartialEq.eq in
-    let sketch = c.self.inside.sketch in
-    let put = contents_of c.put_new.new.store in
-    let new = its_entry g c (its_hash g c) in
-    let max = c.self.inside.limits.max_capacity in
-    subst (λ k. IsPut eq k (windowed_limits c.self.inside.shares max) max sketch new
-    (kept eq (its_cache g c) new c.args.now true) c.put_new.result put) keeps
-    (subst (λ w. IsPut eq c.upkeep.new.store.keeps_writes w max sketch new (kept eq (its_cache g c) new c.args.now true) c.put_new.result put)
-    c.self.invariant.windowed
-    (subst (λ s. IsPut eq c.upkeep.new.store.keeps_writes c.self.inside.windowed max sketch new s c.put_new.result put) (its_contents g c)
-    (subst (λ h. IsPut eq c.upkeep.new.store.keeps_writes c.self.inside.windowed max sketch (its_entry g c h) (contents_of c.upkeep.new.store)
-    c.put_new.result put) (put_own g c)
-    (subst (λ l. IsPut eq c.upkeep.new.store.keeps_writes c.self.inside.windowed l sketch (its_entry g c c.args.hash)
-    (contents_of c.upkeep.new.store) c.put_new.result put) c.max_capacity.ensures c.put_new.ensures.step))))
-
-pub returns-then-put_new-clause-step : goal.returns-then-put_new-clause-step
-returns-then-put_new-clause-step g c =
-    let made = (goal.at.returns-then-put_new-clause-step g c).After-upkeep in
-    let done = (goal.at.returns-then-put_new-clause-step g c).After-put_new in
+    let put = its_entering g at c.in-Some-windowed.limits c.in-Some-windowed.is c.enter_window.new.store c.enter_window.result
+    (c.enter_window.ensures.step, c.enter_window.ensures.value) in
     rw (← c.self.view_is)
     (record {
       weight = c.weigh.result;
@@ -213,15 +250,18 @@ returns-then-put_new-clause-step g c =
       small = search rules;
       step =
           c.enable_sketch.ensures.1
-          ∙ insert_stays g.K.PartialEq.eq (its_cache g done) (its_entry g done (its_hash g done)) c.args.now c.enable_sketch.ensures.0
-          (its_absence g done) (contents_of c.put_new.new.store) c.put_new.new.store.capacity c.put_new.result (its_put g done)
-          (c.put_new.ensures.capacity ∙ c.upkeep.ensures.kept.capacity) c.if-put_new.true;
+          ∙ insert_stays g.K.PartialEq.eq (its_cache g at) (its_entry g at (its_hash g at)) c.args.now c.enable_sketch.ensures.0
+          (its_absence g at absent) (contents_of c.enter_window.new.store) c.enter_window.new.store.capacity c.enter_window.result
+          (its_put g at c.enter_window.new.store c.enter_window.result put) (c.enter_window.ensures.capacity ∙ c.upkeep.ensures.kept.capacity) c.if-enter_window.true;
     })
 
-pub returns-else-put_new-clause-step : goal.returns-else-put_new-clause-step
-returns-else-put_new-clause-step g c =
-    let made = (goal.at.returns-else-put_new-clause-step g c).After-upkeep in
-    let done = (goal.at.returns-else-put_new-clause-step g c).After-put_new in
+pub returns-else-enter_window-clause-step : goal.returns-else-enter_window-clause-step
+returns-else-enter_window-clause-step g c =
+    let made = (goal.at.returns-else-enter_window-clause-step g c).After-upkeep in
+    let at = (goal.at.returns-else-enter_window-clause-step g c).After-weigh in
+    let absent : entry_at g.K.PartialEq.eq c.args.key (entries_of c.upkeep.new.store) ≡ None = search rules in
+    let put = its_entering g at c.in-Some-windowed.limits c.in-Some-windowed.is c.enter_window.new.store c.enter_window.result
+    (c.enter_window.ensures.step, c.enter_window.ensures.value) in
     rw (← c.self.view_is)
     (record {
       weight = c.weigh.result;
@@ -233,7 +273,54 @@ returns-else-put_new-clause-step g c =
       weighed = search rules;
       small = search rules;
       step =
-          insert_drops g.K.PartialEq.eq (its_cache g done) (its_entry g done (its_hash g done)) c.args.now true (its_absence g done)
-          (contents_of c.put_new.new.store) c.put_new.new.store.capacity c.put_new.result (its_put g done)
-          (c.put_new.ensures.capacity ∙ c.upkeep.ensures.kept.capacity) c.if-put_new.false;
+          insert_drops g.K.PartialEq.eq (its_cache g at) (its_entry g at (its_hash g at)) c.args.now true
+          (its_absence g at absent) (contents_of c.enter_window.new.store) c.enter_window.new.store.capacity c.enter_window.result
+          (its_put g at c.enter_window.new.store c.enter_window.result put) (c.enter_window.ensures.capacity ∙ c.upkeep.ensures.kept.capacity) c.if-enter_window.false;
+    })
+
+pub returns-then-admit-clause-step : goal.returns-then-admit-clause-step
+returns-then-admit-clause-step g c =
+    let made = (goal.at.returns-then-admit-clause-step g c).After-upkeep in
+    let at = (goal.at.returns-then-admit-clause-step g c).After-weigh in
+    let absent : entry_at g.K.PartialEq.eq c.args.key (entries_of c.upkeep.new.store) ≡ None = search rules in
+    let put = its_admission g at c.in-None-windowed.is c.admit.new.store c.admit.result c.max_capacity-limit.result
+    (c.max_capacity-limit.ensures ∙ ap (λ p. p.max_capacity) c.policy.ensures) c.admit.ensures.step c.admit.ensures.value in
+    rw (← c.self.view_is)
+    (record {
+      weight = c.weigh.result;
+      weigher = c.weigh.new.self;
+      refused = c.enable_sketch-then-admit.ensures.0;
+      capacity = c.reserve.new.self.capacity;
+      grown = its_room g made;
+      kept = its_capacity g made;
+      weighed = search rules;
+      small = search rules;
+      step =
+          c.enable_sketch-then-admit.ensures.1
+          ∙ insert_stays g.K.PartialEq.eq (its_cache g at) (its_entry g at (its_hash g at)) c.args.now c.enable_sketch-then-admit.ensures.0
+          (its_absence g at absent) (contents_of c.admit.new.store) c.admit.new.store.capacity c.admit.result
+          (its_put g at c.admit.new.store c.admit.result put) (c.admit.ensures.capacity ∙ c.upkeep.ensures.kept.capacity) c.if-admit.true;
+    })
+
+pub returns-else-admit-clause-step : goal.returns-else-admit-clause-step
+returns-else-admit-clause-step g c =
+    let made = (goal.at.returns-else-admit-clause-step g c).After-upkeep in
+    let at = (goal.at.returns-else-admit-clause-step g c).After-weigh in
+    let absent : entry_at g.K.PartialEq.eq c.args.key (entries_of c.upkeep.new.store) ≡ None = search rules in
+    let put = its_admission g at c.in-None-windowed.is c.admit.new.store c.admit.result c.max_capacity-limit.result
+    (c.max_capacity-limit.ensures ∙ ap (λ p. p.max_capacity) c.policy.ensures) c.admit.ensures.step c.admit.ensures.value in
+    rw (← c.self.view_is)
+    (record {
+      weight = c.weigh.result;
+      weigher = c.weigh.new.self;
+      refused = true;
+      capacity = c.reserve.new.self.capacity;
+      grown = its_room g made;
+      kept = its_capacity g made;
+      weighed = search rules;
+      small = search rules;
+      step =
+          insert_drops g.K.PartialEq.eq (its_cache g at) (its_entry g at (its_hash g at)) c.args.now true
+          (its_absence g at absent) (contents_of c.admit.new.store) c.admit.new.store.capacity c.admit.result
+          (its_put g at c.admit.new.store c.admit.result put) (c.admit.ensures.capacity ∙ c.upkeep.ensures.kept.capacity) c.if-admit.false;
     })

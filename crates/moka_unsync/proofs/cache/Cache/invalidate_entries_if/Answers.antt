@@ -20,7 +20,7 @@ returns g c =
         (λ i. record {
           settings = record {
             hash_state = c.self.inside.hash_state;
-            policy = c.self.inside.limits;
+            policy = c.self.inside.bounds;
             is_weighed = c.self.inside.is_weighed;
           };
           shares = c.self.inside.shares;

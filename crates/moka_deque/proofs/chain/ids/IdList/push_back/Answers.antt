@@ -8,13 +8,13 @@ overflow_add-self g c =
 
 pub invariant_of-self : goal.invariant_of-self
 invariant_of-self g c =
-    let absent = rw (← c.self.view_is, ← c.number.ensures) at c.requires.absent in
-    let room = rw (← c.self.view_is, ← c.number.ensures) at c.requires.room in
-    (lists-pushed c.self.inside.len c.self.invariant c.number.result absent room c.link_back.ensures.step c.link_back.ensures.len).0
+    let absent = rw (← c.self.view_is, ← c.id.view_is) at c.requires.absent in
+    let room = rw (← c.self.view_is, ← c.id.view_is) at c.requires.room in
+    (lists-pushed c.self.inside.len c.self.invariant c.id.inside.number absent room c.link_back.ensures.step c.link_back.ensures.len).0
 
 pub returns-clause-ids : goal.returns-clause-ids
 returns-clause-ids g c =
-    let absent = rw (← c.self.view_is, ← c.number.ensures) at c.requires.absent in
-    let room = rw (← c.self.view_is, ← c.number.ensures) at c.requires.room in
-    (lists-pushed c.self.inside.len c.self.invariant c.number.result absent room c.link_back.ensures.step c.link_back.ensures.len).1
-    ∙ (λ i. (c.self.view_is i).ids ++ c.number.ensures i ∷ [])
+    let absent = rw (← c.self.view_is, ← c.id.view_is) at c.requires.absent in
+    let room = rw (← c.self.view_is, ← c.id.view_is) at c.requires.room in
+    (lists-pushed c.self.inside.len c.self.invariant c.id.inside.number absent room c.link_back.ensures.step c.link_back.ensures.len).1
+    ∙ (λ i. (c.self.view_is i).ids ++ c.id.view_is i ∷ [])

@@ -5,16 +5,16 @@ use Rattle.moka_deque.proofs.chain.ids.IdList.remove.Goals as goal
 
 pub unlink-requires-clause-here : goal.unlink-requires-clause-here
 unlink-requires-clause-here g c =
-    let found = rw (← c.self.view_is, ← c.number.ensures) at c.requires in
-    has_links c.self.inside.len c.self.invariant c.number.result found
+    let found = rw (← c.self.view_is, ← c.id.view_is) at c.requires in
+    has_links c.self.inside.len c.self.invariant c.id.inside.number found
 
 pub invariant_of-self : goal.invariant_of-self
 invariant_of-self g c =
-    let found = rw (← c.self.view_is, ← c.number.ensures) at c.requires in
-    (lists-removed c.self.inside.len c.self.invariant c.number.result found c.unlink.ensures.step c.unlink.ensures.len).0
+    let found = rw (← c.self.view_is, ← c.id.view_is) at c.requires in
+    (lists-removed c.self.inside.len c.self.invariant c.id.inside.number found c.unlink.ensures.step c.unlink.ensures.len).0
 
 pub returns-clause-ids : goal.returns-clause-ids
 returns-clause-ids g c =
-    let found = rw (← c.self.view_is, ← c.number.ensures) at c.requires in
-    (lists-removed c.self.inside.len c.self.invariant c.number.result found c.unlink.ensures.step c.unlink.ensures.len).1
-    ∙ (λ i. ids_without (c.number.ensures i) (c.self.view_is i).ids)
+    let found = rw (← c.self.view_is, ← c.id.view_is) at c.requires in
+    (lists-removed c.self.inside.len c.self.invariant c.id.inside.number found c.unlink.ensures.step c.unlink.ensures.len).1
+    ∙ (λ i. ids_without (c.id.view_is i) (c.self.view_is i).ids)

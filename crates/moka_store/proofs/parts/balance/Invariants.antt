@@ -1,0 +1,16 @@
+use Rattle.std.proofs.Common.{◌≡◌, length}
+use Rattle.std.specs.Map.{keys_of, values_of}
+use Rattle.moka_machine.specs.Contents.{InOrder, balanced, protected_of}
+use Rattle.moka_machine.specs.declared.entry.Part.TheVariants.{Probation}
+use Rattle.moka_store.specs.Nodes.{AreMarks, SameBy, bare, weights_of}
+use Rattle.moka_store.proofs.parts.balance.Given as goal
+
+abbrev pub invariant-loop-weights : goal.invariant-loop-weights
+invariant-loop-weights g l =
+    InOrder Probation (values_of l.entries.items) × AreMarks l.entries.items l.marks × (l.weights ≡ weights_of l.entries.items)
+    × (balanced l.room (values_of l.entries.items) ≡ balanced l.room (values_of l.fn.entries.items))
+    × SameBy bare l.fn.entries.items l.entries.items × (keys_of l.entries.items ≡ keys_of l.fn.entries.items)
+    × (l.entries ≡ record l.fn.entries { items = l.entries.items })
+
+abbrev pub decreases-loop-weights : goal.decreases-loop-weights
+decreases-loop-weights g l = length (protected_of (values_of l.entries.items))

@@ -1,0 +1,293 @@
+// The three parts of the list of all entries: the first node of each, and their weights.
+ghost use Rattle.std.specs.Prelude.{◌≡◌, ◌≢◌, ◌<◌, ◌≤◌, ◌+◌, ◌-◌, ◌^◌, IfSome, None, Some, length, nat_eq};
+ghost use Rattle.std.specs.List.{IsDistinct};
+ghost use Rattle.std.specs.Map.{keys_of, lookup, remove_entry, values_of};
+ghost use Rattle.moka_deque.specs.Deque.{IsIn, next_id};
+ghost use Rattle.moka_machine.specs.declared.entry.Entry.{Entry as EntryValue};
+ghost use Rattle.moka_machine.specs.declared.entry.Part.TheVariants.{Probation};
+ghost use Rattle.moka_machine.specs.Contents.{InOrder, is_protected, is_window, protected_of};
+ghost use Rattle.moka_store.specs.Store.{is_of};
+ghost use Rattle.moka_store.specs.Nodes.{AreMarks, Demotes, IsBalanced, behind, latest_node, moved, passed, share, weights_of, with_mark};
+
+use moka_deque::chain::{Chain, NodeId};
+use moka_machine::entry::{Entry, Part};
+use std::alloc::Allocator;
+
+/// Tells if two parts are the same.
+#[inline(always)]
+pub(crate) fn is_of(part: Part, other: Part) -> bool
+    ensures { result ≡ is_of part other }
+{
+    match (part, other) {
+        (Part::Probation, Part::Probation) => true,
+        (Part::Protected, Part::Protected) => true,
+        (Part::Window, Part::Window) => true,
+        _ => false,
+    }
+}
+
+/// The first node after probation, and the first of the window.
+#[derive(Drop)]
+pub(crate) struct Marks {
+    pub(crate) late: Option<NodeId>,
+    pub(crate) window: Option<NodeId>,
+}
+
+impl Marks {
+    /// The marks of an empty list.
+    pub(crate) fn none() -> Self
+        ensures { result ≡ record { late = None; window = None } }
+    {
+        Marks {
+            late: None,
+            window: None,
+        }
+    }
+
+    /// The first node after a part.
+    #[inline(always)]
+    fn behind(&self, part: Part) -> Option<NodeId>
+        ensures { result ≡ behind part self.now }
+    {
+        match part {
+            Part::Probation => self.late,
+            Part::Protected => self.window,
+            Part::Window => None,
+        }
+    }
+
+    /// Moves the marks off a node that is about to leave its place.
+    #[inline(always)]
+    pub(crate) fn pass<K: Drop, V: Drop, A: Allocator>(
+        &mut self,
+        entries: &Chain<Entry<K, V>, A>,
+        id: NodeId,
+    )
+        requires here { IsIn entries.now.items id }
+        ensures { self.new ≡ record {
+          late = passed id (next_id id entries.now.items) self.old.late;
+          window = passed id (next_id id entries.now.items) self.old.window;
+        } }
+    {
+        pass(&mut self.late, entries, id);
+        pass(&mut self.window, entries, id);
+    }
+
+    /// Sets the marks for a node that has become the last of its part.
+    #[inline(always)]
+    fn join(&mut self, id: NodeId, part: Part)
+        ensures { self.new ≡ with_mark id part self.old }
+    {
+        match part {
+            Part::Probation => (),
+            Part::Protected => {
+                if self.late == self.window {
+                    self.late = Some(id);
+                }
+            }
+            Part::Window => {
+                if self.late.is_none() {
+                    self.late = Some(id);
+                }
+                if self.window.is_none() {
+                    self.window = Some(id);
+                }
+            }
+        }
+    }
+}
+
+/// A mark, moved to the next node if it is at this one.
+#[inline(always)]
+fn pass<K: Drop, V: Drop, A: Allocator>(
+    mark: &mut Option<NodeId>,
+    entries: &Chain<Entry<K, V>, A>,
+    id: NodeId,
+)
+    requires { IsIn entries.now.items id }
+    ensures { mark.new ≡ passed id (next_id id entries.now.items) mark.old }
+{
+    if *mark == Some(id) {
+        *mark = entries.next(id);
+    }
+}
+
+/// Moves a node to the back, if it isn't there.
+#[inline(always)]
+fn to_back<K: Drop, V: Drop, A: Allocator>(entries: &mut Chain<Entry<K, V>, A>, id: NodeId)
+    requires { IsIn entries.old.items id }
+    ensures items { entries.new.items ≡ moved id None entries.old.items }
+    ensures unchanged { entries.new ≡ record entries.old { items = entries.new.items } }
+{
+    if entries.next(id).is_some() {
+        entries.move_to_back(id);
+    }
+}
+
+/// Makes a node the last of its part. The marks are those of the other nodes.
+#[inline(always)]
+pub(crate) fn settle<K: Drop, V: Drop, A: Allocator>(
+    entries: &mut Chain<Entry<K, V>, A>,
+    marks: &mut Marks,
+    id: NodeId,
+    part: Part,
+)
+    requires once { IsDistinct nat_eq (keys_of entries.old.items) }
+    requires here { (e : EntryValue K V) × (lookup (nat_eq id) entries.old.items ≡ Some e) × (e.part ≡ part) }
+    requires marks { AreMarks (remove_entry (nat_eq id) entries.old.items) marks.old }
+    ensures items { (e : EntryValue K V) → lookup (nat_eq id) entries.old.items ≡ Some e
+        → entries.new.items ≡ latest_node (id, e) (remove_entry (nat_eq id) entries.old.items) }
+    ensures marks { AreMarks entries.new.items marks.new }
+    ensures unchanged { entries.new ≡ record entries.old { items = entries.new.items } }
+{
+    let next = marks.behind(part);
+    marks.join(id, part);
+    match next {
+        Some(next) => entries.move_before(id, next),
+        None => to_back(entries, id),
+    }
+}
+
+/// Total weight of all entries, of protected and of the window.
+#[derive(Clone, Copy, Drop)]
+pub(crate) struct Weights {
+    pub(crate) all: u64,
+    pub(crate) protected: u64,
+    pub(crate) window: u64,
+}
+
+impl Weights {
+    /// The weights of an empty store.
+    pub(crate) fn none() -> Self
+        ensures { result ≡ record { all = 0; protected = 0; window = 0 } }
+    {
+        Weights {
+            all: 0,
+            protected: 0,
+            window: 0,
+        }
+    }
+
+    /// Adds an entry.
+    #[inline(always)]
+    pub(crate) fn add(&mut self, part: Part, weight: u32)
+        requires fits { weight < 2 ^ 32 → self.old.all + weight < 2 ^ 64 }
+        requires protected { self.old.protected ≤ self.old.all }
+        requires window { self.old.window ≤ self.old.all }
+        ensures value { self.new ≡ record {
+          all = self.old.all + weight;
+          protected = self.old.protected + share (is_protected part) weight;
+          window = self.old.window + share (is_window part) weight;
+        } }
+        ensures small { weight < 2 ^ 32 }
+    {
+        let weight = u64::from(weight);
+        self.all += weight;
+        match part {
+            Part::Probation => (),
+            Part::Protected => self.protected += weight,
+            Part::Window => self.window += weight,
+        }
+    }
+
+    /// Takes an entry off.
+    #[inline(always)]
+    pub(crate) fn take(&mut self, part: Part, weight: u32)
+        requires all { weight ≤ self.old.all }
+        requires protected { share (is_protected part) weight ≤ self.old.protected }
+        requires window { share (is_window part) weight ≤ self.old.window }
+        ensures { self.new ≡ record {
+          all = self.old.all - weight;
+          protected = self.old.protected - share (is_protected part) weight;
+          window = self.old.window - share (is_window part) weight;
+        } }
+    {
+        let weight = u64::from(weight);
+        self.all -= weight;
+        match part {
+            Part::Probation => (),
+            Part::Protected => self.protected -= weight,
+            Part::Window => self.window -= weight,
+        }
+    }
+
+    /// Moves an entry's weight to another part.
+    #[inline(always)]
+    pub(crate) fn shift(&mut self, from: Part, to: Part, weight: u32)
+        requires protected { share (is_protected from) weight ≤ self.old.protected }
+        requires window { share (is_window from) weight ≤ self.old.window }
+        requires protected_fits { self.old.protected - share (is_protected from) weight + weight ≤ self.old.all }
+        requires window_fits { self.old.window - share (is_window from) weight + weight ≤ self.old.all }
+        ensures value { self.new ≡ record {
+          all = self.old.all;
+          protected = self.old.protected - share (is_protected from) weight + share (is_protected to) weight;
+          window = self.old.window - share (is_window from) weight + share (is_window to) weight;
+        } }
+        ensures small { weight < 2 ^ 32 }
+    {
+        if is_of(from, to) {
+            return;
+        }
+        let weight = u64::from(weight);
+        match from {
+            Part::Probation => (),
+            Part::Protected => self.protected -= weight,
+            Part::Window => self.window -= weight,
+        }
+        match to {
+            Part::Probation => (),
+            Part::Protected => self.protected += weight,
+            Part::Window => self.window += weight,
+        }
+    }
+}
+
+/// Moves protected's least recently used entries to probation until protected weighs no more than `room`. This changes their part and a mark, and no link.
+/// One call may move many light entries; it is O(1) per access, amortized.
+#[inline(always)]
+pub(crate) fn balance<K: Drop, V: Drop, A: Allocator>(
+    entries: &mut Chain<Entry<K, V>, A>,
+    marks: &mut Marks,
+    weights: &mut Weights,
+    room: u64,
+)
+    requires once { IsDistinct nat_eq (keys_of entries.old.items) }
+    requires order { InOrder Probation (values_of entries.old.items) }
+    requires marks { AreMarks entries.old.items marks.old }
+    requires weighed { weights.old ≡ weights_of entries.old.items }
+    ensures step { IsBalanced room entries.old.items entries.new.items }
+    ensures marks { AreMarks entries.new.items marks.new }
+    ensures weighed { weights.new ≡ weights_of entries.new.items }
+    ensures unchanged { entries.new ≡ record entries.old { items = entries.new.items } }
+{
+    while weights.protected > room {
+        demote_first(entries, marks, weights);
+    }
+}
+
+/// Makes protected's first entry probation's last.
+#[cold]
+#[inline(never)]
+fn demote_first<K: Drop, V: Drop, A: Allocator>(
+    entries: &mut Chain<Entry<K, V>, A>,
+    marks: &mut Marks,
+    weights: &mut Weights,
+)
+    requires some { 0 < weights.old.protected }
+    requires once { IsDistinct nat_eq (keys_of entries.old.items) }
+    requires order { InOrder Probation (values_of entries.old.items) }
+    requires marks { AreMarks entries.old.items marks.old }
+    requires weighed { weights.old ≡ weights_of entries.old.items }
+    ensures step { Demotes entries.old.items entries.new.items }
+    ensures marks { AreMarks entries.new.items marks.new }
+    ensures weighed { weights.new ≡ weights_of entries.new.items }
+    ensures unchanged { entries.new ≡ record entries.old { items = entries.new.items } }
+{
+    let Some(id) = marks.late else {
+        return;
+    };
+    let entry = entries.get_mut(id);
+    entry.part = Part::Probation;
+    weights.protected -= u64::from(entry.weight);
+    marks.late = entries.next(id);
+}
