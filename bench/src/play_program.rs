@@ -13,6 +13,8 @@ pub enum Kind {
     Counted,
     /// One lock round the cache for one thread.
     Unsync,
+    /// The cache of segments.
+    Segments,
 }
 
 /// The requests that say what each new cache is from here on.
@@ -91,6 +93,7 @@ impl PlayProgram {
                 Kind::Sync => "play sync",
                 Kind::Counted => "play counted",
                 Kind::Unsync => "play unsync",
+                Kind::Segments => "play segments",
             },
             ["hits", "sum", "entries"],
         )?;

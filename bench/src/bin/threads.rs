@@ -22,14 +22,16 @@ const PAIRS: usize = 8;
 #[derive(Clone, Copy, PartialEq, Eq)]
 enum Side {
     Port,
+    Segments,
     Counted,
     Original,
     LockedOriginal,
     LockedPort,
 }
 
-const SIDES: [Side; 4] = [
+const SIDES: [Side; 5] = [
     Side::Port,
+    Side::Segments,
     Side::Original,
     Side::LockedOriginal,
     Side::LockedPort,
@@ -99,6 +101,7 @@ impl Bench {
         let settings = Settings::with_capacity(CAPACITY);
         match side {
             Side::Port => self.program.play(Kind::Sync),
+            Side::Segments => self.program.play(Kind::Segments),
             Side::Counted => self.program.play(Kind::Counted),
             Side::LockedPort => self.program.play(Kind::Unsync),
             Side::Original => Ok(play(&shared_original(&settings), &self.filling, lists)),
@@ -132,14 +135,17 @@ impl Bench {
         let watch = Watch::start(&[process::id(), self.program.process()]);
         let all = self.measure(SIDES, &mix.lists[..threads], self.repeats)?;
         let free = watch.free();
-        let [port, others @ ..] = &all;
+        let [port, segments, others @ ..] = &all;
         let mut cells = vec![mix.gets.to_string(), threads.to_string()];
         cells.extend(all.iter().map(Repeats::text));
-        cells.extend(
-            others
-                .iter()
-                .map(|other| table::ratio(other.median(), port.median())),
-        );
+        for side in [port, segments] {
+            cells.extend(
+                others
+                    .iter()
+                    .map(|other| table::ratio(other.median(), side.median())),
+            );
+        }
+        cells.push(table::ratio(port.median(), segments.median()));
         cells.extend(
             all.iter()
                 .map(|repeats| repeats.hit_ratio(mix.gets_of(threads))),
@@ -250,8 +256,8 @@ fn print_turning_table(bench: &mut Bench) -> io::Result<()> {
 
 /// Whether no side has more entries than its capacity; and where one thread plays alone, so that nothing hangs on the order of calls, whether both caches for
 /// one thread have the same hits.
-fn is_right(all: &[Repeats; 4], threads: usize) -> bool {
-    let [_, _, original, port] = all;
+fn is_right(all: &[Repeats; 5], threads: usize) -> bool {
+    let [_, _, _, original, port] = all;
     let is_within = all
         .iter()
         .flat_map(|repeats| &repeats.0)
@@ -295,20 +301,24 @@ fn print_counted_table(bench: &mut Bench) -> io::Result<()> {
 fn print_tables(program: &str, repeats: usize) -> io::Result<bool> {
     println!(
         "Nanoseconds a call of a thread: the median of {repeats} repeats, in brackets the least and the greatest. A ratio is how many times as many calls the \
-         port's sync makes in a time, by the medians. {}. A reading of the clock takes {:.1}.",
+         first side makes in a time as the second, by the medians. {}. A reading of the clock takes {:.1}.",
         describe(),
         clock_nanos()
     );
     println!();
     let names = [
         "port, sync",
+        "port, segments",
         "mini-moka, sync",
         "mini-moka, unsync in a lock",
         "port, unsync in a lock",
     ];
     let mut head = vec!["gets of 100".to_string(), "threads".into()];
     head.extend(names.map(String::from));
-    head.extend(names[1..].iter().map(|name| format!("to {name}")));
+    for side in ["sync", "segments"] {
+        head.extend(names[2..].iter().map(|name| format!("{side} to {name}")));
+    }
+    head.push("segments to port, sync".into());
     head.extend(names.map(|name| format!("hits, {name}")));
     head.push("processors free".into());
     table::print_head(&head.iter().map(String::as_str).collect::<Vec<_>>());

@@ -1,6 +1,7 @@
 pub mod Common
 pub mod Unsync
 pub mod Sync
+pub mod Segmented
 pub use Rattle.moka_grammar.specs.Text
 pub use Rattle.moka_grammar.specs.Spelling
 pub use Rattle.moka_grammar.specs.Options

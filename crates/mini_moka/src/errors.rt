@@ -8,6 +8,7 @@ use moka_common::error::{BuildError, InsertError, OutOfMemory};
 use moka_grammar::parser::ParseError;
 use moka_record::pass::CloseError;
 use moka_record::record::NotRecorded;
+use moka_segments::error::BuildError as SegmentsError;
 use moka_streams::streams::{Fault, ReadError};
 use std::alloc::{AllocError, AllocFailed};
 use std::io;
@@ -20,6 +21,9 @@ pub enum Error {
     /// A cache isn't built.
     #[error(transparent)]
     Build(BuildError),
+    /// A cache of segments isn't built.
+    #[error(transparent)]
+    Segments(SegmentsError),
     /// An insert is refused.
     #[error(transparent)]
     Insert(InsertError),
@@ -75,6 +79,14 @@ impl From<BuildError> for Error {
 
     fn from(cause: BuildError) -> Error {
         Error::Build(cause)
+    }
+}
+
+impl From<SegmentsError> for Error {
+    ghost from_gives = { λ cause error. error ≡ variant.Segments cause };
+
+    fn from(cause: SegmentsError) -> Error {
+        Error::Segments(cause)
     }
 }
 

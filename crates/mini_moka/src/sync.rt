@@ -1,6 +1,8 @@
-//! The cache that threads share.
+//! The caches that threads share.
 pub mod recorded;
+pub mod segmented;
 
+pub use moka_segments::cache::SegmentedCache;
 pub use moka_sync::builder::CacheBuilder;
 pub use moka_sync::cache::{Cache, ConcurrentCacheExt};
 pub use moka_sync::counts::{CountPass, Published};

@@ -5,6 +5,7 @@ mod meeting_point;
 mod one_thread;
 mod races;
 mod recorded;
+mod segments;
 mod threads;
 
 use std::sync::Wait;

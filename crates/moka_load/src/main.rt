@@ -10,8 +10,10 @@ mod soak;
 
 use crate::play::error::PlayError;
 use crate::play::player::Player;
+use crate::soak::errors::SoakError;
 use crate::soak::report::Report;
 use crate::soak::soak;
+use crate::soak::soaked::{new_cache, new_segments};
 use std::alloc::Global;
 use std::io::{BufRead, BufReader};
 use std::process::ExitCode;
@@ -19,9 +21,17 @@ use std::sync::Wait;
 use std::thread::Threads;
 use std::time::Clock;
 
+/// Which cache a soak calls.
+#[derive(Clone, Copy)]
+enum Kind {
+    Sync,
+    Segments,
+}
+
 /// A soak that a line asks for.
 #[derive(Clone, Copy)]
 struct Asked {
+    kind: Kind,
     calls: u64,
     seed: u64,
     /// Whether its verdict is enough where it was served.
@@ -29,19 +39,35 @@ struct Asked {
 }
 
 impl Asked {
-    /// The soak of a line `soak CALLS SEED`, or in short `check CALLS SEED`, if the line is one.
+    /// The soak of a line `soak CALLS SEED` or `soak_segments CALLS SEED`, or in short of one with `check` for `soak`, if the line is one.
     fn parse(line: &str) -> Option<Asked> {
         let (word, numbers) = line.split_once(' ')?;
-        let is_short = word == "check";
-        if !is_short && word != "soak" {
-            return None;
-        }
+        let (kind, is_short) = match word {
+            "soak" => (Kind::Sync, false),
+            "check" => (Kind::Sync, true),
+            "soak_segments" => (Kind::Segments, false),
+            "check_segments" => (Kind::Segments, true),
+            _ => return None,
+        };
         let (calls, seed) = numbers.split_once(' ')?;
         Some(Asked {
+            kind,
             calls: calls.parse::<u64>().ok()?,
             seed: seed.parse::<u64>().ok()?,
             is_short,
         })
+    }
+
+    /// Soaks a new cache.
+    fn run<R: Wait + Threads + Copy + Send + 'static>(
+        &self,
+        rt: R,
+        alloc: Global,
+    ) -> Result<Report, SoakError> {
+        match self.kind {
+            Kind::Sync => soak(rt, alloc, &new_cache(alloc)?, self.calls, self.seed),
+            Kind::Segments => soak(rt, alloc, &new_segments(alloc)?, self.calls, self.seed),
+        }
     }
 }
 
@@ -67,7 +93,7 @@ fn load_lines<R: Input + Print + Wait + Threads + Clock + Copy + Send + 'static>
     for line in BufReader::new(alloc, rt.reader())?.lines(alloc) {
         let line = line?;
         if let Some(asked) = Asked::parse(&line) {
-            let report = soak(rt, alloc, asked.calls, asked.seed)?;
+            let report = asked.run(rt, alloc)?;
             tell(&rt, &report, asked.is_short)?;
         } else if let Some(reply) = player.take(rt, &line)? {
             println!(rt; "{reply}")?;

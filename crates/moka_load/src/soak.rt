@@ -10,8 +10,8 @@ mod moments;
 pub mod report;
 mod seen;
 mod size;
-mod soaked;
-mod stamp;
+pub mod soaked;
+pub mod stamp;
 mod tally;
 mod threads;
 

@@ -285,8 +285,19 @@ impl<
         ensures step { self.new
             ≡ after_look (keys_by K.Hash S.BuildHasher S.Hasher.Hasher) self.old now }
     {
-        self.bounds.upkeep(&mut self.store, now);
         let hash = self.hash_state.hash_one(key);
+        self.contains_hashed(key, hash, now)
+    }
+
+    /// Tells if the key has an unexpired entry, as `contains_key` does, by the key's hash. An owner of many caches with one hash state hashes once.
+    pub fn contains_hashed(&mut self, key: &K, hash: u64, now: Instant) -> bool
+        requires { hash ≡ (keys_by K.Hash S.BuildHasher S.Hasher.Hasher).hash_of self.old.settings.hash_state key.now }
+        ensures value { result
+            ≡ is_contained (keys_by K.Hash S.BuildHasher S.Hasher.Hasher) self.old key.now now }
+        ensures step { self.new
+            ≡ after_look (keys_by K.Hash S.BuildHasher S.Hasher.Hasher) self.old now }
+    {
+        self.bounds.upkeep(&mut self.store, now);
         match self.store.find(key, hash) {
             Some(id) => !self.bounds.is_expired(self.store.get(id), now),
             None => false,
@@ -305,8 +316,8 @@ impl<
         self.get_hashed(key, hash, now)
     }
 
-    /// The value of the key, whose hash it is, as `get` answers it.
-    fn get_hashed(&mut self, key: &K, hash: u64, now: Instant) -> Option<&V>
+    /// Returns the value of the key, as `get` does, by the key's hash.
+    pub fn get_hashed(&mut self, key: &K, hash: u64, now: Instant) -> Option<&V>
         requires { hash ≡ (keys_by K.Hash S.BuildHasher S.Hasher.Hasher).hash_of self.old.settings.hash_state key.now }
         ensures* step { sem 𝓛 (ends_as K.row V.row S.row W.row A.row S.Hasher.row
             K.Hash S.BuildHasher S.Hasher.Hasher A.Allocator A.Clone self.entry
@@ -333,6 +344,15 @@ impl<
             ≡ found_by_peek (keys_by K.Hash S.BuildHasher S.Hasher.Hasher) self.now key.now now }
     {
         let hash = self.hash_state.hash_one(key);
+        self.peek_hashed(key, hash, now)
+    }
+
+    /// Returns the value of the key, as `peek` does, by the key's hash.
+    pub fn peek_hashed(&self, key: &K, hash: u64, now: Instant) -> Option<&V>
+        requires { hash ≡ (keys_by K.Hash S.BuildHasher S.Hasher.Hasher).hash_of self.now.settings.hash_state key.now }
+        ensures { option_copied result
+            ≡ found_by_peek (keys_by K.Hash S.BuildHasher S.Hasher.Hasher) self.now key.now now }
+    {
         let id = self.store.find(key, hash)?;
         let entry = self.store.get(id);
         if self.bounds.is_expired(entry, now) {
@@ -347,6 +367,15 @@ impl<
             ≡ after_invalidate (keys_by K.Hash S.BuildHasher S.Hasher.Hasher) self.old key.now now }
     {
         let hash = self.hash_state.hash_one(key);
+        self.invalidate_hashed(key, hash, now);
+    }
+
+    /// Removes the entry of the key, as `invalidate` does, by the key's hash.
+    pub fn invalidate_hashed(&mut self, key: &K, hash: u64, now: Instant)
+        requires { hash ≡ (keys_by K.Hash S.BuildHasher S.Hasher.Hasher).hash_of self.old.settings.hash_state key.now }
+        ensures step { self.new
+            ≡ after_invalidate (keys_by K.Hash S.BuildHasher S.Hasher.Hasher) self.old key.now now }
+    {
         self.bounds.upkeep(&mut self.store, now);
         remove_key(&mut self.store, key, hash);
     }
@@ -362,8 +391,19 @@ impl<
         ensures step { self.new
             ≡ after_invalidate (keys_by K.Hash S.BuildHasher S.Hasher.Hasher) self.old key.now now }
     {
-        self.bounds.upkeep(&mut self.store, now);
         let hash = self.hash_state.hash_one(key);
+        self.remove_hashed(key, hash, now)
+    }
+
+    /// Removes the entry of the key, as `remove` does, by the key's hash.
+    pub fn remove_hashed(&mut self, key: &K, hash: u64, now: Instant) -> Option<V>
+        requires { hash ≡ (keys_by K.Hash S.BuildHasher S.Hasher.Hasher).hash_of self.old.settings.hash_state key.now }
+        ensures value { result
+            ≡ found_by_get (keys_by K.Hash S.BuildHasher S.Hasher.Hasher) self.old key.now now }
+        ensures step { self.new
+            ≡ after_invalidate (keys_by K.Hash S.BuildHasher S.Hasher.Hasher) self.old key.now now }
+    {
+        self.bounds.upkeep(&mut self.store, now);
         let entry = take_key(&mut self.store, key, hash)?;
         if self.bounds.is_expired(&entry, now) {
             return None;
@@ -476,8 +516,8 @@ impl<
         self.insert_hashed(key, hash, value, now)
     }
 
-    /// Puts the value at the key, whose hash it is, as `insert` does.
-    fn insert_hashed(
+    /// Puts the value at the key, as `insert` does, by the key's hash.
+    pub fn insert_hashed(
         &mut self,
         key: K,
         hash: u64,
@@ -559,6 +599,28 @@ impl<
         ensures ready { W.ready self.new.weigher }
     {
         let hash = self.hash_state.hash_one(&key);
+        self.get_or_insert_hashed(key, hash, now, make)
+    }
+
+    /// Returns a clone of the value of the key, as `get_or_insert_with` does, by the key's hash.
+    pub fn get_or_insert_hashed<F: FnOnce() -> V>(
+        &mut self,
+        key: K,
+        hash: u64,
+        now: Instant,
+        make: F,
+    ) -> Result<V, InsertError>
+        requires hashed { hash ≡ (keys_by K.Hash S.BuildHasher S.Hasher.Hasher).hash_of self.old.settings.hash_state key }
+        requires ready { W.ready self.old.weigher }
+        requires make { found_by_get (keys_by K.Hash S.BuildHasher S.Hasher.Hasher) self.old key now ≡ None → F.pre make }
+        ensures ok { IfOk result (λ copy. (value : V) × V.is_clone value copy
+            × IsGotOrInserted (keys_by K.Hash S.BuildHasher S.Hasher.Hasher) self.old key now W.weighs (F.post make) value self.new) }
+        ensures err { OnErr result (((value : V) × (¬ (V.is_infallible value))
+            × (self.new ≡ after_get (keys_by K.Hash S.BuildHasher S.Hasher.Hasher) self.old key now))
+            ⊎ IsRefusedBehind (keys_by K.Hash S.BuildHasher S.Hasher.Hasher) self.old key now self.new) }
+        ensures error { IfErr result (λ error. error ≡ InsertError.OutOfMemory) }
+        ensures ready { W.ready self.new.weigher }
+    {
         if let Some(found) = self.get_hashed(&key, hash, now) {
             return copy_of(found);
         }

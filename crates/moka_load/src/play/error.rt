@@ -1,6 +1,7 @@
 //! Why the program ends before its input does.
 use crate::soak::errors::SoakError;
 use moka_common::error::{BuildError, InsertError, OutOfMemory};
+use moka_segments::error::BuildError as SegmentsError;
 use std::alloc::{AllocError, AllocFailed};
 use std::io;
 use thiserror::Error;
@@ -16,6 +17,9 @@ pub enum PlayError {
     /// A cache isn't built.
     #[error(transparent)]
     Build(BuildError),
+    /// A cache of segments isn't built.
+    #[error(transparent)]
+    Segments(SegmentsError),
     /// An insert is refused.
     #[error(transparent)]
     Insert(InsertError),
@@ -64,6 +68,12 @@ impl From<BuildError> for PlayError {
     }
 }
 
+impl From<SegmentsError> for PlayError {
+    fn from(error: SegmentsError) -> PlayError {
+        PlayError::Segments(error)
+    }
+}
+
 impl From<InsertError> for PlayError {
     fn from(error: InsertError) -> PlayError {
         PlayError::Insert(error)
@@ -81,6 +91,7 @@ impl From<SoakError> for PlayError {
         match error {
             SoakError::OutOfMemory => PlayError::OutOfMemory,
             SoakError::Build(error) => PlayError::Build(error),
+            SoakError::Segments(error) => PlayError::Segments(error),
             SoakError::Insert(error) => PlayError::Insert(error),
             SoakError::NoThread => PlayError::NoThread,
         }

@@ -2,7 +2,7 @@
 
 use crate::play::error::PlayError;
 use crate::play::request::{Call, Kind, Request};
-use crate::play::side::{Counted, Locked, Shared, Side};
+use crate::play::side::{Counted, Locked, Segmented, Shared, Side};
 use crate::play::thread::{Played, Playing, play_calls, play_thread};
 use std::alloc::Global;
 use std::sync::{Arc, Barrier, Wait};
@@ -108,6 +108,7 @@ impl Player {
             Kind::Sync => self.play_on(rt, &mut Shared::new(self.alloc, self.capacity)?),
             Kind::Counted => self.play_on(rt, &mut Counted::new(self.alloc, self.capacity)?),
             Kind::Unsync => self.play_on(rt, &mut Locked::new(self.alloc, self.capacity)?),
+            Kind::Segments => self.play_on(rt, &mut Segmented::new(self.alloc, self.capacity)?),
         }
     }
 

@@ -22,6 +22,8 @@ pub enum Kind {
     Counted,
     /// `unsync`: the cache for one thread, with one lock round it.
     Unsync,
+    /// `segments`: the cache of segments.
+    Segments,
 }
 
 /// One line of input.
@@ -35,7 +37,7 @@ pub enum Request {
     Clear,
     /// A call, of the thread that came last.
     Call(Call),
-    /// `play sync`, `play counted` or `play unsync`: a new cache is made and filled, and then all threads make their calls on it.
+    /// `play sync`, `play counted`, `play unsync` or `play segments`: a new cache is made and filled, and then all threads make their calls on it.
     Play(Kind),
     /// `nanos`: how long the last play took.
     Nanos,
@@ -83,6 +85,7 @@ fn kind_of(word: &str) -> Option<Kind> {
         "sync" => Some(Kind::Sync),
         "counted" => Some(Kind::Counted),
         "unsync" => Some(Kind::Unsync),
+        "segments" => Some(Kind::Segments),
         _ => None,
     }
 }

@@ -2,6 +2,10 @@
 use crate::play::error::PlayError;
 use crate::play::hasher::MultiplyState;
 use moka_common::time::Instant;
+use moka_common::weigh::UnitWeight;
+use moka_segments::cache::SegmentedCache;
+use moka_segments::rule::Unruled;
+use moka_segments::session::Session;
 use moka_sync::builder::CacheBuilder as SyncBuilder;
 use moka_sync::cache::{Cache as SyncCache, ConcurrentCacheExt};
 use moka_sync::counts::CountPass;
@@ -17,16 +21,16 @@ pub(crate) trait Side: Sized + Drop {
     fn another(&mut self) -> Result<Self, AllocError>;
 
     /// A copy of the value of a key.
-    fn look<R: Wait>(&self, rt: &R, key: u64) -> Result<Option<u64>, PlayError>;
+    fn look<R: Wait>(&mut self, rt: &R, key: u64) -> Result<Option<u64>, PlayError>;
 
     /// Inserts a key with itself for its value.
-    fn put<R: Wait>(&self, rt: &R, key: u64) -> Result<(), PlayError>;
+    fn put<R: Wait>(&mut self, rt: &R, key: u64) -> Result<(), PlayError>;
 
     /// How many entries were counted last.
     fn count<R: Wait>(&mut self, rt: &R) -> u64;
 
     /// How many entries there are, once all is done that was put off.
-    fn entries<R: Wait>(&self, rt: &R) -> u64;
+    fn entries<R: Wait>(&mut self, rt: &R) -> u64;
 }
 
 /// The moment of all calls.
@@ -63,11 +67,11 @@ impl Side for Shared {
         })
     }
 
-    fn look<R: Wait>(&self, rt: &R, key: u64) -> Result<Option<u64>, PlayError> {
+    fn look<R: Wait>(&mut self, rt: &R, key: u64) -> Result<Option<u64>, PlayError> {
         Ok(self.cache.get(rt, &key, moment())?)
     }
 
-    fn put<R: Wait>(&self, rt: &R, key: u64) -> Result<(), PlayError> {
+    fn put<R: Wait>(&mut self, rt: &R, key: u64) -> Result<(), PlayError> {
         self.cache.insert(rt, key, key, moment())?;
         Ok(())
     }
@@ -76,7 +80,7 @@ impl Side for Shared {
         self.cache.entry_count()
     }
 
-    fn entries<R: Wait>(&self, rt: &R) -> u64 {
+    fn entries<R: Wait>(&mut self, rt: &R) -> u64 {
         self.cache.sync(rt, moment());
         self.cache.entry_count()
     }
@@ -114,11 +118,11 @@ impl Side for Counted {
         Ok(Counted { cache, pass })
     }
 
-    fn look<R: Wait>(&self, rt: &R, key: u64) -> Result<Option<u64>, PlayError> {
+    fn look<R: Wait>(&mut self, rt: &R, key: u64) -> Result<Option<u64>, PlayError> {
         Ok(self.cache.get(rt, &key, moment())?)
     }
 
-    fn put<R: Wait>(&self, rt: &R, key: u64) -> Result<(), PlayError> {
+    fn put<R: Wait>(&mut self, rt: &R, key: u64) -> Result<(), PlayError> {
         self.cache.insert(rt, key, key, moment())?;
         Ok(())
     }
@@ -127,7 +131,7 @@ impl Side for Counted {
         self.cache.published(rt, &mut self.pass).count
     }
 
-    fn entries<R: Wait>(&self, rt: &R) -> u64 {
+    fn entries<R: Wait>(&mut self, rt: &R) -> u64 {
         self.cache.sync(rt, moment());
         self.cache.entry_count()
     }
@@ -159,13 +163,13 @@ impl Side for Locked {
         })
     }
 
-    fn look<R: Wait>(&self, rt: &R, key: u64) -> Result<Option<u64>, PlayError> {
+    fn look<R: Wait>(&mut self, rt: &R, key: u64) -> Result<Option<u64>, PlayError> {
         let mut cache = self.cache.lock(rt);
         let found = cache.get(&key, moment()).copied();
         Ok(found)
     }
 
-    fn put<R: Wait>(&self, rt: &R, key: u64) -> Result<(), PlayError> {
+    fn put<R: Wait>(&mut self, rt: &R, key: u64) -> Result<(), PlayError> {
         let mut cache = self.cache.lock(rt);
         cache.insert(key, key, moment())?;
         Ok(())
@@ -175,8 +179,54 @@ impl Side for Locked {
         self.entries(rt)
     }
 
-    fn entries<R: Wait>(&self, rt: &R) -> u64 {
+    fn entries<R: Wait>(&mut self, rt: &R) -> u64 {
         let cache = self.cache.lock(rt);
         cache.entry_count()
+    }
+}
+
+/// The cache of segments, which each thread calls by a session of its own.
+#[derive(Drop)]
+pub(crate) struct Segmented {
+    cache: SegmentedCache<u64, u64, MultiplyState>,
+    session: Session<u64, u64, MultiplyState, UnitWeight, Unruled>,
+}
+
+impl Segmented {
+    pub(crate) fn new(alloc: Global, capacity: Option<u64>) -> Result<Segmented, PlayError> {
+        let mut builder = SegmentedCache::<u64, u64>::builder(alloc);
+        if let Some(capacity) = capacity {
+            builder = builder.max_capacity(capacity);
+        }
+        let cache = builder.build_with_hasher(MultiplyState)?;
+        let session = cache.session()?;
+        Ok(Segmented { cache, session })
+    }
+}
+
+impl Side for Segmented {
+    fn another(&mut self) -> Result<Segmented, AllocError> {
+        let cache = self.cache.clone()?;
+        let Ok(session) = cache.session() else {
+            return Err(AllocError);
+        };
+        Ok(Segmented { cache, session })
+    }
+
+    fn look<R: Wait>(&mut self, rt: &R, key: u64) -> Result<Option<u64>, PlayError> {
+        Ok(self.session.get(rt, &key, moment())?)
+    }
+
+    fn put<R: Wait>(&mut self, rt: &R, key: u64) -> Result<(), PlayError> {
+        self.session.insert(rt, key, key, moment())?;
+        Ok(())
+    }
+
+    fn count<R: Wait>(&mut self, rt: &R) -> u64 {
+        self.entries(rt)
+    }
+
+    fn entries<R: Wait>(&mut self, rt: &R) -> u64 {
+        self.session.entry_count(rt)
     }
 }

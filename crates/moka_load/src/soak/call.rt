@@ -1,5 +1,6 @@
 //! The calls of a soak.
 use crate::soak::constants::OUT_OF;
+use crate::soak::stamp::Stamp;
 use moka_common::time::Instant;
 
 /// Which call is made.
@@ -27,6 +28,16 @@ pub struct Call {
     /// That of the value which an insert puts in.
     pub number: u32,
     pub now: Instant,
+}
+
+impl Call {
+    /// The stamp that an insert puts in.
+    pub fn stamp(&self) -> Stamp {
+        Stamp {
+            key: self.key,
+            number: self.number,
+        }
+    }
 }
 
 /// How many of the calls are of each kind, out of `OUT_OF`; what is left are look-ups. An invalidation of all is seldom, or entries would neither expire nor be

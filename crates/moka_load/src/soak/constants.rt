@@ -31,5 +31,8 @@ pub const FAR: u64 = 3_000;
 /// The shares of the kinds of calls are numbers of calls among this many.
 pub const OUT_OF: u64 = 20_000;
 
-/// How many pairs the cache is filled with in the end: as many as have room whatever they weigh.
-pub const FILLED: u64 = LIMIT / HEAVIEST as u64;
+/// How many segments a cache of segments has. Two threads seldom find them all free.
+pub const SEGMENTS: usize = 4;
+
+/// How many pairs the cache is filled with in the end: as many as have room whatever they weigh, also if a segment has half as many again as its share.
+pub const FILLED: u64 = LIMIT / HEAVIEST as u64 * 2 / 3;

@@ -3,6 +3,7 @@ ghost use Rattle.std.specs.Prelude.{◌≡◌};
 ghost use Rattle.moka_load.specs.declared.soak.errors.SoakError.TheVariants as variant;
 
 use moka_common::error::{BuildError, InsertError, OutOfMemory};
+use moka_segments::error::BuildError as SegmentsError;
 use std::alloc::{AllocError, AllocFailed};
 use std::{fmt, io};
 
@@ -12,6 +13,8 @@ pub enum SoakError {
     OutOfMemory,
     /// The cache isn't built.
     Build(BuildError),
+    /// The cache of segments isn't built.
+    Segments(SegmentsError),
     /// The cache isn't filled in the end.
     Insert(InsertError),
     /// A thread isn't started.
@@ -23,6 +26,7 @@ impl fmt::Display for SoakError {
         match self {
             SoakError::OutOfMemory => f.write_str("out of memory"),
             SoakError::Build(error) => write!(f, "{error}"),
+            SoakError::Segments(error) => write!(f, "{error}"),
             SoakError::Insert(error) => write!(f, "{error}"),
             SoakError::NoThread => f.write_str("no thread"),
         }
@@ -52,6 +56,14 @@ impl From<BuildError> for SoakError {
 
     fn from(cause: BuildError) -> SoakError {
         SoakError::Build(cause)
+    }
+}
+
+impl From<SegmentsError> for SoakError {
+    ghost from_gives = { λ cause error. error ≡ variant.Segments cause };
+
+    fn from(cause: SegmentsError) -> SoakError {
+        SoakError::Segments(cause)
     }
 }
 

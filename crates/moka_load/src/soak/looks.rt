@@ -1,20 +1,19 @@
 //! Looks at a cache that nobody else calls any more.
 ghost use Rattle.std.specs.Prelude.{◌↔◌, IsTrue};
 
-use crate::soak::call::{Call, Kind};
-use crate::soak::caller::insert;
 use crate::soak::constants::{FAR, FILLED, LIMIT, TIME_TO_LIVE};
 use crate::soak::draws::Draws;
 use crate::soak::errors::SoakError;
 use crate::soak::size::Size;
-use crate::soak::soaked::{SoakedCache, counted, left};
+use crate::soak::soaked::{Soaked, left};
+use crate::soak::stamp::Stamp;
 use moka_common::error::{InsertError, OutOfMemory};
 use moka_common::time::Instant;
-use moka_sync::cache::ConcurrentCacheExt;
+use std::alloc::Global;
 use std::fmt;
 use std::sync::Wait;
 
-/// What the cache counts after one `sync`, and what a snapshot has at the same moment.
+/// What the cache counts once it is settled, and what a snapshot has at the same moment.
 #[derive(Clone, Copy, Debug, PartialEq, Eq)]
 pub struct Look {
     pub counted: Size,
@@ -75,21 +74,22 @@ impl Looks {
 }
 
 /// Looks at a cache whose callers have ended, and which then is filled and emptied. No moment of theirs was later than `millis` by more than `FAR`.
-pub(crate) fn final_looks<R: Wait>(
+pub(crate) fn final_looks<C: Soaked, R: Wait>(
     rt: &R,
-    cache: &SoakedCache,
+    alloc: Global,
+    cache: &C,
     draws: &mut Draws,
     millis: u64,
 ) -> Result<Looks, SoakError> {
-    let joined = look_at(rt, cache, Instant::from_millis(millis))?;
+    let joined = look_at(rt, alloc, cache, Instant::from_millis(millis))?;
     let later = millis.saturating_add(FAR + TIME_TO_LIVE);
     let now = Instant::from_millis(later);
-    let expired = look_at(rt, cache, now)?;
+    let expired = look_at(rt, alloc, cache, now)?;
     fill(rt, cache, draws, now)?;
-    let filled = look_at(rt, cache, now)?;
+    let filled = look_at(rt, alloc, cache, now)?;
     let now = Instant::from_millis(later.saturating_add(1));
-    cache.invalidate_all(now);
-    let emptied = look_at(rt, cache, now)?;
+    cache.invalidate_all(rt, now);
+    let emptied = look_at(rt, alloc, cache, now)?;
     Ok(Looks {
         joined,
         expired,
@@ -98,30 +98,33 @@ pub(crate) fn final_looks<R: Wait>(
     })
 }
 
-/// One `sync`, and a look.
-fn look_at<R: Wait>(rt: &R, cache: &SoakedCache, now: Instant) -> Result<Look, OutOfMemory> {
-    cache.sync(rt, now);
+/// Settles the cache, and looks at it.
+fn look_at<C: Soaked, R: Wait>(
+    rt: &R,
+    alloc: Global,
+    cache: &C,
+    now: Instant,
+) -> Result<Look, OutOfMemory> {
+    cache.settle(rt, now);
     Ok(Look {
-        counted: counted(cache),
-        left: left(rt, cache, now)?,
+        counted: cache.counted(rt),
+        left: left(rt, alloc, cache, now)?,
     })
 }
 
 /// Inserts the first `FILLED` keys.
-fn fill<R: Wait>(
+fn fill<C: Soaked, R: Wait>(
     rt: &R,
-    cache: &SoakedCache,
+    cache: &C,
     draws: &mut Draws,
     now: Instant,
 ) -> Result<(), InsertError> {
     for key in 0..FILLED {
-        let call = Call {
-            kind: Kind::Insert,
+        let stamp = Stamp {
             key,
             number: draws.number(),
-            now,
         };
-        insert(rt, cache, call)?;
+        cache.insert(rt, stamp, now)?;
     }
     Ok(())
 }

@@ -5,6 +5,8 @@ ghost use Rattle.std.proofs.lemmas.Bool.{eqb-true};
 ghost use Rattle.moka_load.specs.declared.soak.constants.TheConstants.{HEAVIEST};
 
 use crate::soak::constants::HEAVIEST;
+use moka_segments::rule::Rule;
+use moka_segments::weigher::Weighing;
 use moka_sync::engine::WeighShared;
 use moka_sync::rule::PairRule;
 
@@ -34,8 +36,17 @@ impl PairRule<u64, Stamp> for NamesItsKey {
     ghost agrees = { λ key other stamp same is. subst (λ k. stamp.key ≡ k) (eqb-true key other same) is };
 }
 
+impl Rule<u64, Stamp> for NamesItsKey {
+    ghost rules = { record { holds = λ key stamp. stamp.key ≡ key; owns = λ by key. ⊤ } };
+
+    ghost agree = { record {
+      holds = λ key other stamp same is. subst (λ k. stamp.key ≡ k) (eqb-true key other same) is;
+      owns = λ by key other same is. tt;
+    } };
+}
+
 /// Weighs a value by its number, so that an insert at a known key changes the weight as a rule.
-#[derive(Drop)]
+#[derive(Clone, Copy, Drop)]
 pub struct ByNumber;
 
 impl WeighShared<u64, Stamp> for ByNumber {
@@ -44,6 +55,16 @@ impl WeighShared<u64, Stamp> for ByNumber {
     ghost weighs = { λ _ _ stamp weight. weight ≡ stamp.number % (HEAVIEST + 1) };
 
     fn weigh(&self, _key: &u64, stamp: &Stamp) -> u32 {
+        stamp.weight()
+    }
+}
+
+impl Weighing<u64, Stamp> for ByNumber {
+    ghost ready = { λ _. ⊤ };
+
+    ghost weighs = { λ old _ stamp weight new. (weight ≡ stamp.number % (HEAVIEST + 1)) × (new ≡ old) };
+
+    fn weigh(&mut self, _key: &u64, stamp: &Stamp) -> u32 {
         stamp.weight()
     }
 }

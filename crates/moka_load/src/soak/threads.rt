@@ -8,7 +8,7 @@ use crate::soak::errors::SoakError;
 use crate::soak::looks::final_looks;
 use crate::soak::moments::Clock;
 use crate::soak::report::Report;
-use crate::soak::soaked::{SoakedCache, new_cache};
+use crate::soak::soaked::Soaked;
 use crate::soak::tally::Tally;
 use std::alloc::Global;
 use std::sync::Wait;
@@ -16,20 +16,20 @@ use std::thread::{Builder, Threads};
 
 /// Makes `calls` calls from eight threads on one cache, and looks at it afterwards. Which calls are made is up to the seed, and what they give
 /// also to the order in which the threads come.
-pub fn soak<R: Wait + Threads + Copy + Send + 'static>(
+pub fn soak<C: Soaked + Send + 'static, R: Wait + Threads + Copy + Send + 'static>(
     rt: R,
     alloc: Global,
+    cache: &C,
     calls: u64,
     seed: u64,
 ) -> Result<Report, SoakError>
     ensures calls { IfOk result (λ report. report.calls ≡ calls) }
     ensures seed { IfOk result (λ report. report.seed ≡ seed) }
 {
-    let cache = new_cache(alloc)?;
     let clock = Clock::new(alloc)?;
-    let tally = soak_by_threads(rt, alloc, &cache, &clock, calls, seed)?;
+    let tally = soak_by_threads(rt, alloc, cache, &clock, calls, seed)?;
     let mut draws = Draws::new(seed, CALLERS);
-    let looks = final_looks(&rt, &cache, &mut draws, clock.millis())?;
+    let looks = final_looks(&rt, alloc, cache, &mut draws, clock.millis())?;
     Ok(Report {
         calls,
         seed,
@@ -39,17 +39,17 @@ pub fn soak<R: Wait + Threads + Copy + Send + 'static>(
 }
 
 /// What the callers met with together.
-fn soak_by_threads<R: Wait + Threads + Copy + Send + 'static>(
+fn soak_by_threads<C: Soaked + Send + 'static, R: Wait + Threads + Copy + Send + 'static>(
     rt: R,
     alloc: Global,
-    cache: &SoakedCache,
+    cache: &C,
     clock: &Clock,
     calls: u64,
     seed: u64,
 ) -> Result<Tally, SoakError> {
     let mut threads = Vec::new(alloc);
     for number in 0..CALLERS {
-        let mut caller = Caller::new(alloc, cache.clone()?, clock.try_clone()?, seed, number)?;
+        let mut caller = Caller::new(alloc, cache.another()?, clock.try_clone()?, seed, number)?;
         let share = share_of(calls, number);
         let thread = Builder::new().spawn(&rt, move || caller.run(&rt, share))?;
         threads.push(thread)?;

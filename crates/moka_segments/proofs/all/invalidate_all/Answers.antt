@@ -1,0 +1,25 @@
+use Rattle.std.proofs.Common.{◌∙◌, refl, rules, subst, sym}
+use Rattle.moka_base.specs.Keys.{keys_by}
+use Rattle.moka_machine.specs.Step.{Done, InvalidateAll}
+use Rattle.moka_segments.proofs.AllLemmas.{none_yet, one_more}
+use Rattle.moka_segments.proofs.all.invalidate_all.Goals as goal
+
+pub loop-i-init : goal.loop-i-init
+loop-i-init g c = (
+  refl,
+  refl,
+  c.requires.idle,
+  none_yet (keys_by (record { eq = g.K.PartialEq.eq; hash_input = g.K.Hash.hash_input }) g.S.BuildHasher g.S.Hasher.Hasher) g.W.Weighing.weighs g.P.Rule.rules c.args.row.now.key c.args.me.now.me.0 (λ _. InvalidateAll) (λ _. Done),
+)
+
+pub invalidate_all-requires-clause-owns : goal.invalidate_all-requires-clause-owns
+invalidate_all-requires-clause-owns g c = λ key. subst (λ n. g.P.Rule.rules.owns n key) (sym c.loop-i.invariant.1) (c.requires.owns key)
+
+pub loop-i-preserved : goal.loop-i-preserved
+loop-i-preserved g c = (
+  search rules,
+  c.invalidate_all.ensures.same.1 ∙ c.loop-i.invariant.1,
+  c.invalidate_all.ensures.idle,
+  one_more (keys_by (record { eq = g.K.PartialEq.eq; hash_input = g.K.Hash.hash_input }) g.S.BuildHasher g.S.Hasher.Hasher) g.W.Weighing.weighs g.P.Rule.rules c.args.row.now.key c.args.me.now.me.0 c.loop-i.me.me.0
+      c.invalidate_all.new.me.me.0 c.loop-i.i (λ _. InvalidateAll) (λ _. Done) InvalidateAll Done c.loop-i.invariant.3 c.invalidate_all.ensures.made refl refl,
+)

@@ -1,0 +1,11 @@
+use Rattle.std.proofs.Common.{◌≡◌}
+use Rattle.moka_base.specs.Keys.{keys_by}
+use Rattle.moka_machine.specs.Step.{Done, InvalidateAll}
+use Rattle.visits.specs.Visits.{IsIdle}
+use Rattle.moka_segments.specs.Calls.{MakesAll}
+use Rattle.moka_segments.proofs.all.invalidate_all.Given as goal
+
+abbrev pub invariant-loop-i : goal.invariant-loop-i
+invariant-loop-i g l =
+    (l.me.table_id ≡ l.fn.me.table_id) × (l.me.me.0.by ≡ l.fn.me.me.0.by) × IsIdle l.row.key l.me.me
+    × MakesAll (keys_by (record { eq = g.K.PartialEq.eq; hash_input = g.K.Hash.hash_input }) g.S.BuildHasher g.S.Hasher.Hasher) g.W.Weighing.weighs g.P.Rule.rules l.row.key l.fn.me.me.0 l.i (λ _. InvalidateAll) (λ _. Done) l.me.me.0

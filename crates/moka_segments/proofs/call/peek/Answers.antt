@@ -1,0 +1,16 @@
+use Rattle.std.proofs.Common.{◌≡◌, rules}
+use Rattle.moka_base.specs.Keys.{Keys, keys_by}
+use Rattle.moka_segments.proofs.LawLemmas.{peeks}
+use Rattle.moka_segments.specs.Plan.{place_of}
+use Rattle.moka_segments.proofs.call.peek.Given.{Over}
+use Rattle.moka_segments.proofs.call.peek.Goals as goal
+
+abbrev keys_of : (g : Over) → Keys g.row.K.Denot g.row.S.Denot
+keys_of g = keys_by (record { eq = g.K.PartialEq.eq; hash_input = g.K.Hash.hash_input }) g.S.BuildHasher g.S.Hasher.Hasher
+
+pub returns-clause-made : goal.returns-clause-made
+returns-clause-made g c =
+    let v = c.args.me.now.me.0 in
+    let w = c.peek.new.me.me.0 in
+    let place : place_of c.args.shared.now.table.shared.key (keys_of g) c.args.key.now ≡ c.segment_of-i.result = search rules in
+    peeks (keys_of g) g.W.Weighing.weighs g.P.Rule.rules c.args.shared.now.table.shared.key g.met.P.Rule.agree c.peeks_are_current.ensures c.last_writes_are_inserts.ensures g.V.Clone.is_clone v w c.segment_of-i.result c.args.key.now c.args.now c.peek.result place c.peek.ensures.made

@@ -1,0 +1,9 @@
+pub mod Plan
+pub mod Builder
+pub mod Rules
+pub mod History
+pub mod Calls
+pub mod Tells
+pub mod TellsAll
+pub mod Put
+pub mod Session

@@ -1,0 +1,68 @@
+//! Invalidation by a predicate, one segment after another.
+ghost use Rattle.std.specs.Prelude.{◌≡◌, ◌≢◌, ◌*◌, ◌≤◌, ◌^◌, ℕ};
+ghost use Rattle.moka_base.specs.Keys.{keys_by};
+ghost use Rattle.moka_segments.specs.Calls.{SameIn};
+ghost use Rattle.moka_segments.specs.TellsAll.{InvalidatesAllIf, InvalidatesIf};
+ghost use Rattle.visits.specs.Visits.{IsIdle, IsPlace};
+
+use crate::account::{Caller, Segments};
+use crate::rule::Rule;
+use crate::weigher::Weighing;
+use std::hash::{BuildHasher, Hash};
+use std::marker::Brand;
+use std::snapshot::Snapshot;
+use std::sync::Wait;
+use visits::row::{leave, lock};
+
+/// Removes the entries of a segment at which the predicate answers `true`.
+fn invalidate_entries_if_in<
+    K: Eq + Hash + Drop,
+    V: Drop,
+    S: BuildHasher + Drop,
+    W: Weighing<K, V>,
+    P: Rule<K, V>,
+    F: FnMut(&K, &V) -> bool + Copy,
+    R: Wait,
+>(rt: &R, row: &Segments<K, V, S, W, P>, me: &mut Caller<K, V, S, W>, i: usize, predicate: F)
+    requires table { (me.old.table_id ≡ row.now.table_id) × IsPlace row.now.table_id i }
+    requires idle { IsIdle row.now.key me.old.me }
+    requires predicate { F.IsAlwaysCallable predicate }
+    requires owns { (key : K) → P.rules.owns me.old.me.0.by key }
+    ensures same { (me.new.table_id ≡ me.old.table_id) × (me.new.me.0.by ≡ me.old.me.0.by) }
+    ensures idle { IsIdle row.now.key me.new.me }
+    ensures made { InvalidatesIf (keys_by K.Hash S.BuildHasher S.Hasher.Hasher) W.weighs P.rules row.now.key F.step predicate me.old.me.0 i
+        me.new.me.0 }
+    ensures others { (j : ℕ) → j ≢ i → SameIn me.old.me.0 j me.new.me.0 }
+{
+    lock(rt, row, me, i);
+    let cache = me.slot_mut(row, i);
+    let before = Snapshot::of(&*cache);
+    cache.invalidate_entries_if(predicate);
+    let after = Snapshot::of(&*cache);
+    leave::<_, _, _, _, _, Brand>(row, me, i, (before, after));
+}
+
+/// Removes the entries at which the predicate answers `true`, one segment after another.
+pub fn invalidate_entries_if<
+    K: Eq + Hash + Drop,
+    V: Drop,
+    S: BuildHasher + Drop,
+    W: Weighing<K, V>,
+    P: Rule<K, V>,
+    F: FnMut(&K, &V) -> bool + Copy,
+    R: Wait,
+>(rt: &R, row: &Segments<K, V, S, W, P>, me: &mut Caller<K, V, S, W>, count: usize, predicate: F)
+    requires table { me.old.table_id ≡ row.now.table_id }
+    requires sized { (count ≤ 2 ^ 32) × (row.now.table_id.slots ≡ count) × (row.now.table_id.words ≡ count * 16) }
+    requires idle { IsIdle row.now.key me.old.me }
+    requires predicate { F.IsAlwaysCallable predicate }
+    requires owns { (key : K) → P.rules.owns me.old.me.0.by key }
+    ensures same { (me.new.table_id ≡ me.old.table_id) × (me.new.me.0.by ≡ me.old.me.0.by) }
+    ensures idle { IsIdle row.now.key me.new.me }
+    ensures made { InvalidatesAllIf (keys_by K.Hash S.BuildHasher S.Hasher.Hasher) W.weighs P.rules row.now.key F.step predicate me.old.me.0
+        count me.new.me.0 }
+{
+    for i in 0..count {
+        invalidate_entries_if_in(rt, row, me, i, predicate);
+    }
+}

@@ -1,0 +1,132 @@
+//! A get, and an insert where it finds nothing, in one visit.
+ghost use Rattle.std.specs.Prelude.{◌≡◌, option_map};
+ghost use Rattle.moka_base.specs.Keys.{keys_by};
+ghost use Rattle.moka_history.specs.History.{Leads};
+ghost use Rattle.moka_segments.specs.Plan.{place_of};
+ghost use Rattle.moka_segments.specs.Put.{IsPut, TellsGot, TellsPut, visit_of};
+ghost use Rattle.moka_segments.specs.Tells.{GetsOrInserts};
+ghost use Rattle.visits.specs.Visits.{IsIdle, IsPlace};
+
+use crate::account::{Caller, Segments};
+use crate::rule::Rule;
+use crate::visit::looked;
+use crate::weigher::{Asks, Weighing};
+use moka_base::error::InsertError;
+use moka_base::time::Instant;
+use moka_unsync::cache::Cache;
+use std::hash::{BuildHasher, Hash};
+use std::marker::Brand;
+use std::snapshot::Snapshot;
+use std::sync::Wait;
+use visits::row::{leave, lock};
+
+/// A value that was put, and whether there was room for it.
+type Put<V> = Option<(Snapshot<V>, bool)>;
+
+/// Inserts a value that was made, and returns a clone of it. If memory is refused for the clone, nothing is inserted.
+fn put<K: Eq + Hash + Drop, V: Clone + Drop, S: BuildHasher + Drop, W: Weighing<K, V>>(
+    cache: &mut Cache<K, V, S, Asks<W>>,
+    key: K,
+    hash: u64,
+    now: Instant,
+    value: V,
+) -> (Result<V, InsertError>, Put<V>)
+    requires hashed { hash ≡ (keys_by K.Hash S.BuildHasher S.Hasher.Hasher).hash_of cache.old.settings.hash_state key }
+    requires ready { W.ready cache.old.weigher }
+    ensures told { TellsPut V.is_clone value (option_map (λ p. (p.0.value, p.1)) result.1) result.0 }
+    ensures step { IsPut (keys_by K.Hash S.BuildHasher S.Hasher.Hasher) W.weighs cache.old key now (option_map (λ p. (p.0.value, p.1))
+        result.1) cache.new }
+    ensures ready { W.ready cache.new.weigher }
+{
+    let given = Snapshot::of(&value);
+    let Ok(copy) = value.clone() else {
+        return (Err(InsertError::OutOfMemory), None);
+    };
+    match cache.insert_hashed(key, hash, value, now) {
+        Ok(()) => (Ok(copy), Some((given, true))),
+        Err(error) => (Err(error), Some((given, false))),
+    }
+}
+
+/// The value that a get or insert found, the cache between get and insert, and the value that it put.
+type Noted<K, V, S, W> = (
+    Option<Snapshot<V>>,
+    Snapshot<Cache<K, V, S, Asks<W>>>,
+    Put<V>,
+);
+
+/// Returns a clone of the value of a key, or of one that is made and inserted.
+fn get_or_put<
+    K: Eq + Hash + Drop,
+    V: Clone + Drop,
+    S: BuildHasher + Drop,
+    W: Weighing<K, V>,
+    F: FnOnce() -> V,
+>(
+    cache: &mut Cache<K, V, S, Asks<W>>,
+    key: K,
+    hash: u64,
+    now: Instant,
+    make: F,
+) -> (Result<V, InsertError>, Noted<K, V, S, W>)
+    requires hashed { hash ≡ (keys_by K.Hash S.BuildHasher S.Hasher.Hasher).hash_of cache.old.settings.hash_state key }
+    requires ready { W.ready cache.old.weigher }
+    requires make { F.pre make }
+    ensures told { TellsGot V.is_clone (F.post make) (option_map (λ s. s.value) result.1.0) (option_map (λ p. (p.0.value, p.1)) result.1.2) result.0 }
+    ensures leads { Leads (keys_by K.Hash S.BuildHasher S.Hasher.Hasher) W.weighs cache.old
+        (visit_of cache.old key now (option_map (λ s. s.value) result.1.0) result.1.1.value (option_map (λ p. (p.0.value, p.1)) result.1.2) cache.new) cache.new }
+    ensures ready { W.ready cache.new.weigher }
+{
+    let (found, told) = looked(cache.get_hashed(&key, hash, now));
+    let between = Snapshot::of(&*cache);
+    match found {
+        Ok(Some(copy)) => (Ok(copy), (told, between, None)),
+        Err(_) => (Err(InsertError::OutOfMemory), (told, between, None)),
+        Ok(None) => {
+            let (result, put) = put(cache, key, hash, now, make());
+            (result, (told, between, put))
+        }
+    }
+}
+
+/// Returns a clone of the value of a key, or of one that is made and inserted under the lock of the segment.
+pub fn get_or_insert_with<
+    K: Eq + Hash + Drop,
+    V: Clone + Drop,
+    S: BuildHasher + Drop,
+    W: Weighing<K, V>,
+    P: Rule<K, V>,
+    F: FnOnce() -> V,
+    R: Wait,
+>(
+    rt: &R,
+    row: &Segments<K, V, S, W, P>,
+    me: &mut Caller<K, V, S, W>,
+    i: usize,
+    key: K,
+    hash: u64,
+    now: Instant,
+    make: F,
+) -> Result<V, InsertError>
+    requires table { (me.old.table_id ≡ row.now.table_id) × IsPlace row.now.table_id i }
+    requires idle { IsIdle row.now.key me.old.me }
+    requires hashed { hash ≡ (keys_by K.Hash S.BuildHasher S.Hasher.Hasher).hash_of row.now.key.hash_state key }
+    requires place { place_of row.now.key (keys_by K.Hash S.BuildHasher S.Hasher.Hasher) key ≡ i }
+    requires make { F.pre make }
+    requires holds { (value : V) → F.post make value → P.rules.holds key value }
+    requires owns { P.rules.owns me.old.me.0.by key }
+    ensures same { (me.new.table_id ≡ me.old.table_id) × (me.new.me.0.by ≡ me.old.me.0.by) }
+    ensures idle { IsIdle row.now.key me.new.me }
+    ensures made { GetsOrInserts (keys_by K.Hash S.BuildHasher S.Hasher.Hasher) W.weighs P.rules row.now.key V.is_clone (F.post make) me.old.me.0
+        (place_of row.now.key (keys_by K.Hash S.BuildHasher S.Hasher.Hasher) key) key now result me.new.me.0 }
+{
+    lock(rt, row, me, i);
+    let cache = me.slot_mut(row, i);
+    let before = Snapshot::of(&*cache);
+    let asked = Snapshot::of(&key);
+    let moment = Snapshot::of(&now);
+    let (result, noted) = get_or_put(cache, key, hash, now, make);
+    let after = Snapshot::of(&*cache);
+    leave::<_, _, _, _, _, Brand>(row, me, i, (before, after, asked, moment, noted));
+    result
+}

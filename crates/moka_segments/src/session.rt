@@ -1,0 +1,293 @@
+//! Sessions: who calls a cache of segments, and knows what it called.
+ghost use Rattle.std.specs.Prelude.{◌≡◌, IfOk};
+ghost use Rattle.moka_base.specs.Keys.{keys_by};
+ghost use Rattle.moka_machine.specs.Step.{Done, EntryCount, Invalidate, InvalidateAll, WeightedSize};
+ghost use Rattle.moka_segments.specs.Calls.{Makes, MakesAll, Sums};
+ghost use Rattle.moka_segments.specs.Plan.{place_of};
+ghost use Rattle.moka_segments.specs.Tells.{Gets, GetsOrInserts, Inserts, Looks, Peeks, Removes};
+ghost use Rattle.moka_segments.specs.TellsAll.{InvalidatesAllIf, Snapshots};
+ghost use Rattle.visits.specs.Kept.{Hears};
+
+use crate::account::Caller;
+use crate::invalidate_if::invalidate_entries_if;
+use crate::note::Note;
+use crate::pairs::pairs;
+use crate::rule::{Rule, Unruled};
+use crate::shared::Shared;
+use crate::weigher::Weighing;
+use crate::{all, call};
+use moka_base::error::{InsertError, OutOfMemory};
+use moka_base::hash::FixedState;
+use moka_base::policy::Policy;
+use moka_base::time::Instant;
+use moka_base::weigh::UnitWeight;
+use std::alloc::Global;
+use std::hash::{BuildHasher, Hash};
+use std::marker::Model;
+use std::sync::{Arc, Wait};
+use visits::note;
+
+/// A caller's place in the histories of the segments. A thread has one of its own, by `SegmentedCache::session` or `Owners::session`.
+///
+/// To a clause it is its cache, and what it knows: its number, of each segment a history that it has seen, and its own visits there. Each call stands in the
+/// history behind all that the session had seen, so what is proved of the cache for one thread holds at that place. A session that was told of another's
+/// (`note` and `learn`) stands behind that too.
+#[derive(Drop)]
+pub struct Session<
+    K: Eq + Hash + Drop,
+    V: Drop,
+    S: BuildHasher + Drop = FixedState,
+    W: Weighing<K, V> = UnitWeight,
+    P: Rule<K, V> = Unruled,
+> {
+    pub(crate) shared: Arc<Shared<K, V, S, W, P>>,
+    pub(crate) caller: Caller<K, V, S, W>,
+}
+
+impl<K: Eq + Hash + Drop, V: Drop, S: BuildHasher + Drop, W: Weighing<K, V>, P: Rule<K, V>> Model
+    for Session<K, V, S, W, P> {
+    ghost use Rattle.std.specs.Prelude.{◌≡◌};
+    ghost use Rattle.std.specs.Arc.{arc_value};
+    ghost use Rattle.visits.specs.Visits.{IsIdle};
+    ghost use Rattle.moka_segments.specs.Session.{Session as SessionValue};
+
+    ghost Value = { SessionValue K V S W };
+
+    ghost view = { λ s. record {
+      cache = record { plan = (arc_value s.shared).table.shared.key; id = (arc_value s.shared).table.shared.table_id };
+      knows = s.caller.me.0;
+    } };
+
+    ghost invariant = { λ s. (s.caller.table_id ≡ (arc_value s.shared).table.shared.table_id) × IsIdle (arc_value s.shared).table.shared.key
+        s.caller.me };
+}
+
+impl<
+    K: Eq + Hash + Drop,
+    V: Clone + Drop,
+    S: BuildHasher + Drop,
+    W: Weighing<K, V>,
+    P: Rule<K, V>,
+> Session<K, V, S, W, P> {
+    /// Returns a clone of the value of the key, if it has an unexpired entry, which becomes the most recently used one of its segment.
+    pub fn get<R: Wait>(&mut self, rt: &R, key: &K, now: Instant) -> Result<Option<V>, OutOfMemory>
+        ensures same { self.new.cache ≡ self.old.cache }
+        ensures made { Gets (keys_by K.Hash S.BuildHasher S.Hasher.Hasher) W.weighs P.rules self.old.cache.plan V.is_clone self.old.knows
+            key.now now result self.new.knows }
+    {
+        call::get(rt, &*self.shared, &mut self.caller, key, now)
+    }
+
+    /// Returns a clone of the value of the key, if it has an unexpired entry. It doesn't count as a use of the key.
+    pub fn peek<R: Wait>(&mut self, rt: &R, key: &K, now: Instant) -> Result<Option<V>, OutOfMemory>
+        ensures same { self.new.cache ≡ self.old.cache }
+        ensures made { Peeks (keys_by K.Hash S.BuildHasher S.Hasher.Hasher) W.weighs P.rules self.old.cache.plan V.is_clone self.old.knows
+            key.now now result self.new.knows }
+    {
+        call::peek(rt, &*self.shared, &mut self.caller, key, now)
+    }
+
+    /// Returns a clone of the value of the key. If the key has no unexpired entry, `make` is called, and what it gives is inserted, as by `insert`; a clone of it
+    /// is returned also if the admission policy rejects the entry.
+    ///
+    /// All of it is one visit under the lock of the key's segment: however many threads ask for a key at once, one of them makes its value, as long as the entry
+    /// stays. So `make` must not call this cache, which would wait for itself. If memory is refused, what was made is dropped.
+    pub fn get_or_insert_with<F: FnOnce() -> V, R: Wait>(
+        &mut self,
+        rt: &R,
+        key: K,
+        now: Instant,
+        make: F,
+    ) -> Result<V, InsertError>
+        requires make { F.pre make }
+        requires holds { (value : V) → F.post make value → P.rules.holds key value }
+        requires owns { P.rules.owns self.old.knows.by key }
+        ensures same { self.new.cache ≡ self.old.cache }
+        ensures made { GetsOrInserts (keys_by K.Hash S.BuildHasher S.Hasher.Hasher) W.weighs P.rules self.old.cache.plan V.is_clone (F.post
+            make) self.old.knows (place_of self.old.cache.plan (keys_by K.Hash S.BuildHasher S.Hasher.Hasher) key) key now result
+            self.new.knows }
+    {
+        call::get_or_insert_with(rt, &*self.shared, &mut self.caller, key, now, make)
+    }
+}
+
+impl<K: Eq + Hash + Copy, V: Copy, S: BuildHasher + Drop, W: Weighing<K, V>, P: Rule<K, V>> Session<
+    K,
+    V,
+    S,
+    W,
+    P,
+> {
+    /// Copies the unexpired pairs, one segment after another: those of a segment as they are at one moment, in its order of use. Each key is there once.
+    pub fn pairs<R: Wait>(
+        &mut self,
+        rt: &R,
+        alloc: Global,
+        now: Instant,
+    ) -> Result<Vec<(K, V)>, OutOfMemory>
+        ensures same { self.new.cache ≡ self.old.cache }
+        ensures made { IfOk result (λ pairs. Snapshots (keys_by K.Hash S.BuildHasher S.Hasher.Hasher) W.weighs P.rules self.old.cache.plan
+            self.old.knows self.old.cache.plan.count now pairs.items self.new.knows) }
+    {
+        let shared = &*self.shared;
+        pairs(
+            rt,
+            alloc,
+            &shared.table.shared,
+            &mut self.caller,
+            shared.plan.count,
+            now,
+        )
+    }
+}
+
+impl<K: Eq + Hash + Drop, V: Drop, S: BuildHasher + Drop, W: Weighing<K, V>, P: Rule<K, V>> Session<
+    K,
+    V,
+    S,
+    W,
+    P,
+> {
+    /// Returns whether the key has an unexpired entry. It doesn't count as a use of the key.
+    pub fn contains_key<R: Wait>(&mut self, rt: &R, key: &K, now: Instant) -> bool
+        ensures same { self.new.cache ≡ self.old.cache }
+        ensures made { Looks (keys_by K.Hash S.BuildHasher S.Hasher.Hasher) W.weighs P.rules self.old.cache.plan self.old.knows key.now now
+            result self.new.knows }
+    {
+        call::contains_key(rt, &*self.shared, &mut self.caller, key, now)
+    }
+
+    /// Puts the value at the key. The admission policy of the segment may reject a new entry, which is `Ok` as well. If memory is refused, all is as it was.
+    pub fn insert<R: Wait>(
+        &mut self,
+        rt: &R,
+        key: K,
+        value: V,
+        now: Instant,
+    ) -> Result<(), InsertError>
+        requires holds { P.rules.holds key value }
+        requires owns { P.rules.owns self.old.knows.by key }
+        ensures same { self.new.cache ≡ self.old.cache }
+        ensures made { Inserts (keys_by K.Hash S.BuildHasher S.Hasher.Hasher) W.weighs P.rules self.old.cache.plan self.old.knows key value
+            now result self.new.knows }
+    {
+        call::insert(rt, &*self.shared, &mut self.caller, key, value, now)
+    }
+
+    /// Removes the entry of the key, if it has one.
+    pub fn invalidate<R: Wait>(&mut self, rt: &R, key: &K, now: Instant)
+        requires owns { P.rules.owns self.old.knows.by key.now }
+        ensures same { self.new.cache ≡ self.old.cache }
+        ensures made { Makes (keys_by K.Hash S.BuildHasher S.Hasher.Hasher) W.weighs P.rules self.old.cache.plan self.old.knows (place_of
+            self.old.cache.plan (keys_by K.Hash S.BuildHasher S.Hasher.Hasher) key.now) (Invalidate key.now now) Done self.new.knows }
+    {
+        call::invalidate(rt, &*self.shared, &mut self.caller, key, now);
+    }
+
+    /// Removes the entry of the key, if it has one, and returns its value, unless it is expired. The value is moved out.
+    pub fn remove<R: Wait>(&mut self, rt: &R, key: &K, now: Instant) -> Option<V>
+        requires owns { P.rules.owns self.old.knows.by key.now }
+        ensures same { self.new.cache ≡ self.old.cache }
+        ensures made { Removes (keys_by K.Hash S.BuildHasher S.Hasher.Hasher) W.weighs P.rules self.old.cache.plan self.old.knows key.now
+            now result self.new.knows }
+    {
+        call::remove(rt, &*self.shared, &mut self.caller, key, now)
+    }
+
+    /// Removes all entries, one segment after another.
+    pub fn invalidate_all<R: Wait>(&mut self, rt: &R)
+        requires owns { (key : K) → P.rules.owns self.old.knows.by key }
+        ensures same { self.new.cache ≡ self.old.cache }
+        ensures made { MakesAll (keys_by K.Hash S.BuildHasher S.Hasher.Hasher) W.weighs P.rules self.old.cache.plan self.old.knows
+            self.old.cache.plan.count (λ _. InvalidateAll) (λ _. Done) self.new.knows }
+    {
+        let shared = &*self.shared;
+        all::invalidate_all(
+            rt,
+            &shared.table.shared,
+            &mut self.caller,
+            shared.plan.count,
+        );
+    }
+
+    /// Removes the entries at which the predicate answers `true`, one segment after another. It is called once at each entry, in order of use, with a copy of it
+    /// for each segment. It must not call this cache, which would wait for itself.
+    pub fn invalidate_entries_if<F: FnMut(&K, &V) -> bool + Copy, R: Wait>(
+        &mut self,
+        rt: &R,
+        predicate: F,
+    )
+        requires predicate { F.IsAlwaysCallable predicate }
+        requires owns { (key : K) → P.rules.owns self.old.knows.by key }
+        ensures same { self.new.cache ≡ self.old.cache }
+        ensures made { InvalidatesAllIf (keys_by K.Hash S.BuildHasher S.Hasher.Hasher) W.weighs P.rules self.old.cache.plan F.step predicate
+            self.old.knows self.old.cache.plan.count self.new.knows }
+    {
+        let shared = &*self.shared;
+        invalidate_entries_if(
+            rt,
+            &shared.table.shared,
+            &mut self.caller,
+            shared.plan.count,
+            predicate,
+        );
+    }
+
+    /// Returns the number of entries, counted one segment after another.
+    pub fn entry_count<R: Wait>(&mut self, rt: &R) -> u64
+        ensures same { self.new.cache ≡ self.old.cache }
+        ensures made { Sums (keys_by K.Hash S.BuildHasher S.Hasher.Hasher) W.weighs P.rules self.old.cache.plan self.old.knows
+            self.old.cache.plan.count EntryCount result self.new.knows }
+    {
+        let shared = &*self.shared;
+        all::entry_count(
+            rt,
+            &shared.table.shared,
+            &mut self.caller,
+            shared.plan.count,
+        )
+    }
+
+    /// Returns the weight of all entries, summed up one segment after another. Without a weigher each weighs 1.
+    pub fn weighted_size<R: Wait>(&mut self, rt: &R) -> u64
+        ensures same { self.new.cache ≡ self.old.cache }
+        ensures made { Sums (keys_by K.Hash S.BuildHasher S.Hasher.Hasher) W.weighs P.rules self.old.cache.plan self.old.knows
+            self.old.cache.plan.count WeightedSize result self.new.knows }
+    {
+        let shared = &*self.shared;
+        all::weighted_size(
+            rt,
+            &shared.table.shared,
+            &mut self.caller,
+            shared.plan.count,
+        )
+    }
+
+    /// Returns the limits of the cache.
+    pub fn policy(&self) -> Policy
+        ensures { result ≡ self.now.cache.plan.policy }
+    {
+        self.shared.plan.policy
+    }
+
+    /// Returns a note of what the session has seen so far, to be told to another one.
+    pub fn note(&mut self) -> Note<K, V, S, W>
+        ensures same { self.new ≡ self.old }
+        ensures note { result ≡ record { id = self.old.cache.id; seen = self.old.knows.seen } }
+    {
+        let shared = &*self.shared;
+        Note {
+            teller: note::note(&shared.table.shared, &mut self.caller),
+        }
+    }
+
+    /// Takes in a note of another session of the same cache: what that had seen then, this one has seen too from now on, and its next calls stand behind it.
+    pub fn learn(&mut self, note: Note<K, V, S, W>)
+        requires { note.id ≡ self.old.cache.id }
+        ensures same { self.new.cache ≡ self.old.cache }
+        ensures told { Hears self.old.knows note.seen self.new.knows }
+    {
+        let shared = &*self.shared;
+        note::learn(&shared.table.shared, &mut self.caller, note.teller);
+    }
+}

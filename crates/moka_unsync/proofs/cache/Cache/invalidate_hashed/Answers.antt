@@ -1,0 +1,16 @@
+use Rattle.std.proofs.Common.{[], ◌∷◌, ◌≡◌, subst, sym}
+use Rattle.moka_base.specs.Keys.{keys_by}
+use Rattle.moka_unsync.proofs.CachedLemmas.{IsCached-leaving, IsCached-upkeep, has_hash}
+use Rattle.moka_unsync.proofs.cache.Cache.invalidate_hashed.Goals as goal
+
+pub remove_key-requires : goal.remove_key-requires
+remove_key-requires g c =
+    has_hash g.K.PartialEq.eq g.K.Hash.hash_input g.S.BuildHasher g.S.Hasher.Hasher g.met.K.Hash.respects_eq
+    (IsCached-upkeep c.args.now c.self.invariant c.upkeep.ensures.step c.upkeep.ensures.kept) (subst (λ cache. c.args.hash ≡
+    (keys_by (record { eq = g.K.PartialEq.eq; hash_input = g.K.Hash.hash_input }) g.S.BuildHasher g.S.Hasher.Hasher).hash_of
+    cache.settings.hash_state c.args.key.now) (sym c.self.view_is) c.requires)
+
+pub invariant_of-self : goal.invariant_of-self
+invariant_of-self g c =
+    IsCached-leaving (c.args.key.now ∷ []) (IsCached-upkeep c.args.now c.self.invariant c.upkeep.ensures.step c.upkeep.ensures.kept)
+    c.remove_key.ensures.step c.remove_key.ensures.kept
