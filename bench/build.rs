@@ -44,10 +44,10 @@ fn main() {
     println!("cargo:rustc-env=ORIGINAL_SKETCH={}", sketch.display());
     let library = folder_of("MOKA_TRACE_FOLDER");
     let c_library = folder_of("KIT_C_FOLDER");
-    println!("cargo:rerun-if-changed={library}/libmoka_trace.a");
+    println!("cargo:rerun-if-changed={library}/libbench_trace.a");
     println!("cargo:rustc-link-search=native={library}");
     println!("cargo:rustc-link-search=native={c_library}");
-    println!("cargo:rustc-link-lib=static=moka_trace");
+    println!("cargo:rustc-link-lib=static=bench_trace");
     println!("cargo:rustc-link-lib=static=libc_c");
     for name in ["malloc", "realloc", "free"] {
         println!("cargo:rustc-link-arg-bin=bytes=-Wl,--wrap={name}");

@@ -1,51 +1,51 @@
 /* Traces, each with the outcome that it has to have, which was worked by hand: `dev/memcheck` plays them. */
-#include "moka_trace.h"
+#include "bench_trace.h"
 #include <inttypes.h>
 #include <stdio.h>
 #include <string.h>
 
-typedef uint32_t play(const struct moka_trace_settings *, const struct moka_trace_operation *, size_t, struct moka_trace_outcome *);
+typedef uint32_t play(const struct bench_trace_settings *, const struct bench_trace_operation *, size_t, struct bench_trace_outcome *);
 
 struct trace {
     const char *name;
     play *play;
-    struct moka_trace_settings settings;
-    const struct moka_trace_operation *operations;
+    struct bench_trace_settings settings;
+    const struct bench_trace_operation *operations;
     size_t count;
     uint32_t status;
-    struct moka_trace_outcome outcome;
+    struct bench_trace_outcome outcome;
 };
 
 enum { TICK = 10 };
 
 #define NONE MOKA_TRACE_UNLIMITED
 
-static const struct moka_trace_outcome before = {9, 9, 9, 9};
+static const struct bench_trace_outcome before = {9, 9, 9, 9};
 
 /* Two keys: 7 has the value 5 and then 6, and 8 has 4 and then 9. Three look-ups find 5, 4 and 5. */
-static const struct moka_trace_operation each_kind[] = {
+static const struct bench_trace_operation each_kind[] = {
     {7, 5, MOKA_TRACE_INSERT},       {7, 0, MOKA_TRACE_GET},           {8, 4, MOKA_TRACE_READ_THROUGH},
     {8, 3, MOKA_TRACE_READ_THROUGH}, {7, 6, MOKA_TRACE_GET_AND_INSERT}, {8, 9, MOKA_TRACE_REMOVE_AND_INSERT},
 };
 
 /* An insert at the moment 0, and looks at 10 and 20. */
-static const struct moka_trace_operation looks[] = {{7, 5, MOKA_TRACE_INSERT}, {7, 0, MOKA_TRACE_GET}, {7, 0, MOKA_TRACE_GET}};
+static const struct bench_trace_operation looks[] = {{7, 5, MOKA_TRACE_INSERT}, {7, 0, MOKA_TRACE_GET}, {7, 0, MOKA_TRACE_GET}};
 
 /* An insert, and an operation of no kind. */
-static const struct moka_trace_operation strange[] = {{7, 5, MOKA_TRACE_INSERT}, {7, 5, 5}};
+static const struct bench_trace_operation strange[] = {{7, 5, MOKA_TRACE_INSERT}, {7, 5, 5}};
 
 /* Where one entry is allowed, 8 is rejected while it was asked for as often as 7, and then takes its place; 7 doesn't come back for the same reason. */
 static const struct trace traces[] = {
-    {"each kind", moka_trace_play, {NONE, NONE, NONE, 0, TICK, false, false, 1, 0}, each_kind, 6, MOKA_TRACE_DONE, {3, 14, 2, 2}},
-    {"each kind on a core", moka_trace_play_core, {NONE, NONE, NONE, 0, TICK, false, false, 1, 0}, each_kind, 6, MOKA_TRACE_DONE, {3, 14, 2, 2}},
-    {"weighed", moka_trace_play, {NONE, NONE, NONE, 0, TICK, true, false, 1, 0}, each_kind, 6, MOKA_TRACE_DONE, {3, 14, 2, 15}},
-    {"std's hashes", moka_trace_play, {NONE, NONE, NONE, 0, TICK, false, true, 1, 0}, each_kind, 6, MOKA_TRACE_DONE, {3, 14, 2, 2}},
-    {"one entry", moka_trace_play, {1, NONE, NONE, 0, TICK, false, false, 1, 0}, each_kind, 6, MOKA_TRACE_DONE, {1, 5, 1, 1}},
-    {"time to live", moka_trace_play, {NONE, 20, NONE, 0, TICK, false, false, 1, 0}, looks, 3, MOKA_TRACE_DONE, {1, 5, 0, 0}},
-    {"time to idle", moka_trace_play, {NONE, NONE, 20, 0, TICK, false, false, 1, 0}, looks, 3, MOKA_TRACE_DONE, {2, 10, 1, 1}},
-    {"no such window", moka_trace_play, {NONE, NONE, NONE, 0, TICK, false, false, 101, 0}, looks, 3, MOKA_TRACE_SHARE_TOO_LARGE, {9, 9, 9, 9}},
-    {"no such segment", moka_trace_play, {NONE, NONE, NONE, 0, TICK, false, false, 1, 101}, looks, 3, MOKA_TRACE_SHARE_TOO_LARGE, {9, 9, 9, 9}},
-    {"no kind", moka_trace_play, {NONE, NONE, NONE, 0, TICK, false, false, 1, 0}, strange, 2, MOKA_TRACE_UNKNOWN_KIND, {9, 9, 9, 9}},
+    {"each kind", bench_trace_play, {NONE, NONE, NONE, 0, TICK, false, false, 1, 0}, each_kind, 6, MOKA_TRACE_DONE, {3, 14, 2, 2}},
+    {"each kind on a core", bench_trace_play_core, {NONE, NONE, NONE, 0, TICK, false, false, 1, 0}, each_kind, 6, MOKA_TRACE_DONE, {3, 14, 2, 2}},
+    {"weighed", bench_trace_play, {NONE, NONE, NONE, 0, TICK, true, false, 1, 0}, each_kind, 6, MOKA_TRACE_DONE, {3, 14, 2, 15}},
+    {"std's hashes", bench_trace_play, {NONE, NONE, NONE, 0, TICK, false, true, 1, 0}, each_kind, 6, MOKA_TRACE_DONE, {3, 14, 2, 2}},
+    {"one entry", bench_trace_play, {1, NONE, NONE, 0, TICK, false, false, 1, 0}, each_kind, 6, MOKA_TRACE_DONE, {1, 5, 1, 1}},
+    {"time to live", bench_trace_play, {NONE, 20, NONE, 0, TICK, false, false, 1, 0}, looks, 3, MOKA_TRACE_DONE, {1, 5, 0, 0}},
+    {"time to idle", bench_trace_play, {NONE, NONE, 20, 0, TICK, false, false, 1, 0}, looks, 3, MOKA_TRACE_DONE, {2, 10, 1, 1}},
+    {"no such window", bench_trace_play, {NONE, NONE, NONE, 0, TICK, false, false, 101, 0}, looks, 3, MOKA_TRACE_SHARE_TOO_LARGE, {9, 9, 9, 9}},
+    {"no such segment", bench_trace_play, {NONE, NONE, NONE, 0, TICK, false, false, 1, 101}, looks, 3, MOKA_TRACE_SHARE_TOO_LARGE, {9, 9, 9, 9}},
+    {"no kind", bench_trace_play, {NONE, NONE, NONE, 0, TICK, false, false, 1, 0}, strange, 2, MOKA_TRACE_UNKNOWN_KIND, {9, 9, 9, 9}},
 };
 
 /* How many of a count differ: 0 or 1, which is told. */
@@ -56,7 +56,7 @@ static int differs(const char *name, uint64_t found, uint64_t wanted) {
 }
 
 static int plays(const struct trace *trace) {
-    struct moka_trace_outcome found = before;
+    struct bench_trace_outcome found = before;
     int wrong = differs(trace->name, trace->play(&trace->settings, trace->operations, trace->count, &found), trace->status);
     wrong += differs(trace->name, found.hits, trace->outcome.hits);
     wrong += differs(trace->name, found.checksum, trace->outcome.checksum);
@@ -69,14 +69,14 @@ static int plays(const struct trace *trace) {
 static int ages(uint32_t load, uint32_t status, uint64_t wanted) {
     uint64_t words[9], sum = 9;
     memset(words, 0xff, sizeof words);
-    return differs("aging", moka_trace_aging(load, words, 9, 2, &sum), status) + differs("aging", sum, wanted);
+    return differs("aging", bench_trace_aging(load, words, 9, 2, &sum), status) + differs("aging", sum, wanted);
 }
 
 /* 1 is counted four times and read twice, and 2 is counted twice: hashes that differ modulo 4 share no counter. */
 static int counts(void) {
     const uint64_t hashes[] = {1, 1, 2};
     uint64_t sum = 9;
-    return differs("counts", moka_trace_sketch(128, hashes, 3, 2, 1, &sum), MOKA_TRACE_DONE) + differs("counts", sum, 10);
+    return differs("counts", bench_trace_sketch(128, hashes, 3, 2, 1, &sum), MOKA_TRACE_DONE) + differs("counts", sum, 10);
 }
 
 int main(void) {

@@ -1,5 +1,5 @@
-use moka_trace_bench::port;
-use moka_trace_bench::traces::{Operation, Settings, READ_THROUGH};
+use mini_moka_bench::port;
+use mini_moka_bench::traces::{Operation, Settings, READ_THROUGH};
 
 fn main() {
     let settings = Settings::with_capacity(2).with_durations();

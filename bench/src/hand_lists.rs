@@ -407,7 +407,7 @@ pub enum ListLoad {
     TakeTurns = 2,
 }
 
-/// As the port's `moka_trace_list`.
+/// As the port's `bench_trace_list`.
 pub fn play<L: List>(load: ListLoad, nodes: usize, picks: &[usize], rounds: usize) -> u64 {
     let mut list = L::with_room(nodes);
     if load != ListLoad::FillAndEmpty {

@@ -3,7 +3,7 @@
 
 include!(env!("ORIGINAL_SKETCH"));
 
-/// As the port's `moka_trace_sketch`.
+/// As the port's `bench_trace_sketch`.
 pub fn play(capacity: u32, hashes: &[u64], counts: usize, reads: usize) -> u64 {
     let mut sketch = FrequencySketch::default();
     sketch.ensure_capacity(capacity);
@@ -21,7 +21,7 @@ pub fn play(capacity: u32, hashes: &[u64], counts: usize, reads: usize) -> u64 {
     sum
 }
 
-/// As the port's `moka_trace_aging`.
+/// As the port's `bench_trace_aging`.
 pub fn age(words: &[u64], agings: usize) -> u64 {
     let mut sketch = FrequencySketch {
         table: words.into(),

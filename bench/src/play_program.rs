@@ -1,4 +1,4 @@
-//! The port as threads share it, by the program `moka_load`, which has threads where the static library has none. Its README says what each line does.
+//! The port as threads share it, by the program `bench_load`, which has threads where the static library has none. Its README says what each line does.
 use crate::thread_loads::Call;
 use crate::thread_sides::Played;
 use std::io::{self, BufRead, BufReader, BufWriter, Write};

@@ -13,19 +13,19 @@ pub struct Outcome {
 }
 
 extern "C" {
-    fn moka_trace_play(
+    fn bench_trace_play(
         settings: *const Settings,
         operations: *const Operation,
         count: usize,
         outcome: *mut Outcome,
     ) -> u32;
-    fn moka_trace_play_core(
+    fn bench_trace_play_core(
         settings: *const Settings,
         operations: *const Operation,
         count: usize,
         outcome: *mut Outcome,
     ) -> u32;
-    fn moka_trace_sketch(
+    fn bench_trace_sketch(
         capacity: u32,
         hashes: *const u64,
         hash_count: usize,
@@ -33,14 +33,14 @@ extern "C" {
         reads: usize,
         sum: *mut u64,
     ) -> u32;
-    fn moka_trace_aging(
+    fn bench_trace_aging(
         load: u32,
         words: *const u64,
         word_count: usize,
         agings: usize,
         sum: *mut u64,
     ) -> u32;
-    fn moka_trace_list(
+    fn bench_trace_list(
         load: u32,
         nodes: usize,
         picks: *const usize,
@@ -48,7 +48,7 @@ extern "C" {
         rounds: usize,
         sum: *mut u64,
     ) -> u32;
-    fn moka_trace_index(
+    fn bench_trace_index(
         load: u32,
         hashes: *const u64,
         hash_count: usize,
@@ -57,7 +57,7 @@ extern "C" {
         rounds: usize,
         sum: *mut u64,
     ) -> u32;
-    fn moka_trace_index_by_map(
+    fn bench_trace_index_by_map(
         load: u32,
         hashes: *const u64,
         hash_count: usize,
@@ -73,7 +73,7 @@ pub fn play(settings: &Settings, operations: &[Operation]) -> Outcome {
     let mut outcome = Outcome::default();
     // All four are valid for the length of the call, and a slice's pointer is never null.
     let status = unsafe {
-        moka_trace_play(
+        bench_trace_play(
             settings,
             operations.as_ptr(),
             operations.len(),
@@ -89,7 +89,7 @@ pub fn play_core(settings: &Settings, operations: &[Operation]) -> Outcome {
     let mut outcome = Outcome::default();
     // As above.
     let status = unsafe {
-        moka_trace_play_core(
+        bench_trace_play_core(
             settings,
             operations.as_ptr(),
             operations.len(),
@@ -104,7 +104,7 @@ pub fn play_core(settings: &Settings, operations: &[Operation]) -> Outcome {
 pub fn sketch(capacity: u32, hashes: &[u64], counts: usize, reads: usize) -> u64 {
     // Here and below all pointers are valid for the length of the call, and a slice's is never null.
     answer(|sum| unsafe {
-        moka_trace_sketch(capacity, hashes.as_ptr(), hashes.len(), counts, reads, sum)
+        bench_trace_sketch(capacity, hashes.as_ptr(), hashes.len(), counts, reads, sum)
     })
 }
 
@@ -117,13 +117,13 @@ pub enum AgingLoad {
 
 /// Ages a new table of these words so many times over, and sums up the sizes that follow from `u32::MAX`, by their order.
 pub fn age(load: AgingLoad, words: &[u64], agings: usize) -> u64 {
-    answer(|sum| unsafe { moka_trace_aging(load as u32, words.as_ptr(), words.len(), agings, sum) })
+    answer(|sum| unsafe { bench_trace_aging(load as u32, words.as_ptr(), words.len(), agings, sum) })
 }
 
 /// Plays a load on a new list with room for so many nodes.
 pub fn list(load: ListLoad, nodes: usize, picks: &[usize], rounds: usize) -> u64 {
     answer(|sum| unsafe {
-        moka_trace_list(load as u32, nodes, picks.as_ptr(), picks.len(), rounds, sum)
+        bench_trace_list(load as u32, nodes, picks.as_ptr(), picks.len(), rounds, sum)
     })
 }
 
@@ -137,7 +137,7 @@ pub enum IndexLoad {
 /// Plays a load on a new index in which each hash has its place in the list as id.
 pub fn index(load: IndexLoad, hashes: &[u64], sought: &[u64], rounds: usize) -> u64 {
     answer(|sum| unsafe {
-        moka_trace_index(
+        bench_trace_index(
             load as u32,
             hashes.as_ptr(),
             hashes.len(),
@@ -152,7 +152,7 @@ pub fn index(load: IndexLoad, hashes: &[u64], sought: &[u64], rounds: usize) -> 
 /// The same by std's map.
 pub fn index_by_map(load: IndexLoad, hashes: &[u64], sought: &[u64], rounds: usize) -> u64 {
     answer(|sum| unsafe {
-        moka_trace_index_by_map(
+        bench_trace_index_by_map(
             load as u32,
             hashes.as_ptr(),
             hashes.len(),

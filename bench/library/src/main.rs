@@ -328,7 +328,7 @@ fn print_trace(kind: &Kind, trace: &str, inside: &str, repeats: usize) {
     cells.extend(hits.map(|share| format!("{share:.4}")));
     let words = ["count", kind.name, trace];
     let counted = instructions(&this_program(), "*play_counted*", &words);
-    let inside_counts = || instructions(inside.as_ref(), "moka_trace_play", &[trace]);
+    let inside_counts = || instructions(inside.as_ref(), "bench_trace_play", &[trace]);
     let counted_inside = kind.is_inside.then(inside_counts).flatten();
     cells.extend([counted, counted_inside].map(table::number));
     table::print_row(&cells);

@@ -1,9 +1,9 @@
 //! How many bytes an entry takes on each side: `bytes [sync]`, where `sync` is the core of the cache that threads share beside its original.
-use moka_trace_bench::hand_lists::ListLoad;
-use moka_trace_bench::port::{self, IndexLoad};
-use moka_trace_bench::rust_sides::{self, Side};
-use moka_trace_bench::table;
-use moka_trace_bench::traces::{self, Settings, Trace};
+use mini_moka_bench::hand_lists::ListLoad;
+use mini_moka_bench::port::{self, IndexLoad};
+use mini_moka_bench::rust_sides::{self, Side};
+use mini_moka_bench::table;
+use mini_moka_bench::traces::{self, Settings, Trace};
 use std::alloc::{GlobalAlloc, Layout, System};
 use std::sync::atomic::{AtomicUsize, Ordering::Relaxed};
 

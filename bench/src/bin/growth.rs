@@ -1,7 +1,7 @@
 //! How the time a call grows with the number of entries: `growth FILE [REPEATS]` prints a table, and draws it into the file as SVG.
-use moka_trace_bench::plot::{plot, Line};
-use moka_trace_bench::timing::{time_original, time_port, Player};
-use moka_trace_bench::traces;
+use mini_moka_bench::plot::{plot, Line};
+use mini_moka_bench::timing::{time_original, time_port, Player};
+use mini_moka_bench::traces;
 use std::process::ExitCode;
 
 const REPEATS: usize = 3;

@@ -1,11 +1,11 @@
 //! Hit ratios over capacities: `hits FILE [CAFFEINE.jar]` prints a table and draws it into the file as SVG. The best possible is Belady's, which knows what
 //! is asked for next.
-use moka_trace_bench::hit_plot::{plot, Panel};
-use moka_trace_bench::hit_traces::{hit_traces, KEYS};
-use moka_trace_bench::port;
-use moka_trace_bench::rust_sides::{lru_cache, original, play};
-use moka_trace_bench::table::{print_head, print_row};
-use moka_trace_bench::traces::{spread, Operation, Settings, READ_THROUGH};
+use mini_moka_bench::hit_plot::{plot, Panel};
+use mini_moka_bench::hit_traces::{hit_traces, KEYS};
+use mini_moka_bench::port;
+use mini_moka_bench::rust_sides::{lru_cache, original, play};
+use mini_moka_bench::table::{print_head, print_row};
+use mini_moka_bench::traces::{spread, Operation, Settings, READ_THROUGH};
 use std::collections::{BTreeMap, HashMap, HashSet, VecDeque};
 use std::io::Write;
 use std::process::{Command, ExitCode, Stdio};

@@ -1,8 +1,8 @@
 //! How long a call takes inside of Rattle, with the hash state that a user gets who names none: `inside TRACE [CALLS]` prints the nanoseconds. It plays a
 //! trace once; the benchmark of the library has it do so in turn with the calls from outside.
-use moka_trace_bench::memory::keep_memory;
-use moka_trace_bench::timing::{measure, time_port};
-use moka_trace_bench::traces::{library_trace, CALLS};
+use mini_moka_bench::memory::keep_memory;
+use mini_moka_bench::timing::{measure, time_port};
+use mini_moka_bench::traces::{library_trace, CALLS};
 use std::process::ExitCode;
 
 fn main() -> ExitCode {

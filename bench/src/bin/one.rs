@@ -1,6 +1,6 @@
 //! Plays one trace on one side, to be watched by a profiler: `one SIDE TRACE [TIMES]`, where SIDE is `port`, `original`, `core` or `sync`: the last two are
 //! the core of the cache that threads share and its original.
-use moka_trace_bench::{port, rust_sides, traces};
+use mini_moka_bench::{port, rust_sides, traces};
 
 fn main() {
     let words: Vec<String> = std::env::args().collect();

@@ -1,10 +1,10 @@
 //! How long an operation of a part of the cache takes, beside what it is compared with: `parts PART [REPEATS]`, where PART is `sketch`, `list`
 //! or `index`. Where there is a `valgrind`, its count of instructions stands beside the times.
 //! `parts once PART LOAD SIDE ROUNDS` plays one side, to be watched: LOAD and SIDE are numbers from 0 on.
-use moka_trace_bench::callgrind::collected;
-use moka_trace_bench::loads::{loads_of, Load, Side};
-use moka_trace_bench::memory::keep_memory;
-use moka_trace_bench::table;
+use mini_moka_bench::callgrind::collected;
+use mini_moka_bench::loads::{loads_of, Load, Side};
+use mini_moka_bench::memory::keep_memory;
+use mini_moka_bench::table;
 use std::hint::black_box;
 use std::process::ExitCode;
 use std::time::Instant;

@@ -1,7 +1,7 @@
-//! The requests by which `moka_load` plays what `bench/run threads` plays, to be watched by a profiler: `plays GETS THREADS [TIMES]`, where GETS is how
+//! The requests by which `bench_load` plays what `bench/run threads` plays, to be watched by a profiler: `plays GETS THREADS [TIMES]`, where GETS is how
 //! many of a hundred calls are gets.
-use moka_trace_bench::play_program::{write_filling, write_lists};
-use moka_trace_bench::thread_loads::{filling, Mix, CAPACITY};
+use mini_moka_bench::play_program::{write_filling, write_lists};
+use mini_moka_bench::thread_loads::{filling, Mix, CAPACITY};
 use std::io::{self, BufWriter, Write};
 
 fn number(word: &str) -> u64 {

@@ -1,10 +1,10 @@
 //! How long a call takes on each side: `speed [PART] [REPEATS]`, where PART is `zipf`, `single`, `hashers` or `all`.
-use moka_trace_bench::memory::keep_memory;
-use moka_trace_bench::port::Outcome;
-use moka_trace_bench::rust_sides;
-use moka_trace_bench::table;
-use moka_trace_bench::timing::{clock_nanos, measure, time_original, time_port, time_side, Player};
-use moka_trace_bench::traces::{self, Operation, Settings, Trace};
+use mini_moka_bench::memory::keep_memory;
+use mini_moka_bench::port::Outcome;
+use mini_moka_bench::rust_sides;
+use mini_moka_bench::table;
+use mini_moka_bench::timing::{clock_nanos, measure, time_original, time_port, time_side, Player};
+use mini_moka_bench::traces::{self, Operation, Settings, Trace};
 
 const REPEATS: usize = 5;
 const ENTRIES: [u64; 2] = [10_000, 1_000_000];

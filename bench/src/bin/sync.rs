@@ -1,8 +1,8 @@
 //! How long a whole call of the core of the cache that threads share takes beside the original's `sync`, for one caller: `sync [REPEATS]`.
-use moka_trace_bench::memory::keep_memory;
-use moka_trace_bench::table;
-use moka_trace_bench::timing::{clock_nanos, measure, time_core, time_shared_original, Player};
-use moka_trace_bench::traces::{self, Trace};
+use mini_moka_bench::memory::keep_memory;
+use mini_moka_bench::table;
+use mini_moka_bench::timing::{clock_nanos, measure, time_core, time_shared_original, Player};
+use mini_moka_bench::traces::{self, Trace};
 use std::process::ExitCode;
 
 const REPEATS: usize = 5;

@@ -1,13 +1,13 @@
-//! The cache that threads share beside others, all in one run: `threads PROGRAM [REPEATS]`, where PROGRAM is the built `moka_load`.
-use moka_trace_bench::machine::{describe, Watch};
-use moka_trace_bench::memory::keep_memory;
-use moka_trace_bench::play_program::{Kind, PlayProgram};
-use moka_trace_bench::rust_sides::{original, shared_original};
-use moka_trace_bench::table;
-use moka_trace_bench::thread_loads::{counting, filling, maintaining, Call, Mix, CALLS, CAPACITY};
-use moka_trace_bench::thread_sides::{play, LockedOriginal, Played};
-use moka_trace_bench::timing::clock_nanos;
-use moka_trace_bench::traces::Settings;
+//! The cache that threads share beside others, all in one run: `threads PROGRAM [REPEATS]`, where PROGRAM is the built `bench_load`.
+use mini_moka_bench::machine::{describe, Watch};
+use mini_moka_bench::memory::keep_memory;
+use mini_moka_bench::play_program::{Kind, PlayProgram};
+use mini_moka_bench::rust_sides::{original, shared_original};
+use mini_moka_bench::table;
+use mini_moka_bench::thread_loads::{counting, filling, maintaining, Call, Mix, CALLS, CAPACITY};
+use mini_moka_bench::thread_sides::{play, LockedOriginal, Played};
+use mini_moka_bench::timing::clock_nanos;
+use mini_moka_bench::traces::Settings;
 use std::io;
 use std::process::{self, ExitCode};
 

@@ -8,8 +8,9 @@ pub use Rattle.moka_common.specs.Weight
 pub use Rattle.moka_common.specs.Sketch
 pub use Rattle.moka_common.specs.SketchCapacity
 pub use Rattle.moka_common.specs.TrueCount
-pub use Rattle.moka_common.specs.Deque
-pub use Rattle.moka_common.specs.DequeLends
+pub use Rattle.moka_list.specs.Nodes
+pub use Rattle.moka_deque.specs.Deque
+pub use Rattle.moka_deque.specs.DequeLends
 pub use Rattle.moka_common.specs.Prefix
 pub use Rattle.moka_common.specs.Admission
 pub use Rattle.moka_common.specs.Enabling

@@ -10,7 +10,7 @@ pub use Rattle.moka_grammar.specs.CoreLines
 pub use Rattle.moka_grammar.specs.SketchLines
 pub use Rattle.moka_grammar.specs.Grammar
 pub use Rattle.moka_grammar.specs.Parsed
-pub use Rattle.moka_streams.specs.Streams
+pub use Rattle.moka_grammar.specs.Streams
 pub use Rattle.moka_record.specs.Record
 pub use Rattle.moka_record.specs.Replay
 pub use Rattle.moka_record.specs.Passes

@@ -10,7 +10,7 @@ use Rattle.moka_grammar.specs.declared.line.Line.{Line}
 use Rattle.moka_grammar.specs.declared.line.Mode.{Mode}
 use Rattle.moka_grammar.specs.declared.line.Mode.TheVariants.{Recorded, Sync, Unsync}
 use Rattle.moka_grammar.specs.Grammar.{Script, CacheScript, CoreScript, SketchScript, IsScript, IsBadAt}
-use Rattle.moka_streams.specs.Streams.{AppendsBeginning}
+use Rattle.moka_grammar.specs.Streams.{AppendsBeginning}
 use Rattle.mini_moka.specs.LockedScript.{script_of}
 use Rattle.moka_script.specs.Reply.{bad_line}
 use Rattle.moka_script.specs.CoreRun.{AreCoreReplyLines}

@@ -7,4 +7,4 @@ pub use Rattle.moka_segments.specs.Calls
 pub use Rattle.moka_segments.specs.Tells
 pub use Rattle.moka_segments.specs.TellsAll
 pub use Rattle.moka_segments.specs.Session
-pub use Rattle.visits.specs.Visits
+pub use Rattle.moka_segments.specs.Visits

@@ -6,10 +6,10 @@ ghost use Rattle.mini_moka.specs.declared.errors.Error.TheVariants as variant;
 use crate::script::ScriptError;
 use moka_common::error::{BuildError, InsertError, OutOfMemory};
 use moka_grammar::parser::ParseError;
+use moka_grammar::streams::{Fault, ReadError};
 use moka_record::pass::CloseError;
 use moka_record::record::NotRecorded;
 use moka_segments::error::BuildError as SegmentsError;
-use moka_streams::streams::{Fault, ReadError};
 use std::alloc::{AllocError, AllocFailed};
 use std::io;
 

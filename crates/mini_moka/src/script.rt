@@ -8,8 +8,8 @@ pub use moka_grammar::line::{
     SketchLine, Span,
 };
 pub use moka_grammar::parser::{ParseError, parse};
-pub use moka_grammar::text::{LONGEST_TEXT, Text, is_text};
-pub use moka_streams::streams::{
+pub use moka_grammar::streams::{
     Fault, FromRead, FromWrite, ReadError, Sink, Source, read_all, write_all,
 };
+pub use moka_grammar::text::{LONGEST_TEXT, Text, is_text};
 pub use runner::{End, ScriptError, run, run_locked, status_of};

@@ -3,15 +3,15 @@ use Rattle.std.specs.Prelude.{◌≡◌, ◌<◌, ◌⊎◌, ◌&&◌, ℕ, List
 use Rattle.moka_unsync.specs.Insert.{IsInserted}
 use Rattle.moka_unsync.specs.Invalidate.{after_invalidate}
 use Rattle.moka_unsync.specs.Lookup.{after_get, after_look, found_by_get, found_by_peek, is_contained}
-use Rattle.moka_bytes.specs.declared.cache.ByteCache.{ByteCache}
-use Rattle.moka_bytes.specs.Buffer.{IsTaken, copied_to}
-use Rattle.moka_bytes.specs.ByteKeys.{byte_keys, byte_weighs}
-use Rattle.moka_bytes.specs.declared.key.TheConstants.{SHORT_KEY}
-use Rattle.moka_bytes.specs.declared.walk.Step.{Step}
-use Rattle.moka_bytes.specs.declared.walk.Walk.TheVariants.{Ended}
-use Rattle.moka_bytes.specs.declared.walk.Step.TheVariants as step
-use Rattle.moka_bytes.specs.Walk.{BytePair, IsLong, fitting, met_after, next_pair, step_of, walk_after}
-use Rattle.moka_bytes.specs.Statistics.{with_calls, with_get, with_insert}
+use Rattle.mini_moka_c.specs.declared.cache.ByteCache.{ByteCache}
+use Rattle.mini_moka_c.specs.Buffer.{IsTaken, copied_to}
+use Rattle.mini_moka_c.specs.ByteKeys.{byte_keys, byte_weighs}
+use Rattle.mini_moka_c.specs.declared.key.TheConstants.{SHORT_KEY}
+use Rattle.mini_moka_c.specs.declared.bytes_walk.Step.{Step}
+use Rattle.mini_moka_c.specs.declared.bytes_walk.Walk.TheVariants.{Ended}
+use Rattle.mini_moka_c.specs.declared.bytes_walk.Step.TheVariants as step
+use Rattle.mini_moka_c.specs.Walk.{BytePair, IsLong, fitting, met_after, next_pair, step_of, walk_after}
+use Rattle.mini_moka_c.specs.Statistics.{with_calls, with_get, with_insert}
 use Rattle.mini_moka_c.specs.declared.constants.TheConstants.{ABSENT, CHANGED, DONE, OUT_OF_MEMORY, TOO_SHORT}
 use Rattle.mini_moka_c.specs.Calls.{TellsLength, TellsTruth}
 

@@ -5,8 +5,8 @@ use Rattle.moka_unsync.specs.Contents.{weighted_size}
 use Rattle.moka_unsync.specs.GetOrInsert.{IsGotOrInserted, IsRefusedBehind}
 use Rattle.moka_unsync.specs.Insert.{IsInserted, IsRefused}
 use Rattle.moka_unsync.specs.Invalidate.{after_invalidate_all}
-use Rattle.moka_bytes.specs.declared.cache.ByteCache.{ByteCache}
-use Rattle.moka_bytes.specs.declared.walk.Walk.TheVariants.{Ended}
+use Rattle.mini_moka_c.specs.declared.cache.ByteCache.{ByteCache}
+use Rattle.mini_moka_c.specs.declared.bytes_walk.Walk.TheVariants.{Ended}
 use Rattle.mini_moka_c.specs.declared.constants.TheConstants.{ABSENT, CLOSED, DONE, OTHER_KIND, OUT_OF_MEMORY, TOO_SHORT}
 use Rattle.mini_moka_c.specs.declared.handle.Kept.{Kept}
 use Rattle.mini_moka_c.specs.declared.handle.Kept.TheVariants.{Bytes, Numbers}

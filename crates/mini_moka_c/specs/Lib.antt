@@ -1,3 +1,8 @@
+pub mod Weight
+pub mod Statistics
+pub mod Buffer
+pub mod ByteKeys
+pub mod Walk
 pub mod NumberKeys
 pub mod Opening
 pub mod Calls

@@ -4,10 +4,10 @@ use Rattle.moka_common.specs.Policy.{Policy}
 use Rattle.moka_common.specs.Settings.{live_nanos, idle_nanos}
 use Rattle.moka_unsync.specs.CacheState.{new_cache}
 use Rattle.moka_unsync.specs.Shares.{default_shares}
-use Rattle.moka_bytes.specs.declared.cache.ByteCache.{ByteCache}
-use Rattle.moka_bytes.specs.declared.walk.Walk.TheVariants.{Ended}
-use Rattle.moka_bytes.specs.declared.weight.ByteWeight.TheVariants as weight
-use Rattle.moka_bytes.specs.Statistics.{no_statistics}
+use Rattle.mini_moka_c.specs.declared.cache.ByteCache.{ByteCache}
+use Rattle.mini_moka_c.specs.declared.bytes_walk.Walk.TheVariants.{Ended}
+use Rattle.mini_moka_c.specs.declared.weight.ByteWeight.TheVariants as weight
+use Rattle.mini_moka_c.specs.Statistics.{no_statistics}
 use Rattle.mini_moka_c.specs.declared.constants.TheConstants.{ALREADY_OPEN, DONE, OUT_OF_MEMORY, UNLIMITED}
 use Rattle.mini_moka_c.specs.declared.handle.Kept.{Kept}
 use Rattle.mini_moka_c.specs.declared.handle.Kept.TheVariants.{Bytes, Numbers}

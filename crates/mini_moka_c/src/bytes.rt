@@ -8,7 +8,7 @@ ghost use Rattle.mini_moka_c.specs.Opening.{IsBytesKept, IsOpening};
 use crate::constants::{ABSENT, ALREADY_OPEN, CLOSED, DONE, OTHER_KIND, OUT_OF_MEMORY, TOO_SHORT};
 use crate::handle::{Handle, Kept};
 use crate::settings::{ByteSettings, build_bytes};
-use moka_bytes::statistics::Statistics;
+use crate::statistics::Statistics;
 use moka_common::error::OutOfMemory;
 use moka_common::time::Instant;
 use std::alloc::Global;

@@ -23,8 +23,8 @@ ghost use Rattle.mini_moka_c.specs.Held.{held};
 
 mod loose;
 
+use crate::cache::ByteCache;
 use loose::Loose;
-use moka_bytes::cache::ByteCache;
 use moka_unsync::cache::Cache;
 use std::alloc::Global;
 use std::marker::Model;

@@ -1,11 +1,18 @@
-//! The cache for one thread as a library for C: keys and values are bytes of any length, or numbers, and a handle keeps a cache between calls.
-//! `include/mini_moka.h` has the declarations. Each call answers a status; none aborts.
+//! The single-thread cache as a library for C: keys and values are bytes of any length, or numbers, and a handle keeps a cache between calls.
+//! `include/mini_moka.h` has the declarations. Each call returns a status; none aborts.
 #![tactic(auto)]
 
 mod any;
 mod bytes;
+pub mod bytes_walk;
+pub mod cache;
 pub mod constants;
 mod handle;
+pub mod key;
 mod numbers;
+pub mod seed;
 mod settings;
+pub mod statistics;
+pub mod value;
 mod walk;
+pub mod weight;

@@ -2,12 +2,12 @@
 ghost use Rattle.std.specs.Prelude.{◌≡◌, IfSome, None};
 ghost use Rattle.mini_moka_c.specs.Opening.{HasLimits, IsBytesNew, IsNumbersNew, limit_of};
 
+use crate::cache::ByteCache;
 use crate::constants::UNLIMITED;
-use moka_bytes::cache::ByteCache;
-use moka_bytes::key::Key;
-use moka_bytes::seed::Seed;
-use moka_bytes::value::Value;
-use moka_bytes::weight::ByteWeight;
+use crate::key::Key;
+use crate::seed::Seed;
+use crate::value::Value;
+use crate::weight::ByteWeight;
 use moka_unsync::builder::CacheBuilder;
 use moka_unsync::cache::Cache;
 use std::alloc::Global;

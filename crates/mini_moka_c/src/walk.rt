@@ -2,11 +2,11 @@
 ghost use Rattle.std.specs.Prelude.{◌≡◌, ◌≢◌};
 ghost use Rattle.mini_moka_c.specs.ByteCalls.{TellsStep, TellsWalk};
 ghost use Rattle.mini_moka_c.specs.Calls.{OnBytes, OnOpen};
-ghost use Rattle.moka_bytes.specs.declared.walk.Walk.TheVariants.{AtStart};
+ghost use Rattle.mini_moka_c.specs.declared.bytes_walk.Walk.TheVariants.{AtStart};
 
+use crate::bytes_walk::Step;
 use crate::constants::{ABSENT, CHANGED, CLOSED, DONE, OTHER_KIND, OUT_OF_MEMORY, TOO_SHORT};
 use crate::handle::{Handle, Kept};
-use moka_bytes::walk::Step;
 use moka_common::time::Instant;
 use std::alloc::Global;
 

@@ -1,2 +1,7 @@
-pub use Rattle.moka_base.proofs.KeysLemmas
-pub use Rattle.moka_deque.proofs.DequeLemmas
+pub mod KeysLemmas
+pub mod CellLemmas
+pub mod CounterSumLemmas
+pub mod LaneLemmas
+pub mod LawLemmas
+pub mod SketchLemmas
+pub mod UnpackedLemmas

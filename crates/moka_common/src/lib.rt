@@ -1,9 +1,17 @@
-//! What the caches stand on: moments and expiry, errors, limits and legal durations, hash states, weighers, shared pointers, the sketch that
-//! counts uses, and lists whose nodes have ids.
+//! What both caches share: moments, policy and limits, errors, hash states, weighers, shared pointers, and the frequency sketch.
 #![tactic(auto)]
 
 pub mod constants;
+pub mod error;
+pub mod frequency_sketch;
+pub mod hash;
+pub mod laws;
+pub mod limits;
+pub mod policy;
+pub mod settings;
+pub mod shared;
+pub mod time;
+pub mod weigh;
 
-pub use moka_base::{error, hash, policy, settings, shared, time, weigh};
-pub use moka_deque::deque;
-pub use moka_sketch::{frequency_sketch, laws};
+// For tests and the benchmark, which age tables of their own. A sketch ages by itself.
+pub use frequency_sketch::aging::{age, age_plain, aged_size};

@@ -2,28 +2,28 @@
 use Rattle.std.proofs.Common.{◌≡◌, ℕ, nat_eq, not, Bool, true, false, List, [], Option, Some, None, refl, ◌∙◌, ap, subst, inl, inr}
 use Rattle.std.specs.Map.{lookup}
 use Rattle.std.specs.Option.{is_some}
-use Rattle.moka_base.specs.Keys.{Keys}
-use Rattle.moka_engine.specs.declared.call.Call.TheVariants as call
-use Rattle.moka_engine.specs.declared.constants.TheConstants.{CALLER}
-use Rattle.moka_engine.specs.declared.event.Event.{Event}
-use Rattle.moka_engine.specs.declared.event.Event.TheVariants.{Insert, Get, Invalidate, Take, Push, Begin, Turn}
-use Rattle.moka_engine.specs.declared.event.Reply.TheVariants.{Done, Found, Discarded, At, NotPossible, OutOfMemory, TicketsUsedUp}
-use Rattle.moka_engine.specs.declared.operation.Operation.{Operation}
-use Rattle.moka_engine.specs.declared.operation.Operation.TheVariants.{Reading, Writing}
-use Rattle.moka_engine.specs.declared.place.Place.TheVariants as name
-use Rattle.moka_engine.specs.CoreCall.{Decides, IsAtRest, IsCall, has_pending}
-use Rattle.moka_engine.specs.CoreState.{CoreState, pending_of}
-use Rattle.moka_engine.specs.Place.{Place, is_idle}
-use Rattle.moka_engine.specs.Reply.{Reply}
-use Rattle.moka_engine.specs.Run.{Happens}
-use Rattle.moka_engine.specs.WholeCall.{Log, OfReads, OfWrites, Turns, LastTurn, NextTurn}
-use Rattle.moka_engine.specs.WholeCall.{Maintains, MaintainsIf, MaintainsIfDue, PushesRead}
-use Rattle.moka_engine.specs.WholeCall.{PushesWrite, Pushed, WasFull, PushesIf, AfterGet, AfterInsert, AfterRemove}
-use Rattle.moka_engine.specs.WholeCall.{CallsInsert, CallsGet, CallsInvalidate, CallsRemove, CallsSync}
+use Rattle.moka_common.specs.Keys.{Keys}
+use Rattle.moka_sync_model.specs.declared.call.Call.TheVariants as call
+use Rattle.moka_sync_model.specs.declared.constants.TheConstants.{CALLER}
+use Rattle.moka_sync_model.specs.declared.event.Event.{Event}
+use Rattle.moka_sync_model.specs.declared.event.Event.TheVariants.{Insert, Get, Invalidate, Take, Push, Begin, Turn}
+use Rattle.moka_sync_model.specs.declared.event.Reply.TheVariants.{Done, Found, Discarded, At, NotPossible, OutOfMemory, TicketsUsedUp}
+use Rattle.moka_sync_model.specs.declared.operation.Operation.{Operation}
+use Rattle.moka_sync_model.specs.declared.operation.Operation.TheVariants.{Reading, Writing}
+use Rattle.moka_sync_model.specs.declared.place.Place.TheVariants as name
+use Rattle.moka_sync_model.specs.CoreCall.{Decides, IsAtRest, IsCall, has_pending}
+use Rattle.moka_sync_model.specs.CoreState.{CoreState, pending_of}
+use Rattle.moka_sync_model.specs.Place.{Place, is_idle}
+use Rattle.moka_sync_model.specs.Reply.{Reply}
+use Rattle.moka_sync_model.specs.Run.{Happens}
+use Rattle.moka_sync_model.specs.WholeCall.{Log, OfReads, OfWrites, Turns, LastTurn, NextTurn}
+use Rattle.moka_sync_model.specs.WholeCall.{Maintains, MaintainsIf, MaintainsIfDue, PushesRead}
+use Rattle.moka_sync_model.specs.WholeCall.{PushesWrite, Pushed, WasFull, PushesIf, AfterGet, AfterInsert, AfterRemove}
+use Rattle.moka_sync_model.specs.WholeCall.{CallsInsert, CallsGet, CallsInvalidate, CallsRemove, CallsSync}
 use Rattle.moka_core.specs.Core.{Core as CoreValue}
 use Rattle.moka_core.specs.CoreCaller.{core_allows, core_caller, core_decides}
 use Rattle.moka_core.specs.StepLaws.{AreCalls}
-use Rattle.moka_steps.specs.Steps.{Caller, at_rest, has_operation, kind_of, pends_by}
+use Rattle.moka_sync_model.specs.Steps.{Caller, at_rest, has_operation, kind_of, pends_by}
 
 -- an operation is pending exactly where there is one
 pending_by_kind : (operation : Option Operation) → has_operation (kind_of operation) ≡ is_some operation

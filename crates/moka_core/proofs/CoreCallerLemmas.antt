@@ -6,34 +6,34 @@ use Rattle.std.specs.Bool.{MatchBool}
 use Rattle.std.specs.Map.{lookup}
 use Rattle.std.specs.Option.{MatchOption, is_some}
 use Rattle.std.proofs.lemmas.Bool.{cases_Bool}
-use Rattle.moka_base.specs.Keys.{Keys}
-use Rattle.moka_engine.specs.declared.constants.TheConstants.{CALLER, READ_LOG_SIZE, WRITE_LOG_SIZE}
-use Rattle.moka_engine.specs.declared.event.Event.TheVariants as event
-use Rattle.moka_engine.specs.declared.event.Event.{Event}
-use Rattle.moka_engine.specs.declared.event.Reply.TheVariants.{Done, Found, Discarded, At, NotPossible, OutOfMemory, TicketsUsedUp}
-use Rattle.moka_engine.specs.declared.event.Reply.TheVariants.{Bool as BoolReply}
-use Rattle.moka_engine.specs.declared.operation.Operation.{Operation}
-use Rattle.moka_engine.specs.declared.operation.Operation.TheVariants.{Reading, Writing}
-use Rattle.moka_engine.specs.declared.operation.Read.TheVariants.{Hit, Miss}
-use Rattle.moka_engine.specs.declared.operation.Write.{Write}
-use Rattle.moka_engine.specs.declared.operation.Write.TheVariants.{Upsert, Remove}
-use Rattle.moka_engine.specs.declared.place.Place.{Place as PlaceName}
-use Rattle.moka_engine.specs.Place as place
-use Rattle.moka_engine.specs.Place.{Place, is_idle, name_of}
-use Rattle.moka_engine.specs.Entry.{Entry, entry_at}
-use Rattle.moka_engine.specs.CoreCall.{Decides, has_pending, scheduled}
-use Rattle.moka_engine.specs.CoreState.{CoreState, is_expired, pending_of, with_pending}
-use Rattle.moka_engine.specs.Event.{IsBeginning, IsForgetting, IsPush, IsTurn}
-use Rattle.moka_engine.specs.MapStep.{IsAddition, IsGet, IsHit, IsInsert, IsInvalidation}
-use Rattle.moka_engine.specs.MapStep.{IsMiss, IsTaking, IsUpdate, OnlyReplies, fresh_entry, is_fresh, value_taken}
-use Rattle.moka_engine.specs.Reply.{Reply}
-use Rattle.moka_engine.specs.Run.{Happens}
-use Rattle.moka_engine.specs.WholeCall.{Log}
-use Rattle.moka_engine.specs.Turn.Plan.{Plan, Alone, AtReads, AtWrites, AtEntry, after_plan}
-use Rattle.moka_engine.specs.Turn.Turn.{after_turn, turn_at}
+use Rattle.moka_common.specs.Keys.{Keys}
+use Rattle.moka_sync_model.specs.declared.constants.TheConstants.{CALLER, READ_LOG_SIZE, WRITE_LOG_SIZE}
+use Rattle.moka_sync_model.specs.declared.event.Event.TheVariants as event
+use Rattle.moka_sync_model.specs.declared.event.Event.{Event}
+use Rattle.moka_sync_model.specs.declared.event.Reply.TheVariants.{Done, Found, Discarded, At, NotPossible, OutOfMemory, TicketsUsedUp}
+use Rattle.moka_sync_model.specs.declared.event.Reply.TheVariants.{Bool as BoolReply}
+use Rattle.moka_sync_model.specs.declared.operation.Operation.{Operation}
+use Rattle.moka_sync_model.specs.declared.operation.Operation.TheVariants.{Reading, Writing}
+use Rattle.moka_sync_model.specs.declared.operation.Read.TheVariants.{Hit, Miss}
+use Rattle.moka_sync_model.specs.declared.operation.Write.{Write}
+use Rattle.moka_sync_model.specs.declared.operation.Write.TheVariants.{Upsert, Remove}
+use Rattle.moka_sync_model.specs.declared.place.Place.{Place as PlaceName}
+use Rattle.moka_sync_model.specs.Place as place
+use Rattle.moka_sync_model.specs.Place.{Place, is_idle, name_of}
+use Rattle.moka_sync_model.specs.Entry.{Entry, entry_at}
+use Rattle.moka_sync_model.specs.CoreCall.{Decides, has_pending, scheduled}
+use Rattle.moka_sync_model.specs.CoreState.{CoreState, is_expired, pending_of, with_pending}
+use Rattle.moka_sync_model.specs.Event.{IsBeginning, IsForgetting, IsPush, IsTurn}
+use Rattle.moka_sync_model.specs.MapStep.{IsAddition, IsGet, IsHit, IsInsert, IsInvalidation}
+use Rattle.moka_sync_model.specs.MapStep.{IsMiss, IsTaking, IsUpdate, OnlyReplies, fresh_entry, is_fresh, value_taken}
+use Rattle.moka_sync_model.specs.Reply.{Reply}
+use Rattle.moka_sync_model.specs.Run.{Happens}
+use Rattle.moka_sync_model.specs.WholeCall.{Log}
+use Rattle.moka_sync_model.specs.Turn.Plan.{Plan, Alone, AtReads, AtWrites, AtEntry, after_plan}
+use Rattle.moka_sync_model.specs.Turn.Turn.{after_turn, turn_at}
 use Rattle.moka_core.specs.CoreCaller.{caller_of}
-use Rattle.moka_steps.specs.Steps.{Caller, Pending, Nothing, ARead, AWrite, at_rest, goes_on, kind_of}
-use Rattle.moka_steps.specs.Steps.{left_by_invalidate, maintaining, pends}
+use Rattle.moka_sync_model.specs.Steps.{Caller, Pending, Nothing, ARead, AWrite, at_rest, goes_on, kind_of}
+use Rattle.moka_sync_model.specs.Steps.{left_by_invalidate, maintaining, pends}
 
 -- ---- what is pending
 

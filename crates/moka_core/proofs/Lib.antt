@@ -1,2 +1,16 @@
+pub mod ShardsLemmas
+pub mod MapLemmas
+pub mod MapTurnLemmas
+pub mod FindLemmas
+pub mod PendingLemmas
+pub mod RoomLemmas
+pub mod CopyLemmas
+pub mod NewLemmas
+pub mod FreshLemmas
+pub mod StepLemmas
+pub mod TurnLemmas
+pub mod MachineNewLemmas
+pub mod MaintenanceLemmas
+pub mod CallLemmas
 pub mod CoreCallerLemmas
 pub mod CallerLemmas

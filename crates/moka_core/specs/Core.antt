@@ -1,7 +1,7 @@
 -- What a contract sees of a core.
 use Rattle.std.specs.Prelude.{false, None}
-use Rattle.moka_base.specs.Settings.{Settings}
-use Rattle.moka_engine.specs.CoreState.{CoreState}
+use Rattle.moka_common.specs.Settings.{Settings}
+use Rattle.moka_sync_model.specs.CoreState.{CoreState}
 
 -- its state and its weigher
 pub record Core (K V S W : Type 0) : Type 0 where

@@ -1,16 +1,16 @@
 -- The steps of a core as those of its caller of whole calls.
 use Rattle.std.specs.Prelude.{◌≡◌, ℕ, Bool, not}
-use Rattle.moka_base.specs.Keys.{Keys}
-use Rattle.moka_engine.specs.declared.constants.TheConstants.{CALLER}
-use Rattle.moka_engine.specs.declared.event.Event.{Event}
-use Rattle.moka_engine.specs.CoreCall.{Decides}
-use Rattle.moka_engine.specs.CoreState.{CoreState, pending_of}
-use Rattle.moka_engine.specs.Place.{is_idle}
-use Rattle.moka_engine.specs.Reply.{Reply}
-use Rattle.moka_engine.specs.Run.{Happens}
-use Rattle.moka_engine.specs.WholeCall.{Log}
+use Rattle.moka_common.specs.Keys.{Keys}
+use Rattle.moka_sync_model.specs.declared.constants.TheConstants.{CALLER}
+use Rattle.moka_sync_model.specs.declared.event.Event.{Event}
+use Rattle.moka_sync_model.specs.CoreCall.{Decides}
+use Rattle.moka_sync_model.specs.CoreState.{CoreState, pending_of}
+use Rattle.moka_sync_model.specs.Place.{is_idle}
+use Rattle.moka_sync_model.specs.Reply.{Reply}
+use Rattle.moka_sync_model.specs.Run.{Happens}
+use Rattle.moka_sync_model.specs.WholeCall.{Log}
 use Rattle.moka_core.specs.Core.{Core}
-use Rattle.moka_steps.specs.Steps.{Caller, kind_of}
+use Rattle.moka_sync_model.specs.Steps.{Caller, kind_of}
 
 -- what the caller of whole calls has under way
 abbrev pub caller_of : {K V S : Type 0} → CoreState K V S → Caller

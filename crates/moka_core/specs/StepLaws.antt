@@ -1,14 +1,14 @@
 -- Laws of whole calls over the steps of a core.
 use Rattle.std.specs.Prelude.{◌≡◌, ℕ, true}
-use Rattle.moka_base.specs.Keys.{Keys}
-use Rattle.moka_engine.specs.declared.call.Call.TheVariants as call
-use Rattle.moka_engine.specs.declared.constants.TheConstants.{CALLER}
-use Rattle.moka_engine.specs.CoreCall.{IsAtRest, IsCall}
-use Rattle.moka_engine.specs.Reply.{Reply}
-use Rattle.moka_engine.specs.WholeCall.{CallsGet, CallsInsert, CallsInvalidate, CallsRemove, CallsSync}
+use Rattle.moka_common.specs.Keys.{Keys}
+use Rattle.moka_sync_model.specs.declared.call.Call.TheVariants as call
+use Rattle.moka_sync_model.specs.declared.constants.TheConstants.{CALLER}
+use Rattle.moka_sync_model.specs.CoreCall.{IsAtRest, IsCall}
+use Rattle.moka_sync_model.specs.Reply.{Reply}
+use Rattle.moka_sync_model.specs.WholeCall.{CallsGet, CallsInsert, CallsInvalidate, CallsRemove, CallsSync}
 use Rattle.moka_core.specs.Core.{Core}
 use Rattle.moka_core.specs.CoreCaller.{core_allows, core_caller, core_decides}
-use Rattle.moka_steps.specs.Steps.{at_rest, pends_by}
+use Rattle.moka_sync_model.specs.Steps.{at_rest, pends_by}
 
 -- they are the whole calls of the core, and leave its weigher; a get is one whose value was copied
 pub record AreCalls {K V S W : Type 0} (keys : Keys K S) (weighs : W → K → V → ℕ → Type 0) : Type 0 where

@@ -1,28 +1,28 @@
 //! The cache without its locks: a core that takes one atomic step at a time, or makes one whole call.
 ghost use Rattle.std.specs.Prelude.{◌≡◌, ◌↔◌, IfErr, IfOk, IsTrue, OnErr, slice_index};
-ghost use Rattle.moka_base.specs.Keys.{keys_by};
+ghost use Rattle.moka_common.specs.Keys.{keys_by};
 ghost use Rattle.moka_core.specs.Core.{unlimited};
-ghost use Rattle.moka_engine.specs.Consistent.{IsConsistent};
-ghost use Rattle.moka_engine.specs.CoreCall.{Finishes, IsAtRest, IsCall};
-ghost use Rattle.moka_engine.specs.CoreState.{IsNew, new_core};
-ghost use Rattle.moka_engine.specs.declared.call.Call.TheVariants as call;
-ghost use Rattle.moka_engine.specs.Run.{RunsTo};
+ghost use Rattle.moka_sync_model.specs.Consistent.{IsConsistent};
+ghost use Rattle.moka_sync_model.specs.CoreCall.{Finishes, IsAtRest, IsCall};
+ghost use Rattle.moka_sync_model.specs.CoreState.{IsNew, new_core};
+ghost use Rattle.moka_sync_model.specs.declared.call.Call.TheVariants as call;
+ghost use Rattle.moka_sync_model.specs.Run.{RunsTo};
 
 mod caller;
 mod steps;
 
-use moka_base::error::{BuildError, OutOfMemory};
-use moka_base::hash::FixedState;
-use moka_base::policy::Policy;
-use moka_base::shared::Shared;
-use moka_base::time::Instant;
-use moka_base::weigh::UnitWeight;
-use moka_engine::call::Call;
-use moka_engine::event::{Event, Reply};
-use moka_engine::settings::CoreParts;
-use moka_engine::weigh::WeighShared;
-use moka_map::rows::Rows;
-use moka_parts::machine::Machine;
+use crate::machine::Machine;
+use crate::rows::Rows;
+use moka_common::error::{BuildError, OutOfMemory};
+use moka_common::hash::FixedState;
+use moka_common::policy::Policy;
+use moka_common::shared::Shared;
+use moka_common::time::Instant;
+use moka_common::weigh::UnitWeight;
+use moka_sync_model::call::Call;
+use moka_sync_model::event::{Event, Reply};
+use moka_sync_model::settings::CoreParts;
+use moka_sync_model::weigh::WeighShared;
 use std::alloc::{Allocator, Global};
 use std::hash::{BuildHasher, Hash};
 use std::marker::Model;
@@ -53,9 +53,9 @@ impl<
     W: Drop,
     A: Allocator + Clone + Drop,
 > Model for Core<K, V, S, W, A> {
-    ghost use Rattle.moka_base.specs.Keys.{keys_by};
+    ghost use Rattle.moka_common.specs.Keys.{keys_by};
     ghost use Rattle.moka_core.specs.Core.{Core as CoreValue};
-    ghost use Rattle.moka_engine.specs.Consistent.{IsConsistent};
+    ghost use Rattle.moka_sync_model.specs.Consistent.{IsConsistent};
 
     ghost Value = { CoreValue K V S W };
 

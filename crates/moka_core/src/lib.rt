@@ -1,7 +1,9 @@
-//! The cache that threads share without its locks: a core that takes atomic steps and makes whole calls.
+//! The shared cache without locks: a core that takes atomic steps and makes whole calls.
 #![tactic(auto)]
 
 pub mod engine;
+pub mod machine;
+pub mod map;
+pub mod pending;
+pub mod rows;
 pub mod step_laws;
-
-pub use moka_map::{pending, rows};

@@ -1,8 +1,8 @@
 //! What holds of all whole calls over the steps of a core: the one place for functions without code.
-ghost use Rattle.moka_base.specs.Keys.{keys_by};
+ghost use Rattle.moka_common.specs.Keys.{keys_by};
 ghost use Rattle.moka_core.specs.StepLaws.{AreCalls};
 
-use moka_engine::weigh::WeighShared;
+use moka_sync_model::weigh::WeighShared;
 use std::hash::{BuildHasher, Hash};
 
 /// A whole call over the steps of a core is that whole call of the core: it gets the same reply and leaves the same core.

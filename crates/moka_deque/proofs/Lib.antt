@@ -1,11 +1,4 @@
 pub mod DequeLemmas
-pub mod NodesLemmas
-pub mod ChainLemmas
-pub mod ListingLemmas
-pub mod IdLemmas
-pub mod WalkLemmas
-pub mod CutLemmas
-pub mod InsertedLemmas
 pub mod EndLemmas
 pub mod SlotLemmas
 pub mod RawApart

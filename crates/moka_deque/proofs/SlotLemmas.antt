@@ -10,14 +10,14 @@ use Rattle.slab.specs.Slab.{Slab, ContainsKey, Updates, get, slab_len}
 use denote.RawPtr.{Ptr}
 use Rattle.lru.specs.Linked.{IsApart}
 use Rattle.moka_deque.specs.RawNodes.{Linked as Node, linked, pairs, places, set_element, spares}
-use Rattle.moka_deque.specs.Deque.{IsIn, first_id, next_id, moved_to_back}
-use Rattle.moka_deque.specs.Nodes.{AreApart}
+use Rattle.moka_list.specs.Nodes.{IsIn, first_id, next_id, moved_to_back}
+use Rattle.moka_list.specs.Nodes.{AreApart}
 use Rattle.moka_deque.specs.Lends.{with_element, with_slot}
 use Rattle.moka_deque.specs.Slots.{AreSlots, IsTied, items_of, live_at, live_slot, nodes_of, room_of, shown, slot, slots_of, spare_slot, spares_of}
 use Rattle.moka_deque.specs.declared.deque.nodes.Slot.{Slot}
 use Rattle.moka_deque.specs.declared.deque.nodes.Nodes.{Nodes}
-use Rattle.moka_deque.proofs.CutLemmas.{absent-cut, apart-in, apart-out, get-push_same, lookup-cut, next-cut, remove-cut, set-cut, value-cut}
-use Rattle.moka_deque.proofs.DequeLemmas.{absent_cons, absent_head, absent_tail, nat_eq-same}
+use Rattle.moka_list.proofs.CutLemmas.{absent-cut, apart-in, apart-out, get-push_same, lookup-cut, next-cut, remove-cut, set-cut, value-cut}
+use Rattle.moka_list.proofs.ItemLemmas.{absent_cons, absent_head, absent_tail, nat_eq-same}
 use Rattle.moka_deque.proofs.EndLemmas.{cut_back}
 use Rattle.moka_deque.proofs.RawApart.{apart_places, set_element-cut}
 

@@ -1,7 +1,8 @@
 -- What a contract sees of a `Deque`.
-use Rattle.std.specs.Prelude.{ℕ, ◌+◌, nat_eq, if◌then◌else◌, List, [], ◌∷◌, ◌++◌, Option, Some, None, is_some, IsSome}
+use Rattle.std.specs.Prelude.{ℕ, ◌+◌, nat_eq, if◌then◌else◌, List, [], ◌∷◌, Option, Some, None, is_some}
 use Rattle.std.specs.Option.{option_map_or}
 use Rattle.std.specs.Map.{lookup, remove_entry}
+use Rattle.moka_list.specs.Nodes.{IsIn, first_id, moved_to_back, next_id}
 use Rattle.moka_deque.specs.declared.deque.cursor.Cursor.{Cursor}
 use Rattle.moka_deque.specs.declared.deque.cursor.Cursor.TheVariants.{Start, At, Done}
 use Rattle.moka_deque.specs.declared.deque.CacheRegion.{CacheRegion}
@@ -23,27 +24,6 @@ pub record Deque (T : Type 0) : Type 0 where
   pub region : CacheRegion
 
 module _ {T : Type 0} where
-  -- the node is in the list
-  abbrev pub IsIn : List (ℕ × T) → ℕ → Type 0
-  IsIn items id = IsSome (lookup (nat_eq id) items)
-
-  -- the node at the front
-  abbrev pub first_id : List (ℕ × T) → Option ℕ
-  first_id [] = None
-  first_id (e ∷ es) = Some e.0
-
-  -- the node after this one
-  abbrev pub next_id : ℕ → List (ℕ × T) → Option ℕ
-  next_id id [] = None
-  next_id id (e ∷ es) = if nat_eq id e.0 then first_id es else next_id id es
-
-  -- the list with this node at the back
-  abbrev pub moved_to_back : ℕ → List (ℕ × T) → List (ℕ × T)
-  moved_to_back id items = option_map_or
-      (λ element. remove_entry (nat_eq id) items ++ (id, element) ∷ [])
-      (lookup (nat_eq id) items)
-      items
-
   -- a cursor that is at a node is at one of the list
   abbrev pub CursorIsIn : List (ℕ × T) → Cursor → Type 0
   CursorIsIn items Start = Unit {0}

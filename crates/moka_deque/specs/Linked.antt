@@ -1,8 +1,8 @@
 -- What a contract sees of a `Linked`. No public clause cites this module.
-use Rattle.std.specs.Prelude.{◌≡◌, ℕ, ◌+◌, ◌-◌, ◌<◌, nat_eq, if◌then◌else◌, List, [], ◌∷◌, ◌++◌, length, Option, Some, None, slice_get}
+use Rattle.std.specs.Prelude.{◌≡◌, ℕ, ◌+◌, ◌-◌, ◌<◌, nat_eq, List, [], ◌∷◌, ◌++◌, length, Option, Some, None, slice_get}
 use Rattle.std.specs.Map.{lookup, remove_entry, values_of}
-use Rattle.moka_deque.specs.Deque.{IsIn}
-use Rattle.moka_deque.specs.Nodes.{AreApart}
+use Rattle.moka_list.specs.Nodes.{IsIn}
+use Rattle.moka_list.specs.Nodes.{AreApart}
 
 -- the nodes from front to back, each with its element, and how many more surely fit
 pub record Linked (T : Type 0) : Type 0 where
@@ -29,9 +29,3 @@ module _ {T : Type 0} where
     pub value : lookup (nat_eq id) old.items ≡ Some element
     pub room : new.room ≡ old.room + 1
     pub apart : AreApart old.items
-
-  -- the nodes from this one on, if there is one
-  abbrev pub items_from : Option ℕ → List (ℕ × T) → List (ℕ × T)
-  items_from None items = []
-  items_from (Some id) [] = []
-  items_from (Some id) (e ∷ es) = if nat_eq id e.0 then e ∷ es else items_from (Some id) es

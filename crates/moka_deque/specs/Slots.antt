@@ -4,7 +4,7 @@ use Rattle.std.specs.Map.{lookup}
 use Rattle.slab.specs.Slab.{Slab, ContainsKey, get, slab_len}
 use denote.RawPtr.{Ptr}
 use Rattle.moka_deque.specs.Linked.{Linked}
-use Rattle.moka_deque.specs.Nodes.{AreApart}
+use Rattle.moka_list.specs.Nodes.{AreApart}
 use Rattle.moka_deque.specs.RawNodes.{Linked as Node, pairs, spares}
 use Rattle.moka_deque.specs.declared.deque.nodes.Slot.{Slot}
 use Rattle.moka_deque.specs.declared.deque.nodes.Ends.{Ends}

@@ -4,7 +4,8 @@ ghost use Rattle.std.specs.Prelude.{IsOk, IfOk, OnOk, IfErr, OnErr, IfSome, IsNo
 ghost use Rattle.std.specs.Borrow.{sem};
 ghost use Rattle.std.specs.List.{IsDistinct};
 ghost use Rattle.std.specs.Map.{lookup, keys_of, values_of};
-ghost use Rattle.moka_deque.specs.Deque.{number_of, IsIn, CursorIsIn, first_id, next_id, lent_by_step, stepped};
+ghost use Rattle.moka_deque.specs.Deque.{number_of, CursorIsIn, lent_by_step, stepped};
+ghost use Rattle.moka_list.specs.Nodes.{IsIn, first_id, next_id};
 ghost use Rattle.moka_deque.specs.Deque.{after_unlink, after_pop_front, after_move_to_back, after_move_front_to_back};
 
 mod cursor;
@@ -12,12 +13,12 @@ mod iter;
 mod linked;
 mod nodes;
 
-pub use crate::chain::NodeId;
 pub use cursor::Cursor;
 use cursor::{advanced, entered, pass};
 pub use iter::Iter;
 use linked::Linked;
-use moka_base::error::OutOfMemory;
+use moka_common::error::OutOfMemory;
+pub use moka_list::chain::NodeId;
 use std::alloc::{Allocator, Global};
 use std::marker::Model;
 
@@ -196,14 +197,14 @@ impl<T, A: Allocator> Deque<T, A> {
         ensures below { result < length self.new.items + self.new.room }
     {
         let number = self.list.push_reserved(element);
-        NodeId { number }
+        NodeId::from_number(number)
     }
 
     /// Whether the node is in the list.
     pub fn contains(&self, id: NodeId) -> bool
         ensures { IsTrue result ↔ IsIn self.now.items id }
     {
-        self.list.contains(id.number)
+        self.list.contains(id.number())
     }
 
     /// The element at the front.
@@ -228,7 +229,7 @@ impl<T, A: Allocator> Deque<T, A> {
         ensures { result ≡ first_id self.now.items }
     {
         let number = self.list.first()?;
-        Some(NodeId { number })
+        Some(NodeId::from_number(number))
     }
 
     /// The node after this one. The node must be in the list, which `contains` tells.
@@ -236,8 +237,8 @@ impl<T, A: Allocator> Deque<T, A> {
         requires { IsIn self.now.items id }
         ensures { result ≡ next_id id self.now.items }
     {
-        let number = self.list.next(id.number)?;
-        Some(NodeId { number })
+        let number = self.list.next(id.number())?;
+        Some(NodeId::from_number(number))
     }
 
     /// The element of the node, which must be in the list: `contains` tells.
@@ -245,7 +246,7 @@ impl<T, A: Allocator> Deque<T, A> {
         requires { IsIn self.now.items id }
         ensures { lookup (nat_eq id) self.now.items ≡ Some result.now }
     {
-        self.list.get(id.number)
+        self.list.get(id.number())
     }
 
     /// The element of the node for writing. The node must be in the list, which `contains` tells.
@@ -254,7 +255,7 @@ impl<T, A: Allocator> Deque<T, A> {
         ensures* writes_back { sem 𝓛 (lends_element T.row A.row A.Allocator self.entry id result) }
         ensures value { lookup (nat_eq id) self.old.items ≡ Some result.now }
     {
-        self.list.get_mut(id.number)
+        self.list.get_mut(id.number())
     }
 
     /// Takes out the first node. A cursor at it advances first.
@@ -272,11 +273,12 @@ impl<T, A: Allocator> Deque<T, A> {
         requires { IsIn self.old.items id }
         ensures { self.new ≡ after_move_to_back id self.old }
     {
-        if self.list.next(id.number).is_none() {
+        let number = id.number();
+        if self.list.next(number).is_none() {
             return;
         }
-        pass(&mut self.cursor, &self.list, id.number);
-        self.list.move_to_back(id.number);
+        pass(&mut self.cursor, &self.list, number);
+        self.list.move_to_back(number);
     }
 
     /// Moves the first node to the back, if there is one.
@@ -294,8 +296,9 @@ impl<T, A: Allocator> Deque<T, A> {
         ensures value { lookup (nat_eq id) self.old.items ≡ Some result }
         ensures step { self.new ≡ after_unlink id self.old }
     {
-        pass(&mut self.cursor, &self.list, id.number);
-        self.list.unlink(id.number)
+        let number = id.number();
+        pass(&mut self.cursor, &self.list, number);
+        self.list.unlink(number)
     }
 
     /// `unlink` for a caller that doesn't want the element.

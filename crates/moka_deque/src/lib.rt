@@ -1,7 +1,5 @@
-//! Lists whose nodes have ids.
+//! The public list: nodes of their own with raw links, ids for names, and a cursor.
 #![tactic(auto)]
 
-pub mod chain;
 pub mod deque;
-pub mod link;
 mod raw;

@@ -1,4 +1,4 @@
-//! The examples of the docs, and callers whose contracts name `mini_moka` alone: proved. `moka_bench` runs them.
+//! The examples of the docs, and callers whose contracts name `mini_moka` alone: proved. `tests_public` runs them.
 #![tactic(auto)]
 
 pub mod audit;

@@ -5,7 +5,7 @@ use Rattle.std.specs.List.{AllByRecursion}
 use Rattle.std.specs.Str.{bytes_eq}
 use Rattle.std.proofs.lemmas.Option.{same_Some}
 use Rattle.std.proofs.lemmas.Slice.Eq.{bytes_eq-Decides}
-use Rattle.moka_sketch.specs.declared.constants.TheConstants.{DEPTHS}
+use Rattle.moka_common.specs.declared.constants.TheConstants.{DEPTHS}
 use Rattle.moka_grammar.specs.declared.line.SketchLine.{SketchLine}
 use Rattle.moka_grammar.specs.declared.line.SketchLine.TheVariants.{Inc, Freq, Index, Len, Ensure}
 use Rattle.moka_grammar.specs.SketchLines.{sketch_words, SketchFits}

@@ -1,3 +1,4 @@
+pub mod Streams
 pub mod Text
 pub mod Spelling
 pub mod Options

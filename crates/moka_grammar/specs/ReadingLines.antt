@@ -1,7 +1,7 @@
 -- What the words of a line are read as. No public clause cites this module.
 use Rattle.std.specs.Prelude.{ℕ, ◌^◌, List, [], ◌∷◌, codes, Option, Some, None, if◌then◌else◌}
 use Rattle.std.specs.Str.{bytes_eq}
-use Rattle.moka_sketch.specs.declared.constants.TheConstants.{DEPTHS}
+use Rattle.moka_common.specs.declared.constants.TheConstants.{DEPTHS}
 use Rattle.moka_grammar.specs.Lines.{allows}
 use Rattle.moka_grammar.specs.Options.{can_have}
 use Rattle.moka_grammar.specs.Reading.{◌>>=◌, number_of, number_below, text_of, no_argument, u64_of, u32_of}

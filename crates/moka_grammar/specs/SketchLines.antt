@@ -1,7 +1,7 @@
 -- What a contract sees of the lines of sketch scripts: a call on the sketch each.
 use Rattle.std.specs.Prelude.{ℕ, ◌^◌, ◌<◌, List, [], ◌∷◌, codes}
 use Rattle.std.specs.Fmt.{decimal}
-use Rattle.moka_sketch.specs.declared.constants.TheConstants.{DEPTHS}
+use Rattle.moka_common.specs.declared.constants.TheConstants.{DEPTHS}
 use Rattle.moka_grammar.specs.declared.line.SketchLine.{SketchLine}
 use Rattle.moka_grammar.specs.declared.line.SketchLine.TheVariants.{Inc, Freq, Index, Len, Ensure}
 

@@ -2,13 +2,13 @@
 ghost use Rattle.std.specs.Prelude.{◌≡◌, ◌==◌, ◌^◌, map, IfOk};
 ghost use Rattle.std.specs.Char.{is_ascii_digit};
 ghost use Rattle.std.specs.List.{list_all, slice_split};
-ghost use Rattle.moka_sketch.specs.declared.constants.TheConstants.{DEPTHS};
+ghost use Rattle.moka_common.specs.declared.constants.TheConstants.{DEPTHS};
 ghost use Rattle.moka_grammar.specs.Spelling.{space};
 ghost use Rattle.moka_grammar.specs.Reading.{Gives, number_of, number_below, text_of, has_leading_zero, no_argument, u64_of, u32_of};
 ghost use Rattle.moka_grammar.specs.declared.words.LineError.TheVariants as line_error;
 
 use crate::text::{Text, is_text};
-use moka_sketch::constants::DEPTHS;
+use moka_common::constants::DEPTHS;
 use std::alloc::{AllocError, Allocator};
 
 /// Why a line isn't read.

@@ -4,34 +4,34 @@ use Rattle.std.proofs.Common.{ap, refl, sym, subst, inl, inr}
 use Rattle.std.specs.List.{find}
 use Rattle.std.specs.Option.{option_map}
 use Rattle.std.proofs.lemmas.Bool.{cases_Bool, cond_both}
-use Rattle.moka_base.specs.Admission.{is_within}
-use Rattle.moka_base.specs.Settings.{Settings, keeps_writes}
-use Rattle.moka_engine.specs.declared.operation.Read.{Read}
-use Rattle.moka_engine.specs.declared.operation.Read.TheVariants.{Hit, Miss}
-use Rattle.moka_engine.specs.declared.operation.Write.{Write}
-use Rattle.moka_engine.specs.declared.operation.Write.TheVariants.{Upsert, Remove}
-use Rattle.moka_engine.specs.declared.ticket.Ticket.{Ticket}
-use Rattle.moka_engine.specs.CoreState.{Maintenance}
-use Rattle.moka_engine.specs.Entry.{Entry}
-use Rattle.moka_engine.specs.Orders.{Node, Orders, all_used, charge_of, charged_weight, is_written, recharged, renewed, rewritten, used}
-use Rattle.moka_engine.specs.Orders.{with_node, without_node}
-use Rattle.moka_engine.specs.Place as place
-use Rattle.moka_engine.specs.declared.at_hand.Candidate.{Candidate}
-use Rattle.moka_engine.specs.declared.at_hand.Tally.{Tally}
-use Rattle.moka_engine.specs.declared.at_hand.Work.{Work}
-use Rattle.moka_engine.specs.Place.{Place, Seen}
-use Rattle.moka_engine.specs.Ticket.{same_ticket}
-use Rattle.moka_engine.specs.Turn.Plan.{Plan, Alone, AtReads, AtWrites, AtEntry, Outcome}
-use Rattle.moka_engine.specs.Turn.Apply.{after_present_upsert, after_upsert}
-use Rattle.moka_engine.specs.Turn.Admission.{absent_of, after_entering, after_removing, after_scan, after_verdict, after_victim}
-use Rattle.moka_engine.specs.Turn.Admission.{is_admitted, next_seen}
-use Rattle.moka_engine.specs.Turn.Expiry.{access_front, after_eviction, after_front, after_pass, eviction_front, is_out_of_use, is_outlived}
-use Rattle.moka_engine.specs.Turn.Expiry.{write_front}
-use Rattle.moka_engine.specs.Turn.Turn.{after_read_taken, after_write_taken, turn_at}
-use Rattle.moka_engine.proofs.OrdersLemmas.{ChangesNode-recharged, ChangesNode-without, Reorders, Reorders-all_used, Reorders-renewed}
-use Rattle.moka_engine.proofs.OrdersLemmas.{Reorders-rewritten, Reorders-used, charge_of-recharged, charge_of-without, is_written-without}
-use Rattle.moka_engine.proofs.TicketLemmas.{cases_ticket}
-use Rattle.moka_behind.specs.LockedTurn.{IsPlanned}
+use Rattle.moka_common.specs.Admission.{is_within}
+use Rattle.moka_common.specs.Settings.{Settings, keeps_writes}
+use Rattle.moka_sync_model.specs.declared.operation.Read.{Read}
+use Rattle.moka_sync_model.specs.declared.operation.Read.TheVariants.{Hit, Miss}
+use Rattle.moka_sync_model.specs.declared.operation.Write.{Write}
+use Rattle.moka_sync_model.specs.declared.operation.Write.TheVariants.{Upsert, Remove}
+use Rattle.moka_sync_model.specs.declared.ticket.Ticket.{Ticket}
+use Rattle.moka_sync_model.specs.CoreState.{Maintenance}
+use Rattle.moka_sync_model.specs.Entry.{Entry}
+use Rattle.moka_sync_model.specs.Orders.{Node, Orders, all_used, charge_of, charged_weight, is_written, recharged, renewed, rewritten, used}
+use Rattle.moka_sync_model.specs.Orders.{with_node, without_node}
+use Rattle.moka_sync_model.specs.Place as place
+use Rattle.moka_sync_model.specs.declared.at_hand.Candidate.{Candidate}
+use Rattle.moka_sync_model.specs.declared.at_hand.Tally.{Tally}
+use Rattle.moka_sync_model.specs.declared.at_hand.Work.{Work}
+use Rattle.moka_sync_model.specs.Place.{Place, Seen}
+use Rattle.moka_sync_model.specs.Ticket.{same_ticket}
+use Rattle.moka_sync_model.specs.Turn.Plan.{Plan, Alone, AtReads, AtWrites, AtEntry, Outcome}
+use Rattle.moka_sync_model.specs.Turn.Apply.{after_present_upsert, after_upsert}
+use Rattle.moka_sync_model.specs.Turn.Admission.{absent_of, after_entering, after_removing, after_scan, after_verdict, after_victim}
+use Rattle.moka_sync_model.specs.Turn.Admission.{is_admitted, next_seen}
+use Rattle.moka_sync_model.specs.Turn.Expiry.{access_front, after_eviction, after_front, after_pass, eviction_front, is_out_of_use, is_outlived}
+use Rattle.moka_sync_model.specs.Turn.Expiry.{write_front}
+use Rattle.moka_sync_model.specs.Turn.Turn.{after_read_taken, after_write_taken, turn_at}
+use Rattle.moka_sync_model.proofs.OrdersLemmas.{ChangesNode-recharged, ChangesNode-without, Reorders, Reorders-all_used, Reorders-renewed}
+use Rattle.moka_sync_model.proofs.OrdersLemmas.{Reorders-rewritten, Reorders-used, charge_of-recharged, charge_of-without, is_written-without}
+use Rattle.moka_sync_model.proofs.TicketLemmas.{cases_ticket}
+use Rattle.moka_guards.specs.LockedTurn.{IsPlanned}
 use Rattle.moka_locks.specs.MaintenanceTurn.{AreTurns, IsWorkingTurn, MoreTurns, OneTurn, Working}
 use Rattle.moka_locks.specs.SameTickets.{HasSameTickets, KeepSameTickets}
 

@@ -1,30 +1,30 @@
 -- A turn behind the lock of the maintenance.
 use Rattle.std.proofs.Common.{◌≡◌, ◌∙◌, ◌<◌, ◌≤◌, ◌-◌, ℕ, Bool, false, List, [], ◌∷◌, length}
 use Rattle.std.proofs.Common.{Option, Some, None, drop, slice_get, if◌then◌else◌, ap, refl, sym, subst, arith}
-use Rattle.moka_base.specs.Keys.{Keys}
-use Rattle.moka_base.specs.Settings.{Settings}
-use Rattle.moka_engine.specs.declared.operation.Read.{Read}
-use Rattle.moka_engine.specs.declared.operation.Read.TheVariants.{Hit, Miss}
-use Rattle.moka_engine.specs.declared.operation.Write.{Write}
-use Rattle.moka_engine.specs.declared.operation.Write.TheVariants.{Remove}
-use Rattle.moka_engine.specs.declared.ticket.Ticket.{Ticket}
-use Rattle.moka_engine.specs.declared.place.Place.{Place as PlaceName}
-use Rattle.moka_engine.specs.declared.place.Place.TheVariants as name
-use Rattle.moka_engine.specs.CoreState.{Maintenance}
-use Rattle.moka_engine.specs.Parts.{TurnsAlone, TurnsWithReads, TurnsWithWrites}
-use Rattle.moka_engine.specs.Place as place
-use Rattle.moka_engine.specs.declared.at_hand.Work.{Work}
-use Rattle.moka_engine.specs.Place.{Idle, is_idle, name_of}
-use Rattle.moka_engine.specs.Turn.Plan.{AtReads, AtWrites, gone_to}
-use Rattle.moka_engine.specs.Turn.Turn.{after_read_taken, after_write_taken, turn_at}
-use Rattle.moka_engine.proofs.PlaceLemmas.{busy_by_name, is_idle_name, not_named_idle, same_idle}
+use Rattle.moka_common.specs.Keys.{Keys}
+use Rattle.moka_common.specs.Settings.{Settings}
+use Rattle.moka_sync_model.specs.declared.operation.Read.{Read}
+use Rattle.moka_sync_model.specs.declared.operation.Read.TheVariants.{Hit, Miss}
+use Rattle.moka_sync_model.specs.declared.operation.Write.{Write}
+use Rattle.moka_sync_model.specs.declared.operation.Write.TheVariants.{Remove}
+use Rattle.moka_sync_model.specs.declared.ticket.Ticket.{Ticket}
+use Rattle.moka_sync_model.specs.declared.place.Place.{Place as PlaceName}
+use Rattle.moka_sync_model.specs.declared.place.Place.TheVariants as name
+use Rattle.moka_sync_model.specs.CoreState.{Maintenance}
+use Rattle.moka_sync_model.specs.Parts.{TurnsAlone, TurnsWithReads, TurnsWithWrites}
+use Rattle.moka_sync_model.specs.Place as place
+use Rattle.moka_sync_model.specs.declared.at_hand.Work.{Work}
+use Rattle.moka_sync_model.specs.Place.{Idle, is_idle, name_of}
+use Rattle.moka_sync_model.specs.Turn.Plan.{AtReads, AtWrites, gone_to}
+use Rattle.moka_sync_model.specs.Turn.Turn.{after_read_taken, after_write_taken, turn_at}
+use Rattle.moka_sync_model.proofs.PlaceLemmas.{busy_by_name, is_idle_name, not_named_idle, same_idle}
 use Rattle.moka_maintenance.proofs.TakenLemmas.{applied_later, reads_on}
 use Rattle.moka_maintenance.specs.Taken.{TakesRead, TakesWrite, having_applied, having_taken}
 use Rattle.moka_maintenance.specs.Taken.{having_taken_write, place_with, place_with_write, writes_left}
-use Rattle.moka_steps.specs.Steps.{TakesTurns}
-use Rattle.moka_steps.specs.Steps as steps
+use Rattle.moka_sync_model.specs.Steps.{TakesTurns}
+use Rattle.moka_sync_model.specs.Steps as steps
 use Rattle.moka_locks.specs.Locked.{Locked, kept_running, locked_allows, running}
-use Rattle.moka_behind.specs.LockedTurn.{IsPlanned, IsTurn}
+use Rattle.moka_guards.specs.LockedTurn.{IsPlanned, IsTurn}
 use Rattle.moka_locks.specs.MaintenanceTurn.{AreTurns, IsWorkingTurn, MoreTurns}
 use Rattle.moka_locks.specs.MaintenanceTurn.{OneTurn, TakesFirst, Working, empty_handed}
 use Rattle.moka_locks.proofs.WritesLeftLemmas.{keeps_left}

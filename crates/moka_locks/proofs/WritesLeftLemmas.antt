@@ -2,27 +2,27 @@
 use Rattle.std.proofs.Common.{◌≡◌, ◌≤◌, ◌+◌, ◌-◌, ℕ, Bool, true, false, List, [], ◌∷◌, ◌++◌, Option, None, Some}
 use Rattle.std.proofs.Common.{ap, refl, sym, ◌∙◌, subst, eqb, arith}
 use Rattle.std.proofs.lemmas.Bool.{cond_both, eqb-true}
-use Rattle.moka_base.specs.Admission.{is_within}
-use Rattle.moka_base.specs.Settings.{Settings, keeps_writes}
-use Rattle.moka_engine.specs.declared.operation.Read.{Read}
-use Rattle.moka_engine.specs.declared.operation.Write.{Write}
-use Rattle.moka_engine.specs.declared.operation.Write.TheVariants.{Upsert, Remove}
-use Rattle.moka_engine.specs.declared.ticket.Ticket.{Ticket}
-use Rattle.moka_engine.specs.CoreState.{Maintenance}
-use Rattle.moka_engine.specs.Entry.{Entry}
-use Rattle.moka_engine.specs.Orders.{Node, charge_of, charged_weight}
-use Rattle.moka_engine.specs.Place as place
-use Rattle.moka_engine.specs.declared.at_hand.Candidate.{Candidate}
-use Rattle.moka_engine.specs.declared.at_hand.Tally.{Tally}
-use Rattle.moka_engine.specs.declared.at_hand.Work.{Work}
-use Rattle.moka_engine.specs.Place.{Place, Seen}
-use Rattle.moka_engine.specs.Turn.Plan.{Plan, Alone, AtReads, AtWrites, AtEntry, Outcome, writes_or_on}
-use Rattle.moka_engine.specs.Turn.Apply.{after_present_upsert, after_upsert}
-use Rattle.moka_engine.specs.Turn.Admission.{after_entering, after_removing, after_scan, after_verdict, after_victim}
-use Rattle.moka_engine.specs.Turn.Admission.{is_admitted, next_seen, removing_or_enter}
-use Rattle.moka_engine.specs.Turn.Turn.{turn_at}
+use Rattle.moka_common.specs.Admission.{is_within}
+use Rattle.moka_common.specs.Settings.{Settings, keeps_writes}
+use Rattle.moka_sync_model.specs.declared.operation.Read.{Read}
+use Rattle.moka_sync_model.specs.declared.operation.Write.{Write}
+use Rattle.moka_sync_model.specs.declared.operation.Write.TheVariants.{Upsert, Remove}
+use Rattle.moka_sync_model.specs.declared.ticket.Ticket.{Ticket}
+use Rattle.moka_sync_model.specs.CoreState.{Maintenance}
+use Rattle.moka_sync_model.specs.Entry.{Entry}
+use Rattle.moka_sync_model.specs.Orders.{Node, charge_of, charged_weight}
+use Rattle.moka_sync_model.specs.Place as place
+use Rattle.moka_sync_model.specs.declared.at_hand.Candidate.{Candidate}
+use Rattle.moka_sync_model.specs.declared.at_hand.Tally.{Tally}
+use Rattle.moka_sync_model.specs.declared.at_hand.Work.{Work}
+use Rattle.moka_sync_model.specs.Place.{Place, Seen}
+use Rattle.moka_sync_model.specs.Turn.Plan.{Plan, Alone, AtReads, AtWrites, AtEntry, Outcome, writes_or_on}
+use Rattle.moka_sync_model.specs.Turn.Apply.{after_present_upsert, after_upsert}
+use Rattle.moka_sync_model.specs.Turn.Admission.{after_entering, after_removing, after_scan, after_verdict, after_victim}
+use Rattle.moka_sync_model.specs.Turn.Admission.{is_admitted, next_seen, removing_or_enter}
+use Rattle.moka_sync_model.specs.Turn.Turn.{turn_at}
 use Rattle.moka_maintenance.specs.Taken.{TakesWrite, having_taken_write, place_with_write, writes_left}
-use Rattle.moka_behind.specs.LockedTurn.{IsPlanned, IsTurn}
+use Rattle.moka_guards.specs.LockedTurn.{IsPlanned, IsTurn}
 
 module _ (work : Work) where
   -- these places leave as many

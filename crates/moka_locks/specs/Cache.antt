@@ -1,7 +1,7 @@
 -- What a contract sees of a cache that threads share: what doesn't change while they do.
 use Rattle.std.specs.Prelude.{Option}
 use Rattle.atomic_table.specs.Seated.{TableId}
-use Rattle.moka_base.specs.Settings.{Settings}
+use Rattle.moka_common.specs.Settings.{Settings}
 
 -- its settings, its weigher, and the counts that are published, if they are
 pub record Cache (S W : Type 0) : Type 0 where

@@ -1,10 +1,10 @@
 -- What is published of a maintenance that has ended. No public clause cites this module.
 use Rattle.std.specs.Prelude.{◌≡◌, ◌-◌, ◌^◌, List, [], ◌∷◌, length, min, Option, option_map}
 use Rattle.atomic_table.specs.Seated.{TableId}
-use Rattle.moka_engine.specs.CoreState.{Maintenance}
-use Rattle.moka_engine.specs.Orders.{charged_weight}
-use Rattle.moka_published.specs.Counts.{Publisher}
-use Rattle.moka_published.specs.declared.rule.Published.{Published}
+use Rattle.moka_sync_model.specs.CoreState.{Maintenance}
+use Rattle.moka_sync_model.specs.Orders.{charged_weight}
+use Rattle.moka_guards.specs.Counts.{Publisher}
+use Rattle.moka_guards.specs.declared.published_rule.Published.{Published}
 
 -- the newest is what is charged: how many nodes there are, and their weight, as far as 64 bits tell
 abbrev pub IsCharged : Maintenance → List Published → Type 0

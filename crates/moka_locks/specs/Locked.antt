@@ -1,25 +1,25 @@
 -- A cache behind locks as one caller has it, and what the types of the locks keep of each step of that caller.
 use Rattle.std.specs.Prelude.{◌≡◌, ◌⊎◌, ℕ, Bool, Option, None, Some, Ok, Err, is_some, if◌then◌else◌}
-use Rattle.moka_base.specs.Keys.{Keys}
-use Rattle.moka_base.specs.declared.error.InsertError.TheVariants as refused
-use Rattle.moka_base.specs.declared.error.OutOfMemory.{OutOfMemory as MemoryError}
-use Rattle.moka_behind.specs.Permitted.{ContainsIn, FindsIn, InsertsIn, InvalidatesIn, StandsIn, TakesIn}
-use Rattle.moka_engine.specs.declared.event.Event.{Event}
-use Rattle.moka_engine.specs.declared.event.Event.TheVariants.{Insert, Get, Contains, Invalidate, Take, InvalidateAll, Push, Forget, Begin, Turn}
-use Rattle.moka_engine.specs.declared.event.Reply.TheVariants.{Done, Found, Bool as Truth, Discarded, At}
-use Rattle.moka_engine.specs.declared.event.Reply.TheVariants.{NotPossible, OutOfMemory, TicketsUsedUp}
-use Rattle.moka_engine.specs.declared.operation.Operation.{Operation}
-use Rattle.moka_engine.specs.declared.operation.Operation.TheVariants.{Reading, Writing}
-use Rattle.moka_engine.specs.declared.operation.Read.{Read}
-use Rattle.moka_engine.specs.declared.operation.Read.TheVariants.{Hit, Miss}
-use Rattle.moka_engine.specs.declared.operation.Write.{Write}
-use Rattle.moka_engine.specs.declared.operation.Write.TheVariants.{Upsert, Remove}
-use Rattle.moka_engine.specs.declared.ticket.Ticket.{Ticket}
-use Rattle.moka_engine.specs.CoreState.{Maintenance}
-use Rattle.moka_engine.specs.Place.{Idle, ReadCount, name_of, is_idle}
-use Rattle.moka_engine.specs.Reply.{Reply}
-use Rattle.moka_engine.specs.WholeCall.{Log}
-use Rattle.moka_steps.specs.Steps.{Caller, kind_of}
+use Rattle.moka_common.specs.Keys.{Keys}
+use Rattle.moka_common.specs.declared.error.InsertError.TheVariants as refused
+use Rattle.moka_common.specs.declared.error.OutOfMemory.{OutOfMemory as MemoryError}
+use Rattle.moka_guards.specs.Permitted.{ContainsIn, FindsIn, InsertsIn, InvalidatesIn, StandsIn, TakesIn}
+use Rattle.moka_sync_model.specs.declared.event.Event.{Event}
+use Rattle.moka_sync_model.specs.declared.event.Event.TheVariants.{Insert, Get, Contains, Invalidate, Take, InvalidateAll, Push, Forget, Begin, Turn}
+use Rattle.moka_sync_model.specs.declared.event.Reply.TheVariants.{Done, Found, Bool as Truth, Discarded, At}
+use Rattle.moka_sync_model.specs.declared.event.Reply.TheVariants.{NotPossible, OutOfMemory, TicketsUsedUp}
+use Rattle.moka_sync_model.specs.declared.operation.Operation.{Operation}
+use Rattle.moka_sync_model.specs.declared.operation.Operation.TheVariants.{Reading, Writing}
+use Rattle.moka_sync_model.specs.declared.operation.Read.{Read}
+use Rattle.moka_sync_model.specs.declared.operation.Read.TheVariants.{Hit, Miss}
+use Rattle.moka_sync_model.specs.declared.operation.Write.{Write}
+use Rattle.moka_sync_model.specs.declared.operation.Write.TheVariants.{Upsert, Remove}
+use Rattle.moka_sync_model.specs.declared.ticket.Ticket.{Ticket}
+use Rattle.moka_sync_model.specs.CoreState.{Maintenance}
+use Rattle.moka_sync_model.specs.Place.{Idle, ReadCount, name_of, is_idle}
+use Rattle.moka_sync_model.specs.Reply.{Reply}
+use Rattle.moka_sync_model.specs.WholeCall.{Log}
+use Rattle.moka_sync_model.specs.Steps.{Caller, kind_of}
 use Rattle.moka_locks.specs.declared.locked.Pending.{Pending}
 use Rattle.moka_locks.specs.declared.locked.Pending.TheVariants as pending
 use Rattle.moka_locks.specs.Cache.{Cache}

@@ -1,10 +1,10 @@
 -- What turns of the maintenance do behind its lock, with the writes that it has at hand.
 use Rattle.std.specs.Prelude.{◌≡◌, ◌≤◌, false, List, [], ◌∷◌, length}
-use Rattle.moka_base.specs.Settings.{Settings}
-use Rattle.moka_engine.specs.declared.operation.Write.{Write}
-use Rattle.moka_engine.specs.CoreState.{Maintenance}
-use Rattle.moka_engine.specs.Place.{is_idle}
-use Rattle.moka_behind.specs.LockedTurn.{IsTurn}
+use Rattle.moka_common.specs.Settings.{Settings}
+use Rattle.moka_sync_model.specs.declared.operation.Write.{Write}
+use Rattle.moka_sync_model.specs.CoreState.{Maintenance}
+use Rattle.moka_sync_model.specs.Place.{is_idle}
+use Rattle.moka_guards.specs.LockedTurn.{IsTurn}
 use Rattle.moka_maintenance.specs.Taken.{TakesWrite, having_taken_write, writes_left}
 
 -- a maintenance, and the writes that have left their log and are not taken yet, the next one first

@@ -1,9 +1,9 @@
 -- Where a time to live is set, the order of use and the order of writing have the same tickets.
 use Rattle.std.specs.Prelude.{◌≡◌, ℕ, Bool, true, is_some}
-use Rattle.moka_base.specs.Settings.{Settings, keeps_writes}
-use Rattle.moka_engine.specs.declared.ticket.Ticket.{Ticket}
-use Rattle.moka_engine.specs.Orders.{Orders, charge_of, is_written}
-use Rattle.moka_engine.specs.Place.{ReadCount}
+use Rattle.moka_common.specs.Settings.{Settings, keeps_writes}
+use Rattle.moka_sync_model.specs.declared.ticket.Ticket.{Ticket}
+use Rattle.moka_sync_model.specs.Orders.{Orders, charge_of, is_written}
+use Rattle.moka_sync_model.specs.Place.{ReadCount}
 use Rattle.moka_locks.specs.MaintenanceTurn.{AreTurns, Working, empty_handed}
 
 -- each ticket that is charged is in the order of writing, and each that is there is charged

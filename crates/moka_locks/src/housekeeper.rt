@@ -1,12 +1,12 @@
 //! When a caller runs a maintenance: nobody else does, and one caller at a time.
 ghost use Rattle.std.specs.Prelude.{◌≡◌, Option, ℕ, IsTrue};
-ghost use Rattle.moka_engine.specs.CoreCall.{is_due};
-ghost use Rattle.moka_engine.specs.declared.constants.TheConstants.{FLUSH_POINT};
+ghost use Rattle.moka_sync_model.specs.CoreCall.{is_due};
+ghost use Rattle.moka_sync_model.specs.declared.constants.TheConstants.{FLUSH_POINT};
 
-use moka_base::time::Instant;
-use moka_engine::constants::FLUSH_POINT;
-use moka_engine::housekeeper::due_after;
-pub use moka_engine::housekeeper::is_due;
+use moka_common::time::Instant;
+use moka_sync_model::constants::FLUSH_POINT;
+use moka_sync_model::housekeeper::due_after;
+pub use moka_sync_model::housekeeper::is_due;
 use std::sync::atomic::{AtomicBool, AtomicU64, Ordering};
 
 /// Says when a maintenance is due, and lets one caller at a time run it. Its calls neither wait nor take memory.

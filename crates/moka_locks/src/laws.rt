@@ -1,5 +1,5 @@
 //! What turns of a maintenance behind its lock keep. A law is its function's clause: there is no code to call.
-ghost use Rattle.moka_engine.specs.CoreState.{new_maintenance};
+ghost use Rattle.moka_sync_model.specs.CoreState.{new_maintenance};
 ghost use Rattle.moka_locks.specs.SameTickets.{HasSameTickets, KeepSameTickets};
 
 /// Where a time to live is set, both orders of a maintenance have the same tickets at the start, and after any turns from there.

@@ -1,21 +1,21 @@
 //! The steps of one caller on a cache behind locks.
 ghost use Rattle.std.specs.Prelude.{◌≡◌, None, IfSome};
-ghost use Rattle.moka_base.specs.Settings.{keeps_writes};
-ghost use Rattle.moka_engine.specs.Place.{Idle};
+ghost use Rattle.moka_common.specs.Settings.{keeps_writes};
+ghost use Rattle.moka_sync_model.specs.Place.{Idle};
 ghost use Rattle.moka_locks.specs.Locked.{resting_at, running};
 ghost use Rattle.moka_locks.specs.SameTickets.{HasBothOrders};
 
 use crate::inner::Inner;
 use crate::running::Running;
-use moka_base::error::{InsertError, OutOfMemory};
-use moka_base::shared::Shared;
-use moka_base::time::Instant;
-use moka_behind::rule::PairRule;
-use moka_engine::operation::{Read, Write};
-use moka_engine::place::Place;
-use moka_engine::weigh::WeighShared;
-use moka_logs::logs::LoggedRead;
-use moka_steps::steps::{ReadPush, Steps, TakingSteps, WhichLog, WritePush};
+use moka_common::error::{InsertError, OutOfMemory};
+use moka_common::shared::Shared;
+use moka_common::time::Instant;
+use moka_guards::rule::PairRule;
+use moka_queues::logs::LoggedRead;
+use moka_sync_model::operation::{Read, Write};
+use moka_sync_model::place::Place;
+use moka_sync_model::steps::{ReadPush, Steps, TakingSteps, WhichLog, WritePush};
+use moka_sync_model::weigh::WeighShared;
 use std::alloc::Allocator;
 use std::hash::{BuildHasher, Hash};
 use std::marker::Model;
@@ -77,7 +77,7 @@ impl<
     A: Allocator + Clone + Drop,
 > Model for Locked<'a, K, V, S, P, W, A> {
     ghost use Rattle.std.specs.Prelude.{◌≡◌, IfSome, option_map};
-    ghost use Rattle.moka_base.specs.Settings.{keeps_writes};
+    ghost use Rattle.moka_common.specs.Settings.{keeps_writes};
     ghost use Rattle.moka_locks.specs.Locked.{Locked as LockedValue, operation_of};
     ghost use Rattle.moka_locks.specs.SameTickets.{IsOrdered};
 
@@ -142,7 +142,7 @@ impl<
     W: WeighShared<K, V>,
     A: Allocator + Clone + Drop,
 > Steps<K, V, A> for Locked<'a, K, V, S, P, W, A> {
-    ghost use Rattle.moka_base.specs.Keys.{keys_by};
+    ghost use Rattle.moka_common.specs.Keys.{keys_by};
     ghost use Rattle.moka_locks.specs.Locked.{locked_allows, locked_caller, locked_decides};
 
     ghost allowed = { locked_allows (keys_by (record { eq = K.eq; hash_input = K.hash_input }) S.BuildHasher S.Hasher.Hasher) P.holds W.weighs };

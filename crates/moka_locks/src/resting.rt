@@ -1,10 +1,10 @@
 // What lies behind the lock of the maintenance whenever that is free: a maintenance at rest, and who publishes its counts.
 ghost use Rattle.std.specs.Prelude.{◌≡◌, None, IfSome};
-ghost use Rattle.moka_engine.specs.Place.{Idle};
+ghost use Rattle.moka_sync_model.specs.Place.{Idle};
 ghost use Rattle.moka_locks.specs.Charged.{IsCharged};
 
 use crate::working::Working;
-use moka_published::counts::Publisher;
+use moka_guards::counts::Publisher;
 use std::alloc::{Allocator, Global};
 use std::marker::Model;
 use std::sync::Wait;
@@ -19,7 +19,7 @@ pub(crate) struct Resting<A: Allocator + Clone + Drop = Global> {
 
 impl<A: Allocator + Clone + Drop> Model for Resting<A> {
     ghost use Rattle.std.specs.Prelude.{◌≡◌, IfSome};
-    ghost use Rattle.moka_engine.specs.Place.{Idle};
+    ghost use Rattle.moka_sync_model.specs.Place.{Idle};
     ghost use Rattle.moka_locks.specs.Charged.{IsCharged};
     ghost use Rattle.moka_locks.specs.SameTickets.{AtWork};
 

@@ -1,19 +1,19 @@
 // A maintenance that is under way, with its lock.
 ghost use Rattle.std.specs.Prelude.{◌≡◌};
-ghost use Rattle.moka_base.specs.Settings.{keeps_writes};
-ghost use Rattle.moka_engine.specs.Place.{Idle, name_of};
+ghost use Rattle.moka_common.specs.Settings.{keeps_writes};
+ghost use Rattle.moka_sync_model.specs.Place.{Idle, name_of};
 ghost use Rattle.moka_locks.specs.MaintenanceTurn.{AreTurns};
 ghost use Rattle.moka_locks.specs.SameTickets.{AtWork, IsOrdered, just_begun};
 
 use crate::inner::Inner;
 use crate::resting::Resting;
 use crate::working::Working;
-use moka_base::time::Instant;
-use moka_behind::rule::PairRule;
-use moka_behind::waiting::lock;
-use moka_engine::place::Place;
+use moka_common::time::Instant;
+use moka_guards::counts::Publisher;
+use moka_guards::rule::PairRule;
+use moka_guards::waiting::lock;
 use moka_maintenance::maintenance::Maintenance;
-use moka_published::counts::Publisher;
+use moka_sync_model::place::Place;
 use std::alloc::Allocator;
 use std::hash::{BuildHasher, Hash};
 use std::marker::Model;

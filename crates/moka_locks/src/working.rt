@@ -1,17 +1,17 @@
 // A maintenance, with the writes that have left their log.
 ghost use Rattle.std.specs.Prelude.{◌≡◌};
-ghost use Rattle.moka_base.specs.Settings.{keeps_writes};
-ghost use Rattle.moka_engine.specs.CoreState.{new_maintenance};
-ghost use Rattle.moka_engine.specs.Place.{Idle, name_of};
+ghost use Rattle.moka_common.specs.Settings.{keeps_writes};
+ghost use Rattle.moka_sync_model.specs.CoreState.{new_maintenance};
+ghost use Rattle.moka_sync_model.specs.Place.{Idle, name_of};
 ghost use Rattle.moka_locks.specs.MaintenanceTurn.{AreTurns, empty_handed};
 ghost use Rattle.moka_locks.specs.SameTickets.{IsOrdered, just_begun};
 
 use crate::inner::Inner;
-use moka_base::time::Instant;
-use moka_behind::rule::PairRule;
-use moka_engine::place::Place;
-use moka_logs::taken::TakenWrites;
+use moka_common::time::Instant;
+use moka_guards::rule::PairRule;
 use moka_maintenance::maintenance::Maintenance;
+use moka_queues::taken::TakenWrites;
+use moka_sync_model::place::Place;
 use std::alloc::Allocator;
 use std::hash::{BuildHasher, Hash};
 use std::marker::Model;

@@ -3,9 +3,9 @@ use Rattle.std.proofs.Common.{◌≡◌, Bool, false, not, List, [], ◌∷◌, 
 use Rattle.std.specs.List.{find}
 use Rattle.std.specs.Option.{option_map, is_some}
 use Rattle.std.proofs.lemmas.Bool.{cases_Bool, cond-true, cond-false}
-use Rattle.moka_engine.specs.declared.ticket.Ticket.{Ticket}
-use Rattle.moka_engine.specs.Ticket.{same_ticket}
-use Rattle.moka_engine.specs.Orders.{Orders, charge_of, is_written, used, without_node}
+use Rattle.moka_sync_model.specs.declared.ticket.Ticket.{Ticket}
+use Rattle.moka_sync_model.specs.Ticket.{same_ticket}
+use Rattle.moka_sync_model.specs.Orders.{Orders, charge_of, is_written, used, without_node}
 
 module _ {X : Type 0} (p : X → Bool) where
   fails-head : (x : X) (xs : List X) → find p (x ∷ xs) ≡ None → p x ≡ false
@@ -42,7 +42,7 @@ none_from_is_some (Some x) h = absurd (cc)
 -- to the back
 pub used_absent : (t : Ticket) (o : Orders) → charge_of t o ≡ None → used t o ≡ o
 used_absent t o none =
-    let p = λ (n : Rattle.moka_engine.specs.Orders.Node). same_ticket t n.ticket in
+    let p = λ (n : Rattle.moka_sync_model.specs.Orders.Node). same_ticket t n.ticket in
     let absent = none_from_map (λ n. n.charge) _ none in
     ap (λ l. record o { access = l })
     ((λ i. all_left p o.access absent i ++ none_left p o.access absent i) ∙ nothing_behind p o.access)

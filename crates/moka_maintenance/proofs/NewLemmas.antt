@@ -3,11 +3,11 @@ use Rattle.std.proofs.Common.{◌≡◌, ◌≤◌, ◌&&◌, ℕ, Bool, true, f
 use Rattle.std.proofs.Common.{[], ◌∷◌, length, Option, Some, None, is_some, refl, sym}
 use Rattle.std.proofs.Common.{arith, slice_get}
 use Rattle.std.proofs.lemmas.Bool.{and_parts, eqb-true, false≢true}
-use Rattle.moka_sketch.specs.Sketch.{Table, IsSketch}
-use Rattle.moka_sketch.specs.SketchCapacity.{table_len}
-use Rattle.moka_sketch.proofs.SketchLemmas.{power_pos}
-use Rattle.moka_engine.specs.CoreState.{Published, new_maintenance}
-use Rattle.moka_orders.specs.OrdersState.{access_of}
+use Rattle.moka_common.specs.Sketch.{Table, IsSketch}
+use Rattle.moka_common.specs.SketchCapacity.{table_len}
+use Rattle.moka_common.proofs.SketchLemmas.{power_pos}
+use Rattle.moka_sync_model.specs.CoreState.{Published, new_maintenance}
+use Rattle.moka_queues.specs.OrdersState.{access_of}
 use Rattle.moka_maintenance.specs.declared.maintenance.place.Stage.TheVariants as stage
 use Rattle.moka_maintenance.specs.Held.{Held, maintenance_of, place_of}
 

@@ -6,8 +6,8 @@ use Rattle.std.proofs.lemmas.Cmp.{nat_eq_equiv}
 use Rattle.std.proofs.lemmas.Map.Keys.{IsDistinct-head, IsDistinct-tail}
 use Rattle.std.specs.List.{IsDistinct, AllByRecursion}
 use Rattle.std.specs.Map.{lookup, remove_entry, set_value, keys_of}
-use Rattle.moka_deque.specs.Deque.{first_id, next_id}
-use Rattle.moka_deque.proofs.DequeLemmas.{nat_eq-same}
+use Rattle.moka_list.specs.Nodes.{first_id, next_id}
+use Rattle.moka_list.proofs.ItemLemmas.{nat_eq-same}
 
 none_behind : (X : Type 0) (n id : ℕ) → first_id (drop {A = ℕ × X} n []) ≡ Some id → ⊥
 none_behind X Prim.Native.Nat.zero id first = false≢true (ap is_some first)

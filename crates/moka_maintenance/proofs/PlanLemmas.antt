@@ -4,29 +4,29 @@ use Rattle.std.proofs.Common.{Some, None, is_some, unwrap_or, refl, sym, ap, ◌
 use Rattle.std.proofs.lemmas.Bool.{cases_Bool, false≢true}
 use Rattle.std.specs.List.{IsDistinct}
 use Rattle.std.specs.Map.{lookup, keys_of}
-use Rattle.moka_deque.specs.Deque.{first_id}
-use Rattle.moka_engine.specs.declared.at_hand.Candidate.{Candidate}
-use Rattle.moka_engine.specs.declared.at_hand.Tally.{Tally}
-use Rattle.moka_engine.specs.Place as place
-use Rattle.moka_engine.specs.Place.{Seen}
-use Rattle.moka_engine.specs.CoreState.{Maintenance}
-use Rattle.moka_engine.specs.declared.ticket.Ticket.{Ticket}
-use Rattle.moka_engine.specs.Parts.{NeedsNothing, NeedsShard, need_of}
-use Rattle.moka_engine.specs.Turn.Plan.{Alone, AtEntry, gone_to}
-use Rattle.moka_engine.specs.Turn.Admission.{after_rejection, after_removing, after_scan, after_seeing, after_verdict}
-use Rattle.moka_engine.specs.Turn.Admission.{after_victim, is_admitted, is_decided, next_if, next_seen, removing_or_enter}
-use Rattle.moka_orders.specs.declared.orders.Node.{Node}
-use Rattle.moka_orders.specs.OrdersState.{OrdersState, access_of, charged, orders_of}
-use Rattle.moka_engine.specs.declared.at_hand.Work.{Work}
+use Rattle.moka_list.specs.Nodes.{first_id}
+use Rattle.moka_sync_model.specs.declared.at_hand.Candidate.{Candidate}
+use Rattle.moka_sync_model.specs.declared.at_hand.Tally.{Tally}
+use Rattle.moka_sync_model.specs.Place as place
+use Rattle.moka_sync_model.specs.Place.{Seen}
+use Rattle.moka_sync_model.specs.CoreState.{Maintenance}
+use Rattle.moka_sync_model.specs.declared.ticket.Ticket.{Ticket}
+use Rattle.moka_sync_model.specs.Parts.{NeedsNothing, NeedsShard, need_of}
+use Rattle.moka_sync_model.specs.Turn.Plan.{Alone, AtEntry, gone_to}
+use Rattle.moka_sync_model.specs.Turn.Admission.{after_rejection, after_removing, after_scan, after_seeing, after_verdict}
+use Rattle.moka_sync_model.specs.Turn.Admission.{after_victim, is_admitted, is_decided, next_if, next_seen, removing_or_enter}
+use Rattle.moka_queues.specs.declared.orders.Node.{Node}
+use Rattle.moka_queues.specs.OrdersState.{OrdersState, access_of, charged, orders_of}
+use Rattle.moka_sync_model.specs.declared.at_hand.Work.{Work}
 use Rattle.moka_maintenance.specs.declared.maintenance.place.Scan.{Scan}
 use Rattle.moka_maintenance.specs.declared.maintenance.place.Removal.{Removal}
 use Rattle.moka_maintenance.specs.Held.{Held, IsScanning, IsRemoving}
 use Rattle.moka_maintenance.specs.Held.{first_seen, first_tickets, maintenance_of, next_id_if, removal_plan}
 use Rattle.moka_maintenance.specs.Held.{place_of, scan_plan}
 use Rattle.moka_maintenance.specs.declared.maintenance.place.Stage.TheVariants as stage
-use Rattle.moka_base.specs.Settings.{Settings}
-use Rattle.moka_engine.specs.declared.operation.Write.{Write}
-use Rattle.moka_engine.specs.Turn.Turn.{turn_at, write_turn}
+use Rattle.moka_common.specs.Settings.{Settings}
+use Rattle.moka_sync_model.specs.declared.operation.Write.{Write}
+use Rattle.moka_sync_model.specs.Turn.Turn.{turn_at, write_turn}
 use Rattle.moka_maintenance.proofs.ScanLemmas.{next_node, next_parts, scanned_node}
 use Rattle.moka_maintenance.proofs.NextLemmas.{some_next}
 

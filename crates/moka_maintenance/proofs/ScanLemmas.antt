@@ -6,21 +6,21 @@ use Rattle.std.proofs.lemmas.Bool.{eqb-true, false_from_ne_true, false≢true}
 use Rattle.std.proofs.lemmas.Map.{length-set_value}
 use Rattle.std.specs.List.{IsDistinct}
 use Rattle.std.specs.Map.{lookup, remove_entry, set_value, keys_of}
-use Rattle.moka_deque.specs.Deque.{first_id, next_id}
-use Rattle.moka_deque.proofs.DequeLemmas.{length-remove}
-use Rattle.moka_engine.specs.declared.constants.TheConstants.{MAX_ROUNDS}
-use Rattle.moka_engine.specs.declared.ticket.Ticket.{Ticket}
-use Rattle.moka_engine.specs.Entry.{Entry}
-use Rattle.moka_engine.specs.Orders.{Orders, charge_of, without_node}
-use Rattle.moka_engine.specs.Place as place
-use Rattle.moka_engine.specs.Turn.Admission.{removing_or_enter}
-use Rattle.moka_engine.proofs.TicketLemmas.{cases_ticket}
-use Rattle.moka_engine.proofs.OrdersLemmas.{ChangesNode-without, charge_of-without}
-use Rattle.moka_orders.specs.declared.orders.Node.{Node}
-use Rattle.moka_orders.specs.OrdersState.{OrdersState, orders_of}
-use Rattle.moka_engine.specs.declared.at_hand.Work.{Work}
-use Rattle.moka_engine.specs.declared.at_hand.Candidate.{Candidate}
-use Rattle.moka_engine.specs.declared.at_hand.Tally.{Tally}
+use Rattle.moka_list.specs.Nodes.{first_id, next_id}
+use Rattle.moka_list.proofs.ItemLemmas.{length-remove}
+use Rattle.moka_sync_model.specs.declared.constants.TheConstants.{MAX_ROUNDS}
+use Rattle.moka_sync_model.specs.declared.ticket.Ticket.{Ticket}
+use Rattle.moka_sync_model.specs.Entry.{Entry}
+use Rattle.moka_sync_model.specs.Orders.{Orders, charge_of, without_node}
+use Rattle.moka_sync_model.specs.Place as place
+use Rattle.moka_sync_model.specs.Turn.Admission.{removing_or_enter}
+use Rattle.moka_sync_model.proofs.TicketLemmas.{cases_ticket}
+use Rattle.moka_sync_model.proofs.OrdersLemmas.{ChangesNode-without, charge_of-without}
+use Rattle.moka_queues.specs.declared.orders.Node.{Node}
+use Rattle.moka_queues.specs.OrdersState.{OrdersState, orders_of}
+use Rattle.moka_sync_model.specs.declared.at_hand.Work.{Work}
+use Rattle.moka_sync_model.specs.declared.at_hand.Candidate.{Candidate}
+use Rattle.moka_sync_model.specs.declared.at_hand.Tally.{Tally}
 use Rattle.moka_maintenance.specs.declared.maintenance.place.Scan.{Scan}
 use Rattle.moka_maintenance.specs.declared.maintenance.place.Removal.{Removal}
 use Rattle.moka_maintenance.specs.declared.maintenance.place.Stage.TheVariants as stage

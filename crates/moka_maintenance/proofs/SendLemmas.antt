@@ -4,11 +4,11 @@ use Rattle.std.proofs.Common.{unwrap_or, refl, sym, ap, ◌∙◌, subst, arith}
 use Rattle.std.proofs.lemmas.Bool.{cond-true}
 use Rattle.std.proofs.lemmas.List.{take-append-le, length_push}
 use Rattle.std.specs.Map.{lookup, remove_entry}
-use Rattle.moka_deque.specs.Deque.{first_id, moved_to_back}
-use Rattle.moka_deque.proofs.DequeLemmas.{nat_eq-same}
-use Rattle.moka_engine.specs.Orders.{used, all_used}
-use Rattle.moka_orders.specs.declared.orders.Node.{Node}
-use Rattle.moka_orders.specs.OrdersState.{OrdersState, orders_of}
+use Rattle.moka_list.specs.Nodes.{first_id, moved_to_back}
+use Rattle.moka_list.proofs.ItemLemmas.{nat_eq-same}
+use Rattle.moka_sync_model.specs.Orders.{used, all_used}
+use Rattle.moka_queues.specs.declared.orders.Node.{Node}
+use Rattle.moka_queues.specs.OrdersState.{OrdersState, orders_of}
 use Rattle.moka_maintenance.specs.Held.{first_tickets}
 
 -- the first node is found under its id

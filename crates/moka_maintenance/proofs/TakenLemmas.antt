@@ -3,26 +3,26 @@ use Rattle.std.proofs.Common.{◌≡◌, ◌∙◌, ◌+◌, ◌-◌, ◌<◌, �
 use Rattle.std.proofs.Common.{[], ◌∷◌, length, drop, slice_get, Option, Some, None, refl, sym, ap, subst, arith}
 use Rattle.std.specs.List.{fold}
 use Rattle.std.proofs.lemmas.Bool.{eqb-true, false≢true}
-use Rattle.moka_base.specs.Admission.{is_within}
-use Rattle.moka_base.specs.Settings.{Settings}
-use Rattle.moka_sketch.specs.Sketch.{estimate}
-use Rattle.moka_engine.specs.declared.entry.EntryChange.{EntryChange}
-use Rattle.moka_engine.specs.EntryChange.{change_of}
-use Rattle.moka_engine.specs.declared.operation.Read.{Read}
-use Rattle.moka_engine.specs.declared.operation.Write.TheVariants.{Remove, Upsert}
-use Rattle.moka_engine.specs.declared.ticket.Ticket.{Ticket}
-use Rattle.moka_engine.specs.CoreState.{Maintenance}
-use Rattle.moka_engine.specs.Entry.{Entry}
-use Rattle.moka_engine.specs.Orders.{charge_of, charged_weight}
-use Rattle.moka_engine.specs.Parts.{TurnsAlone, TurnsAtEntry}
-use Rattle.moka_engine.specs.Place as place
-use Rattle.moka_engine.specs.declared.at_hand.Work.{Work}
-use Rattle.moka_engine.specs.Place.{Place, is_idle}
-use Rattle.moka_engine.specs.Turn.Apply.{after_entry, after_first_upsert, after_present_upsert}
-use Rattle.moka_engine.specs.Turn.Apply.{after_refusal, after_removal, after_upsert, no_tally}
-use Rattle.moka_engine.specs.Turn.Plan.{Alone, Outcome, Stays, gone_to, outcome, reads_or_on, writes_or_on}
-use Rattle.moka_engine.specs.Turn.Turn.{turn_at}
-use Rattle.moka_orders.specs.declared.orders.Node.{Node}
+use Rattle.moka_common.specs.Admission.{is_within}
+use Rattle.moka_common.specs.Settings.{Settings}
+use Rattle.moka_common.specs.Sketch.{estimate}
+use Rattle.moka_sync_model.specs.declared.entry.EntryChange.{EntryChange}
+use Rattle.moka_sync_model.specs.EntryChange.{change_of}
+use Rattle.moka_sync_model.specs.declared.operation.Read.{Read}
+use Rattle.moka_sync_model.specs.declared.operation.Write.TheVariants.{Remove, Upsert}
+use Rattle.moka_sync_model.specs.declared.ticket.Ticket.{Ticket}
+use Rattle.moka_sync_model.specs.CoreState.{Maintenance}
+use Rattle.moka_sync_model.specs.Entry.{Entry}
+use Rattle.moka_sync_model.specs.Orders.{charge_of, charged_weight}
+use Rattle.moka_sync_model.specs.Parts.{TurnsAlone, TurnsAtEntry}
+use Rattle.moka_sync_model.specs.Place as place
+use Rattle.moka_sync_model.specs.declared.at_hand.Work.{Work}
+use Rattle.moka_sync_model.specs.Place.{Place, is_idle}
+use Rattle.moka_sync_model.specs.Turn.Apply.{after_entry, after_first_upsert, after_present_upsert}
+use Rattle.moka_sync_model.specs.Turn.Apply.{after_refusal, after_removal, after_upsert, no_tally}
+use Rattle.moka_sync_model.specs.Turn.Plan.{Alone, Outcome, Stays, gone_to, outcome, reads_or_on, writes_or_on}
+use Rattle.moka_sync_model.specs.Turn.Turn.{turn_at}
+use Rattle.moka_queues.specs.declared.orders.Node.{Node}
 use Rattle.moka_maintenance.specs.declared.maintenance.place.Stage.{Stage}
 use Rattle.moka_maintenance.specs.declared.maintenance.place.Stage.TheVariants as stage
 use Rattle.moka_maintenance.specs.Held.{place_of}

@@ -6,12 +6,12 @@ use Rattle.std.proofs.lemmas.Bool.{cases_Bool, cond-true, cond-false, false≢tr
 use Rattle.std.proofs.lemmas.List.{take-append-le, length_push}
 use Rattle.std.specs.List.{IsDistinct}
 use Rattle.std.specs.Map.{lookup, remove_entry, keys_of}
-use Rattle.moka_deque.specs.Deque.{first_id, next_id, moved_to_back}
-use Rattle.moka_engine.specs.Orders.{Orders, used, all_used}
-use Rattle.moka_engine.specs.Turn.Admission.{absent_of}
-use Rattle.moka_orders.specs.declared.orders.Node.{Node}
-use Rattle.moka_orders.specs.OrdersState.{OrdersState, orders_of}
-use Rattle.moka_deque.proofs.IdLemmas.{IsDistinct-rewritten, moved-found}
+use Rattle.moka_list.specs.Nodes.{first_id, next_id, moved_to_back}
+use Rattle.moka_sync_model.specs.Orders.{Orders, used, all_used}
+use Rattle.moka_sync_model.specs.Turn.Admission.{absent_of}
+use Rattle.moka_queues.specs.declared.orders.Node.{Node}
+use Rattle.moka_queues.specs.OrdersState.{OrdersState, orders_of}
+use Rattle.moka_list.proofs.IdLemmas.{IsDistinct-rewritten, moved-found}
 use Rattle.moka_maintenance.specs.Held.{first_seen, seen_node}
 use Rattle.moka_maintenance.proofs.NextLemmas.{IsNext, next_of, some_next}
 
@@ -80,7 +80,7 @@ module _ (end : Orders) (k id : ℕ) (o new : OrdersState) (next : Option ℕ) (
         arith,
         ap length (moved ∙ moved-found id at.x o.nodes at.found),
         length_push (remove_entry (nat_eq id) o.nodes) (id, at.x),
-        Rattle.moka_deque.proofs.DequeLemmas.length-remove id o.nodes (ap is_some at.found),
+        Rattle.moka_list.proofs.ItemLemmas.length-remove id o.nodes (ap is_some at.found),
       ) in
       record {
         done = w.done;

@@ -1,9 +1,9 @@
 -- The fronts of the orders. No public clause cites this module.
 use Rattle.std.specs.Prelude.{◌≡◌, ℕ, Option, Some, map, slice_get}
-use Rattle.moka_deque.specs.Deque.{first_id, moved_to_back}
-use Rattle.moka_engine.specs.declared.ticket.Ticket.{Ticket}
-use Rattle.moka_engine.specs.Orders.{used}
-use Rattle.moka_orders.specs.OrdersState.{OrdersState, AtNode, access_of, orders_of}
+use Rattle.moka_list.specs.Nodes.{first_id, moved_to_back}
+use Rattle.moka_sync_model.specs.declared.ticket.Ticket.{Ticket}
+use Rattle.moka_sync_model.specs.Orders.{used}
+use Rattle.moka_queues.specs.OrdersState.{OrdersState, AtNode, access_of, orders_of}
 
 -- the ticket of the least recently used node
 abbrev pub front_of : OrdersState → Option Ticket

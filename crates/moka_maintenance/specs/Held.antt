@@ -1,24 +1,24 @@
 -- How a maintenance keeps its place: in numbers and in the marks of the nodes. No public clause cites this module.
 use Rattle.std.specs.Prelude.{◌≡◌, ◌<◌, ◌≤◌, ◌+◌, ℕ, ◌==◌, Bool, true, false, if◌then◌else◌}
 use Rattle.std.specs.Prelude.{List, [], Option, None, map, take, drop, length}
-use Rattle.moka_deque.specs.Deque.{first_id}
-use Rattle.moka_sketch.specs.Sketch.{Table, estimate}
-use Rattle.moka_engine.specs.declared.constants.TheConstants.{MAX_ROUNDS}
-use Rattle.moka_engine.specs.declared.entry.EntryChange.{EntryChange}
-use Rattle.moka_engine.specs.declared.ticket.Ticket.{Ticket}
-use Rattle.moka_engine.specs.EntryChange.{change_of}
-use Rattle.moka_engine.specs.Orders.{charge_of}
-use Rattle.moka_engine.specs.Place as place
-use Rattle.moka_engine.specs.Place.{Place, Seen}
-use Rattle.moka_engine.specs.CoreState.{Maintenance, Published}
-use Rattle.moka_engine.specs.Entry.{Entry}
-use Rattle.moka_engine.specs.Turn.Plan.{AtEntry, Outcome, Plan}
-use Rattle.moka_engine.specs.Turn.Admission.{after_removing, after_scan, next_seen}
-use Rattle.moka_engine.specs.Turn.Apply.{no_tally}
-use Rattle.moka_orders.specs.declared.orders.Node.{Node}
-use Rattle.moka_orders.specs.OrdersState.{OrdersState, orders_of}
-use Rattle.moka_engine.specs.declared.at_hand.Work.{Work}
-use Rattle.moka_engine.specs.declared.at_hand.Candidate.{Candidate}
+use Rattle.moka_list.specs.Nodes.{first_id}
+use Rattle.moka_common.specs.Sketch.{Table, estimate}
+use Rattle.moka_sync_model.specs.declared.constants.TheConstants.{MAX_ROUNDS}
+use Rattle.moka_sync_model.specs.declared.entry.EntryChange.{EntryChange}
+use Rattle.moka_sync_model.specs.declared.ticket.Ticket.{Ticket}
+use Rattle.moka_sync_model.specs.EntryChange.{change_of}
+use Rattle.moka_sync_model.specs.Orders.{charge_of}
+use Rattle.moka_sync_model.specs.Place as place
+use Rattle.moka_sync_model.specs.Place.{Place, Seen}
+use Rattle.moka_sync_model.specs.CoreState.{Maintenance, Published}
+use Rattle.moka_sync_model.specs.Entry.{Entry}
+use Rattle.moka_sync_model.specs.Turn.Plan.{AtEntry, Outcome, Plan}
+use Rattle.moka_sync_model.specs.Turn.Admission.{after_removing, after_scan, next_seen}
+use Rattle.moka_sync_model.specs.Turn.Apply.{no_tally}
+use Rattle.moka_queues.specs.declared.orders.Node.{Node}
+use Rattle.moka_queues.specs.OrdersState.{OrdersState, orders_of}
+use Rattle.moka_sync_model.specs.declared.at_hand.Work.{Work}
+use Rattle.moka_sync_model.specs.declared.at_hand.Candidate.{Candidate}
 use Rattle.moka_maintenance.specs.declared.maintenance.place.Scan.{Scan}
 use Rattle.moka_maintenance.specs.declared.maintenance.place.Removal.{Removal}
 use Rattle.moka_maintenance.specs.declared.maintenance.place.Stage.{Stage}

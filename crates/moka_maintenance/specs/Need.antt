@@ -1,11 +1,11 @@
 -- What a turn needs besides the maintenance, by the name that the code has for it.
 use Rattle.std.specs.Prelude.{Option, Some, None}
-use Rattle.moka_engine.specs.declared.operation.Read.{Read}
-use Rattle.moka_engine.specs.declared.operation.Read.TheVariants.{Hit, Miss}
-use Rattle.moka_engine.specs.declared.operation.Write.{Write}
-use Rattle.moka_engine.specs.declared.operation.Write.TheVariants.{Upsert, Remove}
-use Rattle.moka_engine.specs.declared.ticket.Ticket.{Ticket}
-use Rattle.moka_engine.specs.Parts.{Need as TurnNeed, NeedsNothing, NeedsReads, NeedsWrites, NeedsShard}
+use Rattle.moka_sync_model.specs.declared.operation.Read.{Read}
+use Rattle.moka_sync_model.specs.declared.operation.Read.TheVariants.{Hit, Miss}
+use Rattle.moka_sync_model.specs.declared.operation.Write.{Write}
+use Rattle.moka_sync_model.specs.declared.operation.Write.TheVariants.{Upsert, Remove}
+use Rattle.moka_sync_model.specs.declared.ticket.Ticket.{Ticket}
+use Rattle.moka_sync_model.specs.Parts.{Need as TurnNeed, NeedsNothing, NeedsReads, NeedsWrites, NeedsShard}
 use Rattle.moka_maintenance.specs.declared.maintenance.Need.{Need}
 use Rattle.moka_maintenance.specs.declared.maintenance.Need.TheVariants as name
 

@@ -2,18 +2,18 @@
 -- and reads by the turns of all of them.
 use Rattle.std.specs.Prelude.{◌≡◌, ◌-◌, ℕ, List, [], ◌∷◌, length, Option, None, Some}
 use Rattle.std.specs.List.{fold}
-use Rattle.moka_sketch.specs.Sketch.{Table, after_increment}
-use Rattle.moka_engine.specs.declared.operation.Read.{Read}
-use Rattle.moka_engine.specs.declared.operation.Read.TheVariants.{Hit, Miss}
-use Rattle.moka_engine.specs.declared.operation.Write.{Write}
-use Rattle.moka_engine.specs.CoreState.{Maintenance}
-use Rattle.moka_engine.specs.Place as place
-use Rattle.moka_engine.specs.declared.at_hand.Candidate.{Candidate}
-use Rattle.moka_engine.specs.declared.at_hand.Tally.{Tally}
-use Rattle.moka_engine.specs.declared.at_hand.Work.{Work}
-use Rattle.moka_engine.specs.Place.{Place, Seen}
-use Rattle.moka_engine.specs.Orders.{Orders, used}
-use Rattle.moka_engine.specs.Turn.Plan.{gone_to, reads_or_on}
+use Rattle.moka_common.specs.Sketch.{Table, after_increment}
+use Rattle.moka_sync_model.specs.declared.operation.Read.{Read}
+use Rattle.moka_sync_model.specs.declared.operation.Read.TheVariants.{Hit, Miss}
+use Rattle.moka_sync_model.specs.declared.operation.Write.{Write}
+use Rattle.moka_sync_model.specs.CoreState.{Maintenance}
+use Rattle.moka_sync_model.specs.Place as place
+use Rattle.moka_sync_model.specs.declared.at_hand.Candidate.{Candidate}
+use Rattle.moka_sync_model.specs.declared.at_hand.Tally.{Tally}
+use Rattle.moka_sync_model.specs.declared.at_hand.Work.{Work}
+use Rattle.moka_sync_model.specs.Place.{Place, Seen}
+use Rattle.moka_sync_model.specs.Orders.{Orders, used}
+use Rattle.moka_sync_model.specs.Turn.Plan.{gone_to, reads_or_on}
 
 -- its next turn is to take a read
 abbrev pub TakesRead : Maintenance → Type 0

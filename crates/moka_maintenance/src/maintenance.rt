@@ -1,17 +1,17 @@
 //! The maintenance of the cache that threads share: it applies what callers have left in the logs, decides which entries enter and leave, and
 //! publishes the counts. It goes on by turns, each of which needs at most one log or one entry besides it.
 ghost use Rattle.std.specs.Prelude.{◌≡◌, ◌≤◌, ◌<◌, ◌↔◌, Bool, IfOk, IfSome, IsTrue, Option, false, length, option_copied, option_map};
-ghost use Rattle.moka_engine.specs.CoreState.{new_maintenance};
-ghost use Rattle.moka_engine.specs.Orders.{charged_weight};
-ghost use Rattle.moka_engine.specs.Parts.{NeedsNothing, NeedsReads, NeedsShard, NeedsWrites, TurnsAlone};
-ghost use Rattle.moka_engine.specs.Parts.{TurnsAtEntry, TurnsWithReads, TurnsWithWrites, need_of};
-ghost use Rattle.moka_engine.specs.Place.{Idle, ReadCount, name_of};
-ghost use Rattle.moka_engine.specs.Turn.Turn.{turn_at};
-ghost use Rattle.moka_engine.specs.Entry.{Entry as EntryState};
-ghost use Rattle.moka_engine.specs.declared.operation.Write.TheVariants.{Remove, Upsert};
+ghost use Rattle.moka_sync_model.specs.CoreState.{new_maintenance};
+ghost use Rattle.moka_sync_model.specs.Orders.{charged_weight};
+ghost use Rattle.moka_sync_model.specs.Parts.{NeedsNothing, NeedsReads, NeedsShard, NeedsWrites, TurnsAlone};
+ghost use Rattle.moka_sync_model.specs.Parts.{TurnsAtEntry, TurnsWithReads, TurnsWithWrites, need_of};
+ghost use Rattle.moka_sync_model.specs.Place.{Idle, ReadCount, name_of};
+ghost use Rattle.moka_sync_model.specs.Turn.Turn.{turn_at};
+ghost use Rattle.moka_sync_model.specs.Entry.{Entry as EntryState};
+ghost use Rattle.moka_sync_model.specs.declared.operation.Write.TheVariants.{Remove, Upsert};
 ghost use Rattle.moka_maintenance.specs.Need.{need_at_front, need_named, need_to_read, need_to_write};
 ghost use Rattle.moka_maintenance.specs.Published.{published_of};
-ghost use Rattle.moka_logs.specs.LoggedReads.{reads_of};
+ghost use Rattle.moka_queues.specs.LoggedReads.{reads_of};
 ghost use Rattle.moka_maintenance.specs.Taken.{AppliesReads, IsScan, IsTaken, TakesRead, TakesWrite, having_taken_write, reads_left, writes_left};
 
 mod admission;
@@ -27,15 +27,15 @@ mod writes;
 
 use crate::maintenance::place::Stage;
 use crate::maintenance::state::State;
-use moka_base::time::Instant;
-use moka_engine::entry::{Entry, EntryChange, place_of};
-use moka_engine::operation::{Read, Write};
-use moka_engine::place::Place;
-use moka_engine::settings::Settings;
-use moka_engine::ticket::Ticket;
-use moka_logs::logs::{LoggedRead, ReadLog, WriteLog};
-use moka_orders::orders::Orders;
-use moka_sketch::frequency_sketch::FrequencySketch;
+use moka_common::frequency_sketch::FrequencySketch;
+use moka_common::time::Instant;
+use moka_queues::logs::{LoggedRead, ReadLog, WriteLog};
+use moka_queues::orders::Orders;
+use moka_sync_model::entry::{Entry, EntryChange, place_of};
+use moka_sync_model::operation::{Read, Write};
+use moka_sync_model::place::Place;
+use moka_sync_model::settings::Settings;
+use moka_sync_model::ticket::Ticket;
 pub use publish::Published;
 use std::alloc::{AllocError, Allocator, Global};
 use std::marker::Model;
@@ -57,7 +57,7 @@ pub struct Maintenance<A: Allocator + Clone + Drop = Global> {
 }
 
 impl<A: Allocator + Clone + Drop> Model for Maintenance<A> {
-    ghost use Rattle.moka_engine.specs.CoreState.{Maintenance as MaintenanceState};
+    ghost use Rattle.moka_sync_model.specs.CoreState.{Maintenance as MaintenanceState};
     ghost use Rattle.moka_maintenance.specs.Held.{IsAtHand, maintenance_of};
 
     ghost Value = { MaintenanceState };

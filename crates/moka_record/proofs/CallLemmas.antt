@@ -2,30 +2,30 @@
 use Rattle.std.proofs.Common.{◌≡◌, ℕ, Bool, true, false, List, [], ◌∷◌, ◌++◌, Option, Some, None, refl, ap, ◌∙◌, subst, sym, inl, inr}
 use Rattle.std.specs.Bool.{MatchBool}
 use Rattle.std.specs.Option.{MatchOption}
-use Rattle.moka_base.specs.Keys.{Keys}
-use Rattle.moka_base.specs.Settings.{Settings}
-use Rattle.moka_engine.specs.declared.constants.TheConstants.{CALLER}
-use Rattle.moka_engine.specs.declared.call.Call.{Call}
-use Rattle.moka_engine.specs.declared.call.Call.TheVariants as call
-use Rattle.moka_engine.specs.declared.event.Event.{Event}
-use Rattle.moka_engine.specs.declared.event.Event.TheVariants.{Insert, Get, Contains, Invalidate, Take, InvalidateAll, Push, Forget, Copy}
-use Rattle.moka_engine.specs.declared.event.Event.TheVariants.{Begin, Turn, Counts}
-use Rattle.moka_engine.specs.declared.event.Reply.TheVariants as reply
-use Rattle.moka_engine.specs.declared.operation.Operation.{Operation}
-use Rattle.moka_engine.specs.declared.operation.Operation.TheVariants.{Reading, Writing}
-use Rattle.moka_engine.specs.Entry.{Entry, entry_at}
-use Rattle.moka_engine.specs.CoreState.{CoreState, pending_of, without_pending}
-use Rattle.moka_engine.specs.CoreCall.{Decides, has_pending, scheduled, IsCall}
-use Rattle.moka_engine.specs.Event.{IsPush, IsForgetting, IsBeginning, IsTurn, IsStep}
-use Rattle.moka_engine.specs.MapStep.{OnlyReplies, IsInsert, IsUpdate, IsAddition, fresh_entry}
-use Rattle.moka_engine.specs.MapStep.{IsGet, IsMiss, IsHit, IsInvalidation, IsTaking, IsCopy, pairs_of}
-use Rattle.moka_engine.specs.Place.{is_idle}
-use Rattle.moka_engine.specs.Reply.{Reply}
-use Rattle.moka_engine.specs.Run.{Happens}
-use Rattle.moka_engine.specs.Turn.Plan.{Plan, Alone, AtReads, AtWrites, AtEntry, after_plan}
-use Rattle.moka_engine.specs.Turn.Turn.{turn_at}
-use Rattle.moka_engine.specs.WholeCall as whole
-use Rattle.moka_engine.specs.WholeCall.{LastTurn, NextTurn, Pushed, WasFull}
+use Rattle.moka_common.specs.Keys.{Keys}
+use Rattle.moka_common.specs.Settings.{Settings}
+use Rattle.moka_sync_model.specs.declared.constants.TheConstants.{CALLER}
+use Rattle.moka_sync_model.specs.declared.call.Call.{Call}
+use Rattle.moka_sync_model.specs.declared.call.Call.TheVariants as call
+use Rattle.moka_sync_model.specs.declared.event.Event.{Event}
+use Rattle.moka_sync_model.specs.declared.event.Event.TheVariants.{Insert, Get, Contains, Invalidate, Take, InvalidateAll, Push, Forget, Copy}
+use Rattle.moka_sync_model.specs.declared.event.Event.TheVariants.{Begin, Turn, Counts}
+use Rattle.moka_sync_model.specs.declared.event.Reply.TheVariants as reply
+use Rattle.moka_sync_model.specs.declared.operation.Operation.{Operation}
+use Rattle.moka_sync_model.specs.declared.operation.Operation.TheVariants.{Reading, Writing}
+use Rattle.moka_sync_model.specs.Entry.{Entry, entry_at}
+use Rattle.moka_sync_model.specs.CoreState.{CoreState, pending_of, without_pending}
+use Rattle.moka_sync_model.specs.CoreCall.{Decides, has_pending, scheduled, IsCall}
+use Rattle.moka_sync_model.specs.Event.{IsPush, IsForgetting, IsBeginning, IsTurn, IsStep}
+use Rattle.moka_sync_model.specs.MapStep.{OnlyReplies, IsInsert, IsUpdate, IsAddition, fresh_entry}
+use Rattle.moka_sync_model.specs.MapStep.{IsGet, IsMiss, IsHit, IsInvalidation, IsTaking, IsCopy, pairs_of}
+use Rattle.moka_sync_model.specs.Place.{is_idle}
+use Rattle.moka_sync_model.specs.Reply.{Reply}
+use Rattle.moka_sync_model.specs.Run.{Happens}
+use Rattle.moka_sync_model.specs.Turn.Plan.{Plan, Alone, AtReads, AtWrites, AtEntry, after_plan}
+use Rattle.moka_sync_model.specs.Turn.Turn.{turn_at}
+use Rattle.moka_sync_model.specs.WholeCall as whole
+use Rattle.moka_sync_model.specs.WholeCall.{LastTurn, NextTurn, Pushed, WasFull}
 use Rattle.moka_record.specs.Record.{IsAnswer}
 
 module _ {K V S : Type 0} (keys : Keys K S) where

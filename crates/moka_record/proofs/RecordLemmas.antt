@@ -1,12 +1,12 @@
 -- A record that has one call more.
 use Rattle.std.proofs.Common.{◌≡◌, ℕ, List, [], ◌∷◌, ◌++◌, refl, sym, ap, ◌∙◌, subst}
 use Rattle.std.specs.Prelude.{slice_index}
-use Rattle.moka_base.specs.Keys.{Keys}
-use Rattle.moka_engine.specs.declared.call.Call.{Call}
-use Rattle.moka_engine.specs.Reply.{Reply}
-use Rattle.moka_engine.specs.CoreState.{CoreState, IsNew, new_core}
-use Rattle.moka_engine.specs.CoreCall.{IsAtRest, IsCall}
-use Rattle.moka_engine.specs.CoreCall as core_calls
+use Rattle.moka_common.specs.Keys.{Keys}
+use Rattle.moka_sync_model.specs.declared.call.Call.{Call}
+use Rattle.moka_sync_model.specs.Reply.{Reply}
+use Rattle.moka_sync_model.specs.CoreState.{CoreState, IsNew, new_core}
+use Rattle.moka_sync_model.specs.CoreCall.{IsAtRest, IsCall}
+use Rattle.moka_sync_model.specs.CoreCall as core_calls
 use Rattle.moka_record.specs.declared.record.Made.{Made}
 use Rattle.moka_record.specs.Record.{RecordState, Makes}
 use Rattle.moka_record.specs.Replay.{Replays, exchanges}

@@ -3,20 +3,20 @@ use Rattle.std.proofs.Common.{◌≡◌, ◌<◌, ◌+◌, arith, slice_index, s
 use Rattle.std.proofs.Common.{Some, None, Ok, length, ap, ◌∙◌, inl, inr}
 use Rattle.std.proofs.lemmas.List.{length-append}
 use Rattle.std.proofs.lemmas.List.Sums.{sum_by-set}
-use Rattle.moka_base.specs.Keys.{Keys}
-use Rattle.moka_engine.specs.declared.constants.TheConstants.{CALLER}
-use Rattle.moka_engine.specs.declared.call.Call.{Call}
-use Rattle.moka_engine.specs.declared.call.Call.TheVariants as call
-use Rattle.moka_engine.specs.declared.event.Event.{Event}
-use Rattle.moka_engine.specs.declared.event.Event.TheVariants.{Insert, Get, Contains, Invalidate, Take, InvalidateAll, Push, Forget, Copy}
-use Rattle.moka_engine.specs.declared.event.Event.TheVariants.{Begin, Turn, Counts}
-use Rattle.moka_engine.specs.declared.event.Reply.TheVariants as reply
-use Rattle.moka_engine.specs.CoreState.{CoreState}
-use Rattle.moka_engine.specs.CoreCall.{Decides, has_pending, IsCall}
-use Rattle.moka_engine.specs.Reply.{Reply}
-use Rattle.moka_engine.specs.Run.{Happens, IsWeighed}
-use Rattle.moka_engine.specs.WholeCall as whole
-use Rattle.moka_engine.specs.WholeCall.{LastTurn, NextTurn, Pushed, WasFull}
+use Rattle.moka_common.specs.Keys.{Keys}
+use Rattle.moka_sync_model.specs.declared.constants.TheConstants.{CALLER}
+use Rattle.moka_sync_model.specs.declared.call.Call.{Call}
+use Rattle.moka_sync_model.specs.declared.call.Call.TheVariants as call
+use Rattle.moka_sync_model.specs.declared.event.Event.{Event}
+use Rattle.moka_sync_model.specs.declared.event.Event.TheVariants.{Insert, Get, Contains, Invalidate, Take, InvalidateAll, Push, Forget, Copy}
+use Rattle.moka_sync_model.specs.declared.event.Event.TheVariants.{Begin, Turn, Counts}
+use Rattle.moka_sync_model.specs.declared.event.Reply.TheVariants as reply
+use Rattle.moka_sync_model.specs.CoreState.{CoreState}
+use Rattle.moka_sync_model.specs.CoreCall.{Decides, has_pending, IsCall}
+use Rattle.moka_sync_model.specs.Reply.{Reply}
+use Rattle.moka_sync_model.specs.Run.{Happens, IsWeighed}
+use Rattle.moka_sync_model.specs.WholeCall as whole
+use Rattle.moka_sync_model.specs.WholeCall.{LastTurn, NextTurn, Pushed, WasFull}
 use Rattle.moka_record.specs.Record.{IsApplied, Memory, RecordState}
 use Rattle.moka_record.specs.Replay.{Replays}
 use Rattle.moka_record.proofs.RecordLemmas.{Replays-push}

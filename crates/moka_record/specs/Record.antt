@@ -1,11 +1,11 @@
 -- What a contract sees of a record, and what it means to apply a call to it.
 use Rattle.std.specs.Prelude.{◌≡◌, ℕ, Bool, true, List, [], ◌∷◌, ◌++◌, slice_index, Some, Result, Ok, Err, MatchBool}
-use Rattle.moka_base.specs.Keys.{Keys}
-use Rattle.moka_engine.specs.declared.call.Call.{Call}
-use Rattle.moka_engine.specs.declared.event.Reply.TheVariants.{Found, Discarded, Rows, At, NotPossible, OutOfMemory}
-use Rattle.moka_engine.specs.Reply.{Reply}
-use Rattle.moka_engine.specs.CoreState.{CoreState}
-use Rattle.moka_engine.specs.CoreCall.{IsCall}
+use Rattle.moka_common.specs.Keys.{Keys}
+use Rattle.moka_sync_model.specs.declared.call.Call.{Call}
+use Rattle.moka_sync_model.specs.declared.event.Reply.TheVariants.{Found, Discarded, Rows, At, NotPossible, OutOfMemory}
+use Rattle.moka_sync_model.specs.Reply.{Reply}
+use Rattle.moka_sync_model.specs.CoreState.{CoreState}
+use Rattle.moka_sync_model.specs.CoreCall.{IsCall}
 use Rattle.moka_record.specs.declared.record.Made.{Made}
 use Rattle.moka_record.specs.declared.record.NotRecorded.{NotRecorded}
 

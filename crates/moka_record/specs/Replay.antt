@@ -1,10 +1,10 @@
 -- What it means that a list of calls with their replies replays to a core.
 use Rattle.std.specs.Prelude.{ℕ, List, map}
-use Rattle.moka_base.specs.Keys.{Keys}
-use Rattle.moka_engine.specs.declared.call.Call.{Call}
-use Rattle.moka_engine.specs.Reply.{Reply}
-use Rattle.moka_engine.specs.CoreState.{new_core}
-use Rattle.moka_engine.specs.CoreCall as core_calls
+use Rattle.moka_common.specs.Keys.{Keys}
+use Rattle.moka_sync_model.specs.declared.call.Call.{Call}
+use Rattle.moka_sync_model.specs.Reply.{Reply}
+use Rattle.moka_sync_model.specs.CoreState.{new_core}
+use Rattle.moka_sync_model.specs.CoreCall as core_calls
 use Rattle.moka_record.specs.declared.record.Made.{Made}
 use Rattle.moka_record.specs.Record.{RecordState}
 

@@ -1,7 +1,7 @@
 // What lies behind the lock of a recording cache: its record, and how many calls each pass has made.
 ghost use Rattle.std.specs.Prelude.{◌≡◌, ◌<◌, ◌+◌, ℕ, length, slice_index, sum_by, IfNone, IfOk, IsTrue, MatchResult};
-ghost use Rattle.moka_base.specs.Keys.{keys_by};
-ghost use Rattle.moka_engine.specs.CoreState.{IsNew};
+ghost use Rattle.moka_common.specs.Keys.{keys_by};
+ghost use Rattle.moka_sync_model.specs.CoreState.{IsNew};
 ghost use Rattle.moka_record.specs.Passes.{made_by};
 ghost use Rattle.moka_record.specs.Record.{IsAnswer};
 ghost use Rattle.moka_record.specs.Replay.{Replays};
@@ -9,9 +9,9 @@ ghost use Rattle.moka_record.specs.Replay.{Replays};
 use crate::pass::{CallPass, CloseError, have_all_places, made_by};
 use crate::record::{Answer, NotRecorded, Record, SharedCall};
 use crate::rule::WeightRule;
-use moka_base::error::OutOfMemory;
+use moka_common::error::OutOfMemory;
 use moka_core::engine::Core;
-use moka_engine::weigh::WeighShared;
+use moka_sync_model::weigh::WeighShared;
 use std::alloc::{Allocator, Global};
 use std::hash::{BuildHasher, Hash};
 use std::marker::{Model, PhantomData};
@@ -40,7 +40,7 @@ impl<
     A: Allocator + Clone + Drop,
 > Model for Counted<K, V, S, W, Q, A> {
     ghost use Rattle.std.specs.Prelude.{◌≡◌, length, sum_by};
-    ghost use Rattle.moka_base.specs.Keys.{keys_by};
+    ghost use Rattle.moka_common.specs.Keys.{keys_by};
     ghost use Rattle.moka_record.specs.Counted.{Counted as CountedValue};
     ghost use Rattle.moka_record.specs.Replay.{Replays};
 

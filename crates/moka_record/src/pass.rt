@@ -2,7 +2,7 @@
 ghost use Rattle.std.specs.Prelude.{◌≡◌, IfOk, IfSome};
 ghost use Rattle.moka_record.specs.Passes.{made_by, new_passes};
 
-use moka_base::error::OutOfMemory;
+use moka_common::error::OutOfMemory;
 use std::alloc::Allocator;
 use thiserror::Error;
 

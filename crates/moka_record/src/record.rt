@@ -1,16 +1,16 @@
 //! A cache that keeps a record of its calls. Replayed from a new cache, the record leads to the cache as it is.
 ghost use Rattle.std.specs.Prelude.{◌≡◌, Bool, IfOk};
 ghost use Rattle.moka_record.specs.Record.{IsAnswer, answer_of};
-ghost use Rattle.moka_base.specs.Keys.{keys_by};
+ghost use Rattle.moka_common.specs.Keys.{keys_by};
 
-use moka_base::hash::FixedState;
-use moka_base::shared::Shared;
-use moka_base::weigh::UnitWeight;
+use moka_common::hash::FixedState;
+use moka_common::shared::Shared;
+use moka_common::weigh::UnitWeight;
 use moka_core::engine::Core;
 use moka_core::rows::Rows;
-use moka_engine::call::Call;
-use moka_engine::event::Reply;
-use moka_engine::weigh::WeighShared;
+use moka_sync_model::call::Call;
+use moka_sync_model::event::Reply;
+use moka_sync_model::weigh::WeighShared;
 use std::alloc::{Allocator, Global};
 use std::hash::{BuildHasher, Hash};
 use std::marker::Model;
@@ -66,7 +66,7 @@ impl<
     W: Drop,
     A: Allocator + Clone + Drop,
 > Model for Record<K, V, S, W, A> {
-    ghost use Rattle.moka_engine.specs.CoreCall.{IsAtRest};
+    ghost use Rattle.moka_sync_model.specs.CoreCall.{IsAtRest};
     ghost use Rattle.moka_record.specs.Record.{Record as RecordValue};
 
     ghost Value = { RecordValue K V S W A };
@@ -86,7 +86,7 @@ impl<
     W: WeighShared<K, V>,
     A: Allocator + Clone + Drop,
 > Record<K, V, S, W, A> {
-    ghost use Rattle.moka_engine.specs.CoreState.{IsNew};
+    ghost use Rattle.moka_sync_model.specs.CoreState.{IsNew};
     ghost use Rattle.moka_record.specs.Record.{new_record, Memory, IsApplied};
     ghost use Rattle.moka_record.specs.Replay.{Replays};
 

@@ -1,7 +1,7 @@
 //! A recording cache that threads share: one lock round a record, and a pass for each caller.
 ghost use Rattle.std.specs.Prelude.{◌≡◌, ◌+◌, ℕ, length, sum_by, IfOk, MatchResult};
-ghost use Rattle.moka_base.specs.Keys.{keys_by};
-ghost use Rattle.moka_engine.specs.CoreState.{IsNew};
+ghost use Rattle.moka_common.specs.Keys.{keys_by};
+ghost use Rattle.moka_sync_model.specs.CoreState.{IsNew};
 ghost use Rattle.moka_record.specs.Passes.{made_by, new_passes};
 ghost use Rattle.moka_record.specs.Record.{IsAnswer};
 ghost use Rattle.moka_record.specs.Replay.{Replays};
@@ -10,11 +10,11 @@ use crate::counted::{Counted, none_made};
 use crate::pass::{CallPass, CloseError, new_passes};
 use crate::record::{Answer, NotRecorded, Record, SharedCall};
 use crate::rule::WeightRule;
-use moka_base::error::OutOfMemory;
-use moka_base::hash::FixedState;
-use moka_base::weigh::UnitWeight;
+use moka_common::error::OutOfMemory;
+use moka_common::hash::FixedState;
+use moka_common::weigh::UnitWeight;
 use moka_core::engine::Core;
-use moka_engine::weigh::WeighShared;
+use moka_sync_model::weigh::WeighShared;
 use std::alloc::{Allocator, Global};
 use std::hash::{BuildHasher, Hash};
 use std::sync::{Mutex, Wait};

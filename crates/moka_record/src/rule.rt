@@ -1,8 +1,8 @@
 //! Rules that the weights of a recording cache meet.
 ghost use Rattle.std.specs.Prelude.{ℕ, ⊤};
-ghost use Rattle.moka_base.specs.Weight.{unit_weighs};
+ghost use Rattle.moka_common.specs.Weight.{unit_weighs};
 
-use moka_base::weigh::UnitWeight;
+use moka_common::weigh::UnitWeight;
 
 /// A rule of the weights that a weigher gives. A record replays by it.
 pub trait WeightRule<K, V> {

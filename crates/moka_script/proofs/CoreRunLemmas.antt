@@ -6,11 +6,11 @@ use Rattle.std.specs.List.{flat_map, list_any}
 use Rattle.std.specs.List.Sorted.{IsNonDecreasing, IsNonDecreasingBy, IsPermutation}
 use Rattle.std.proofs.lemmas.List.{drop_all, get_or-map, length-map, map-append}
 use Rattle.std.proofs.lemmas.List.Sorted.{IsPermutation-map}
-use Rattle.moka_engine.specs.declared.event.Event.{Event}
-use Rattle.moka_engine.specs.CoreState.{CoreState}
-use Rattle.moka_engine.specs.CoreCall.{numbers_from}
-use Rattle.moka_engine.specs.Reply.{Reply as Answer}
-use Rattle.moka_engine.specs.Run.{Happens, RunsTo}
+use Rattle.moka_sync_model.specs.declared.event.Event.{Event}
+use Rattle.moka_sync_model.specs.CoreState.{CoreState}
+use Rattle.moka_sync_model.specs.CoreCall.{numbers_from}
+use Rattle.moka_sync_model.specs.Reply.{Reply as Answer}
+use Rattle.moka_sync_model.specs.Run.{Happens, RunsTo}
 use Rattle.moka_common.specs.Keys.{Keys}
 use Rattle.moka_grammar.specs.declared.line.CoreLine.{CoreLine}
 use Rattle.moka_script.specs.declared.stored.Stored.{Stored}

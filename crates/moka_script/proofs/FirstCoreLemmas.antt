@@ -2,7 +2,7 @@
 use Rattle.std.proofs.Common.{◌≡◌, ℕ, Bool, List, ◌++◌, None, Result, IfOk, sym, ap, ◌∙◌, subst}
 use Rattle.moka_common.specs.Settings.{Settings}
 use Rattle.moka_grammar.specs.declared.line.CacheOptions.{CacheOptions}
-use Rattle.moka_engine.specs.CoreState.{CoreState, IsNew, new_core}
+use Rattle.moka_sync_model.specs.CoreState.{CoreState, IsNew, new_core}
 use Rattle.moka_script.specs.FirstCore.{ScriptCore, IsFirstCore, AreRepliesUnder, AreRepliesOf}
 use Rattle.moka_script.specs.Reply.{Ready, reply_line}
 use Rattle.moka_script.specs.UnsyncRun.{options_fault}

@@ -2,14 +2,14 @@
 use Rattle.std.specs.Prelude.{◌≡◌, ℕ, ◌^◌, ◌-◌, min, Bool, true, false, List, [], ◌∷◌, ◌++◌, map, option_map, MatchBool}
 use Rattle.std.specs.List.{flat_map, list_any}
 use Rattle.std.specs.List.Sorted.{IsNonDecreasing, IsPermutation}
-use Rattle.moka_engine.specs.declared.constants.TheConstants.{CALLER, SHARDS}
-use Rattle.moka_engine.specs.declared.event.Event.{Event}
-use Rattle.moka_engine.specs.declared.event.Event.TheVariants as event
-use Rattle.moka_engine.specs.declared.event.Reply.TheVariants as answer
-use Rattle.moka_engine.specs.Reply.{Reply as Answer}
-use Rattle.moka_engine.specs.Run.{Happens, RunsTo}
-use Rattle.moka_engine.specs.CoreCall.{Decides, Finishes, has_pending, numbers_from}
-use Rattle.moka_engine.specs.WholeCall.{Maintains}
+use Rattle.moka_sync_model.specs.declared.constants.TheConstants.{CALLER, SHARDS}
+use Rattle.moka_sync_model.specs.declared.event.Event.{Event}
+use Rattle.moka_sync_model.specs.declared.event.Event.TheVariants as event
+use Rattle.moka_sync_model.specs.declared.event.Reply.TheVariants as answer
+use Rattle.moka_sync_model.specs.Reply.{Reply as Answer}
+use Rattle.moka_sync_model.specs.Run.{Happens, RunsTo}
+use Rattle.moka_sync_model.specs.CoreCall.{Decides, Finishes, has_pending, numbers_from}
+use Rattle.moka_sync_model.specs.WholeCall.{Maintains}
 use Rattle.moka_grammar.specs.declared.line.CacheOptions.{CacheOptions}
 use Rattle.moka_grammar.specs.declared.line.CoreLine.{CoreLine}
 use Rattle.moka_grammar.specs.declared.line.CoreRequest.{CoreRequest}

@@ -2,7 +2,7 @@
 use Rattle.std.specs.Prelude.{◌≡◌, ℕ, Bool, true, false, List, ◌++◌, Option, Some, None, unwrap_or}
 use Rattle.moka_common.specs.Weight.{unit_weighs}
 use Rattle.moka_common.specs.declared.error.BuildError.{BuildError}
-use Rattle.moka_engine.specs.CoreState.{CoreState, new_core}
+use Rattle.moka_sync_model.specs.CoreState.{CoreState, new_core}
 use Rattle.moka_grammar.specs.declared.line.CacheOptions.{CacheOptions}
 use Rattle.moka_script.specs.declared.keys.KeyState.{KeyState}
 use Rattle.moka_script.specs.declared.stored.Stored.{Stored}

@@ -5,10 +5,10 @@ use Rattle.moka_grammar.specs.declared.line.Line.{Line}
 use Rattle.moka_grammar.specs.declared.line.Request.{Request}
 use Rattle.moka_grammar.specs.declared.line.Request.TheVariants.{Insert, Get, ContainsKey, Invalidate, Remove, InvalidateAll, Sync}
 use Rattle.moka_grammar.specs.declared.line.Request.TheVariants.{EntryCount, WeightedSize}
-use Rattle.moka_engine.specs.declared.call.Call.{Call}
-use Rattle.moka_engine.specs.declared.call.Call.TheVariants as call
-use Rattle.moka_engine.specs.declared.event.Reply.TheVariants as answer
-use Rattle.moka_engine.specs.Reply.{Reply as Answer}
+use Rattle.moka_sync_model.specs.declared.call.Call.{Call}
+use Rattle.moka_sync_model.specs.declared.call.Call.TheVariants as call
+use Rattle.moka_sync_model.specs.declared.event.Reply.TheVariants as answer
+use Rattle.moka_sync_model.specs.Reply.{Reply as Answer}
 use Rattle.moka_script.specs.declared.keys.KeyState.{KeyState}
 use Rattle.moka_script.specs.declared.recorded.Asked.{Asked}
 use Rattle.moka_script.specs.declared.recorded.Asked.TheVariants.{Count, Weight}

@@ -5,8 +5,8 @@ use Rattle.std.specs.List.{join_with_byte}
 use Rattle.moka_common.specs.declared.error.BuildError.{BuildError}
 use Rattle.moka_common.specs.Error.{build_error_text}
 use Rattle.moka_common.specs.Policy.{Policy}
-use Rattle.moka_engine.specs.declared.place.Place.{Place}
-use Rattle.moka_engine.specs.declared.place.Place.TheVariants as place
+use Rattle.moka_sync_model.specs.declared.place.Place.{Place}
+use Rattle.moka_sync_model.specs.declared.place.Place.TheVariants as place
 use Rattle.moka_grammar.specs.Spelling.{line_feed, space}
 use Rattle.moka_common.specs.Settings.{live_nanos, idle_nanos}
 

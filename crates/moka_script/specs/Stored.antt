@@ -1,6 +1,6 @@
 -- What the cache of a script stores, and how it is weighed.
 use Rattle.std.specs.Prelude.{◌≡◌, ℕ, List, Option, unwrap_or}
-use Rattle.moka_base.specs.declared.constants.TheConstants.{UNIT_WEIGHT}
+use Rattle.moka_common.specs.declared.constants.TheConstants.{UNIT_WEIGHT}
 use Rattle.moka_script.specs.declared.stored.Stored.{Stored}
 
 -- what an insert stores: its text, and the weight that its line says, or the unit weight where it says none

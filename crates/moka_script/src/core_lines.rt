@@ -1,9 +1,9 @@
 //! The replies to a core script: its steps, taken on the core of the cache that threads share.
 ghost use Rattle.std.specs.Prelude.{◌≡◌, ◌++◌, ◌-◌, ◌^◌, ℕ, List, IfOk, OnOk, map, min};
 ghost use Rattle.std.specs.List.{flat_map, list_any};
-ghost use Rattle.moka_engine.specs.declared.event.Event.TheVariants as event;
-ghost use Rattle.moka_engine.specs.declared.event.Reply.TheVariants as answer;
-ghost use Rattle.moka_engine.specs.Run.{Happens};
+ghost use Rattle.moka_sync_model.specs.declared.event.Event.TheVariants as event;
+ghost use Rattle.moka_sync_model.specs.declared.event.Reply.TheVariants as answer;
+ghost use Rattle.moka_sync_model.specs.Run.{Happens};
 ghost use Rattle.moka_script.specs.CoreRun.{AreCoreReplyLines, AreReplies, Does, Syncs, action_at, copies, is_refused, pairs_in, told, told_if};
 ghost use Rattle.moka_script.specs.Reply.{Ready, Reply as Told, reply_line};
 ghost use Rattle.moka_script.specs.ReplyValue.{pairs_of, reply_of};
@@ -17,11 +17,11 @@ use moka_common::shared::Shared;
 use moka_common::time::Instant;
 use moka_common::weigh::UnitWeight;
 use moka_core::rows::Rows;
-use moka_engine::constants::SHARDS;
-use moka_engine::event::{Event, Reply};
-use moka_engine::weigh::WeighShared;
 use moka_grammar::line::{CacheOptions, CoreLine, CoreRequest};
 use moka_grammar::text::Text;
+use moka_sync_model::constants::SHARDS;
+use moka_sync_model::event::{Event, Reply};
+use moka_sync_model::weigh::WeighShared;
 use std::alloc::{AllocError, Allocator};
 
 /// A step of a line.

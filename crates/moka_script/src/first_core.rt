@@ -11,10 +11,10 @@ use moka_common::error::BuildError;
 use moka_common::policy::Policy;
 use moka_common::settings::duration_fault;
 use moka_core::engine::Core;
-use moka_engine::constants::{SHARDS, WRITE_LOG_SIZE};
-use moka_engine::settings::CoreParts;
 use moka_grammar::line::{CacheOptions, Span};
 use moka_grammar::text::Text;
+use moka_sync_model::constants::{SHARDS, WRITE_LOG_SIZE};
+use moka_sync_model::settings::CoreParts;
 use std::alloc::Allocator;
 use std::time::Duration;
 

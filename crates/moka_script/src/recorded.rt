@@ -1,7 +1,7 @@
 //! The replies to a recorded script: its calls, made on a cache that keeps a record of them.
 ghost use Rattle.std.specs.Prelude.{◌≡◌, ◌++◌, ℕ, List, Some, IfOk, OnOk, IsTrue};
 ghost use Rattle.std.specs.List.{AllByRecursion};
-ghost use Rattle.moka_engine.specs.CoreState.{IsNew};
+ghost use Rattle.moka_sync_model.specs.CoreState.{IsNew};
 ghost use Rattle.moka_grammar.specs.Lines.{allows, LineFits};
 ghost use Rattle.moka_record.specs.Record.{IsAnswer, new_record};
 ghost use Rattle.moka_script.specs.RecordedRun.{AreRecordedReplyLines, AreReplies, IsAnswered, asked_of, call_at, told};
@@ -16,12 +16,12 @@ use moka_common::error::OutOfMemory;
 use moka_common::shared::Shared;
 use moka_common::time::Instant;
 use moka_common::weigh::UnitWeight;
-use moka_engine::call::Call;
-use moka_engine::event::Reply;
-use moka_engine::weigh::WeighShared;
 use moka_grammar::line::{CacheHeader, Line, Mode, Request};
 use moka_grammar::text::Text;
 use moka_record::record::{Answer, NotRecorded, Record, SharedCall};
+use moka_sync_model::call::Call;
+use moka_sync_model::event::Reply;
+use moka_sync_model::weigh::WeighShared;
 use std::alloc::Allocator;
 
 /// A cache that a script's calls are made on, with its record.

@@ -10,8 +10,8 @@ ghost use Rattle.moka_script.specs.ReplyValue.{pairs_of, reply_of};
 use crate::stored::Stored;
 use moka_common::error::{BuildError, OutOfMemory};
 use moka_common::policy::Policy;
-use moka_engine::place::Place;
 use moka_grammar::text::Text;
+use moka_sync_model::place::Place;
 use std::alloc::{AllocError, Allocator};
 use std::time::Duration;
 

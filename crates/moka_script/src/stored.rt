@@ -4,8 +4,8 @@ ghost use Rattle.moka_script.specs.Stored.{stored_text};
 
 use moka_common::constants::UNIT_WEIGHT;
 use moka_common::weigh::Weigh;
-use moka_engine::weigh::WeighShared;
 use moka_grammar::text::Text;
+use moka_sync_model::weigh::WeighShared;
 
 /// A text, and how much it weighs. `T` is how texts are held, as in `Request`.
 #[derive(Clone, Drop)]

@@ -4,10 +4,10 @@ use Rattle.std.specs.Prelude.{fold, slice_index, slice_index_or, sum}
 use Rattle.std.proofs.Math.ListN.{get_or-append}
 use Rattle.std.proofs.Math.Seq.{get_or-append_seam}
 use Rattle.std.proofs.lemmas.List.{append-nil, length-append}
-use Rattle.moka_base.specs.Keys.{Keys}
-use Rattle.moka_machine.specs.Step.{Answer, Request, Iterate, Number, Pairs}
-use Rattle.visits.specs.Visits.{visits_by}
-use Rattle.visits.proofs.Rules.{same_or}
+use Rattle.moka_common.specs.Keys.{Keys}
+use Rattle.moka_unsync_model.specs.Step.{Answer, Request, Iterate, Number, Pairs}
+use Rattle.moka_segments.specs.Visits.{visits_by}
+use Rattle.moka_segments.proofs.Rules.{same_or}
 use Rattle.moka_segments.specs.declared.plan.Plan.{Plan}
 use Rattle.moka_segments.specs.Rules.{Rules}
 use Rattle.moka_segments.specs.History.{IsLedBy, Knows, Log, Visit, joined}

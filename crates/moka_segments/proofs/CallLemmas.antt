@@ -1,14 +1,14 @@
 -- A visit keeps a segment's account, and tells the caller where its calls stand.
 use Rattle.std.proofs.Common.{◌≡◌, ℕ, ◌∙◌, List, [], ◌∷◌, ◌++◌, Some, Result, Ok, Err, OnOk, OnErr, inl, inr, ap, get_or, refl, subst, sym}
-use Rattle.moka_base.specs.declared.error.InsertError.{InsertError}
-use Rattle.moka_base.specs.Keys.{Keys}
-use Rattle.moka_machine.specs.Insert.{IsInserted, IsRefused}
-use Rattle.moka_machine.specs.CacheState.{CacheState, new_cache}
-use Rattle.moka_machine.specs.Step.{Answer, Insert, IsStep, Request}
-use Rattle.moka_history.specs.History.{Leads, Transition}
-use Rattle.moka_laws.proofs.MapLemmas.{settings-step}
-use Rattle.visits.specs.Visits.{GoesOn, at, at_lock, after_visit, noted, put, visits_by}
-use Rattle.visits.proofs.Rules.{put_here, put_else}
+use Rattle.moka_common.specs.declared.error.InsertError.{InsertError}
+use Rattle.moka_common.specs.Keys.{Keys}
+use Rattle.moka_unsync_model.specs.Insert.{IsInserted, IsRefused}
+use Rattle.moka_unsync_model.specs.CacheState.{CacheState, new_cache}
+use Rattle.moka_unsync_model.specs.Step.{Answer, Insert, IsStep, Request}
+use Rattle.moka_unsync_model.specs.History.{Leads, Transition}
+use Rattle.moka_unsync_model.proofs.MapLemmas.{settings-step}
+use Rattle.moka_segments.specs.Visits.{GoesOn, at, at_lock, after_visit, noted, put, visits_by}
+use Rattle.moka_segments.proofs.Rules.{put_here, put_else}
 use Rattle.atomic_table.specs.Table.{rest}
 use Rattle.moka_segments.specs.declared.plan.Plan.{Plan}
 use Rattle.moka_segments.specs.Plan.{settings_of}

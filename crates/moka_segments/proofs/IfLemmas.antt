@@ -2,14 +2,14 @@
 use Rattle.std.proofs.Common.{◌≡◌, ℕ, suc, Bool, true, false, cond, not, ◌&&◌, ◌||◌, List, [], ◌∷◌, length, filter, is_some, map, Option, Some, None, refl, sym, ap, ◌∙◌}
 use Rattle.std.specs.Cmp.{IsEquivalence}
 use Rattle.std.specs.List.{list_any}
-use Rattle.moka_base.specs.Keys.{Keys}
-use Rattle.moka_machine.specs.declared.entry.Entry.{Entry}
-use Rattle.moka_machine.specs.Contents.{Contents, after_leaving, entry_at, entry_keys, without}
-use Rattle.moka_machine.specs.CacheState.{CacheState}
-use Rattle.moka_machine.specs.Invalidate.{after_invalidate_if, chosen}
-use Rattle.moka_machine.specs.Step.{InvalidateEntriesIf, IsStep, Done}
-use Rattle.moka_history.proofs.HistoryLemmas.{any-key, entry_at-leaving}
-use Rattle.moka_laws.proofs.RemainLemmas.{filter-all, filter-both}
+use Rattle.moka_common.specs.Keys.{Keys}
+use Rattle.moka_unsync_model.specs.declared.entry.Entry.{Entry}
+use Rattle.moka_unsync_model.specs.Contents.{Contents, after_leaving, entry_at, entry_keys, without}
+use Rattle.moka_unsync_model.specs.CacheState.{CacheState}
+use Rattle.moka_unsync_model.specs.Invalidate.{after_invalidate_if, chosen}
+use Rattle.moka_unsync_model.specs.Step.{InvalidateEntriesIf, IsStep, Done}
+use Rattle.moka_unsync_model.proofs.HistoryLemmas.{any-key, entry_at-leaving}
+use Rattle.moka_unsync_model.proofs.RemainLemmas.{filter-all, filter-both}
 use Rattle.moka_segments.specs.History.{Every}
 use Rattle.moka_segments.specs.TellsAll.{leavers}
 

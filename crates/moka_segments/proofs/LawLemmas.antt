@@ -1,18 +1,18 @@
 -- The laws of a cache for one thread, at the place of a session's call in the history.
 use Rattle.std.proofs.Common.{◌≡◌, ◌⊎◌, ◌↔◌, ℕ, ◌==◌, ◌∙◌, Bool, true, false, List, [], ◌∷◌, ◌++◌, Option, Some, None, Result, Ok, ap, refl, subst, sym, inl, inr, eq-eqb, true≢false}
 use Rattle.std.specs.Prelude.{option_map, is_some}
-use Rattle.moka_base.specs.Keys.{Keys}
-use Rattle.moka_machine.specs.CacheState.{CacheState, new_cache}
-use Rattle.moka_machine.specs.Lookup.{after_get, found_by_get}
-use Rattle.moka_machine.specs.Step.{Answer, IsStep, Request, ContainsKey, Get, Insert, Invalidate, InvalidateAll, InvalidateEntriesIf, Peek, Remove, Done, Found, Truth}
-use Rattle.moka_history.specs.History.{Exchange, exchange_of, ContainsAsGet, LastWritesAreInserts, HitsAreCurrent, IsCurrent, LastWrite, Leads, PeeksAreCurrent, RemoveAsGet, Transition, chosen_keys, exchanges, is_invalidated, is_over, is_written, last_write}
-use Rattle.moka_history.specs.Removal.{InsertsEnterOrAreRejected, IsMissing, MissesHaveAReason}
-use Rattle.visits.specs.Visits.{at, visits_by}
+use Rattle.moka_common.specs.Keys.{Keys}
+use Rattle.moka_unsync_model.specs.CacheState.{CacheState, new_cache}
+use Rattle.moka_unsync_model.specs.Lookup.{after_get, found_by_get}
+use Rattle.moka_unsync_model.specs.Step.{Answer, IsStep, Request, ContainsKey, Get, Insert, Invalidate, InvalidateAll, InvalidateEntriesIf, Peek, Remove, Done, Found, Truth}
+use Rattle.moka_unsync_model.specs.History.{Exchange, exchange_of, ContainsAsGet, LastWritesAreInserts, HitsAreCurrent, IsCurrent, LastWrite, Leads, PeeksAreCurrent, RemoveAsGet, Transition, chosen_keys, exchanges, is_invalidated, is_over, is_written, last_write}
+use Rattle.moka_unsync_model.specs.Removal.{InsertsEnterOrAreRejected, IsMissing, MissesHaveAReason}
+use Rattle.moka_segments.specs.Visits.{at, visits_by}
 use Rattle.std.specs.Cmp.{IsEquivalence}
 use Rattle.moka_segments.specs.declared.plan.Plan.{Plan}
 use Rattle.moka_segments.specs.Plan.{place_of, settings_of}
-use Rattle.moka_base.specs.declared.error.InsertError.{InsertError}
-use Rattle.moka_base.specs.declared.error.OutOfMemory as error
+use Rattle.moka_common.specs.declared.error.InsertError.{InsertError}
+use Rattle.moka_common.specs.declared.error.OutOfMemory as error
 use Rattle.moka_segments.specs.Rules.{Agree, IsOwner, IsPermitted, Rules}
 use Rattle.moka_segments.specs.History.{Every, Knows, Log, OnlyBy, Spares, Visit, calls, joined, rest, value_written}
 use Rattle.moka_segments.specs.Calls.{Makes, MakesIn}

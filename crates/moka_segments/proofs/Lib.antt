@@ -1,3 +1,4 @@
+pub mod Rules
 pub mod CallLemmas
 pub mod OwnLemmas
 pub mod LawLemmas

@@ -1,9 +1,9 @@
 -- What a session finds that was told of another's history.
 use Rattle.std.proofs.Common.{◌≡◌, ◌∙◌, ◌++◌, ℕ, Option, Some, Ok, ap, append_assoc, subst, sym}
-use Rattle.moka_base.specs.declared.error.OutOfMemory as error
-use Rattle.moka_base.specs.Keys.{Keys}
-use Rattle.moka_history.specs.History.{IsCurrent, exchanges}
-use Rattle.visits.specs.Visits.{GoesOn, at}
+use Rattle.moka_common.specs.declared.error.OutOfMemory as error
+use Rattle.moka_common.specs.Keys.{Keys}
+use Rattle.moka_unsync_model.specs.History.{IsCurrent, exchanges}
+use Rattle.moka_segments.specs.Visits.{GoesOn, at}
 use Rattle.moka_segments.specs.declared.plan.Plan.{Plan}
 use Rattle.moka_segments.specs.History.{Knows, Log, calls, rest}
 use Rattle.moka_segments.specs.Plan.{place_of}

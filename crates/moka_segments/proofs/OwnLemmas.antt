@@ -1,11 +1,11 @@
 -- Where nobody else touches a key, one's own calls tell what was written last there.
 use Rattle.std.proofs.Common.{◌≡◌, ℕ, ◌==◌, ◌∙◌, Bool, true, false, List, [], ◌∷◌, ◌++◌, Option, Some, None, ap, refl, sym, if◌then◌else◌}
 use Rattle.std.specs.Prelude.{option_map}
-use Rattle.moka_base.specs.Keys.{Keys}
-use Rattle.moka_machine.specs.Step.{Answer, Request, Get, Insert, Done, Found}
-use Rattle.moka_history.specs.History.{LastWrite, Transition, chosen_keys, exchanges, is_invalidated, is_written, known_after, last_write, used_at}
+use Rattle.moka_common.specs.Keys.{Keys}
+use Rattle.moka_unsync_model.specs.Step.{Answer, Request, Get, Insert, Done, Found}
+use Rattle.moka_unsync_model.specs.History.{LastWrite, Transition, chosen_keys, exchanges, is_invalidated, is_written, known_after, last_write, used_at}
 use Rattle.std.specs.Cmp.{IsEquivalence}
-use Rattle.visits.specs.Visits.{visits_by}
+use Rattle.moka_segments.specs.Visits.{visits_by}
 use Rattle.moka_segments.specs.History.{Every, OnlyBy, Spares, calls, joined, value_written}
 
 abbrev value_of : {V : Type 0} → Option (LastWrite V) → Option V

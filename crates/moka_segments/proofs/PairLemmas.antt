@@ -7,17 +7,17 @@ use Rattle.std.proofs.Math.ListN.{get_or-append}
 use Rattle.std.proofs.Math.Seq.{get_or-append_seam}
 use Rattle.std.proofs.lemmas.List.Elements.{All-head, All-tail}
 use Rattle.std.proofs.lemmas.Map.Keys.{IsDistinct-cons, IsDistinct-head, IsDistinct-tail}
-use Rattle.moka_base.specs.Keys.{Keys}
-use Rattle.moka_machine.specs.declared.entry.Entry.{Entry}
-use Rattle.moka_machine.specs.Contents.{entry_keys}
-use Rattle.moka_machine.specs.Iterate.{pairs_at, pairs_of}
-use Rattle.moka_machine.specs.Upkeep.{is_expired}
-use Rattle.moka_machine.specs.Step.{Iterate, Pairs}
-use Rattle.moka_history.specs.History.{Exchange, IsCurrent, LastWritesAreInserts, PairsAreCurrent, Transition, exchange_of, exchanges}
-use Rattle.moka_history.proofs.HistoryLemmas.{once-run}
-use Rattle.moka_laws.proofs.KeyLemmas.{none_stand}
-use Rattle.visits.specs.Visits.{at}
-use Rattle.visits.proofs.Rules.{same_or}
+use Rattle.moka_common.specs.Keys.{Keys}
+use Rattle.moka_unsync_model.specs.declared.entry.Entry.{Entry}
+use Rattle.moka_unsync_model.specs.Contents.{entry_keys}
+use Rattle.moka_unsync_model.specs.Iterate.{pairs_at, pairs_of}
+use Rattle.moka_unsync_model.specs.Upkeep.{is_expired}
+use Rattle.moka_unsync_model.specs.Step.{Iterate, Pairs}
+use Rattle.moka_unsync_model.specs.History.{Exchange, IsCurrent, LastWritesAreInserts, PairsAreCurrent, Transition, exchange_of, exchanges}
+use Rattle.moka_unsync_model.proofs.HistoryLemmas.{once-run}
+use Rattle.moka_unsync_model.proofs.KeyLemmas.{none_stand}
+use Rattle.moka_segments.specs.Visits.{at}
+use Rattle.moka_segments.proofs.Rules.{same_or}
 use Rattle.moka_segments.specs.declared.plan.Plan.{Plan}
 use Rattle.moka_segments.specs.Plan.{place_of, segment_of, settings_of}
 use Rattle.moka_segments.specs.Rules.{Rules}

@@ -6,9 +6,9 @@ use Rattle.std.proofs.Math.Nat.{mod-lt}
 use Rattle.std.proofs.lemmas.Nat.{div-add-mod'}
 use mathlib.Core.Option.{some}
 use lib.ListN.{get_elem?}
-use Rattle.moka_base.specs.Keys.{Keys}
-use Rattle.moka_machine.specs.CacheState.{CacheState, new_cache}
-use Rattle.visits.proofs.Rules.{at_end}
+use Rattle.moka_common.specs.Keys.{Keys}
+use Rattle.moka_unsync_model.specs.CacheState.{CacheState, new_cache}
+use Rattle.moka_segments.proofs.Rules.{at_end}
 use Rattle.moka_segments.specs.declared.plan.Plan.{Plan}
 use Rattle.moka_segments.specs.Plan.{settings_of, share, total}
 use Rattle.moka_segments.specs.Rules.{Rules}

@@ -1,9 +1,9 @@
 -- A get or insert: its calls befit its visitor, and tell what was got or put.
 use Rattle.std.proofs.Common.{◌≡◌, ◌⊎◌, ℕ, Bool, true, false, Option, Some, None, Result, Ok, Err, inl, inr, refl, subst, sym}
-use Rattle.moka_base.specs.declared.error.InsertError.{InsertError}
-use Rattle.moka_base.specs.Keys.{Keys}
-use Rattle.moka_machine.specs.CacheState.{CacheState}
-use Rattle.moka_machine.specs.Step.{Get, Insert, Done, Found, OutOfMemory}
+use Rattle.moka_common.specs.declared.error.InsertError.{InsertError}
+use Rattle.moka_common.specs.Keys.{Keys}
+use Rattle.moka_unsync_model.specs.CacheState.{CacheState}
+use Rattle.moka_unsync_model.specs.Step.{Get, Insert, Done, Found, OutOfMemory}
 use Rattle.moka_segments.specs.declared.plan.Plan.{Plan}
 use Rattle.moka_segments.specs.Plan.{place_of}
 use Rattle.moka_segments.specs.Rules.{Rules}

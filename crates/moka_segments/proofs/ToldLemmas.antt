@@ -2,12 +2,12 @@
 use Rattle.std.proofs.Common.{◌≡◌, ℕ, ◌∙◌, ◌∷◌, [], ◌++◌, append_assoc, Option, Some, Ok, ap, subst, sym}
 use Rattle.std.specs.Cmp.{IsEquivalence}
 use Rattle.std.specs.Prelude.{option_map}
-use Rattle.moka_base.specs.declared.error.OutOfMemory as error
-use Rattle.moka_base.specs.Keys.{Keys}
-use Rattle.moka_machine.specs.Step.{Insert, Done}
-use Rattle.moka_history.specs.History.{exchanges}
-use Rattle.visits.specs.Visits.{at}
-use Rattle.visits.specs.Kept.{Hears}
+use Rattle.moka_common.specs.declared.error.OutOfMemory as error
+use Rattle.moka_common.specs.Keys.{Keys}
+use Rattle.moka_unsync_model.specs.Step.{Insert, Done}
+use Rattle.moka_unsync_model.specs.History.{exchanges}
+use Rattle.moka_segments.specs.Visits.{at}
+use Rattle.moka_segments.specs.Kept.{Hears}
 use Rattle.moka_segments.specs.declared.plan.Plan.{Plan}
 use Rattle.moka_segments.specs.Plan.{place_of}
 use Rattle.moka_segments.specs.Rules.{Rules}

@@ -1,10 +1,10 @@
 -- What a contract sees of a builder of segmented caches: what was set, the plan that it makes, and why it is refused.
 use Rattle.std.specs.Prelude.{◌/◌, ℕ, Bool, false, max, min, nat_lt, if◌then◌else◌, Option, Some, None, option_map, unwrap_or}
-use Rattle.moka_base.specs.declared.error.BuildError.TheVariants as base
-use Rattle.moka_base.specs.Policy.{Policy}
-use Rattle.moka_base.specs.Settings.{duration_fault, idle_nanos, live_nanos}
-use Rattle.moka_machine.specs.declared.shares.Shares.{Shares}
-use Rattle.moka_machine.specs.Shares.{default_shares}
+use Rattle.moka_common.specs.declared.error.BuildError.TheVariants as base
+use Rattle.moka_common.specs.Policy.{Policy}
+use Rattle.moka_common.specs.Settings.{duration_fault, idle_nanos, live_nanos}
+use Rattle.moka_unsync_model.specs.declared.shares.Shares.{Shares}
+use Rattle.moka_unsync_model.specs.Shares.{default_shares}
 use Rattle.moka_unsync.specs.Builder.{share_fault}
 use Rattle.moka_segments.specs.declared.constants.TheConstants.{ENTRIES_OF_A_SEGMENT, MOST_SEGMENTS, USUAL_SEGMENTS}
 use Rattle.moka_segments.specs.declared.error.BuildError.{BuildError}

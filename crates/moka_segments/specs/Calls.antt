@@ -2,11 +2,11 @@
 use Rattle.std.specs.Prelude.{◌≡◌, ◌≢◌, ◌<◌, ◌≤◌, ◌-◌, ◌^◌, ℕ, length, min, slice_index, slice_index_or, sum, List, [], ◌∷◌, ◌++◌}
 use mathlib.Core.Option.{some}
 use lib.ListN.{get_elem?}
-use Rattle.moka_base.specs.Keys.{Keys}
-use Rattle.moka_machine.specs.CacheState.{CacheState}
-use Rattle.moka_machine.specs.Step.{Answer, Request, Iterate, Number, Pairs}
-use Rattle.moka_history.specs.History.{Transition}
-use Rattle.visits.specs.Visits.{at, visits_by}
+use Rattle.moka_common.specs.Keys.{Keys}
+use Rattle.moka_unsync_model.specs.CacheState.{CacheState}
+use Rattle.moka_unsync_model.specs.Step.{Answer, Request, Iterate, Number, Pairs}
+use Rattle.moka_unsync_model.specs.History.{Transition}
+use Rattle.moka_segments.specs.Visits.{at, visits_by}
 use Rattle.moka_segments.specs.declared.plan.Plan.{Plan}
 use Rattle.moka_segments.specs.Rules.{Rules}
 use Rattle.moka_segments.specs.History.{IsAccount, IsLedBy, Knows, Log, Visit, joined}

@@ -1,10 +1,10 @@
 -- The history of a segment: the visits to it, the last one first, and the calls that each visit made, the last one first too.
 use Rattle.std.specs.Prelude.{◌≡◌, ◌==◌, ◌≤◌, ℕ, false, List, [], ◌∷◌, ◌++◌, Option, option_map}
-use Rattle.moka_base.specs.Keys.{Keys}
-use Rattle.moka_machine.specs.CacheState.{CacheState, new_cache}
-use Rattle.moka_machine.specs.Step.{Request, Get, Peek, ContainsKey, Insert, Invalidate, Remove}
-use Rattle.moka_history.specs.History.{Exchange, Leads, Transition, chosen_keys, is_invalidated, is_written, last_write}
-use Rattle.visits.specs.Visits.{Known}
+use Rattle.moka_common.specs.Keys.{Keys}
+use Rattle.moka_unsync_model.specs.CacheState.{CacheState, new_cache}
+use Rattle.moka_unsync_model.specs.Step.{Request, Get, Peek, ContainsKey, Insert, Invalidate, Remove}
+use Rattle.moka_unsync_model.specs.History.{Exchange, Leads, Transition, chosen_keys, is_invalidated, is_written, last_write}
+use Rattle.moka_segments.specs.Visits.{Known}
 use Rattle.moka_segments.specs.declared.plan.Plan.{Plan}
 use Rattle.moka_segments.specs.Plan.{place_of, settings_of, share}
 use Rattle.moka_segments.specs.Rules.{IsPermitted, Rules}

@@ -1,3 +1,5 @@
+pub mod Visits
+pub mod Kept
 pub mod Plan
 pub mod Builder
 pub mod Rules

@@ -1,9 +1,9 @@
 -- How a cache is cut into segments.
 use Rattle.std.specs.Prelude.{◌≡◌, ℕ, ◌+◌, ◌*◌, ◌/◌, ◌%◌, ◌^◌, ◌<◌, ◌≤◌, zero, suc, nat_lt, option_map, if◌then◌else◌}
 use Rattle.atomic_table.specs.Seated.{TableId}
-use Rattle.moka_base.specs.Keys.{Keys}
-use Rattle.moka_base.specs.Policy.{Policy}
-use Rattle.moka_base.specs.Settings.{Settings}
+use Rattle.moka_common.specs.Keys.{Keys}
+use Rattle.moka_common.specs.Policy.{Policy}
+use Rattle.moka_common.specs.Settings.{Settings}
 use Rattle.moka_segments.specs.declared.plan.Plan.{Plan}
 
 -- the part of a limit that a segment has: the first ones have one more where it isn't a multiple

@@ -1,9 +1,9 @@
 -- What a get or insert does with a cache for one thread, as the proofs note it.
 use Rattle.std.specs.Prelude.{◌≡◌, ◌⊎◌, ℕ, Bool, true, false, [], ◌∷◌, Option, Some, None, Result, Ok, Err}
-use Rattle.moka_base.specs.declared.error.InsertError.{InsertError}
-use Rattle.moka_base.specs.Keys.{Keys}
-use Rattle.moka_machine.specs.CacheState.{CacheState}
-use Rattle.moka_machine.specs.Step.{Answer, Get, Insert, IsStep, Done, Found, OutOfMemory}
+use Rattle.moka_common.specs.declared.error.InsertError.{InsertError}
+use Rattle.moka_common.specs.Keys.{Keys}
+use Rattle.moka_unsync_model.specs.CacheState.{CacheState}
+use Rattle.moka_unsync_model.specs.Step.{Answer, Get, Insert, IsStep, Done, Found, OutOfMemory}
 use Rattle.moka_segments.specs.History.{Visit}
 
 -- what an insert answers, by whether it had its room

@@ -1,6 +1,6 @@
 -- Rules of a cache: which pairs it may have, and which visitors may write a key.
 use Rattle.std.specs.Prelude.{◌≡◌, ℕ, Bool, true}
-use Rattle.moka_machine.specs.Step.{Request, Insert, Invalidate, InvalidateAll, InvalidateEntriesIf, Remove}
+use Rattle.moka_unsync_model.specs.Step.{Request, Insert, Invalidate, InvalidateAll, InvalidateEntriesIf, Remove}
 
 -- which pairs may be inserted, and which visitors may insert, invalidate or remove a key, by their numbers
 pub record Rules (K V : Type 0) : Type 1 where

@@ -1,15 +1,15 @@
 -- What a session's calls tell of the history at their place in it.
 use Rattle.std.specs.Prelude.{◌≡◌, ◌⊎◌, ◌↔◌, ℕ, Bool, true, List, [], ◌∷◌, ◌++◌, Option, Some, None, Result, Ok, Err}
-use Rattle.moka_base.specs.declared.error.InsertError.{InsertError}
-use Rattle.moka_base.specs.declared.error.OutOfMemory as error
-use Rattle.moka_base.specs.Keys.{Keys}
-use Rattle.moka_base.specs.Policy.{Policy}
-use Rattle.moka_machine.specs.declared.entry.Entry.{Entry}
-use Rattle.moka_machine.specs.Contents.{entry_at}
-use Rattle.moka_machine.specs.Step.{Answer, ContainsKey, Get, Insert, Peek, Remove, Done, Found, OutOfMemory, Truth}
-use Rattle.moka_history.specs.History.{IsCurrent, LastWrite, Transition, exchanges, is_over, last_write}
-use Rattle.moka_history.specs.Removal.{IsMissing, IsRejected, last_write_of}
-use Rattle.visits.specs.Visits.{at}
+use Rattle.moka_common.specs.declared.error.InsertError.{InsertError}
+use Rattle.moka_common.specs.declared.error.OutOfMemory as error
+use Rattle.moka_common.specs.Keys.{Keys}
+use Rattle.moka_common.specs.Policy.{Policy}
+use Rattle.moka_unsync_model.specs.declared.entry.Entry.{Entry}
+use Rattle.moka_unsync_model.specs.Contents.{entry_at}
+use Rattle.moka_unsync_model.specs.Step.{Answer, ContainsKey, Get, Insert, Peek, Remove, Done, Found, OutOfMemory, Truth}
+use Rattle.moka_unsync_model.specs.History.{IsCurrent, LastWrite, Transition, exchanges, is_over, last_write}
+use Rattle.moka_unsync_model.specs.Removal.{IsMissing, IsRejected, last_write_of}
+use Rattle.moka_segments.specs.Visits.{at}
 use Rattle.moka_segments.specs.declared.plan.Plan.{Plan}
 use Rattle.moka_segments.specs.Plan.{place_of}
 use Rattle.moka_segments.specs.Rules.{IsOwner, Rules}

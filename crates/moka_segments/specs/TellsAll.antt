@@ -2,13 +2,13 @@
 use Rattle.std.specs.Prelude.{◌≡◌, ◌<◌, ◌≤◌, ℕ, Bool, not, is_some, List, [], map, slice_index_or}
 use Rattle.std.specs.Borrow.{Bor}
 use Rattle.std.specs.List.{IsDistinct}
-use Rattle.moka_base.specs.Keys.{Keys}
-use Rattle.moka_machine.specs.declared.entry.Entry.{Entry}
-use Rattle.moka_machine.specs.Contents.{entry_at}
-use Rattle.moka_machine.specs.Invalidate.{AnswersInTurn, after_invalidate_if}
-use Rattle.moka_machine.specs.Step.{InvalidateEntriesIf, Done}
-use Rattle.moka_history.specs.History.{IsCurrent, exchanges}
-use Rattle.visits.specs.Visits.{at}
+use Rattle.moka_common.specs.Keys.{Keys}
+use Rattle.moka_unsync_model.specs.declared.entry.Entry.{Entry}
+use Rattle.moka_unsync_model.specs.Contents.{entry_at}
+use Rattle.moka_unsync_model.specs.Invalidate.{AnswersInTurn, after_invalidate_if}
+use Rattle.moka_unsync_model.specs.Step.{InvalidateEntriesIf, Done}
+use Rattle.moka_unsync_model.specs.History.{IsCurrent, exchanges}
+use Rattle.moka_segments.specs.Visits.{at}
 use Rattle.moka_segments.specs.declared.plan.Plan.{Plan}
 use Rattle.moka_segments.specs.Plan.{place_of}
 use Rattle.moka_segments.specs.Rules.{Rules}

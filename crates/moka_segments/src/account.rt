@@ -1,11 +1,11 @@
 //! The account of a segment: its cache is what the calls of its history lead to.
 use crate::plan::Plan;
+use crate::row::{Account, Row, RowTable, Visitor};
 use crate::rule::Rule;
 use crate::weigher::{Asks, Weighing};
 use moka_unsync::cache::Cache;
 use std::hash::{BuildHasher, Hash};
 use std::marker::{Model, PhantomData};
-use visits::row::{Account, Row, RowTable, Visitor};
 
 /// The calls of a visit, which it leaves in the history. No value of it is made.
 pub struct Visit<K, V, S, W> {
@@ -14,7 +14,7 @@ pub struct Visit<K, V, S, W> {
 
 impl<K, V, S, W> Model for Visit<K, V, S, W> {
     ghost use Rattle.std.specs.Prelude.{List, []};
-    ghost use Rattle.moka_history.specs.History.{Transition};
+    ghost use Rattle.moka_unsync_model.specs.History.{Transition};
 
     ghost Value = { List (Transition K V S W) };
 
@@ -31,7 +31,7 @@ impl<K: Eq + Hash + Drop, V: Drop, S: BuildHasher + Drop, W: Weighing<K, V>, P: 
     Visit<K, V, S, W>,
     Plan<S>,
 > for OneHistory<P> {
-    ghost use Rattle.moka_base.specs.Keys.{keys_by};
+    ghost use Rattle.moka_common.specs.Keys.{keys_by};
     ghost use Rattle.moka_segments.specs.History.{IsAccount};
 
     ghost holds = { λ plan i log cache. IsAccount

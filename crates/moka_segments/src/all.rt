@@ -1,9 +1,9 @@
 //! Calls of all segments, one segment after another.
 ghost use Rattle.std.specs.Prelude.{◌≡◌, ◌*◌, ◌≤◌, ◌^◌};
-ghost use Rattle.moka_base.specs.Keys.{keys_by};
-ghost use Rattle.moka_machine.specs.Step.{Done, EntryCount, InvalidateAll, WeightedSize};
+ghost use Rattle.moka_common.specs.Keys.{keys_by};
+ghost use Rattle.moka_unsync_model.specs.Step.{Done, EntryCount, InvalidateAll, WeightedSize};
 ghost use Rattle.moka_segments.specs.Calls.{MakesAll, Sums};
-ghost use Rattle.visits.specs.Visits.{IsIdle};
+ghost use Rattle.moka_segments.specs.Visits.{IsIdle};
 
 use crate::account::{Caller, Segments};
 use crate::rule::Rule;

@@ -1,20 +1,20 @@
 //! A cache of its parts.
 ghost use Rattle.std.specs.Prelude.{◌≡◌, ◌<◌, ◌≤◌, ◌^◌, IfOk, vec_len};
-ghost use Rattle.moka_base.specs.Keys.{keys_by};
+ghost use Rattle.moka_common.specs.Keys.{keys_by};
 ghost use Rattle.moka_segments.specs.Calls.{AreCaches};
 
 use crate::cache::SegmentedCache;
 use crate::owners::Owners;
 use crate::plan::{Plan, builder_of};
+use crate::row::open;
 use crate::rule::Rule;
 use crate::shared::Shared;
 use crate::weigher::{Asks, Weighing};
-use moka_base::error::{BuildError, OutOfMemory};
+use moka_common::error::{BuildError, OutOfMemory};
 use moka_unsync::cache::Cache;
 use std::alloc::Global;
 use std::hash::{BuildHasher, Hash};
 use std::sync::Arc;
-use visits::row::open;
 
 /// Builds the caches of the segments.
 fn caches_of<

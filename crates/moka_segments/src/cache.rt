@@ -1,33 +1,33 @@
 //! The cache that threads share.
 ghost use Rattle.std.specs.Prelude.{◌≡◌, ℕ, IfOk, None};
 ghost use Rattle.moka_segments.specs.Builder.{new_builder};
-ghost use Rattle.moka_base.specs.Keys.{keys_by};
-ghost use Rattle.moka_machine.specs.Step.{Done, EntryCount, Invalidate, InvalidateAll, WeightedSize};
+ghost use Rattle.moka_common.specs.Keys.{keys_by};
+ghost use Rattle.moka_unsync_model.specs.Step.{Done, EntryCount, Invalidate, InvalidateAll, WeightedSize};
 ghost use Rattle.moka_segments.specs.Calls.{Makes, MakesAll, Sums};
 ghost use Rattle.moka_segments.specs.Plan.{place_of};
 ghost use Rattle.moka_segments.specs.Session.{ByGuest};
 ghost use Rattle.moka_segments.specs.Tells.{Gets, GetsOrInserts, Inserts, Looks, Peeks, Removes};
 ghost use Rattle.moka_segments.specs.TellsAll.{InvalidatesAllIf, Snapshots};
-ghost use Rattle.visits.specs.Visits.{guest, newcomer};
+ghost use Rattle.moka_segments.specs.Visits.{guest, newcomer};
 
 use crate::builder::CacheBuilder;
 use crate::invalidate_if::invalidate_entries_if;
 use crate::pairs::pairs;
+use crate::row::come;
 use crate::rule::{Rule, Unruled};
 use crate::session::Session;
 use crate::shared::Shared;
 use crate::weigher::Weighing;
 use crate::{all, call};
-use moka_base::error::{InsertError, OutOfMemory};
-use moka_base::hash::FixedState;
-use moka_base::policy::Policy;
-use moka_base::time::Instant;
-use moka_base::weigh::UnitWeight;
+use moka_common::error::{InsertError, OutOfMemory};
+use moka_common::hash::FixedState;
+use moka_common::policy::Policy;
+use moka_common::time::Instant;
+use moka_common::weigh::UnitWeight;
 use std::alloc::{AllocError, Global};
 use std::hash::{BuildHasher, Hash};
 use std::marker::Model;
 use std::sync::{Arc, Wait};
-use visits::row::come;
 
 /// A cache that threads share, cut into segments by the hash of the key. Each segment is a whole cache for one thread (`unsync::Cache`) behind a lock of its
 /// own. A clone is the same cache.

@@ -1,11 +1,11 @@
 //! Calls of one key: its hash is taken once, and tells the segment.
 ghost use Rattle.std.specs.Prelude.{◌≡◌};
-ghost use Rattle.moka_base.specs.Keys.{keys_by};
-ghost use Rattle.moka_machine.specs.Step.{Done, Invalidate};
+ghost use Rattle.moka_common.specs.Keys.{keys_by};
+ghost use Rattle.moka_unsync_model.specs.Step.{Done, Invalidate};
 ghost use Rattle.moka_segments.specs.Calls.{Makes};
 ghost use Rattle.moka_segments.specs.Plan.{place_of};
 ghost use Rattle.moka_segments.specs.Tells.{Gets, GetsOrInserts, Inserts, Looks, Peeks, Removes};
-ghost use Rattle.visits.specs.Visits.{IsIdle};
+ghost use Rattle.moka_segments.specs.Visits.{IsIdle};
 
 use crate::account::Caller;
 use crate::plan::segment_of;
@@ -13,9 +13,9 @@ use crate::rule::Rule;
 use crate::shared::Shared;
 use crate::weigher::{Asks, Weighing};
 use crate::{make, visit};
-use moka_base::error::{InsertError, OutOfMemory};
-use moka_base::time::Instant;
-use moka_history::history::{
+use moka_common::error::{InsertError, OutOfMemory};
+use moka_common::time::Instant;
+use moka_unsync_model::history::{
     contains_as_get, hits_are_current, inserts_enter_or_are_rejected, last_writes_are_inserts,
     misses_have_a_reason, peeks_are_current, remove_as_get,
 };

@@ -1,18 +1,18 @@
 //! Invalidation by a predicate, one segment after another.
 ghost use Rattle.std.specs.Prelude.{◌≡◌, ◌≢◌, ◌*◌, ◌≤◌, ◌^◌, ℕ};
-ghost use Rattle.moka_base.specs.Keys.{keys_by};
+ghost use Rattle.moka_common.specs.Keys.{keys_by};
 ghost use Rattle.moka_segments.specs.Calls.{SameIn};
 ghost use Rattle.moka_segments.specs.TellsAll.{InvalidatesAllIf, InvalidatesIf};
-ghost use Rattle.visits.specs.Visits.{IsIdle, IsPlace};
+ghost use Rattle.moka_segments.specs.Visits.{IsIdle, IsPlace};
 
 use crate::account::{Caller, Segments};
+use crate::row::{leave, lock};
 use crate::rule::Rule;
 use crate::weigher::Weighing;
 use std::hash::{BuildHasher, Hash};
 use std::marker::Brand;
 use std::snapshot::Snapshot;
 use std::sync::Wait;
-use visits::row::{leave, lock};
 
 /// Removes the entries of a segment at which the predicate answers `true`.
 fn invalidate_entries_if_in<

@@ -1,4 +1,4 @@
-//! A cache that threads share, of segments: each is a whole cache for one thread, behind a lock.
+//! A cache that threads share, of segments: each is a whole single-thread cache behind a lock, and a ghost history notes every visit to it.
 #![tactic(auto)]
 
 pub mod account;
@@ -16,10 +16,10 @@ pub mod own;
 pub mod owners;
 pub mod pairs;
 pub mod plan;
+pub mod row;
 pub mod rule;
+pub mod seats;
 pub mod session;
 pub mod shared;
-#[cfg(test)]
-mod tests;
 pub mod visit;
 pub mod weigher;

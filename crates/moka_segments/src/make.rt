@@ -1,24 +1,24 @@
 //! A get, and an insert where it finds nothing, in one visit.
 ghost use Rattle.std.specs.Prelude.{◌≡◌, option_map};
-ghost use Rattle.moka_base.specs.Keys.{keys_by};
-ghost use Rattle.moka_history.specs.History.{Leads};
+ghost use Rattle.moka_common.specs.Keys.{keys_by};
+ghost use Rattle.moka_unsync_model.specs.History.{Leads};
 ghost use Rattle.moka_segments.specs.Plan.{place_of};
 ghost use Rattle.moka_segments.specs.Put.{IsPut, TellsGot, TellsPut, visit_of};
 ghost use Rattle.moka_segments.specs.Tells.{GetsOrInserts};
-ghost use Rattle.visits.specs.Visits.{IsIdle, IsPlace};
+ghost use Rattle.moka_segments.specs.Visits.{IsIdle, IsPlace};
 
 use crate::account::{Caller, Segments};
+use crate::row::{leave, lock};
 use crate::rule::Rule;
 use crate::visit::looked;
 use crate::weigher::{Asks, Weighing};
-use moka_base::error::InsertError;
-use moka_base::time::Instant;
+use moka_common::error::InsertError;
+use moka_common::time::Instant;
 use moka_unsync::cache::Cache;
 use std::hash::{BuildHasher, Hash};
 use std::marker::Brand;
 use std::snapshot::Snapshot;
 use std::sync::Wait;
-use visits::row::{leave, lock};
 
 /// A value that was put, and whether there was room for it.
 type Put<V> = Option<(Snapshot<V>, bool)>;

@@ -1,15 +1,15 @@
 //! Laws of what sessions find of their own, however the threads' turns fall.
 ghost use Rattle.std.specs.Prelude.{◌≡◌, IfSome};
-ghost use Rattle.moka_base.specs.Keys.{keys_by};
+ghost use Rattle.moka_common.specs.Keys.{keys_by};
 ghost use Rattle.moka_segments.specs.Plan.{place_of};
 ghost use Rattle.moka_segments.specs.Tells.{FindsFromNote, FindsOwn, FindsTold};
-ghost use Rattle.visits.specs.Visits.{at};
+ghost use Rattle.moka_segments.specs.Visits.{at};
 
 use crate::note::Note;
 use crate::rule::Rule;
 use crate::session::Session;
 use crate::weigher::Weighing;
-use moka_base::time::Instant;
+use moka_common::time::Instant;
 use std::hash::{BuildHasher, Hash};
 use std::sync::Wait;
 use std::thread::{Threads, join};

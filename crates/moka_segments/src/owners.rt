@@ -1,19 +1,19 @@
 //! Sessions with numbers that are known.
 ghost use Rattle.std.specs.Prelude.{◌≡◌, ◌+◌, IfErr, IfOk};
-ghost use Rattle.visits.specs.Visits.{newcomer, owner};
+ghost use Rattle.moka_segments.specs.Visits.{newcomer, owner};
 
 use crate::account::Caller;
 use crate::rule::{Rule, Unruled};
+use crate::seats::deal;
 use crate::session::Session;
 use crate::shared::Shared;
 use crate::weigher::Weighing;
-use moka_base::error::OutOfMemory;
-use moka_base::hash::FixedState;
-use moka_base::weigh::UnitWeight;
+use moka_common::error::OutOfMemory;
+use moka_common::hash::FixedState;
+use moka_common::weigh::UnitWeight;
 use std::hash::{BuildHasher, Hash};
 use std::marker::Model;
 use std::sync::Arc;
-use visits::note::deal;
 
 /// Hands out the sessions of owners, numbered in turn, of which no two have one number. A cache has one such, which comes with it from the builder. A rule may
 /// say which owner writes which keys (`Rule`).
@@ -33,7 +33,7 @@ impl<K: Eq + Hash + Drop, V: Drop, S: BuildHasher + Drop, W: Weighing<K, V>, P: 
     for Owners<K, V, S, W, P> {
     ghost use Rattle.std.specs.Prelude.{◌≡◌, Some, []};
     ghost use Rattle.std.specs.Arc.{arc_value};
-    ghost use Rattle.visits.specs.Visits.{Deals};
+    ghost use Rattle.moka_segments.specs.Visits.{Deals};
     ghost use Rattle.moka_segments.specs.Session.{Owners as OwnersValue};
 
     ghost Value = { OwnersValue S };

@@ -1,24 +1,24 @@
 //! The pairs of a cache, copied.
 ghost use Rattle.std.specs.Prelude.{◌≡◌, ◌*◌, ◌≤◌, ◌^◌, IfOk};
-ghost use Rattle.moka_base.specs.Keys.{keys_by};
-ghost use Rattle.moka_machine.specs.Step.{Iterate, Pairs};
+ghost use Rattle.moka_common.specs.Keys.{keys_by};
+ghost use Rattle.moka_unsync_model.specs.Step.{Iterate, Pairs};
 ghost use Rattle.moka_segments.specs.Calls.{Makes};
 ghost use Rattle.moka_segments.specs.TellsAll.{Snapshots};
-ghost use Rattle.visits.specs.Visits.{IsIdle, IsPlace};
+ghost use Rattle.moka_segments.specs.Visits.{IsIdle, IsPlace};
 
 use crate::account::{Caller, Segments};
+use crate::row::{leave, leave_unsaid, lock};
 use crate::rule::Rule;
 use crate::weigher::{Asks, Weighing};
-use moka_base::error::OutOfMemory;
-use moka_base::time::Instant;
-use moka_history::history::{last_writes_are_inserts, pairs_are_current};
+use moka_common::error::OutOfMemory;
+use moka_common::time::Instant;
 use moka_unsync::cache::Iter;
+use moka_unsync_model::history::{last_writes_are_inserts, pairs_are_current};
 use std::alloc::{AllocError, Global};
 use std::hash::{BuildHasher, Hash};
 use std::marker::Brand;
 use std::snapshot::Snapshot;
 use std::sync::Wait;
-use visits::row::{leave, leave_unsaid, lock};
 
 /// Copies the pairs that an iterator gives.
 fn copies<K: Copy, V: Copy>(

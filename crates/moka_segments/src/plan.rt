@@ -3,10 +3,10 @@ ghost use Rattle.std.specs.Prelude.{◌≡◌, ◌<◌, ◌≤◌, ◌^◌, ℕ,
 ghost use Rattle.moka_segments.specs.Plan.{policy_of, segment_of, share, total};
 ghost use Rattle.moka_unsync.specs.Builder.{Builder};
 
-use moka_base::policy::Policy;
-use moka_base::weigh::Weigh;
-use moka_machine::shares::Shares;
+use moka_common::policy::Policy;
+use moka_common::weigh::Weigh;
 use moka_unsync::builder::CacheBuilder;
+use moka_unsync_model::shares::Shares;
 use std::alloc::Global;
 
 /// The plan of a cache: its hash state, the number of segments, and the settings of the whole cache.

@@ -1,12 +1,12 @@
 //! Sessions: who calls a cache of segments, and knows what it called.
 ghost use Rattle.std.specs.Prelude.{◌≡◌, IfOk};
-ghost use Rattle.moka_base.specs.Keys.{keys_by};
-ghost use Rattle.moka_machine.specs.Step.{Done, EntryCount, Invalidate, InvalidateAll, WeightedSize};
+ghost use Rattle.moka_common.specs.Keys.{keys_by};
+ghost use Rattle.moka_unsync_model.specs.Step.{Done, EntryCount, Invalidate, InvalidateAll, WeightedSize};
 ghost use Rattle.moka_segments.specs.Calls.{Makes, MakesAll, Sums};
 ghost use Rattle.moka_segments.specs.Plan.{place_of};
 ghost use Rattle.moka_segments.specs.Tells.{Gets, GetsOrInserts, Inserts, Looks, Peeks, Removes};
 ghost use Rattle.moka_segments.specs.TellsAll.{InvalidatesAllIf, Snapshots};
-ghost use Rattle.visits.specs.Kept.{Hears};
+ghost use Rattle.moka_segments.specs.Kept.{Hears};
 
 use crate::account::Caller;
 use crate::invalidate_if::invalidate_entries_if;
@@ -15,17 +15,16 @@ use crate::pairs::pairs;
 use crate::rule::{Rule, Unruled};
 use crate::shared::Shared;
 use crate::weigher::Weighing;
-use crate::{all, call};
-use moka_base::error::{InsertError, OutOfMemory};
-use moka_base::hash::FixedState;
-use moka_base::policy::Policy;
-use moka_base::time::Instant;
-use moka_base::weigh::UnitWeight;
+use crate::{all, call, seats as note};
+use moka_common::error::{InsertError, OutOfMemory};
+use moka_common::hash::FixedState;
+use moka_common::policy::Policy;
+use moka_common::time::Instant;
+use moka_common::weigh::UnitWeight;
 use std::alloc::Global;
 use std::hash::{BuildHasher, Hash};
 use std::marker::Model;
 use std::sync::{Arc, Wait};
-use visits::note;
 
 /// A caller's place in the histories of the segments. A thread has one of its own, by `SegmentedCache::session` or `Owners::session`.
 ///
@@ -48,7 +47,7 @@ impl<K: Eq + Hash + Drop, V: Drop, S: BuildHasher + Drop, W: Weighing<K, V>, P: 
     for Session<K, V, S, W, P> {
     ghost use Rattle.std.specs.Prelude.{◌≡◌};
     ghost use Rattle.std.specs.Arc.{arc_value};
-    ghost use Rattle.visits.specs.Visits.{IsIdle};
+    ghost use Rattle.moka_segments.specs.Visits.{IsIdle};
     ghost use Rattle.moka_segments.specs.Session.{Session as SessionValue};
 
     ghost Value = { SessionValue K V S W };

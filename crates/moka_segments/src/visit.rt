@@ -1,7 +1,7 @@
 //! Single calls of a segment, each a visit.
 ghost use Rattle.std.specs.Prelude.{◌≡◌, ◌*◌, [], None, Option, ℕ, option_copied, option_map};
-ghost use Rattle.moka_base.specs.Keys.{keys_by};
-ghost use Rattle.moka_machine.specs.Step.{
+ghost use Rattle.moka_common.specs.Keys.{keys_by};
+ghost use Rattle.moka_unsync_model.specs.Step.{
   ContainsKey,
   Done,
   EntryCount,
@@ -19,18 +19,18 @@ ghost use Rattle.moka_machine.specs.Step.{
 ghost use Rattle.moka_segments.specs.Calls.{Makes};
 ghost use Rattle.moka_segments.specs.Plan.{place_of};
 ghost use Rattle.moka_segments.specs.Tells.{TellsClone, answer_of};
-ghost use Rattle.visits.specs.Visits.{IsIdle, IsPlace};
+ghost use Rattle.moka_segments.specs.Visits.{IsIdle, IsPlace};
 
 use crate::account::{Caller, Segments};
+use crate::row::{leave, lock};
 use crate::rule::Rule;
 use crate::weigher::Weighing;
-use moka_base::error::{InsertError, OutOfMemory};
-use moka_base::time::Instant;
+use moka_common::error::{InsertError, OutOfMemory};
+use moka_common::time::Instant;
 use std::hash::{BuildHasher, Hash};
 use std::marker::Brand;
 use std::snapshot::Snapshot;
 use std::sync::Wait;
-use visits::row::{leave, lock};
 
 /// Clones what was found, and says what it is for the proofs.
 #[inline]

@@ -1,9 +1,9 @@
 //! Weighers of a cache of segments.
 ghost use Rattle.std.specs.Prelude.{◌≡◌, ℕ, ⊤};
-ghost use Rattle.moka_base.specs.Weight.{unit_weighs};
+ghost use Rattle.moka_common.specs.Weight.{unit_weighs};
 
-use moka_base::constants::UNIT_WEIGHT;
-use moka_base::weigh::{UnitWeight, Weigh};
+use moka_common::constants::UNIT_WEIGHT;
+use moka_common::weigh::{UnitWeight, Weigh};
 use std::marker::Model;
 
 /// Weighs entries. It is a trait apart from `Weigh`, which closures have too: a type with a bound whose trait fits in two ways gets no generated proof

@@ -1,8 +1,8 @@
 -- Lemmas on the copy of a shard's pairs.
 use Rattle.std.proofs.Common.{◌≡◌, ℕ, ◌+◌, not, List, [], ◌∷◌, map, filter, Option, None, Some, refl, ap}
-use Rattle.moka_base.specs.Settings.{Settings}
-use Rattle.moka_engine.specs.CoreState.{is_expired}
-use Rattle.moka_engine.specs.Entry.{Entry}
+use Rattle.moka_common.specs.Settings.{Settings}
+use Rattle.moka_sync_model.specs.CoreState.{is_expired}
+use Rattle.moka_sync_model.specs.Entry.{Entry}
 use Rattle.slab.specs.Slab.{entries_from}
 use Rattle.moka_shard.specs.Shard.{entries_in}
 

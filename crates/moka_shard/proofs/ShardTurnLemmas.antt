@@ -1,15 +1,15 @@
 -- A turn on the shard that it needs.
 use Rattle.std.proofs.Common.{◌≡◌, ◌∙◌, ℕ, Bool, true, false, Option, refl, sym, ap}
-use Rattle.moka_base.specs.Settings.{Settings}
-use Rattle.moka_engine.specs.declared.entry.EntryChange.{EntryChange}
-use Rattle.moka_engine.specs.EntryChange.{change_of}
-use Rattle.moka_engine.specs.declared.ticket.Ticket.{Ticket}
-use Rattle.moka_engine.specs.CoreState.{Maintenance}
-use Rattle.moka_engine.specs.Entry.{Entry, entry_of}
-use Rattle.moka_engine.specs.Parts.{ShardState, NeedsShard, TurnsAtEntry, need_of}
-use Rattle.moka_engine.specs.Turn.Plan.{Outcome, AtEntry, after_change}
-use Rattle.moka_engine.specs.Turn.Turn.{turn_at}
-use Rattle.moka_engine.proofs.PartsLemmas.{need_unread}
+use Rattle.moka_common.specs.Settings.{Settings}
+use Rattle.moka_sync_model.specs.declared.entry.EntryChange.{EntryChange}
+use Rattle.moka_sync_model.specs.EntryChange.{change_of}
+use Rattle.moka_sync_model.specs.declared.ticket.Ticket.{Ticket}
+use Rattle.moka_sync_model.specs.CoreState.{Maintenance}
+use Rattle.moka_sync_model.specs.Entry.{Entry, entry_of}
+use Rattle.moka_sync_model.specs.Parts.{ShardState, NeedsShard, TurnsAtEntry, need_of}
+use Rattle.moka_sync_model.specs.Turn.Plan.{Outcome, AtEntry, after_change}
+use Rattle.moka_sync_model.specs.Turn.Turn.{turn_at}
+use Rattle.moka_sync_model.proofs.PartsLemmas.{need_unread}
 use Rattle.moka_shard.specs.ShardTurn.{TurnsOnShard}
 
 module _ {K V S : Type 0} (settings : Settings S) (valid_after : ℕ) (refused : Bool) (old new : Maintenance) (ticket : Ticket)

@@ -6,18 +6,18 @@ use Rattle.std.specs.Cmp.{IsEquivalence}
 use Rattle.std.specs.List.{list_any}
 use Rattle.std.proofs.lemmas.Bool.{cases_Bool, cases_eq, false≢true, false_from_ne_true, eqb-true, eq-eqb, ne_eqb, or_cases, or_right}
 use Rattle.std.proofs.lemmas.List.Elements.{All-from_recursion}
-use Rattle.moka_base.specs.Keys.{Keys}
-use Rattle.moka_index.specs.HashIndex.{HashIndex, candidates, is_candidate, Adds as Lists, Removes as Unlists}
-use Rattle.moka_engine.specs.declared.ticket.Ticket.{Ticket}
-use Rattle.moka_engine.specs.Ticket.{same_ticket, shard_of, changed, without}
-use Rattle.moka_engine.specs.Entry.{Entry, entry_at, entry_of, updated}
-use Rattle.moka_engine.specs.Parts.{ShardState, IsValidShard}
-use Rattle.moka_engine.specs.MapStep.{AddsEntry}
-use Rattle.moka_engine.proofs.TicketLemmas.{same_is, same_self, of_ticket-is}
-use Rattle.moka_base.specs.declared.error.InsertError.{InsertError}
-use Rattle.moka_base.specs.declared.error.InsertError.TheVariants.{TicketsUsedUp}
-use Rattle.moka_engine.specs.declared.constants.TheConstants.{MAX_OUTSTANDING, NO_TICKET}
-use Rattle.moka_engine.specs.Turn.Plan.{Change, Stays, Becomes, Leaves, after_change}
+use Rattle.moka_common.specs.Keys.{Keys}
+use Rattle.moka_list.specs.HashIndex.{HashIndex, candidates, is_candidate, Adds as Lists, Removes as Unlists}
+use Rattle.moka_sync_model.specs.declared.ticket.Ticket.{Ticket}
+use Rattle.moka_sync_model.specs.Ticket.{same_ticket, shard_of, changed, without}
+use Rattle.moka_sync_model.specs.Entry.{Entry, entry_at, entry_of, updated}
+use Rattle.moka_sync_model.specs.Parts.{ShardState, IsValidShard}
+use Rattle.moka_sync_model.specs.MapStep.{AddsEntry}
+use Rattle.moka_sync_model.proofs.TicketLemmas.{same_is, same_self, of_ticket-is}
+use Rattle.moka_common.specs.declared.error.InsertError.{InsertError}
+use Rattle.moka_common.specs.declared.error.InsertError.TheVariants.{TicketsUsedUp}
+use Rattle.moka_sync_model.specs.declared.constants.TheConstants.{MAX_OUTSTANDING, NO_TICKET}
+use Rattle.moka_sync_model.specs.Turn.Plan.{Change, Stays, Becomes, Leaves, after_change}
 use Rattle.moka_shard.specs.Shard.{Shard, entry_in, entries_in, state_of}
 use Rattle.moka_shard.specs.ShardStep.{IsInsert, IsInvalidation, fresh_entry}
 use Rattle.moka_shard.specs.Slots.{Belongs, AreSlots, IsIndexed}

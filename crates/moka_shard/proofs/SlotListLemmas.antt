@@ -3,7 +3,7 @@ use Rattle.std.proofs.Common.{◌≡◌, ◌≢◌, ℕ, zero, suc, ◌≤◌, B
 use Rattle.std.proofs.Common.{Option, None, Some, refl, sym, ap, ◌∙◌, subst, inl, inr, arith}
 use Rattle.std.specs.List.{find, filter, filter_map, count_by, IsDistinct, AllByRecursion}
 use Rattle.std.proofs.lemmas.Bool.{cases_Bool, false_from_ne_true}
-use Rattle.moka_engine.proofs.ListLemmas.{count-cons}
+use Rattle.moka_sync_model.proofs.ListLemmas.{count-cons}
 
 module _ {X : Type 0} where
   -- what stands in slots

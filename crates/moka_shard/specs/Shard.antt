@@ -1,9 +1,9 @@
 -- What a contract sees of a shard of the map.
 use Rattle.std.specs.Prelude.{ℕ, List, Option, None, Some, slice_index_or, filter_map, if◌then◌else◌}
-use Rattle.moka_base.specs.Settings.{Settings}
-use Rattle.moka_engine.specs.CoreState.{is_expired}
-use Rattle.moka_engine.specs.Entry.{Entry}
-use Rattle.moka_engine.specs.Parts.{ShardState}
+use Rattle.moka_common.specs.Settings.{Settings}
+use Rattle.moka_sync_model.specs.CoreState.{is_expired}
+use Rattle.moka_sync_model.specs.Entry.{Entry}
+use Rattle.moka_sync_model.specs.Parts.{ShardState}
 
 -- its number, the number of its next ticket, the entry or nothing in each slot, and the hash state of its keys
 pub record Shard (K V S : Type 0) : Type 0 where

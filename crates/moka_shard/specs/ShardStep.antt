@@ -1,16 +1,16 @@
 -- The steps on a shard: what each answers and what it leaves.
 use Rattle.std.specs.Prelude.{◌≡◌, ℕ, ◌+◌, ◌==◌, not, Bool, true, false, List, map, filter, Option, None, Some, MatchBool}
 use Rattle.std.specs.Prelude.{Result, Ok, Err}
-use Rattle.moka_base.specs.Settings.{Settings}
-use Rattle.moka_base.specs.declared.error.InsertError.{InsertError}
-use Rattle.moka_base.specs.declared.error.InsertError.TheVariants.{OutOfMemory, TicketsUsedUp}
-use Rattle.moka_engine.specs.declared.constants.TheConstants.{MAX_OUTSTANDING, NO_TICKET}
-use Rattle.moka_engine.specs.declared.ticket.Ticket.{Ticket}
-use Rattle.moka_engine.specs.Ticket.{changed, without}
-use Rattle.moka_engine.specs.CoreState.{is_expired}
-use Rattle.moka_engine.specs.Entry.{Entry, updated}
-use Rattle.moka_engine.specs.MapStep.{AddsEntry}
-use Rattle.moka_engine.specs.Parts.{ShardState}
+use Rattle.moka_common.specs.Settings.{Settings}
+use Rattle.moka_common.specs.declared.error.InsertError.{InsertError}
+use Rattle.moka_common.specs.declared.error.InsertError.TheVariants.{OutOfMemory, TicketsUsedUp}
+use Rattle.moka_sync_model.specs.declared.constants.TheConstants.{MAX_OUTSTANDING, NO_TICKET}
+use Rattle.moka_sync_model.specs.declared.ticket.Ticket.{Ticket}
+use Rattle.moka_sync_model.specs.Ticket.{changed, without}
+use Rattle.moka_sync_model.specs.CoreState.{is_expired}
+use Rattle.moka_sync_model.specs.Entry.{Entry, updated}
+use Rattle.moka_sync_model.specs.MapStep.{AddsEntry}
+use Rattle.moka_sync_model.specs.Parts.{ShardState}
 
 module _ {K V S : Type 0} where
   -- the entry of a key that is not there, with the shard's next ticket

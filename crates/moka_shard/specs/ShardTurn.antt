@@ -1,12 +1,12 @@
 -- A turn of the maintenance on the shard that it needs.
 use Rattle.std.specs.Prelude.{◌≡◌, ℕ, Bool, Option}
-use Rattle.moka_base.specs.Settings.{Settings}
-use Rattle.moka_engine.specs.declared.ticket.Ticket.{Ticket}
-use Rattle.moka_engine.specs.CoreState.{Maintenance}
-use Rattle.moka_engine.specs.Entry.{Entry, entry_of}
-use Rattle.moka_engine.specs.Parts.{ShardState, shard_after}
-use Rattle.moka_engine.specs.Turn.Plan.{Outcome, AtEntry}
-use Rattle.moka_engine.specs.Turn.Turn.{turn_at}
+use Rattle.moka_common.specs.Settings.{Settings}
+use Rattle.moka_sync_model.specs.declared.ticket.Ticket.{Ticket}
+use Rattle.moka_sync_model.specs.CoreState.{Maintenance}
+use Rattle.moka_sync_model.specs.Entry.{Entry, entry_of}
+use Rattle.moka_sync_model.specs.Parts.{ShardState, shard_after}
+use Rattle.moka_sync_model.specs.Turn.Plan.{Outcome, AtEntry}
+use Rattle.moka_sync_model.specs.Turn.Turn.{turn_at}
 
 -- the turn looks at the ticket's entry in a shard, and leaves the maintenance and the shard so
 pub record TurnsOnShard {K V S : Type 0} (settings : Settings S) (valid_after : ℕ) (refused : Bool) (ticket : Ticket)

@@ -1,9 +1,9 @@
 -- How a shard's index goes with its slots. No public clause cites this module.
 use Rattle.std.specs.Prelude.{◌≡◌, ◌<◌, ℕ, true, List, Option, Some, IsSome}
-use Rattle.moka_base.specs.Keys.{Keys}
-use Rattle.moka_index.specs.HashIndex.{HashIndex, is_candidate}
-use Rattle.moka_engine.specs.Ticket.{shard_of}
-use Rattle.moka_engine.specs.Entry.{Entry}
+use Rattle.moka_common.specs.Keys.{Keys}
+use Rattle.moka_list.specs.HashIndex.{HashIndex, is_candidate}
+use Rattle.moka_sync_model.specs.Ticket.{shard_of}
+use Rattle.moka_sync_model.specs.Entry.{Entry}
 use Rattle.moka_shard.specs.Shard.{entry_in}
 
 module _ {K V S : Type 0} (keys : Keys K S) where

@@ -2,29 +2,29 @@
 ghost use Rattle.std.specs.Prelude.{◌≡◌, ◌≢◌, ◌≤◌, ◌↔◌, ℕ, Bool, false, [], Some, None, IfSome, IfOk, OnOk};
 ghost use Rattle.std.specs.Prelude.{IsSome, IsErr, IsTrue, IsFalse, is_some, length, option_map, option_copied};
 ghost use Rattle.slab.specs.Slab.{HasRoomFor};
-ghost use Rattle.moka_base.specs.Keys.{keys_by};
-ghost use Rattle.moka_index.specs.HashIndex.{candidates};
-ghost use Rattle.moka_engine.specs.EntryChange.{change_of};
-ghost use Rattle.moka_engine.specs.Entry.{entry_at, entry_of};
-ghost use Rattle.moka_engine.specs.Parts.{IsValidShard};
-ghost use Rattle.moka_engine.specs.Ticket.{shard_of};
-ghost use Rattle.moka_engine.specs.declared.entry.EntryChange.TheVariants.{Touched};
-ghost use Rattle.moka_engine.specs.declared.ticket.Ticket.{Ticket};
-ghost use Rattle.moka_engine.specs.Turn.Plan.{after_change};
+ghost use Rattle.moka_common.specs.Keys.{keys_by};
+ghost use Rattle.moka_list.specs.HashIndex.{candidates};
+ghost use Rattle.moka_sync_model.specs.EntryChange.{change_of};
+ghost use Rattle.moka_sync_model.specs.Entry.{entry_at, entry_of};
+ghost use Rattle.moka_sync_model.specs.Parts.{IsValidShard};
+ghost use Rattle.moka_sync_model.specs.Ticket.{shard_of};
+ghost use Rattle.moka_sync_model.specs.declared.entry.EntryChange.TheVariants.{Touched};
+ghost use Rattle.moka_sync_model.specs.declared.ticket.Ticket.{Ticket};
+ghost use Rattle.moka_sync_model.specs.Turn.Plan.{after_change};
 ghost use Rattle.moka_shard.specs.Shard.{entries_in, entry_found, entry_in, state_of, unexpired};
 ghost use Rattle.moka_shard.specs.ShardStep.{IsInsert, IsInvalidation, pairs_at};
 ghost use Rattle.moka_shard.specs.Slots.{IsIndexed};
 
-use moka_base::error::{InsertError, OutOfMemory};
-use moka_base::hash::FixedState;
-use moka_base::shared::Shared;
-use moka_base::time::Instant;
-use moka_engine::constants::{MAX_OUTSTANDING, NO_TICKET, SHARDS};
-use moka_engine::entry::{Entry, EntryChange, place_of};
-use moka_engine::settings::Settings;
-use moka_engine::ticket::Ticket;
-use moka_engine::weigh::WeighShared;
-use moka_index::hash_index::HashIndex;
+use moka_common::error::{InsertError, OutOfMemory};
+use moka_common::hash::FixedState;
+use moka_common::shared::Shared;
+use moka_common::time::Instant;
+use moka_list::hash_index::HashIndex;
+use moka_sync_model::constants::{MAX_OUTSTANDING, NO_TICKET, SHARDS};
+use moka_sync_model::entry::{Entry, EntryChange, place_of};
+use moka_sync_model::settings::Settings;
+use moka_sync_model::ticket::Ticket;
+use moka_sync_model::weigh::WeighShared;
 use slab::Slab;
 use std::alloc::{Allocator, Global};
 use std::hash::{BuildHasher, Hash};
@@ -50,7 +50,7 @@ pub struct Shard<
 
 impl<K: Eq + Hash + Drop, V: Drop, S: BuildHasher + Drop, A: Allocator + Clone + Drop> Model
     for Shard<K, V, S, A> {
-    ghost use Rattle.moka_base.specs.Keys.{keys_by};
+    ghost use Rattle.moka_common.specs.Keys.{keys_by};
     ghost use Rattle.moka_shard.specs.Shard.{Shard as ShardValue};
     ghost use Rattle.moka_shard.specs.Slots.{AreSlots, IsIndexed};
 

@@ -7,20 +7,20 @@ use Rattle.std.proofs.lemmas.List.Sums.{sum_by-append, sum_by-cons}
 use Rattle.std.specs.List.{AllByRecursion, IsDistinct}
 use Rattle.std.specs.Map.{lookup, remove_entry, set_value, keys_of, values_of}
 use Rattle.std.specs.Option.{option_eq}
-use Rattle.moka_deque.specs.Deque.{first_id, next_id}
-use Rattle.moka_deque.specs.Nodes.{AreApart}
-use Rattle.moka_machine.specs.declared.entry.Entry.{Entry}
-use Rattle.moka_machine.specs.declared.entry.Part.{Part}
-use Rattle.moka_machine.specs.declared.entry.Part.TheVariants.{Probation, Protected, Window}
-use Rattle.moka_machine.specs.Contents.{InOrder, balanced, demoted, is_before, is_protected, is_window, protected_of, total_weight}
-use Rattle.moka_machine.proofs.PartLemmas.{demoted-first, order-sooner}
+use Rattle.moka_list.specs.Nodes.{first_id, next_id}
+use Rattle.moka_list.specs.Nodes.{AreApart}
+use Rattle.moka_unsync_model.specs.declared.entry.Entry.{Entry}
+use Rattle.moka_unsync_model.specs.declared.entry.Part.{Part}
+use Rattle.moka_unsync_model.specs.declared.entry.Part.TheVariants.{Probation, Protected, Window}
+use Rattle.moka_unsync_model.specs.Contents.{InOrder, balanced, demoted, is_before, is_protected, is_window, protected_of, total_weight}
+use Rattle.moka_unsync_model.proofs.PartLemmas.{demoted-first, order-sooner}
 use Rattle.moka_store.specs.declared.parts.Marks.{Marks}
 use Rattle.moka_store.specs.declared.parts.Weights.{Weights}
 use Rattle.moka_store.specs.Nodes.{AreMarks, Demotes, bare, first_in, is_any, is_late, share, start_of, weight_in, weights_of}
 use Rattle.moka_store.specs.Store.{those_of}
-use Rattle.moka_deque.proofs.DequeLemmas.{lookup-other, lookup-set, nat_eq-same, remove-other, remove-same, set-other, set-same}
-use Rattle.moka_deque.proofs.IdLemmas.{not_none, some_parts}
-use Rattle.moka_deque.proofs.InsertedLemmas.{apart_from_distinct}
+use Rattle.moka_list.proofs.ItemLemmas.{lookup-other, lookup-set, nat_eq-same, remove-other, remove-same, set-other, set-same}
+use Rattle.moka_list.proofs.IdLemmas.{not_none, some_parts}
+use Rattle.moka_list.proofs.InsertedLemmas.{apart_from_distinct}
 use Rattle.moka_store.proofs.FrontLemmas.{front_of_none, start-first, start_found, start_other}
 use Rattle.moka_store.proofs.MarkLemmas.{first-here, first-later, first-passed, late_goes_on, passed-here}
 use Rattle.moka_store.proofs.NodeLemmas.{keys-set}

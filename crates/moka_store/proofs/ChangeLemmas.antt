@@ -4,17 +4,17 @@ use Rattle.std.proofs.lemmas.Bool.{cond-false, cond-true}
 use Rattle.std.specs.Cmp.{IsEquivalence}
 use Rattle.std.specs.List.{IsDistinct}
 use Rattle.std.specs.Map.{lookup, remove_entry, set_value, keys_of}
-use Rattle.moka_deque.specs.Deque.{next_id}
-use Rattle.moka_index.specs.HashIndex.{HashIndex}
-use Rattle.moka_machine.specs.declared.entry.Entry.{Entry}
-use Rattle.moka_machine.specs.declared.entry.Part.{Part}
-use Rattle.moka_machine.specs.Contents.{is_protected, is_window, write_of, writes_without}
-use Rattle.moka_machine.specs.Insert.{with_write}
+use Rattle.moka_list.specs.Nodes.{next_id}
+use Rattle.moka_list.specs.HashIndex.{HashIndex}
+use Rattle.moka_unsync_model.specs.declared.entry.Entry.{Entry}
+use Rattle.moka_unsync_model.specs.declared.entry.Part.{Part}
+use Rattle.moka_unsync_model.specs.Contents.{is_protected, is_window, write_of, writes_without}
+use Rattle.moka_unsync_model.specs.Insert.{with_write}
 use Rattle.moka_store.specs.declared.parts.Marks.{Marks}
 use Rattle.moka_store.specs.declared.parts.Weights.{Weights}
 use Rattle.moka_store.specs.Nodes.{AreMarks, IsBalanced, IsStored, SameBy, bare, is_any, latest_node, passed, share, weight_in, weights_of, write_last}
 use Rattle.moka_store.specs.Nodes.{write_under, written_under}
-use Rattle.moka_deque.proofs.DequeLemmas.{lookup-set, nat_eq-same}
+use Rattle.moka_list.proofs.ItemLemmas.{lookup-set, nat_eq-same}
 use Rattle.moka_store.proofs.LatestLemmas.{lookup-relisted}
 use Rattle.moka_store.proofs.MarkLemmas.{marks-passed}
 use Rattle.moka_store.proofs.NodeLemmas.{keys-set, remove-set}

@@ -6,19 +6,19 @@ use Rattle.std.proofs.lemmas.Map.Keys.{IsDistinct-head}
 use Rattle.std.specs.Cmp.{IsEquivalence}
 use Rattle.std.specs.List.{AllByRecursion, IsDistinct, cons_option}
 use Rattle.std.specs.Map.{lookup, remove_entry, keys_of, values_of}
-use Rattle.moka_deque.specs.Deque.{first_id}
-use Rattle.moka_deque.specs.IdList.{first_of, ids_without, is_listed}
-use Rattle.moka_deque.specs.Nodes.{AreApart}
-use Rattle.moka_machine.specs.declared.entry.Entry.{Entry}
-use Rattle.moka_machine.specs.declared.entry.Part.{Part}
-use Rattle.moka_machine.specs.declared.entry.Part.TheVariants.{Probation, Protected, Window}
-use Rattle.moka_machine.specs.Contents.{InOrder, is_probation, is_protected, is_window, no_contents, write_of, writes_without}
-use Rattle.moka_machine.proofs.PartLemmas.{order-protected, order-window}
+use Rattle.moka_list.specs.Nodes.{first_id}
+use Rattle.moka_list.specs.IdList.{first_of, ids_without, is_listed}
+use Rattle.moka_list.specs.Nodes.{AreApart}
+use Rattle.moka_unsync_model.specs.declared.entry.Entry.{Entry}
+use Rattle.moka_unsync_model.specs.declared.entry.Part.{Part}
+use Rattle.moka_unsync_model.specs.declared.entry.Part.TheVariants.{Probation, Protected, Window}
+use Rattle.moka_unsync_model.specs.Contents.{InOrder, is_probation, is_protected, is_window, no_contents, write_of, writes_without}
+use Rattle.moka_unsync_model.proofs.PartLemmas.{order-protected, order-window}
 use Rattle.moka_store.specs.Nodes.{AreKeyed, IsWritten, first_in, is_late, start_of, written_under}
 use Rattle.moka_store.specs.Store.{IsFront, IsFrontOf, IsOldest, Store, is_of, those_of}
-use Rattle.moka_deque.proofs.DequeLemmas.{lookup-other, nat_eq-same, remove-other, remove-same}
-use Rattle.moka_deque.proofs.IdLemmas.{not_none, some_parts}
-use Rattle.moka_deque.proofs.InsertedLemmas.{apart_from_distinct}
+use Rattle.moka_list.proofs.ItemLemmas.{lookup-other, nat_eq-same, remove-other, remove-same}
+use Rattle.moka_list.proofs.IdLemmas.{not_none, some_parts}
+use Rattle.moka_list.proofs.InsertedLemmas.{apart_from_distinct}
 use Rattle.moka_store.proofs.MarkLemmas.{first-here, first-later, first_is}
 use Rattle.moka_store.proofs.NodeLemmas.{keys_once, values-removed}
 use Rattle.moka_store.proofs.WriteLemmas.{under-without}

@@ -8,16 +8,16 @@ use Rattle.std.proofs.lemmas.List.Elements.{recursion_from_All}
 use Rattle.std.proofs.lemmas.Map.Keys.{IsDistinct-head, IsDistinct-tail}
 use Rattle.std.specs.List.{IsDistinct, AllByRecursion}
 use Rattle.std.specs.Map.{lookup, remove_entry, keys_of, values_of}
-use Rattle.moka_deque.specs.Deque.{first_id, next_id}
-use Rattle.moka_deque.specs.IdList.{is_listed}
-use Rattle.moka_index.specs.HashIndex.{HashIndex, candidates, is_candidate, Adds, Removes as Unlists}
-use Rattle.moka_machine.specs.declared.entry.Entry.{Entry}
-use Rattle.moka_machine.specs.Contents.{entry_at}
+use Rattle.moka_list.specs.Nodes.{first_id, next_id}
+use Rattle.moka_list.specs.IdList.{is_listed}
+use Rattle.moka_list.specs.HashIndex.{HashIndex, candidates, is_candidate, Adds, Removes as Unlists}
+use Rattle.moka_unsync_model.specs.declared.entry.Entry.{Entry}
+use Rattle.moka_unsync_model.specs.Contents.{entry_at}
 use Rattle.moka_store.specs.Indexed.{IsIndexed}
 use Rattle.moka_store.specs.Store.{AreCandidates, Store}
-use Rattle.moka_deque.proofs.DequeLemmas.{lookup-push}
-use Rattle.moka_deque.proofs.IdLemmas.{each_found, lookup-removed, not_none, some_parts}
-use Rattle.moka_deque.proofs.WalkLemmas.{from_first, from_node, from_next, from_none}
+use Rattle.moka_list.proofs.ItemLemmas.{lookup-push}
+use Rattle.moka_list.proofs.IdLemmas.{each_found, lookup-removed, not_none, some_parts}
+use Rattle.moka_list.proofs.WalkLemmas.{from_first, from_node, from_next, from_none}
 
 -- ---- ids among others
 

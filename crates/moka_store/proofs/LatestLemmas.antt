@@ -5,14 +5,14 @@ use Rattle.std.proofs.lemmas.Bool.{cases_Bool, cond_both, cond-true, cond-false}
 use Rattle.std.proofs.lemmas.List.Sums.{sum_by-cons}
 use Rattle.std.specs.List.{AllByRecursion, IsDistinct}
 use Rattle.std.specs.Map.{lookup, remove_entry, keys_of, values_of}
-use Rattle.moka_deque.specs.Nodes.{AreApart}
-use Rattle.moka_machine.specs.declared.entry.Entry.{Entry}
-use Rattle.moka_machine.specs.Contents.{is_before, with_latest}
+use Rattle.moka_list.specs.Nodes.{AreApart}
+use Rattle.moka_unsync_model.specs.declared.entry.Entry.{Entry}
+use Rattle.moka_unsync_model.specs.Contents.{is_before, with_latest}
 use Rattle.moka_store.specs.Nodes.{latest_node}
-use Rattle.moka_deque.proofs.DequeLemmas.{absent_head, absent_tail, cond_swap, distinct_from_apart, lookup-push, nat_eq-same, nat_eq_comm, not_both}
-use Rattle.moka_deque.proofs.DequeLemmas.{remove-other, remove-same}
-use Rattle.moka_deque.proofs.IdLemmas.{IsDistinct-removed, lookup-removed}
-use Rattle.moka_deque.proofs.InsertedLemmas.{apart_from_distinct}
+use Rattle.moka_list.proofs.ItemLemmas.{absent_head, absent_tail, cond_swap, distinct_from_apart, lookup-push, nat_eq-same, nat_eq_comm, not_both}
+use Rattle.moka_list.proofs.ItemLemmas.{remove-other, remove-same}
+use Rattle.moka_list.proofs.IdLemmas.{IsDistinct-removed, lookup-removed}
+use Rattle.moka_list.proofs.InsertedLemmas.{apart_from_distinct}
 
 module _ {K V : Type 0} where
   -- whether one more node stands before another

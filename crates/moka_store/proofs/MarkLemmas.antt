@@ -5,19 +5,19 @@ use Rattle.std.proofs.lemmas.Bool.{cases_Bool, cond-true, cond-false, eqb-true, 
 use Rattle.std.specs.List.{IsDistinct}
 use Rattle.std.specs.Map.{lookup, remove_entry, keys_of, values_of}
 use Rattle.std.specs.Option.{option_eq}
-use Rattle.moka_deque.specs.Chain.{inserted}
-use Rattle.moka_deque.specs.Deque.{IsIn, first_id, next_id}
-use Rattle.moka_deque.specs.Nodes.{AreApart}
-use Rattle.moka_machine.specs.declared.entry.Entry.{Entry}
-use Rattle.moka_machine.specs.declared.entry.Part.{Part}
-use Rattle.moka_machine.specs.declared.entry.Part.TheVariants.{Probation, Protected, Window}
-use Rattle.moka_machine.specs.Contents.{InOrder, is_before, is_window}
-use Rattle.moka_machine.proofs.PartLemmas.{one_first}
+use Rattle.moka_list.specs.Chain.{inserted}
+use Rattle.moka_list.specs.Nodes.{IsIn, first_id, next_id}
+use Rattle.moka_list.specs.Nodes.{AreApart}
+use Rattle.moka_unsync_model.specs.declared.entry.Entry.{Entry}
+use Rattle.moka_unsync_model.specs.declared.entry.Part.{Part}
+use Rattle.moka_unsync_model.specs.declared.entry.Part.TheVariants.{Probation, Protected, Window}
+use Rattle.moka_unsync_model.specs.Contents.{InOrder, is_before, is_window}
+use Rattle.moka_unsync_model.proofs.PartLemmas.{one_first}
 use Rattle.moka_store.specs.declared.parts.Marks.{Marks}
 use Rattle.moka_store.specs.Nodes.{AreMarks, behind, first_in, is_late, joined, latest_node, moved, passed, with_mark}
-use Rattle.moka_deque.proofs.DequeLemmas.{absent_head, absent_tail, lookup-other, nat_eq-same, nat_eq_comm, remove-other, remove-same}
-use Rattle.moka_deque.proofs.IdLemmas.{IsDistinct-removed, lookup-removed, moved-found, not_none, some_parts}
-use Rattle.moka_deque.proofs.InsertedLemmas.{apart_from_distinct, inserted-other, inserted-same, moved_before-inserted}
+use Rattle.moka_list.proofs.ItemLemmas.{absent_head, absent_tail, lookup-other, nat_eq-same, nat_eq_comm, remove-other, remove-same}
+use Rattle.moka_list.proofs.IdLemmas.{IsDistinct-removed, lookup-removed, moved-found, not_none, some_parts}
+use Rattle.moka_list.proofs.InsertedLemmas.{apart_from_distinct, inserted-other, inserted-same, moved_before-inserted}
 use Rattle.moka_store.proofs.LatestLemmas.{comes_before, latest-before, latest-behind}
 
 -- a test that a part passes is passed by all that it isn't behind

@@ -6,15 +6,15 @@ use Rattle.std.proofs.lemmas.Map.Keys.{IsDistinct-cons, IsDistinct-head, IsDisti
 use Rattle.std.specs.Cmp.{IsEquivalence}
 use Rattle.std.specs.List.{IsDistinct, AllByRecursion}
 use Rattle.std.specs.Map.{lookup, remove_entry, set_value, keys_of, values_of}
-use Rattle.moka_deque.specs.Nodes.{AreApart}
-use Rattle.moka_machine.specs.declared.entry.Entry.{Entry}
-use Rattle.moka_machine.specs.declared.entry.Part.TheVariants.{Probation}
-use Rattle.moka_machine.specs.Contents.{InOrder, entries_without, entry_at, entry_keys, is_before}
-use Rattle.moka_machine.proofs.PartLemmas.{order-filter, order-latest}
+use Rattle.moka_list.specs.Nodes.{AreApart}
+use Rattle.moka_unsync_model.specs.declared.entry.Entry.{Entry}
+use Rattle.moka_unsync_model.specs.declared.entry.Part.TheVariants.{Probation}
+use Rattle.moka_unsync_model.specs.Contents.{InOrder, entries_without, entry_at, entry_keys, is_before}
+use Rattle.moka_unsync_model.proofs.PartLemmas.{order-filter, order-latest}
 use Rattle.moka_store.specs.Nodes.{AreKeyed, latest_node}
-use Rattle.moka_deque.proofs.DequeLemmas.{lookup-other, nat_eq-same}
-use Rattle.moka_deque.proofs.IdLemmas.{IsDistinct-removed, each_found, lookup-removed, not_none, some_parts}
-use Rattle.moka_deque.proofs.InsertedLemmas.{apart_from_distinct}
+use Rattle.moka_list.proofs.ItemLemmas.{lookup-other, nat_eq-same}
+use Rattle.moka_list.proofs.IdLemmas.{IsDistinct-removed, each_found, lookup-removed, not_none, some_parts}
+use Rattle.moka_list.proofs.InsertedLemmas.{apart_from_distinct}
 use Rattle.moka_store.proofs.LatestLemmas.{distinct-latest, lookup-latest, values-latest}
 
 module _ {X : Type 0} where

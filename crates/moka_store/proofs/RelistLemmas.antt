@@ -2,8 +2,8 @@
 use Rattle.std.proofs.Common.{◌≡◌, ◌<◌, ◌^◌, ℕ, Bool, nat_eq, List, length, Some}
 use Rattle.std.specs.Cmp.{IsEquivalence}
 use Rattle.std.specs.Map.{lookup, remove_entry, set_value}
-use Rattle.moka_index.specs.HashIndex.{HashIndex}
-use Rattle.moka_machine.specs.declared.entry.Entry.{Entry}
+use Rattle.moka_list.specs.HashIndex.{HashIndex}
+use Rattle.moka_unsync_model.specs.declared.entry.Entry.{Entry}
 use Rattle.moka_store.specs.declared.parts.Marks.{Marks}
 use Rattle.moka_store.specs.declared.parts.Weights.{Weights}
 use Rattle.moka_store.specs.Nodes.{AreMarks, IsStored, latest_node, weights_of}

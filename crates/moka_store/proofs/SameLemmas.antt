@@ -4,11 +4,11 @@ use Rattle.std.proofs.Common.{refl, sym, ap, ◌∙◌, inl, inr, subst}
 use Rattle.std.proofs.lemmas.Bool.{cases_Bool, cond-true, cond-false, eqb-true, false≢true}
 use Rattle.std.specs.List.{AllByRecursion, IsDistinct}
 use Rattle.std.specs.Map.{lookup, remove_entry, keys_of}
-use Rattle.moka_index.specs.HashIndex.{HashIndex, is_candidate}
-use Rattle.moka_machine.specs.declared.entry.Entry.{Entry}
+use Rattle.moka_list.specs.HashIndex.{HashIndex, is_candidate}
+use Rattle.moka_unsync_model.specs.declared.entry.Entry.{Entry}
 use Rattle.moka_store.specs.Indexed.{IsIndexed}
 use Rattle.moka_store.specs.Nodes.{AreKeyed, IsWritten, SameBy, bare, latest_node}
-use Rattle.moka_deque.proofs.IdLemmas.{each_found, not_none}
+use Rattle.moka_list.proofs.IdLemmas.{each_found, not_none}
 use Rattle.moka_store.proofs.LatestLemmas.{lookup-relisted}
 use Rattle.moka_store.proofs.NodeLemmas.{all-found}
 

@@ -3,14 +3,14 @@ use Rattle.std.proofs.Common.{◌≡◌, ℕ, Bool, nat_eq, List, length, Some, 
 use Rattle.std.proofs.Common.{refl, ap, ◌∙◌, arith}
 use Rattle.std.specs.Cmp.{IsEquivalence}
 use Rattle.std.specs.Map.{lookup, remove_entry, values_of}
-use Rattle.moka_machine.specs.declared.entry.Entry.{Entry}
-use Rattle.moka_machine.specs.declared.entry.Part.TheVariants.{Probation}
-use Rattle.moka_machine.specs.Contents.{balanced, entries_without, with_latest, writes_without}
-use Rattle.moka_machine.specs.Insert.{with_write}
-use Rattle.moka_machine.specs.Lookup.{used_part}
+use Rattle.moka_unsync_model.specs.declared.entry.Entry.{Entry}
+use Rattle.moka_unsync_model.specs.declared.entry.Part.TheVariants.{Probation}
+use Rattle.moka_unsync_model.specs.Contents.{balanced, entries_without, with_latest, writes_without}
+use Rattle.moka_unsync_model.specs.Insert.{with_write}
+use Rattle.moka_unsync_model.specs.Lookup.{used_part}
 use Rattle.moka_store.specs.Nodes.{AreKeyed, IsBalanced, latest_node}
 use Rattle.moka_store.specs.Store.{Continues, Enters, Promotes, Removes, Replaces, Store, Updates, Uses, entries_of}
-use Rattle.moka_deque.proofs.DequeLemmas.{length-remove, nat_eq-same}
+use Rattle.moka_list.proofs.ItemLemmas.{length-remove, nat_eq-same}
 use Rattle.moka_store.proofs.LatestLemmas.{length-latest, lookup-relisted, values-latest}
 use Rattle.moka_store.proofs.NodeLemmas.{length-keys, values-removed}
 use Rattle.moka_store.proofs.SameLemmas.{same-bare}

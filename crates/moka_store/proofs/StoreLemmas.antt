@@ -5,11 +5,11 @@ use Rattle.std.proofs.lemmas.List.{length_push}
 use Rattle.std.specs.Cmp.{IsEquivalence}
 use Rattle.std.specs.List.{IsDistinct}
 use Rattle.std.specs.Map.{lookup, remove_entry, keys_of, values_of}
-use Rattle.moka_deque.specs.Chain.{Chain}
-use Rattle.moka_deque.specs.IdList.{IdList}
-use Rattle.moka_index.specs.HashIndex.{HashIndex, candidates, Adds, Removes as Unlists}
-use Rattle.moka_machine.specs.declared.entry.Entry.{Entry}
-use Rattle.moka_machine.specs.Contents.{entry_at}
+use Rattle.moka_list.specs.Chain.{Chain}
+use Rattle.moka_list.specs.IdList.{IdList}
+use Rattle.moka_list.specs.HashIndex.{HashIndex, candidates, Adds, Removes as Unlists}
+use Rattle.moka_unsync_model.specs.declared.entry.Entry.{Entry}
+use Rattle.moka_unsync_model.specs.Contents.{entry_at}
 use Rattle.moka_store.specs.declared.parts.Marks.{Marks}
 use Rattle.moka_store.specs.declared.parts.Weights.{Weights}
 use Rattle.moka_store.specs.Indexed.{HasRoom}
@@ -21,8 +21,8 @@ use Rattle.moka_store.proofs.NodeLemmas.{all-removed, keyed-latest, keyed-none, 
 use Rattle.moka_store.proofs.NodeLemmas.{order-with, removed_parts}
 use Rattle.moka_store.proofs.SameLemmas.{indexed-same, keyed-same, same-bare, same-relisted, small-same, written-same}
 use Rattle.moka_store.proofs.WriteLemmas.{written-last, written-latest, written-none, written-removed}
-use Rattle.moka_deque.proofs.DequeLemmas.{length-remove}
-use Rattle.moka_deque.proofs.IdLemmas.{lookup-removed}
+use Rattle.moka_list.proofs.ItemLemmas.{length-remove}
+use Rattle.moka_list.proofs.IdLemmas.{lookup-removed}
 
 -- a node is there, whatever its entry
 abbrev present : {K V : Type 0} → Entry K V → Bool

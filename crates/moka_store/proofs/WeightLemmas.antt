@@ -5,13 +5,13 @@ use Rattle.std.proofs.lemmas.Bool.{cases_Bool, cond-true}
 use Rattle.std.proofs.lemmas.List.Sums.{sum_by-cons}
 use Rattle.std.specs.List.{AllByRecursion}
 use Rattle.std.specs.Map.{lookup, remove_entry, values_of}
-use Rattle.moka_machine.specs.declared.entry.Entry.{Entry}
-use Rattle.moka_machine.specs.declared.entry.Part.{Part}
-use Rattle.moka_machine.specs.Contents.{is_protected, is_window, total_weight}
+use Rattle.moka_unsync_model.specs.declared.entry.Entry.{Entry}
+use Rattle.moka_unsync_model.specs.declared.entry.Part.{Part}
+use Rattle.moka_unsync_model.specs.Contents.{is_protected, is_window, total_weight}
 use Rattle.moka_store.specs.declared.parts.Weights.{Weights}
 use Rattle.moka_store.specs.Nodes.{is_any, latest_node, share, weight_in, weights_of}
-use Rattle.moka_deque.proofs.DequeLemmas.{lookup-other, remove-other, remove-same}
-use Rattle.moka_deque.proofs.IdLemmas.{not_none, some_parts}
+use Rattle.moka_list.proofs.ItemLemmas.{lookup-other, remove-other, remove-same}
+use Rattle.moka_list.proofs.IdLemmas.{not_none, some_parts}
 use Rattle.moka_store.proofs.LatestLemmas.{sum-latest}
 
 -- a share is no more than all

@@ -8,13 +8,13 @@ use Rattle.std.proofs.lemmas.Map.Keys.{IsDistinct-cons, IsDistinct-head, IsDisti
 use Rattle.std.specs.Cmp.{IsEquivalence}
 use Rattle.std.specs.List.{AllByRecursion, IsDistinct, cons_option}
 use Rattle.std.specs.Map.{lookup, remove_entry, keys_of, values_of}
-use Rattle.moka_deque.specs.IdList.{ids_without, is_listed}
-use Rattle.moka_machine.specs.declared.entry.Entry.{Entry}
-use Rattle.moka_machine.specs.Contents.{entry_at, write_of, writes_without}
-use Rattle.moka_machine.specs.Insert.{with_write}
+use Rattle.moka_list.specs.IdList.{ids_without, is_listed}
+use Rattle.moka_unsync_model.specs.declared.entry.Entry.{Entry}
+use Rattle.moka_unsync_model.specs.Contents.{entry_at, write_of, writes_without}
+use Rattle.moka_unsync_model.specs.Insert.{with_write}
 use Rattle.moka_store.specs.Nodes.{AreKeyed, IsWritten, SameBy, latest_node, write_added, write_last, write_left, write_under, written_under}
-use Rattle.moka_deque.proofs.DequeLemmas.{nat_eq-same}
-use Rattle.moka_deque.proofs.IdLemmas.{lookup-removed}
+use Rattle.moka_list.proofs.ItemLemmas.{nat_eq-same}
+use Rattle.moka_list.proofs.IdLemmas.{lookup-removed}
 use Rattle.moka_store.proofs.LatestLemmas.{lookup-latest}
 use Rattle.moka_store.proofs.NodeLemmas.{agrees_at, ids-none, key_absent}
 

@@ -1,10 +1,10 @@
 -- How a store's index goes with its nodes. No public clause cites this module.
 use Rattle.std.specs.Prelude.{◌≡◌, ◌<◌, ◌≤◌, ◌-◌, ◌^◌, ℕ, Bool, true, nat_eq, length, List, Some, IsSome}
 use Rattle.std.specs.Map.{lookup}
-use Rattle.moka_deque.specs.Chain.{Chain}
-use Rattle.moka_deque.specs.IdList.{IdList}
-use Rattle.moka_index.specs.HashIndex.{HashIndex, is_candidate}
-use Rattle.moka_machine.specs.declared.entry.Entry.{Entry}
+use Rattle.moka_list.specs.Chain.{Chain}
+use Rattle.moka_list.specs.IdList.{IdList}
+use Rattle.moka_list.specs.HashIndex.{HashIndex, is_candidate}
+use Rattle.moka_unsync_model.specs.declared.entry.Entry.{Entry}
 
 module _ {K V : Type 0} where
   -- each node is a candidate of its entry's hash, there is no other candidate, and the index has room for each id

@@ -4,14 +4,14 @@ use Rattle.std.specs.Prelude.{Option, Some, None, IsSome, option_map}
 use Rattle.std.specs.Option.{option_eq}
 use Rattle.std.specs.List.{AllByRecursion, IsDistinct, filter_map}
 use Rattle.std.specs.Map.{lookup, keys_of, values_of}
-use Rattle.moka_deque.specs.Chain.{moved_before}
-use Rattle.moka_deque.specs.Deque.{first_id, moved_to_back}
-use Rattle.moka_deque.specs.IdList.{ids_without, is_listed}
-use Rattle.moka_index.specs.HashIndex.{HashIndex}
-use Rattle.moka_machine.specs.declared.entry.Entry.{Entry}
-use Rattle.moka_machine.specs.declared.entry.Part.{Part}
-use Rattle.moka_machine.specs.declared.entry.Part.TheVariants.{Probation, Protected, Window}
-use Rattle.moka_machine.specs.Contents.{InOrder, Write, balanced, is_before, is_probation, is_protected, is_window, write_of}
+use Rattle.moka_list.specs.Chain.{moved_before}
+use Rattle.moka_list.specs.Nodes.{first_id, moved_to_back}
+use Rattle.moka_list.specs.IdList.{ids_without, is_listed}
+use Rattle.moka_list.specs.HashIndex.{HashIndex}
+use Rattle.moka_unsync_model.specs.declared.entry.Entry.{Entry}
+use Rattle.moka_unsync_model.specs.declared.entry.Part.{Part}
+use Rattle.moka_unsync_model.specs.declared.entry.Part.TheVariants.{Probation, Protected, Window}
+use Rattle.moka_unsync_model.specs.Contents.{InOrder, Write, balanced, is_before, is_probation, is_protected, is_window, write_of}
 use Rattle.moka_store.specs.declared.parts.Marks.{Marks}
 use Rattle.moka_store.specs.declared.parts.Weights.{Weights}
 use Rattle.moka_store.specs.Indexed.{IsIndexed}

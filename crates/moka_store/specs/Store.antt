@@ -2,14 +2,14 @@
 use Rattle.std.specs.Prelude.{◌≡◌, ◌≤◌, ℕ, Bool, true, false, filter, nat_eq, List, length, ◌∷◌, All, Some, IsSome, option_map}
 use Rattle.std.specs.List.{IsDistinct}
 use Rattle.std.specs.Map.{lookup, remove_entry, values_of}
-use Rattle.moka_deque.specs.IdList.{is_listed}
-use Rattle.moka_machine.specs.declared.entry.Entry.{Entry}
-use Rattle.moka_machine.specs.declared.entry.Part.{Part}
-use Rattle.moka_machine.specs.declared.entry.Part.TheVariants.{Probation, Protected, Window}
-use Rattle.moka_machine.specs.Contents.{Contents, Write, after_moving, entries_without, entry_at, entry_keys, is_probation, is_protected, is_window, without}
-use Rattle.moka_machine.specs.Contents.{write_of, writes_without}
-use Rattle.moka_machine.specs.Insert.{after_arrival, after_update}
-use Rattle.moka_machine.specs.Lookup.{after_using}
+use Rattle.moka_list.specs.IdList.{is_listed}
+use Rattle.moka_unsync_model.specs.declared.entry.Entry.{Entry}
+use Rattle.moka_unsync_model.specs.declared.entry.Part.{Part}
+use Rattle.moka_unsync_model.specs.declared.entry.Part.TheVariants.{Probation, Protected, Window}
+use Rattle.moka_unsync_model.specs.Contents.{Contents, Write, after_moving, entries_without, entry_at, entry_keys, is_probation, is_protected, is_window, without}
+use Rattle.moka_unsync_model.specs.Contents.{write_of, writes_without}
+use Rattle.moka_unsync_model.specs.Insert.{after_arrival, after_update}
+use Rattle.moka_unsync_model.specs.Lookup.{after_using}
 
 -- the entries in three parts, probation, protected and the window, each in order of use and under the ids of their nodes; the writes in their order, if
 -- they are kept; and how many entries fit with no allocation

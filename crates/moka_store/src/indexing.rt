@@ -2,14 +2,14 @@
 ghost use Rattle.std.specs.Prelude.{◌≡◌, ℕ, ◌≤◌, ◌<◌, [], nat_eq, IsOk, OnErr, OnOk};
 ghost use Rattle.std.specs.List.{IsDistinct};
 ghost use Rattle.std.specs.Map.{keys_of};
-ghost use Rattle.moka_deque.specs.Deque.{IsIn};
-ghost use Rattle.moka_index.specs.HashIndex.{candidates};
+ghost use Rattle.moka_list.specs.Nodes.{IsIn};
+ghost use Rattle.moka_list.specs.HashIndex.{candidates};
 ghost use Rattle.moka_store.specs.Indexed.{IsIndexed};
 
-use moka_base::error::OutOfMemory;
-use moka_deque::chain::Chain;
-use moka_index::hash_index::HashIndex;
-use moka_machine::entry::Entry;
+use moka_common::error::OutOfMemory;
+use moka_list::chain::Chain;
+use moka_list::hash_index::HashIndex;
+use moka_unsync_model::entry::Entry;
 use std::alloc::Allocator;
 
 /// Grows the index for ids below `target`, and adds the ids of all nodes to it.

@@ -2,15 +2,15 @@
 ghost use Rattle.std.specs.Prelude.{◌≡◌, ◌≢◌, ◌<◌, ◌≤◌, ◌+◌, ◌-◌, ◌^◌, IfSome, None, Some, length, nat_eq};
 ghost use Rattle.std.specs.List.{IsDistinct};
 ghost use Rattle.std.specs.Map.{keys_of, lookup, remove_entry, values_of};
-ghost use Rattle.moka_deque.specs.Deque.{IsIn, next_id};
-ghost use Rattle.moka_machine.specs.declared.entry.Entry.{Entry as EntryValue};
-ghost use Rattle.moka_machine.specs.declared.entry.Part.TheVariants.{Probation};
-ghost use Rattle.moka_machine.specs.Contents.{InOrder, is_protected, is_window, protected_of};
+ghost use Rattle.moka_list.specs.Nodes.{IsIn, next_id};
+ghost use Rattle.moka_unsync_model.specs.declared.entry.Entry.{Entry as EntryValue};
+ghost use Rattle.moka_unsync_model.specs.declared.entry.Part.TheVariants.{Probation};
+ghost use Rattle.moka_unsync_model.specs.Contents.{InOrder, is_protected, is_window, protected_of};
 ghost use Rattle.moka_store.specs.Store.{is_of};
 ghost use Rattle.moka_store.specs.Nodes.{AreMarks, Demotes, IsBalanced, behind, latest_node, moved, passed, share, weights_of, with_mark};
 
-use moka_deque::chain::{Chain, NodeId};
-use moka_machine::entry::{Entry, Part};
+use moka_list::chain::{Chain, NodeId};
+use moka_unsync_model::entry::{Entry, Part};
 use std::alloc::Allocator;
 
 /// Tells if two parts are the same.

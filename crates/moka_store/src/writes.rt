@@ -1,9 +1,9 @@
 // The order of writing, which is kept if there is a time to live.
 ghost use Rattle.std.specs.Prelude.{◌≡◌, ◌<◌, false, true};
-ghost use Rattle.moka_deque.specs.IdList.{is_listed};
+ghost use Rattle.moka_list.specs.IdList.{is_listed};
 ghost use Rattle.moka_store.specs.Nodes.{write_added, write_last, write_left};
 
-use moka_deque::chain::{IdList, NodeId};
+use moka_list::chain::{IdList, NodeId};
 use std::alloc::Allocator;
 
 /// Adds the write of a new node.

@@ -6,16 +6,16 @@ use Rattle.std.proofs.lemmas.List.Elements.{All-head, All-tail, filter_passes}
 use Rattle.std.proofs.lemmas.List.{append_assoc, length_push}
 use Rattle.std.proofs.lemmas.List.Sums.{sum_by-append, sum_by_push}
 use Rattle.std.specs.List.{sum_by}
-use Rattle.moka_base.specs.Admission.{outvoted}
-use Rattle.moka_base.specs.Prefix.{shortest_prefix}
-use Rattle.moka_machine.specs.declared.entry.Entry.{Entry}
+use Rattle.moka_common.specs.Admission.{outvoted}
+use Rattle.moka_common.specs.Prefix.{shortest_prefix}
+use Rattle.moka_unsync_model.specs.declared.entry.Entry.{Entry}
 use Rattle.std.specs.Map.{lookup}
-use Rattle.moka_machine.specs.declared.entry.Part.{Part}
-use Rattle.moka_machine.specs.declared.entry.Part.TheVariants.{Probation, Protected, Window}
-use Rattle.moka_machine.specs.Contents.{Contents, InOrder, after_leaving, entry_at, entry_keys, is_window, main_of, probation_of, protected_of, window_of, without}
-use Rattle.moka_machine.specs.Insert.{after_arrival}
-use Rattle.moka_machine.proofs.ContentsLemmas.{absent-leaving}
-use Rattle.moka_machine.proofs.PartLemmas.{order-parts, order-window}
+use Rattle.moka_unsync_model.specs.declared.entry.Part.{Part}
+use Rattle.moka_unsync_model.specs.declared.entry.Part.TheVariants.{Probation, Protected, Window}
+use Rattle.moka_unsync_model.specs.Contents.{Contents, InOrder, after_leaving, entry_at, entry_keys, is_window, main_of, probation_of, protected_of, window_of, without}
+use Rattle.moka_unsync_model.specs.Insert.{after_arrival}
+use Rattle.moka_unsync_model.proofs.ContentsLemmas.{absent-leaving}
+use Rattle.moka_unsync_model.proofs.PartLemmas.{order-parts, order-window}
 use Rattle.moka_store.specs.Store.{IsFront, Removes, Replaces, Store, contents_of, entries_of}
 use Rattle.moka_unsync.specs.Turns.{after_eviction_of, counted}
 use Rattle.moka_unsync.proofs.TurnLemmas.{left_is, take_none, take_none_of}

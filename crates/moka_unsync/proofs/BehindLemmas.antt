@@ -6,12 +6,12 @@ use Rattle.std.proofs.lemmas.Map.Keys.{IsDistinct-head, IsDistinct-tail}
 use Rattle.std.specs.Cmp.{IsEquivalence}
 use Rattle.std.specs.List.{AllByRecursion, IsDistinct}
 use Rattle.std.specs.Map.{lookup, keys_of as ids_of, values_of}
-use Rattle.moka_deque.specs.Deque.{next_id}
-use Rattle.moka_deque.proofs.WalkLemmas.{from_next, from_node}
-use Rattle.moka_machine.specs.declared.entry.Entry.{Entry}
-use Rattle.moka_machine.specs.Contents.{entry_at, entry_keys}
-use Rattle.moka_machine.specs.Iterate.{entries_behind}
-use Rattle.moka_machine.proofs.ContentsLemmas.{found_key}
+use Rattle.moka_list.specs.Nodes.{next_id}
+use Rattle.moka_list.proofs.WalkLemmas.{from_next, from_node}
+use Rattle.moka_unsync_model.specs.declared.entry.Entry.{Entry}
+use Rattle.moka_unsync_model.specs.Contents.{entry_at, entry_keys}
+use Rattle.moka_unsync_model.specs.Iterate.{entries_behind}
+use Rattle.moka_unsync_model.proofs.ContentsLemmas.{found_key}
 use Rattle.moka_store.specs.Store.{Store, IsFound, entries_of}
 
 module _ {K V : Type 0} (eq : K → K → Bool) where

@@ -8,25 +8,25 @@ use Rattle.std.proofs.lemmas.List.Elements.{All-weaker, All-head, All-tail, All-
 use Rattle.std.specs.Map.{lookup, values_of}
 use Rattle.std.specs.declared.hash.BuildHasher as builder
 use Rattle.std.specs.declared.hash.Hasher as hasher
-use Rattle.moka_base.specs.Keys.{Keys, keys_by}
-use Rattle.moka_base.proofs.KeysLemmas.{keys_by-respects}
-use Rattle.moka_base.specs.Policy.{Policy}
-use Rattle.moka_machine.specs.declared.entry.Entry.{Entry}
-use Rattle.moka_machine.specs.declared.entry.Part.{Part}
-use Rattle.moka_machine.specs.Contents.{after_leaving, entry_keys, is_protected, is_window}
-use Rattle.moka_machine.specs.Upkeep.{after_upkeep}
-use Rattle.moka_base.specs.Settings.{keeps_writes}
-use Rattle.moka_sketch.specs.Sketch.{Table}
-use Rattle.moka_machine.specs.Insert.{after_admission}
-use Rattle.moka_machine.specs.declared.shares.PartLimits.{PartLimits}
-use Rattle.moka_machine.specs.declared.shares.Shares.{Shares}
-use Rattle.moka_machine.specs.Lookup.{after_using}
-use Rattle.moka_machine.specs.Shares.{protected_room, windowed_limits}
-use Rattle.moka_machine.specs.Window.{victims_of}
-use Rattle.moka_machine.proofs.PartLemmas.{All-using, window-used}
-use Rattle.moka_machine.proofs.WindowLemmas.{All-latest}
-use Rattle.moka_laws.proofs.CandidateLemmas.{All-entering}
-use Rattle.moka_machine.proofs.ContentsLemmas.{All-leaving, All-upkeep}
+use Rattle.moka_common.specs.Keys.{Keys, keys_by}
+use Rattle.moka_common.proofs.KeysLemmas.{keys_by-respects}
+use Rattle.moka_common.specs.Policy.{Policy}
+use Rattle.moka_unsync_model.specs.declared.entry.Entry.{Entry}
+use Rattle.moka_unsync_model.specs.declared.entry.Part.{Part}
+use Rattle.moka_unsync_model.specs.Contents.{after_leaving, entry_keys, is_protected, is_window}
+use Rattle.moka_unsync_model.specs.Upkeep.{after_upkeep}
+use Rattle.moka_common.specs.Settings.{keeps_writes}
+use Rattle.moka_common.specs.Sketch.{Table}
+use Rattle.moka_unsync_model.specs.Insert.{after_admission}
+use Rattle.moka_unsync_model.specs.declared.shares.PartLimits.{PartLimits}
+use Rattle.moka_unsync_model.specs.declared.shares.Shares.{Shares}
+use Rattle.moka_unsync_model.specs.Lookup.{after_using}
+use Rattle.moka_unsync_model.specs.Shares.{protected_room, windowed_limits}
+use Rattle.moka_unsync_model.specs.Window.{victims_of}
+use Rattle.moka_unsync_model.proofs.PartLemmas.{All-using, window-used}
+use Rattle.moka_unsync_model.proofs.WindowLemmas.{All-latest}
+use Rattle.moka_unsync_model.proofs.CandidateLemmas.{All-entering}
+use Rattle.moka_unsync_model.proofs.ContentsLemmas.{All-leaving, All-upkeep}
 use Rattle.moka_store.specs.Store.{Continues, HasHash, Store, Updates, Uses, contents_of, entries_of}
 use Rattle.moka_unsync.specs.Cached.{IsCached, IsPut}
 

@@ -2,15 +2,15 @@
 use Rattle.std.proofs.Common.{◌≡◌, ◌∙◌, ℕ, Bool, true, false, not, All, List, [], ◌∷◌, Option, Some, None, is_some, refl, sym, ap}
 use Rattle.std.proofs.lemmas.Bool.{cond-true, cond-false, false≢true, true≢false}
 use Rattle.std.proofs.lemmas.List.Elements.{All-head, All-tail}
-use Rattle.moka_base.specs.Settings.{keeps_writes}
-use Rattle.moka_sketch.specs.Sketch.{Table}
-use Rattle.moka_machine.specs.declared.entry.Entry.{Entry}
-use Rattle.moka_machine.specs.declared.shares.PartLimits.{PartLimits}
-use Rattle.moka_machine.specs.CacheState.{CacheState, room_of, windowed}
-use Rattle.moka_machine.specs.Contents.{Contents, entry_at, is_window, main_of}
-use Rattle.moka_machine.specs.Insert.{after_admission, after_asking, after_entering, after_insert, after_new, after_put, after_update, after_verdict}
-use Rattle.moka_machine.specs.Window.{victims_of}
-use Rattle.moka_machine.specs.Upkeep.{after_upkeep}
+use Rattle.moka_common.specs.Settings.{keeps_writes}
+use Rattle.moka_common.specs.Sketch.{Table}
+use Rattle.moka_unsync_model.specs.declared.entry.Entry.{Entry}
+use Rattle.moka_unsync_model.specs.declared.shares.PartLimits.{PartLimits}
+use Rattle.moka_unsync_model.specs.CacheState.{CacheState, room_of, windowed}
+use Rattle.moka_unsync_model.specs.Contents.{Contents, entry_at, is_window, main_of}
+use Rattle.moka_unsync_model.specs.Insert.{after_admission, after_asking, after_entering, after_insert, after_new, after_put, after_update, after_verdict}
+use Rattle.moka_unsync_model.specs.Window.{victims_of}
+use Rattle.moka_unsync_model.specs.Upkeep.{after_upkeep}
 use Rattle.moka_unsync.specs.Cached.{IsPut}
 
 module _ {K V S W : Type 0} (eq : K → K → Bool) (cache : CacheState K V S W) (new : Entry K V) (now : ℕ) (refused : Bool) where

@@ -1,10 +1,10 @@
 -- Lemmas on what an iterator gives.
 use Rattle.std.proofs.Common.{◌≤◌, ℕ, not, List, [], ◌∷◌, filter, length, inl, inr, arith}
 use Rattle.std.proofs.lemmas.Bool.{cases_Bool, cond-true, cond-false}
-use Rattle.moka_base.specs.Policy.{Policy}
-use Rattle.moka_machine.specs.declared.entry.Entry.{Entry}
-use Rattle.moka_machine.specs.Iterate.{unexpired_pairs}
-use Rattle.moka_machine.specs.Upkeep.{is_expired}
+use Rattle.moka_common.specs.Policy.{Policy}
+use Rattle.moka_unsync_model.specs.declared.entry.Entry.{Entry}
+use Rattle.moka_unsync_model.specs.Iterate.{unexpired_pairs}
+use Rattle.moka_unsync_model.specs.Upkeep.{is_expired}
 
 -- no more pairs than entries
 pub length-unexpired : {K V : Type 0} (policy : Policy) (now : ℕ) (entries : List (Entry K V))

@@ -6,13 +6,13 @@ use Rattle.std.specs.Borrow.{Bor}
 use Rattle.std.specs.Cmp.{IsEquivalence}
 use Rattle.std.specs.List.{IsDistinct}
 use Rattle.std.specs.Map.{lookup, remove_entry, keys_of as ids_of, values_of}
-use Rattle.moka_deque.specs.Deque.{IsIn, first_id, next_id}
-use Rattle.moka_machine.specs.declared.entry.Entry.{Entry}
-use Rattle.moka_machine.specs.Contents.{Contents, after_leaving, entry_at, entries_without, entry_keys, without, writes_without}
-use Rattle.moka_machine.specs.Invalidate.{AnswersAt, AnswersInTurn, chosen}
-use Rattle.moka_machine.proofs.ContentsLemmas.{found_key}
+use Rattle.moka_list.specs.Nodes.{IsIn, first_id, next_id}
+use Rattle.moka_unsync_model.specs.declared.entry.Entry.{Entry}
+use Rattle.moka_unsync_model.specs.Contents.{Contents, after_leaving, entry_at, entries_without, entry_keys, without, writes_without}
+use Rattle.moka_unsync_model.specs.Invalidate.{AnswersAt, AnswersInTurn, chosen}
+use Rattle.moka_unsync_model.proofs.ContentsLemmas.{found_key}
 use Rattle.moka_store.specs.Store.{Store, IsFound, Removes, contents_of, entries_of}
-use Rattle.moka_deque.proofs.WalkLemmas.{from_first, from_next, from_node, from_none, from_stays, next_stays}
+use Rattle.moka_list.proofs.WalkLemmas.{from_first, from_next, from_node, from_none, from_stays, next_stays}
 
 module _ {K V : Type 0} (eq : K → K → Bool) where
   -- a key without an entry takes none with it

@@ -1,17 +1,17 @@
 -- Lemmas on calls as data.
 use Rattle.std.proofs.Common.{◌≡◌, ◌∙◌, ◌++◌, ℕ, List, [], ◌∷◌, Some, None, inl, inr, refl, subst, sym, ap}
 use Rattle.std.specs.declared.rc.Rc.{Rc}
-use Rattle.moka_base.specs.Keys.{Keys}
+use Rattle.moka_common.specs.Keys.{Keys}
 use Rattle.moka_unsync.specs.declared.runs.Call.{Call}
 use Rattle.moka_unsync.specs.declared.runs.Call.TheVariants.{GetOrInsert}
 use Rattle.moka_unsync.specs.declared.runs.Reply.{Reply}
 use Rattle.moka_unsync.specs.declared.runs.Reply.TheVariants as reply
-use Rattle.moka_laws.proofs.GetOrInsertLemmas.{gets_or_inserts}
-use Rattle.moka_machine.specs.GetOrInsert.{IsGot, IsPutBehind, IsRefusedBehind}
-use Rattle.moka_machine.specs.Lookup.{after_get, found_by_get}
-use Rattle.moka_machine.specs.CacheState.{CacheState}
+use Rattle.moka_unsync_model.proofs.GetOrInsertLemmas.{gets_or_inserts}
+use Rattle.moka_unsync_model.specs.GetOrInsert.{IsGot, IsPutBehind, IsRefusedBehind}
+use Rattle.moka_unsync_model.specs.Lookup.{after_get, found_by_get}
+use Rattle.moka_unsync_model.specs.CacheState.{CacheState}
 use Rattle.moka_unsync.specs.Runs.{IsServed, request_of}
-use Rattle.moka_machine.specs.Step.{Answer, IsStep, Request, Runs, Get, Insert, Done, Found, OutOfMemory}
+use Rattle.moka_unsync_model.specs.Step.{Answer, IsStep, Request, Runs, Get, Insert, Done, Found, OutOfMemory}
 
 module _ {K V S W : Type 0} (keys : Keys K S) (weighs : W → K → V → ℕ → W → Type 0) where
   -- one run after another

@@ -5,14 +5,14 @@ use Rattle.std.proofs.Math.Seq.{take-nil}
 use Rattle.std.proofs.lemmas.Bool.{cond-false, cond-true, false≢true}
 use Rattle.std.proofs.lemmas.List.Sums.{sum_by-cons, take_while-cons}
 use Rattle.std.specs.Map.{lookup}
-use Rattle.moka_base.specs.Policy.{Policy}
-use Rattle.moka_machine.specs.declared.entry.Part.{Part}
-use Rattle.moka_machine.specs.declared.entry.Part.TheVariants.{Probation, Protected, Window}
-use Rattle.moka_base.specs.Prefix.{shortest_prefix}
-use Rattle.moka_machine.specs.declared.constants.TheConstants.{EVICTION_BATCH_SIZE}
-use Rattle.moka_machine.specs.declared.entry.Entry.{Entry}
-use Rattle.moka_machine.specs.Contents.{Contents, entry_keys, after_leaving, total_weight, without}
-use Rattle.moka_machine.specs.Upkeep.{after_eviction, after_trim, is_idle, least_recent}
+use Rattle.moka_common.specs.Policy.{Policy}
+use Rattle.moka_unsync_model.specs.declared.entry.Part.{Part}
+use Rattle.moka_unsync_model.specs.declared.entry.Part.TheVariants.{Probation, Protected, Window}
+use Rattle.moka_common.specs.Prefix.{shortest_prefix}
+use Rattle.moka_unsync_model.specs.declared.constants.TheConstants.{EVICTION_BATCH_SIZE}
+use Rattle.moka_unsync_model.specs.declared.entry.Entry.{Entry}
+use Rattle.moka_unsync_model.specs.Contents.{Contents, entry_keys, after_leaving, total_weight, without}
+use Rattle.moka_unsync_model.specs.Upkeep.{after_eviction, after_trim, is_idle, least_recent}
 use Rattle.moka_store.specs.Store.{Continues, IsFront, IsFrontOf, Removes, Store, contents_of, entries_of, is_of, those_of}
 use Rattle.moka_unsync.specs.Turns.{after_idle_of}
 

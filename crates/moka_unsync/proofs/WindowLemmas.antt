@@ -5,20 +5,20 @@ use Rattle.std.proofs.lemmas.List.Sums.{sum_by_push}
 use Rattle.std.specs.Cmp.{IsEquivalence}
 use Rattle.std.specs.List.{IsDistinct}
 use Rattle.std.specs.Map.{lookup}
-use Rattle.moka_sketch.specs.Sketch.{Table}
-use Rattle.moka_machine.specs.declared.entry.Entry.{Entry}
-use Rattle.moka_machine.specs.declared.entry.Part.TheVariants.{Probation, Window}
-use Rattle.moka_machine.specs.declared.shares.PartLimits.{PartLimits}
-use Rattle.moka_machine.specs.Contents.{Contents, after_moving, entry_at, entry_keys, is_before, is_window, main_of, total_weight, window_of}
-use Rattle.moka_machine.specs.Contents.{with_latest, without}
-use Rattle.moka_machine.specs.Contents.{writes_without}
-use Rattle.moka_machine.specs.Insert.{after_arrival, after_entering, after_entry, with_write}
-use Rattle.moka_machine.specs.Shares.{main_limit}
-use Rattle.moka_machine.specs.Upkeep.{least_recent}
-use Rattle.moka_machine.specs.Window.{after_candidate, after_candidacy, after_candidates, excess, victims_of}
-use Rattle.moka_machine.proofs.EnteringLemmas.{entering-is_kept, entering_excess, excess_left, inside, judged-window, judged_first}
-use Rattle.moka_machine.proofs.EnteringLemmas.{lacking-cons, least_recent-cons, least_recent-none, moving-push, passed-push, window-evicted}
-use Rattle.moka_machine.proofs.WindowLemmas.{latest-last, window-last}
+use Rattle.moka_common.specs.Sketch.{Table}
+use Rattle.moka_unsync_model.specs.declared.entry.Entry.{Entry}
+use Rattle.moka_unsync_model.specs.declared.entry.Part.TheVariants.{Probation, Window}
+use Rattle.moka_unsync_model.specs.declared.shares.PartLimits.{PartLimits}
+use Rattle.moka_unsync_model.specs.Contents.{Contents, after_moving, entry_at, entry_keys, is_before, is_window, main_of, total_weight, window_of}
+use Rattle.moka_unsync_model.specs.Contents.{with_latest, without}
+use Rattle.moka_unsync_model.specs.Contents.{writes_without}
+use Rattle.moka_unsync_model.specs.Insert.{after_arrival, after_entering, after_entry, with_write}
+use Rattle.moka_unsync_model.specs.Shares.{main_limit}
+use Rattle.moka_unsync_model.specs.Upkeep.{least_recent}
+use Rattle.moka_unsync_model.specs.Window.{after_candidate, after_candidacy, after_candidates, excess, victims_of}
+use Rattle.moka_unsync_model.proofs.EnteringLemmas.{entering-is_kept, entering_excess, excess_left, inside, judged-window, judged_first}
+use Rattle.moka_unsync_model.proofs.EnteringLemmas.{lacking-cons, least_recent-cons, least_recent-none, moving-push, passed-push, window-evicted}
+use Rattle.moka_unsync_model.proofs.WindowLemmas.{latest-last, window-last}
 use Rattle.std.proofs.lemmas.List.Elements.{All-cons, All-nil}
 use Rattle.moka_store.specs.Store.{Enters, IsFrontOf, Promotes, Removes, Replaces, Store, contents_of, entries_of}
 use Rattle.moka_store.proofs.NodeLemmas.{key_absent}

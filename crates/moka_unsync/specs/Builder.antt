@@ -1,12 +1,12 @@
 -- What a contract sees of a builder: what was set.
 use Rattle.std.specs.Prelude.{◌≡◌, ◌≤◌, ℕ, Bool, false, nat_lt, if◌then◌else◌, Option, Some, None, unwrap_or}
-use Rattle.moka_base.specs.declared.error.BuildError.{BuildError}
-use Rattle.moka_base.specs.declared.error.BuildError.TheVariants.{OutOfMemory, ProtectedShareTooLarge, WindowShareTooLarge}
-use Rattle.moka_base.specs.Policy.{Policy}
-use Rattle.moka_base.specs.Settings.{duration_fault, idle_nanos, live_nanos}
-use Rattle.moka_machine.specs.declared.shares.Shares.{Shares}
-use Rattle.moka_machine.specs.CacheState.{CacheState, new_cache}
-use Rattle.moka_machine.specs.Shares.{default_shares}
+use Rattle.moka_common.specs.declared.error.BuildError.{BuildError}
+use Rattle.moka_common.specs.declared.error.BuildError.TheVariants.{OutOfMemory, ProtectedShareTooLarge, WindowShareTooLarge}
+use Rattle.moka_common.specs.Policy.{Policy}
+use Rattle.moka_common.specs.Settings.{duration_fault, idle_nanos, live_nanos}
+use Rattle.moka_unsync_model.specs.declared.shares.Shares.{Shares}
+use Rattle.moka_unsync_model.specs.CacheState.{CacheState, new_cache}
+use Rattle.moka_unsync_model.specs.Shares.{default_shares}
 
 -- the limits, for how many entries there is room from the start, the shares of window and protected, and the weigher, if one was given
 pub record Builder (W : Type 0) : Type 0 where

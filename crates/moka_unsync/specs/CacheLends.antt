@@ -7,7 +7,7 @@ use Rattle.std.specs.declared.hash.BuildHasher as builder
 use Rattle.std.specs.declared.clone.Clone as clone
 use Rattle.std.specs.declared.hash.Hasher as hasher
 use mathlib.Core.Option.{none}
-use Rattle.moka_machine.specs.CacheState.{CacheState}
+use Rattle.moka_unsync_model.specs.CacheState.{CacheState}
 use Rattle.moka_unsync.specs.contracts.cache.Cache.{the_row}
 
 module _ (K V S W A H : RattleType) (key : HashMembers K.Denot) (build : builder.Ghosts S.Denot H.Denot) (hash : hasher.Ghosts H.Denot)

@@ -1,16 +1,16 @@
 -- How the parts of a cache are tied. No public clause cites this module.
 use Rattle.std.specs.Prelude.{◌≡◌, ◌-◌, ◌^◌, ◌||◌, ℕ, Bool, false, All, is_some, unwrap_or, Option, Some, None}
-use Rattle.moka_base.specs.Keys.{Keys}
-use Rattle.moka_base.specs.Policy.{Policy}
-use Rattle.moka_base.specs.Settings.{keeps_writes}
-use Rattle.moka_sketch.specs.Sketch.{Table}
-use Rattle.moka_machine.specs.declared.entry.Entry.{Entry}
-use Rattle.moka_machine.specs.declared.shares.PartLimits.{PartLimits}
-use Rattle.moka_machine.specs.declared.shares.Shares.{Shares}
-use Rattle.moka_machine.specs.Contents.{Contents, entry_at, is_window}
-use Rattle.moka_machine.specs.Insert.{after_admission, after_entering}
-use Rattle.moka_machine.specs.Shares.{protected_room, windowed_limits}
-use Rattle.moka_machine.specs.Window.{victims_of}
+use Rattle.moka_common.specs.Keys.{Keys}
+use Rattle.moka_common.specs.Policy.{Policy}
+use Rattle.moka_common.specs.Settings.{keeps_writes}
+use Rattle.moka_common.specs.Sketch.{Table}
+use Rattle.moka_unsync_model.specs.declared.entry.Entry.{Entry}
+use Rattle.moka_unsync_model.specs.declared.shares.PartLimits.{PartLimits}
+use Rattle.moka_unsync_model.specs.declared.shares.Shares.{Shares}
+use Rattle.moka_unsync_model.specs.Contents.{Contents, entry_at, is_window}
+use Rattle.moka_unsync_model.specs.Insert.{after_admission, after_entering}
+use Rattle.moka_unsync_model.specs.Shares.{protected_room, windowed_limits}
+use Rattle.moka_unsync_model.specs.Window.{victims_of}
 use Rattle.moka_store.specs.Store.{Store, entries_of}
 
 -- a policy has entries expire or not, and has this limit, or none and then the largest number

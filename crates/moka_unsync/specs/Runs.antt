@@ -5,8 +5,8 @@ use Rattle.moka_unsync.specs.declared.runs.Call.{Call}
 use Rattle.moka_unsync.specs.declared.runs.Call.TheVariants as call
 use Rattle.moka_unsync.specs.declared.runs.Reply.{Reply}
 use Rattle.moka_unsync.specs.declared.runs.Reply.TheVariants as reply
-use Rattle.moka_machine.specs.Step.{Answer, Request, Get, Peek, ContainsKey, Insert, Invalidate, Remove, InvalidateAll}
-use Rattle.moka_machine.specs.Step.{EntryCount, WeightedSize, Found, Truth, Done, OutOfMemory, Pairs, Number}
+use Rattle.moka_unsync_model.specs.Step.{Answer, Request, Get, Peek, ContainsKey, Insert, Invalidate, Remove, InvalidateAll}
+use Rattle.moka_unsync_model.specs.Step.{EntryCount, WeightedSize, Found, Truth, Done, OutOfMemory, Pairs, Number}
 
 module _ {V A : Type 0} where
   -- a reply has one more owner of a value

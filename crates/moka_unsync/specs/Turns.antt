@@ -1,9 +1,9 @@
 -- What a batch of entries leaves that go one after another. No public clause cites this module.
 use Rattle.std.specs.Prelude.{◌≡◌, ℕ, suc, Bool, true, false, List, take, Option, option_map}
-use Rattle.moka_base.specs.Policy.{Policy}
-use Rattle.moka_machine.specs.declared.entry.Part.{Part}
-use Rattle.moka_machine.specs.Contents.{Contents, after_leaving, entry_keys, main_of}
-use Rattle.moka_machine.specs.Upkeep.{after_idle}
+use Rattle.moka_common.specs.Policy.{Policy}
+use Rattle.moka_unsync_model.specs.declared.entry.Part.{Part}
+use Rattle.moka_unsync_model.specs.Contents.{Contents, after_leaving, entry_keys, main_of}
+use Rattle.moka_unsync_model.specs.Upkeep.{after_idle}
 use Rattle.moka_store.specs.Store.{those_of}
 
 -- one left and the others are up to further turns, or none is left to leave

@@ -1,25 +1,25 @@
 // Admission of new entries by TinyLFU, size-aware as in Caffeine. A new entry first enters the window, if there is one; entries that leave the window are
 // the candidates for main.
 ghost use Rattle.std.specs.Prelude.{◌≡◌, ◌<◌, ◌≤◌, ◌-◌, ◌+◌, ◌^◌, ◌++◌, ◌∷◌, [], ℕ, All, IfSome, IsNone, List, None, Some, false, is_some, length};
-ghost use Rattle.moka_base.specs.Admission.{outvoted};
-ghost use Rattle.moka_base.specs.Prefix.{shortest_prefix};
-ghost use Rattle.moka_sketch.specs.Sketch.{estimate};
-ghost use Rattle.moka_machine.specs.Contents.{after_moving, entry_at, is_window, main_of, total_weight, window_of, writes_without};
-ghost use Rattle.moka_machine.specs.declared.entry.Entry.{Entry as EntryValue};
-ghost use Rattle.moka_machine.specs.declared.entry.Part.TheVariants.{Probation, Window};
-ghost use Rattle.moka_machine.specs.Insert.{after_admission, after_arrival, after_entering, after_entry};
-ghost use Rattle.moka_machine.specs.Shares.{main_limit};
-ghost use Rattle.moka_machine.specs.Upkeep.{least_recent};
-ghost use Rattle.moka_machine.specs.Window.{after_candidate, after_candidates, excess, victims_of};
+ghost use Rattle.moka_common.specs.Admission.{outvoted};
+ghost use Rattle.moka_common.specs.Prefix.{shortest_prefix};
+ghost use Rattle.moka_common.specs.Sketch.{estimate};
+ghost use Rattle.moka_unsync_model.specs.Contents.{after_moving, entry_at, is_window, main_of, total_weight, window_of, writes_without};
+ghost use Rattle.moka_unsync_model.specs.declared.entry.Entry.{Entry as EntryValue};
+ghost use Rattle.moka_unsync_model.specs.declared.entry.Part.TheVariants.{Probation, Window};
+ghost use Rattle.moka_unsync_model.specs.Insert.{after_admission, after_arrival, after_entering, after_entry};
+ghost use Rattle.moka_unsync_model.specs.Shares.{main_limit};
+ghost use Rattle.moka_unsync_model.specs.Upkeep.{least_recent};
+ghost use Rattle.moka_unsync_model.specs.Window.{after_candidate, after_candidates, excess, victims_of};
 ghost use Rattle.moka_store.specs.Store.{Continues, IsFront, IsFrontOf, contents_of, entries_of};
 ghost use Rattle.moka_unsync.specs.Cached.{IsPut};
 ghost use Rattle.moka_unsync.specs.Turns.{IsTurn, after_eviction_of, counted};
 
-use moka_deque::chain::NodeId;
-use moka_machine::entry::{Entry, Part};
-use moka_machine::shares::PartLimits;
-use moka_sketch::frequency_sketch::FrequencySketch;
+use moka_common::frequency_sketch::FrequencySketch;
+use moka_list::chain::NodeId;
 use moka_store::store::Store;
+use moka_unsync_model::entry::{Entry, Part};
+use moka_unsync_model::shares::PartLimits;
 use std::alloc::Allocator;
 
 /// Stores a new entry in place of its victims in main, or drops it if it is rejected. Returns whether it was stored.

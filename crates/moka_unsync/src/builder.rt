@@ -6,12 +6,12 @@ mod debug;
 
 use crate::cache::{Cache, Parts};
 use crate::part_limits::{default_shares, share_fault};
-use moka_base::error::BuildError;
-use moka_base::hash::FixedState;
-use moka_base::policy::Policy;
-use moka_base::settings::duration_fault;
-use moka_base::weigh::{UnitWeight, Weigh};
-use moka_machine::shares::Shares;
+use moka_common::error::BuildError;
+use moka_common::hash::FixedState;
+use moka_common::policy::Policy;
+use moka_common::settings::duration_fault;
+use moka_common::weigh::{UnitWeight, Weigh};
+use moka_unsync_model::shares::Shares;
 use std::alloc::{Allocator, Global};
 use std::hash::{BuildHasher, Hash};
 use std::marker::{Model, PhantomData};

@@ -3,18 +3,18 @@ ghost use Rattle.std.specs.Prelude.{◌≡◌, ◌⊎◌, ◌<◌, ◌≤◌, �
 ghost use Rattle.std.specs.Prelude.{IfErr, IfOk, OnErr, OnOk, option_copied, option_map};
 ghost use Rattle.std.specs.Borrow.{sem};
 ghost use Rattle.std.specs.Map.Iter.{deref_pair};
-ghost use Rattle.moka_base.specs.Keys.{keys_by};
-ghost use Rattle.moka_sketch.specs.Enabling.{enables_sketch, expected_entries};
-ghost use Rattle.moka_base.specs.Settings.{keeps_writes};
+ghost use Rattle.moka_common.specs.Keys.{keys_by};
+ghost use Rattle.moka_common.specs.Enabling.{enables_sketch, expected_entries};
+ghost use Rattle.moka_common.specs.Settings.{keeps_writes};
 ghost use Rattle.moka_unsync.specs.Builder.{new_builder};
-ghost use Rattle.moka_machine.specs.CacheState.{new_cache};
-ghost use Rattle.moka_machine.specs.Contents.{entry_at, total_weight, weighted_size};
-ghost use Rattle.moka_machine.specs.Lookup.{after_get, after_look, found_by_get, found_by_peek, is_contained};
-ghost use Rattle.moka_machine.specs.GetOrInsert.{IsGotOrInserted, IsRefusedBehind};
-ghost use Rattle.moka_machine.specs.Insert.{IsInserted, IsRefused, after_asking};
-ghost use Rattle.moka_machine.specs.Invalidate.{AnswersInTurn, after_invalidate, after_invalidate_all, after_invalidate_if};
-ghost use Rattle.moka_machine.specs.Iterate.{pair_behind, pairs_at};
-ghost use Rattle.moka_machine.specs.Shares.{default_shares};
+ghost use Rattle.moka_unsync_model.specs.CacheState.{new_cache};
+ghost use Rattle.moka_unsync_model.specs.Contents.{entry_at, total_weight, weighted_size};
+ghost use Rattle.moka_unsync_model.specs.Lookup.{after_get, after_look, found_by_get, found_by_peek, is_contained};
+ghost use Rattle.moka_unsync_model.specs.GetOrInsert.{IsGotOrInserted, IsRefusedBehind};
+ghost use Rattle.moka_unsync_model.specs.Insert.{IsInserted, IsRefused, after_asking};
+ghost use Rattle.moka_unsync_model.specs.Invalidate.{AnswersInTurn, after_invalidate, after_invalidate_all, after_invalidate_if};
+ghost use Rattle.moka_unsync_model.specs.Iterate.{pair_behind, pairs_at};
+ghost use Rattle.moka_unsync_model.specs.Shares.{default_shares};
 
 mod debug;
 mod iter;
@@ -26,15 +26,15 @@ use crate::removal::{clear, remove_key, remove_where, take_key};
 use crate::upkeep::Bounds;
 use crate::walk::next_unexpired;
 pub use iter::Iter;
-use moka_base::error::{BuildError, InsertError, OutOfMemory};
-use moka_base::hash::FixedState;
-use moka_base::policy::Policy;
-use moka_base::time::Instant;
-use moka_base::weigh::{UnitWeight, Weigh};
-use moka_machine::entry::{Entry, Part};
-use moka_machine::shares::{PartLimits, Shares};
-use moka_sketch::frequency_sketch::{FrequencySketch, sketch_capacity};
+use moka_common::error::{BuildError, InsertError, OutOfMemory};
+use moka_common::frequency_sketch::{FrequencySketch, sketch_capacity};
+use moka_common::hash::FixedState;
+use moka_common::policy::Policy;
+use moka_common::time::Instant;
+use moka_common::weigh::{UnitWeight, Weigh};
 use moka_store::store::Store;
+use moka_unsync_model::entry::{Entry, Part};
+use moka_unsync_model::shares::{PartLimits, Shares};
 use std::alloc::{Allocator, Global};
 use std::hash::{BuildHasher, Hash};
 use std::marker::Model;
@@ -169,8 +169,8 @@ impl<
     W: Drop,
     A: Allocator + Clone + Drop,
 > Model for Cache<K, V, S, W, A> {
-    ghost use Rattle.moka_base.specs.Keys.{keys_by};
-    ghost use Rattle.moka_machine.specs.CacheState.{CacheState};
+    ghost use Rattle.moka_common.specs.Keys.{keys_by};
+    ghost use Rattle.moka_unsync_model.specs.CacheState.{CacheState};
     ghost use Rattle.moka_unsync.specs.Cached.{IsCached};
     ghost use Rattle.moka_store.specs.Store.{contents_of};
 

@@ -10,6 +10,4 @@ pub mod runs;
 mod upkeep;
 mod walk;
 
-pub use moka_history::history;
-pub use moka_laws::laws;
-pub use moka_machine::{constants, entry, shares};
+pub use moka_unsync_model::{constants, entry, history, laws, shares};

@@ -1,11 +1,11 @@
 // The limits of a cache's parts: the window, and main's protected entries.
 ghost use Rattle.std.specs.Prelude.{◌≡◌, ◌≤◌};
-ghost use Rattle.moka_machine.specs.Shares.{default_shares, hundredths, limits_of, protected_room, windowed_limits};
+ghost use Rattle.moka_unsync_model.specs.Shares.{default_shares, hundredths, limits_of, protected_room, windowed_limits};
 ghost use Rattle.moka_unsync.specs.Builder.{share_fault};
 
-use moka_base::error::BuildError;
-use moka_machine::constants::{PROTECTED_SHARE, WINDOW_SHARE};
-use moka_machine::shares::{PartLimits, Shares};
+use moka_common::error::BuildError;
+use moka_unsync_model::constants::{PROTECTED_SHARE, WINDOW_SHARE};
+use moka_unsync_model::shares::{PartLimits, Shares};
 
 /// The default shares.
 pub(crate) fn default_shares() -> Shares

@@ -1,11 +1,11 @@
 // Removals that the owner asks for: of a key, of all entries, and of those that a predicate chooses.
 ghost use Rattle.std.specs.Prelude.{◌≡◌, Bool, List};
-ghost use Rattle.moka_machine.specs.Contents.{after_leaving, entry_at, entry_keys, no_contents, without};
-ghost use Rattle.moka_machine.specs.Invalidate.{AnswersInTurn, chosen};
+ghost use Rattle.moka_unsync_model.specs.Contents.{after_leaving, entry_at, entry_keys, no_contents, without};
+ghost use Rattle.moka_unsync_model.specs.Invalidate.{AnswersInTurn, chosen};
 ghost use Rattle.moka_store.specs.Store.{Continues, HasHash, contents_of, entries_of};
 
-use moka_machine::entry::Entry;
 use moka_store::store::Store;
+use moka_unsync_model::entry::Entry;
 use std::alloc::Allocator;
 
 /// Removes the entry of the key, if there is one. The hash is the key's.

@@ -1,13 +1,13 @@
 //! Calls as data, and lists of them made in turn.
 ghost use Rattle.std.specs.Prelude.{◌≡◌, List, option_copied, IfOk, OnErr};
-ghost use Rattle.moka_base.specs.Keys.{keys_by};
+ghost use Rattle.moka_common.specs.Keys.{keys_by};
 ghost use Rattle.moka_unsync.specs.Runs.{AreServed, IsServed, TellsFound};
-ghost use Rattle.moka_machine.specs.Step.{Answer, Request, Runs};
+ghost use Rattle.moka_unsync_model.specs.Step.{Answer, Request, Runs};
 
 use crate::cache::Cache;
-use moka_base::error::OutOfMemory;
-use moka_base::time::Instant;
-use moka_base::weigh::Weigh;
+use moka_common::error::OutOfMemory;
+use moka_common::time::Instant;
+use moka_common::weigh::Weigh;
 use std::alloc::{Allocator, Global};
 use std::hash::{BuildHasher, Hash};
 use std::rc::Rc;

@@ -1,16 +1,16 @@
 // The work that each call does first: it removes expired entries, by write and then by use, and entries above the limit, in batches.
 ghost use Rattle.std.specs.Prelude.{◌≡◌, false};
-ghost use Rattle.moka_machine.specs.declared.constants.TheConstants.{EVICTION_BATCH_SIZE};
-ghost use Rattle.moka_machine.specs.Upkeep.{after_eviction, after_expiry, after_idle_expiry, after_live_expiry, after_upkeep, is_expired};
+ghost use Rattle.moka_unsync_model.specs.declared.constants.TheConstants.{EVICTION_BATCH_SIZE};
+ghost use Rattle.moka_unsync_model.specs.Upkeep.{after_eviction, after_expiry, after_idle_expiry, after_live_expiry, after_upkeep, is_expired};
 ghost use Rattle.moka_store.specs.Store.{Continues, contents_of, entries_of, is_of, those_of};
 ghost use Rattle.moka_unsync.specs.Turns.{IsTurn, after_idle_of};
 
-use moka_base::limits::Limits;
-use moka_base::policy::Policy;
-use moka_base::time::Instant;
-use moka_machine::constants::EVICTION_BATCH_SIZE;
-use moka_machine::entry::{Entry, Part};
+use moka_common::limits::Limits;
+use moka_common::policy::Policy;
+use moka_common::time::Instant;
 use moka_store::store::Store;
+use moka_unsync_model::constants::EVICTION_BATCH_SIZE;
+use moka_unsync_model::entry::{Entry, Part};
 use std::alloc::Allocator;
 use std::marker::Model;
 
@@ -20,12 +20,12 @@ pub(crate) struct Bounds {
     limits: Limits,
     // If entries expire.
     expires: bool,
-    // The weight limit of all entries, which they can't exceed if there is none.
+    // The weight limit of all entries, or the largest number if there is none.
     max_weight: u64,
 }
 
 impl Model for Bounds {
-    ghost use Rattle.moka_base.specs.Policy.{Policy as PolicyState};
+    ghost use Rattle.moka_common.specs.Policy.{Policy as PolicyState};
     ghost use Rattle.moka_unsync.specs.Cached.{IsBounded};
 
     ghost Value = { PolicyState };

@@ -1,12 +1,12 @@
 // Steps from one entry of a store to the next.
 ghost use Rattle.std.specs.Prelude.{◌≡◌, option_copied};
-ghost use Rattle.moka_machine.specs.Iterate.{entries_behind, first_unexpired};
+ghost use Rattle.moka_unsync_model.specs.Iterate.{entries_behind, first_unexpired};
 ghost use Rattle.moka_store.specs.Store.{HasHash, entries_of};
 
 use crate::upkeep::Bounds;
-use moka_base::time::Instant;
-use moka_machine::entry::Entry;
+use moka_common::time::Instant;
 use moka_store::store::Store;
+use moka_unsync_model::entry::Entry;
 use std::alloc::Allocator;
 
 /// Returns the first live entry after that of the key. The hash is the key's.

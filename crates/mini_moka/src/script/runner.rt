@@ -11,12 +11,12 @@ use crate::script::locked::{LockedScript, locked_replies};
 use moka_common::error::OutOfMemory;
 use moka_grammar::line::{CacheHeader, Line, Mode, Script};
 use moka_grammar::parser::{ParseError, parse};
+use moka_grammar::streams::{Fault, ReadError, Sink, Source, read_all, write_all};
 use moka_grammar::text::Text;
 use moka_script::core_lines::core_replies;
 use moka_script::recorded::recorded_replies;
 use moka_script::sketch::sketch_replies;
 use moka_script::unsync::unsync_replies;
-use moka_streams::streams::{Fault, ReadError, Sink, Source, read_all, write_all};
 use std::alloc::{AllocError, Allocator, Global};
 use std::fmt;
 use std::sync::Wait;
@@ -86,7 +86,7 @@ pub fn status_of<A: Allocator + Clone + Drop>(ended: Result<End<A>, ScriptError>
 impl From<ReadError> for ScriptError {
     ghost from_gives = { λ error given. MatchRead error (given ≡ script_error.Read) (given ≡ script_error.OutOfMemory) };
 
-    ghost use Rattle.moka_streams.specs.Streams.{MatchRead};
+    ghost use Rattle.moka_grammar.specs.Streams.{MatchRead};
 
     fn from(error: ReadError) -> ScriptError {
         match error {

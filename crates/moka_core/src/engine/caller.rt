@@ -1,12 +1,12 @@
 // The steps of the core's caller of whole calls, which are exactly those of the definitions.
 use crate::engine::Core;
-use moka_base::error::{InsertError, OutOfMemory};
-use moka_base::shared::Shared;
-use moka_base::time::Instant;
-use moka_engine::event::Reply;
-use moka_engine::place::Place;
-use moka_engine::weigh::WeighShared;
-use moka_steps::steps::{ReadPush, Steps, TakingSteps, WhichLog, WritePush};
+use moka_common::error::{InsertError, OutOfMemory};
+use moka_common::shared::Shared;
+use moka_common::time::Instant;
+use moka_sync_model::event::Reply;
+use moka_sync_model::place::Place;
+use moka_sync_model::steps::{ReadPush, Steps, TakingSteps, WhichLog, WritePush};
+use moka_sync_model::weigh::WeighShared;
 use std::alloc::Allocator;
 use std::hash::{BuildHasher, Hash};
 use std::sync::Wait;
@@ -18,7 +18,7 @@ impl<
     W: WeighShared<K, V>,
     A: Allocator + Clone + Drop,
 > Steps<K, V, A> for Core<K, V, S, W, A> {
-    ghost use Rattle.moka_base.specs.Keys.{keys_by};
+    ghost use Rattle.moka_common.specs.Keys.{keys_by};
     ghost use Rattle.moka_core.specs.CoreCaller.{core_allows, core_caller, core_decides};
 
     ghost allowed = { core_allows (keys_by K.Hash S.BuildHasher S.Hasher.Hasher) W.weighs };

@@ -1,18 +1,18 @@
 // The atomic steps of the caller of whole calls, one method each.
 ghost use Rattle.std.specs.Prelude.{◌≡◌, None};
-ghost use Rattle.moka_base.specs.Keys.{keys_by};
-ghost use Rattle.moka_engine.specs.CoreCall.{Decides, has_pending};
-ghost use Rattle.moka_engine.specs.CoreState.{pending_of};
-ghost use Rattle.moka_engine.specs.Run.{Happens};
-ghost use Rattle.moka_engine.specs.WholeCall.{OfReads, OfWrites};
+ghost use Rattle.moka_common.specs.Keys.{keys_by};
+ghost use Rattle.moka_sync_model.specs.CoreCall.{Decides, has_pending};
+ghost use Rattle.moka_sync_model.specs.CoreState.{pending_of};
+ghost use Rattle.moka_sync_model.specs.Run.{Happens};
+ghost use Rattle.moka_sync_model.specs.WholeCall.{OfReads, OfWrites};
 
 use crate::engine::Core;
-use moka_base::shared::Shared;
-use moka_base::time::Instant;
-use moka_engine::constants::CALLER;
-use moka_engine::event::{Event, Reply};
-use moka_engine::weigh::WeighShared;
-use moka_map::rows::Rows;
+use crate::rows::Rows;
+use moka_common::shared::Shared;
+use moka_common::time::Instant;
+use moka_sync_model::constants::CALLER;
+use moka_sync_model::event::{Event, Reply};
+use moka_sync_model::weigh::WeighShared;
 use std::alloc::Allocator;
 use std::hash::{BuildHasher, Hash};
 

@@ -17,9 +17,9 @@ pub struct Iter<'a, T, A: Allocator = Global> {
 impl<'a, T, A: Allocator> Model for Iter<'a, T, A> {
     ghost use Rattle.std.specs.Prelude.{List, IfSome};
     ghost use Rattle.std.specs.Map.{values_of};
-    ghost use Rattle.moka_deque.specs.Deque.{IsIn};
-    ghost use Rattle.moka_deque.specs.Linked.{items_from};
-    ghost use Rattle.moka_deque.specs.Nodes.{AreApart};
+    ghost use Rattle.moka_list.specs.Nodes.{IsIn};
+    ghost use Rattle.moka_list.specs.Nodes.{items_from};
+    ghost use Rattle.moka_list.specs.Nodes.{AreApart};
 
     ghost Value = { List T };
 

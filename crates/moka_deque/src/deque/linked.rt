@@ -2,9 +2,9 @@
 ghost use Rattle.std.specs.Prelude.{◌≡◌, ℕ, ◌+◌, ◌<◌, ◌≤◌, [], ◌↔◌, nat_eq, length, IsTrue, IsOk, OnOk, Some, is_some, true};
 ghost use Rattle.std.specs.Borrow.{sem};
 ghost use Rattle.std.specs.Map.{lookup, values_of};
-ghost use Rattle.moka_deque.specs.Deque.{IsIn, first_id, next_id, moved_to_back};
+ghost use Rattle.moka_list.specs.Nodes.{IsIn, first_id, next_id, moved_to_back};
 ghost use Rattle.moka_deque.specs.Linked.{EndsWith, Pushes, Unlinks};
-ghost use Rattle.moka_deque.specs.Nodes.{AreApart};
+ghost use Rattle.moka_list.specs.Nodes.{AreApart};
 ghost use Rattle.moka_deque.specs.Slots.{AreTied, shown_if};
 
 use crate::deque::iter::Iter;

@@ -3,10 +3,10 @@ ghost use Rattle.std.specs.Prelude.{◌≡◌, ℕ, ◌+◌, ◌-◌, ◌<◌, �
 ghost use Rattle.std.specs.Borrow.{sem};
 ghost use Rattle.std.specs.Map.{lookup};
 ghost use Rattle.slab.specs.Slab.{ContainsKey, HasRoomFor, Updates, get, slab_len};
-ghost use Rattle.moka_deque.specs.Deque.{IsIn, first_id, next_id, moved_to_back};
+ghost use Rattle.moka_list.specs.Nodes.{IsIn, first_id, next_id, moved_to_back};
 ghost use Rattle.moka_deque.specs.Lends.{lends_element, lends_value};
 ghost use Rattle.moka_deque.specs.Linked.{EndsWith, Pushes, Unlinks};
-ghost use Rattle.moka_deque.specs.Nodes.{AreApart};
+ghost use Rattle.moka_list.specs.Nodes.{AreApart};
 ghost use Rattle.moka_deque.specs.RawNodes.{IsAt, AtNode, linked};
 ghost use Rattle.moka_deque.specs.Slots.{AreEnds, Follows, HasFollower, IsFirst, IsLast, IsPlaced, IsTied, items_of, live_at, nodes_of, room_of, shown};
 ghost use Rattle.moka_deque.specs.declared.deque.nodes.Slot.{Slot};

@@ -1,16 +1,16 @@
 // The turns of a maintenance, each with the lock of what it needs.
 ghost use Rattle.std.specs.Prelude.{◌≡◌, ◌<◌, ◌≤◌, [], drop, length, slice_get, IfSome, IsNone, IsSome};
-ghost use Rattle.moka_behind.specs.LockedTurn.{IsTurn};
+ghost use Rattle.moka_guards.specs.LockedTurn.{IsTurn};
 ghost use Rattle.moka_locks.specs.MaintenanceTurn.{AreTurns, empty_handed};
 ghost use Rattle.moka_maintenance.specs.Taken.{TakesRead, TakesWrite, writes_left};
 
 use crate::inner::Inner;
-use moka_behind::rule::PairRule;
-use moka_behind::waiting::lock;
-use moka_engine::operation::{Read, Write};
-use moka_logs::logs::{LoggedRead, NO_READ, READS_AT_ONCE};
-use moka_logs::taken::TakenWrites;
+use moka_guards::rule::PairRule;
+use moka_guards::waiting::lock;
 use moka_maintenance::maintenance::{Maintenance, Need};
+use moka_queues::logs::{LoggedRead, NO_READ, READS_AT_ONCE};
+use moka_queues::taken::TakenWrites;
+use moka_sync_model::operation::{Read, Write};
 use std::alloc::Allocator;
 use std::hash::{BuildHasher, Hash};
 use std::sync::Wait;

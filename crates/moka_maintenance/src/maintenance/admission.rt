@@ -1,16 +1,16 @@
 // The turns that decide whether an entry enters: the scan, the removals and the entering.
 ghost use Rattle.std.specs.Prelude.{◌≡◌, ◌≤◌, ◌<◌, ◌+◌, ◌^◌, [], ◌∷◌, ◌++◌, None, Option, Some, drop, option_copied, option_map};
-ghost use Rattle.moka_engine.specs.declared.constants.TheConstants.{MAX_ABSENT, MAX_ROUNDS};
-ghost use Rattle.moka_base.specs.Settings.{keeps_writes};
-ghost use Rattle.moka_engine.specs.Entry.{Entry as EntryState};
-ghost use Rattle.moka_engine.specs.Turn.Plan.{Alone, gone_to, moved_on};
-ghost use Rattle.moka_engine.specs.Parts.{NeedsNothing, NeedsShard, need_of};
-ghost use Rattle.moka_engine.specs.declared.at_hand.Work.{Work};
+ghost use Rattle.moka_sync_model.specs.declared.constants.TheConstants.{MAX_ABSENT, MAX_ROUNDS};
+ghost use Rattle.moka_common.specs.Settings.{keeps_writes};
+ghost use Rattle.moka_sync_model.specs.Entry.{Entry as EntryState};
+ghost use Rattle.moka_sync_model.specs.Turn.Plan.{Alone, gone_to, moved_on};
+ghost use Rattle.moka_sync_model.specs.Parts.{NeedsNothing, NeedsShard, need_of};
+ghost use Rattle.moka_sync_model.specs.declared.at_hand.Work.{Work};
 ghost use Rattle.moka_maintenance.specs.Need.{need_named};
-ghost use Rattle.moka_engine.specs.Orders.{without_node};
-ghost use Rattle.moka_engine.specs.Turn.Admission.{after_entering, after_finding, after_rejection, after_seeing};
-ghost use Rattle.moka_engine.specs.Turn.Admission.{after_victim, is_decided, next_seen, removing_or_enter};
-ghost use Rattle.moka_orders.specs.OrdersState.{AtNode, orders_of};
+ghost use Rattle.moka_sync_model.specs.Orders.{without_node};
+ghost use Rattle.moka_sync_model.specs.Turn.Admission.{after_entering, after_finding, after_rejection, after_seeing};
+ghost use Rattle.moka_sync_model.specs.Turn.Admission.{after_victim, is_decided, next_seen, removing_or_enter};
+ghost use Rattle.moka_queues.specs.OrdersState.{AtNode, orders_of};
 ghost use Rattle.moka_maintenance.specs.Held.{IsAtHand, IsEntering, IsRemoving, IsScanning, LooksAt, first_seen, first_tickets};
 ghost use Rattle.moka_maintenance.specs.Held.{maintenance_of, next_id_if, outcome_of, removal_plan, scan_plan, stage_of_removal};
 
@@ -19,12 +19,12 @@ use crate::maintenance::fronts::{send_absent_back, send_back};
 use crate::maintenance::place::{Removal, Scan, Stage};
 use crate::maintenance::state::State;
 use crate::maintenance::writes::writes_or_on;
-use moka_deque::deque::NodeId;
-use moka_engine::at_hand::{Candidate, Tally, Work};
-use moka_engine::constants::MAX_ABSENT;
-use moka_engine::entry::{Entry, EntryChange};
-use moka_engine::settings::Settings;
-use moka_engine::ticket::Ticket;
+use moka_list::chain::NodeId;
+use moka_sync_model::at_hand::{Candidate, Tally, Work};
+use moka_sync_model::constants::MAX_ABSENT;
+use moka_sync_model::entry::{Entry, EntryChange};
+use moka_sync_model::settings::Settings;
+use moka_sync_model::ticket::Ticket;
 use std::alloc::Allocator;
 
 impl Scan {

@@ -1,8 +1,8 @@
 // The turns that evict entries while more is charged than the limit.
 ghost use Rattle.std.specs.Prelude.{◌≡◌, ◌<◌, ◌+◌, Some, option_copied};
-ghost use Rattle.moka_engine.specs.declared.constants.TheConstants.{SYNC_BATCH_SIZE};
-ghost use Rattle.moka_engine.specs.Turn.Expiry.{after_eviction, eviction_front};
-ghost use Rattle.moka_orders.specs.OrdersState.{orders_of};
+ghost use Rattle.moka_sync_model.specs.declared.constants.TheConstants.{SYNC_BATCH_SIZE};
+ghost use Rattle.moka_sync_model.specs.Turn.Expiry.{after_eviction, eviction_front};
+ghost use Rattle.moka_queues.specs.OrdersState.{orders_of};
 ghost use Rattle.moka_maintenance.specs.Fronts.{front_of};
 ghost use Rattle.moka_maintenance.specs.Held.{IsAtHand, maintenance_of, outcome_of};
 
@@ -10,10 +10,10 @@ use crate::maintenance::fronts::{front_ticket, remove_front, renew_front, use_fr
 use crate::maintenance::place::Stage;
 use crate::maintenance::state::State;
 use crate::maintenance::writes::is_within;
-use moka_engine::constants::SYNC_BATCH_SIZE;
-use moka_engine::entry::{Entry, EntryChange};
-use moka_engine::settings::Settings;
-use moka_engine::ticket::Ticket;
+use moka_sync_model::constants::SYNC_BATCH_SIZE;
+use moka_sync_model::entry::{Entry, EntryChange};
+use moka_sync_model::settings::Settings;
+use moka_sync_model::ticket::Ticket;
 use std::alloc::Allocator;
 
 impl<A: Allocator + Clone + Drop> State<A> {

@@ -1,19 +1,19 @@
 // The turns at the front of an order by which entries expire.
 ghost use Rattle.std.specs.Prelude.{◌≡◌, ◌+◌, Some, option_copied};
-ghost use Rattle.moka_engine.specs.Orders.{rewritten, used};
-ghost use Rattle.moka_engine.specs.Place.{Evict, ExpireAccess, ExpireWrite};
-ghost use Rattle.moka_engine.specs.Turn.Expiry.{access_front, after_front, is_out_of_use, is_outlived, write_front};
-ghost use Rattle.moka_orders.specs.OrdersState.{orders_of};
+ghost use Rattle.moka_sync_model.specs.Orders.{rewritten, used};
+ghost use Rattle.moka_sync_model.specs.Place.{Evict, ExpireAccess, ExpireWrite};
+ghost use Rattle.moka_sync_model.specs.Turn.Expiry.{access_front, after_front, is_out_of_use, is_outlived, write_front};
+ghost use Rattle.moka_queues.specs.OrdersState.{orders_of};
 ghost use Rattle.moka_maintenance.specs.Held.{IsAtHand, maintenance_of, outcome_of};
 
 use crate::maintenance::fronts::{front_ticket, remove_front, remove_ticket, use_front};
 use crate::maintenance::place::Stage;
 use crate::maintenance::state::State;
-use moka_base::time::Instant;
-use moka_engine::constants::SYNC_BATCH_SIZE;
-use moka_engine::entry::{Entry, EntryChange};
-use moka_engine::settings::Settings;
-use moka_engine::ticket::Ticket;
+use moka_common::time::Instant;
+use moka_sync_model::constants::SYNC_BATCH_SIZE;
+use moka_sync_model::entry::{Entry, EntryChange};
+use moka_sync_model::settings::Settings;
+use moka_sync_model::ticket::Ticket;
 use std::alloc::Allocator;
 
 /// Whether the last write of an entry is too long ago.

@@ -1,15 +1,15 @@
 // Changes of the orders at a ticket, and at their fronts.
 ghost use Rattle.std.specs.Prelude.{◌≡◌, ◌≤◌, ◌<◌, length, IfSome, false, true};
-ghost use Rattle.moka_engine.specs.Orders.{all_used, renewed, used, without_node};
-ghost use Rattle.moka_engine.specs.Turn.Admission.{absent_of};
-ghost use Rattle.moka_deque.specs.Deque.{IsIn, moved_to_back, next_id};
-ghost use Rattle.moka_orders.specs.OrdersState.{AtNode, orders_of};
+ghost use Rattle.moka_sync_model.specs.Orders.{all_used, renewed, used, without_node};
+ghost use Rattle.moka_sync_model.specs.Turn.Admission.{absent_of};
+ghost use Rattle.moka_list.specs.Nodes.{IsIn, moved_to_back, next_id};
+ghost use Rattle.moka_queues.specs.OrdersState.{AtNode, orders_of};
 ghost use Rattle.moka_maintenance.specs.Fronts.{IsSent, front_of};
 ghost use Rattle.moka_maintenance.specs.Held.{first_seen, first_tickets};
 
-use moka_deque::deque::NodeId;
-use moka_engine::ticket::Ticket;
-use moka_orders::orders::Orders;
+use moka_list::chain::NodeId;
+use moka_queues::orders::Orders;
+use moka_sync_model::ticket::Ticket;
 use std::alloc::Allocator;
 
 /// The ticket's node, if there is one, becomes the most recently used one. It is looked for at a place first.

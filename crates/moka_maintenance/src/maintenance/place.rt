@@ -1,13 +1,13 @@
 // Where a maintenance is, and what it keeps there.
 ghost use Rattle.std.specs.Prelude.{◌≡◌, ℕ, List};
-ghost use Rattle.moka_engine.specs.Place.{name_of};
-ghost use Rattle.moka_orders.specs.declared.orders.Node.{Node};
+ghost use Rattle.moka_sync_model.specs.Place.{name_of};
+ghost use Rattle.moka_queues.specs.declared.orders.Node.{Node};
 ghost use Rattle.moka_maintenance.specs.Held.{place_of};
 
-use moka_deque::deque::NodeId;
-use moka_engine::at_hand::{Candidate, Tally, Work};
-use moka_engine::operation::{Read, Write};
-use moka_engine::place::Place;
+use moka_list::chain::NodeId;
+use moka_sync_model::at_hand::{Candidate, Tally, Work};
+use moka_sync_model::operation::{Read, Write};
+use moka_sync_model::place::Place;
 
 /// A scan from the front of the order of use on. What it has seen is marked in the nodes.
 #[derive(Clone, Copy)]

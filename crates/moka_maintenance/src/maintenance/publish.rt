@@ -1,7 +1,7 @@
 // The end of a maintenance: the counts are published.
 ghost use Rattle.std.specs.Prelude.{◌≡◌};
-ghost use Rattle.moka_engine.specs.Place.{Idle};
-ghost use Rattle.moka_engine.specs.Turn.Turn.{next_published};
+ghost use Rattle.moka_sync_model.specs.Place.{Idle};
+ghost use Rattle.moka_sync_model.specs.Turn.Turn.{next_published};
 ghost use Rattle.moka_maintenance.specs.Held.{IsAtHand, maintenance_of};
 
 use crate::maintenance::place::Stage;

@@ -1,26 +1,26 @@
 // The turns that take and apply reads.
 ghost use Rattle.std.specs.Prelude.{◌≡◌, ◌≤◌};
 ghost use Rattle.std.specs.List.{fold};
-ghost use Rattle.moka_engine.specs.declared.constants.TheConstants.{MAX_ROUNDS};
-ghost use Rattle.moka_engine.specs.Orders.{used};
-ghost use Rattle.moka_engine.specs.Turn.Plan.{gone_to, moved_on, reads_or_on};
-ghost use Rattle.moka_engine.specs.Turn.Apply.{after_miss};
-ghost use Rattle.moka_engine.specs.Turn.Turn.{after_more_reads, after_read_taken};
-ghost use Rattle.moka_orders.specs.OrdersState.{orders_of};
+ghost use Rattle.moka_sync_model.specs.declared.constants.TheConstants.{MAX_ROUNDS};
+ghost use Rattle.moka_sync_model.specs.Orders.{used};
+ghost use Rattle.moka_sync_model.specs.Turn.Plan.{gone_to, moved_on, reads_or_on};
+ghost use Rattle.moka_sync_model.specs.Turn.Apply.{after_miss};
+ghost use Rattle.moka_sync_model.specs.Turn.Turn.{after_more_reads, after_read_taken};
+ghost use Rattle.moka_queues.specs.OrdersState.{orders_of};
 ghost use Rattle.moka_maintenance.specs.Held.{IsAtHand, IsPlain, maintenance_of};
-ghost use Rattle.moka_logs.specs.LoggedReads.{reads_of};
+ghost use Rattle.moka_queues.specs.LoggedReads.{reads_of};
 ghost use Rattle.moka_maintenance.specs.Taken.{counted, hash_of_read, having_applied, used_by};
 
 use crate::maintenance::fronts::use_ticket;
 use crate::maintenance::place::Stage;
 use crate::maintenance::state::State;
-use moka_engine::at_hand::Work;
-use moka_engine::constants::{FLUSH_POINT, MAX_ROUNDS};
-use moka_engine::operation::Read;
-use moka_engine::ticket::Ticket;
-use moka_logs::logs::{LoggedRead, ReadLog};
-use moka_orders::orders::Orders;
-use moka_sketch::frequency_sketch::FrequencySketch;
+use moka_common::frequency_sketch::FrequencySketch;
+use moka_queues::logs::{LoggedRead, ReadLog};
+use moka_queues::orders::Orders;
+use moka_sync_model::at_hand::Work;
+use moka_sync_model::constants::{FLUSH_POINT, MAX_ROUNDS};
+use moka_sync_model::operation::Read;
+use moka_sync_model::ticket::Ticket;
 use std::alloc::Allocator;
 
 /// The stage after an operation, where this is left of the reads.

@@ -1,17 +1,17 @@
 // The turn that asks whether to turn the sketch on.
 ghost use Rattle.std.specs.Prelude.{◌≡◌, ◌≤◌, ◌-◌, ◌^◌, Bool, Some, length, min};
-ghost use Rattle.moka_engine.specs.declared.constants.TheConstants.{MAX_ROUNDS};
-ghost use Rattle.moka_engine.specs.Orders.{charged_weight};
-ghost use Rattle.moka_engine.specs.Place.{MoreReads};
-ghost use Rattle.moka_engine.specs.Turn.Turn.{after_enabling};
-ghost use Rattle.moka_orders.specs.OrdersState.{access_of, orders_of};
-ghost use Rattle.moka_sketch.specs.Enabling.{enables_sketch, expected_entries};
+ghost use Rattle.moka_sync_model.specs.declared.constants.TheConstants.{MAX_ROUNDS};
+ghost use Rattle.moka_sync_model.specs.Orders.{charged_weight};
+ghost use Rattle.moka_sync_model.specs.Place.{MoreReads};
+ghost use Rattle.moka_sync_model.specs.Turn.Turn.{after_enabling};
+ghost use Rattle.moka_queues.specs.OrdersState.{access_of, orders_of};
+ghost use Rattle.moka_common.specs.Enabling.{enables_sketch, expected_entries};
 ghost use Rattle.moka_maintenance.specs.Held.{IsAtHand, maintenance_of};
 
 use crate::maintenance::place::Stage;
 use crate::maintenance::state::State;
-use moka_engine::settings::Settings;
-use moka_sketch::frequency_sketch::sketch_capacity;
+use moka_common::frequency_sketch::sketch_capacity;
+use moka_sync_model::settings::Settings;
 use std::alloc::Allocator;
 
 impl<A: Allocator + Clone + Drop> State<A> {

@@ -1,13 +1,13 @@
 // What lies behind the lock of the maintenance, in parts.
 ghost use Rattle.std.specs.Prelude.{◌≡◌, ◌↔◌, IsTrue};
-ghost use Rattle.moka_engine.specs.CoreState.{new_maintenance};
+ghost use Rattle.moka_sync_model.specs.CoreState.{new_maintenance};
 ghost use Rattle.moka_maintenance.specs.Held.{maintenance_of};
 
 use crate::maintenance::place::Stage;
 use crate::maintenance::publish::Published;
-use moka_base::time::Instant;
-use moka_orders::orders::Orders;
-use moka_sketch::frequency_sketch::FrequencySketch;
+use moka_common::frequency_sketch::FrequencySketch;
+use moka_common::time::Instant;
+use moka_queues::orders::Orders;
 use std::alloc::{Allocator, Global};
 use std::marker::Model;
 

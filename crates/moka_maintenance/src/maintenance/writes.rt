@@ -1,27 +1,27 @@
 // The turns that take and apply writes.
 ghost use Rattle.std.specs.Prelude.{◌≡◌, ◌≤◌, ◌<◌, Bool, None, Some, false, option_copied};
-ghost use Rattle.moka_base.specs.Admission.{is_within};
-ghost use Rattle.moka_engine.specs.declared.constants.TheConstants.{MAX_ROUNDS};
-ghost use Rattle.moka_engine.specs.Orders.{charge_of};
-ghost use Rattle.moka_engine.specs.Turn.Plan.{gone_to, writes_or_on};
-ghost use Rattle.moka_engine.specs.Turn.Apply.{after_first_upsert, after_removal, after_upsert};
-ghost use Rattle.moka_engine.specs.Parts.{NeedsShard, need_of};
-ghost use Rattle.moka_engine.specs.Turn.Turn.{after_more_writes, after_write_taken, write_turn};
-ghost use Rattle.moka_orders.specs.OrdersState.{orders_of};
+ghost use Rattle.moka_common.specs.Admission.{is_within};
+ghost use Rattle.moka_sync_model.specs.declared.constants.TheConstants.{MAX_ROUNDS};
+ghost use Rattle.moka_sync_model.specs.Orders.{charge_of};
+ghost use Rattle.moka_sync_model.specs.Turn.Plan.{gone_to, writes_or_on};
+ghost use Rattle.moka_sync_model.specs.Turn.Apply.{after_first_upsert, after_removal, after_upsert};
+ghost use Rattle.moka_sync_model.specs.Parts.{NeedsShard, need_of};
+ghost use Rattle.moka_sync_model.specs.Turn.Turn.{after_more_writes, after_write_taken, write_turn};
+ghost use Rattle.moka_queues.specs.OrdersState.{orders_of};
 ghost use Rattle.moka_maintenance.specs.Held.{IsAtHand, IsPlain, LooksAt, maintenance_of, outcome_of, scan_begun};
 
 use crate::maintenance::fronts::remove_ticket;
 use crate::maintenance::place::{Scan, Stage};
 use crate::maintenance::state::State;
-use moka_base::limits::Limits;
-use moka_base::time::Instant;
-use moka_engine::at_hand::{Candidate, Tally, Work};
-use moka_engine::constants::{FLUSH_POINT, MAX_ROUNDS};
-use moka_engine::entry::{Entry, EntryChange};
-use moka_engine::operation::Write;
-use moka_engine::settings::Settings;
-use moka_engine::ticket::Ticket;
-use moka_logs::logs::WriteLog;
+use moka_common::limits::Limits;
+use moka_common::time::Instant;
+use moka_queues::logs::WriteLog;
+use moka_sync_model::at_hand::{Candidate, Tally, Work};
+use moka_sync_model::constants::{FLUSH_POINT, MAX_ROUNDS};
+use moka_sync_model::entry::{Entry, EntryChange};
+use moka_sync_model::operation::Write;
+use moka_sync_model::settings::Settings;
+use moka_sync_model::ticket::Ticket;
 use std::alloc::Allocator;
 
 /// The stage after an operation, where this is left of the writes.

@@ -2,12 +2,12 @@
 ghost use Rattle.std.specs.Prelude.{◌≡◌, length};
 ghost use Rattle.std.specs.Iterator.{at_most};
 ghost use Rattle.std.specs.Map.Iter.{TakesFirst, deref_pair};
-ghost use Rattle.moka_machine.specs.Iterate.{unexpired_pairs};
+ghost use Rattle.moka_unsync_model.specs.Iterate.{unexpired_pairs};
 
 use crate::upkeep::Bounds;
-use moka_base::time::Instant;
-use moka_deque::chain::Iter as Entries;
-use moka_machine::entry::Entry;
+use moka_common::time::Instant;
+use moka_list::chain::Iter as Entries;
+use moka_unsync_model::entry::Entry;
 use std::alloc::{Allocator, Global};
 use std::fmt::{Debug, Formatter, Result, Write};
 use std::marker::Model;
@@ -30,7 +30,7 @@ pub struct Iter<'a, K: Drop, V: Drop, A: Allocator = Global> {
 
 impl<'a, K: Drop, V: Drop, A: Allocator> Model for Iter<'a, K, V, A> {
     ghost use Rattle.std.specs.Prelude.{List};
-    ghost use Rattle.moka_machine.specs.Iterate.{unexpired_pairs};
+    ghost use Rattle.moka_unsync_model.specs.Iterate.{unexpired_pairs};
 
     ghost Value = { List (K × V) };
 

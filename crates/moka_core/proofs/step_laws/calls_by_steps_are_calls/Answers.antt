@@ -1,4 +1,4 @@
-use Rattle.moka_base.specs.Keys.{keys_by}
+use Rattle.moka_common.specs.Keys.{keys_by}
 use Rattle.moka_core.proofs.CallerLemmas.{are_calls}
 use Rattle.moka_core.proofs.step_laws.calls_by_steps_are_calls.Goals as goal
 

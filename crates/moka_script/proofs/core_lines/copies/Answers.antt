@@ -1,5 +1,5 @@
-use Rattle.moka_engine.specs.declared.constants.TheConstants.{SHARDS}
-use Rattle.moka_engine.specs.declared.event.Event.TheVariants as event
+use Rattle.moka_sync_model.specs.declared.constants.TheConstants.{SHARDS}
+use Rattle.moka_sync_model.specs.declared.event.Event.TheVariants as event
 use Rattle.moka_script.specs.CoreRun.{copies}
 use Rattle.moka_script.proofs.CoreRunLemmas.{made_push}
 use Rattle.moka_script.proofs.core_lines.copies.Goals as goal

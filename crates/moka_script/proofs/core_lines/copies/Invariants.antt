@@ -1,7 +1,7 @@
 use Rattle.std.proofs.Common.{◌≡◌, ◌-◌, ◌++◌, map}
-use Rattle.moka_engine.specs.declared.constants.TheConstants.{SHARDS}
-use Rattle.moka_engine.specs.declared.event.Event.TheVariants as event
-use Rattle.moka_engine.specs.CoreCall.{numbers_from}
+use Rattle.moka_sync_model.specs.declared.constants.TheConstants.{SHARDS}
+use Rattle.moka_sync_model.specs.declared.event.Event.TheVariants as event
+use Rattle.moka_sync_model.specs.CoreCall.{numbers_from}
 use Rattle.moka_script.specs.CoreRun.{copies}
 use Rattle.moka_script.proofs.core_lines.copies.Given as goal
 

@@ -1,6 +1,6 @@
 use Rattle.std.proofs.Common.{◌∙◌, refl, rules}
-use Rattle.moka_base.specs.Keys.{keys_by}
-use Rattle.moka_machine.specs.Step.{EntryCount}
+use Rattle.moka_common.specs.Keys.{keys_by}
+use Rattle.moka_unsync_model.specs.Step.{EntryCount}
 use Rattle.moka_segments.proofs.AllLemmas.{no_sum, sums_more}
 use Rattle.moka_segments.proofs.all.entry_count.Goals as goal
 

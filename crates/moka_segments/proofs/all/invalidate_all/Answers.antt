@@ -1,6 +1,6 @@
 use Rattle.std.proofs.Common.{◌∙◌, refl, rules, subst, sym}
-use Rattle.moka_base.specs.Keys.{keys_by}
-use Rattle.moka_machine.specs.Step.{Done, InvalidateAll}
+use Rattle.moka_common.specs.Keys.{keys_by}
+use Rattle.moka_unsync_model.specs.Step.{Done, InvalidateAll}
 use Rattle.moka_segments.proofs.AllLemmas.{none_yet, one_more}
 use Rattle.moka_segments.proofs.all.invalidate_all.Goals as goal
 

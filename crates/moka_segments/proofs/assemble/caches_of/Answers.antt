@@ -1,5 +1,5 @@
 use Rattle.std.proofs.Common.{rules, subst, sym}
-use Rattle.moka_base.specs.Keys.{Keys, keys_by}
+use Rattle.moka_common.specs.Keys.{Keys, keys_by}
 use Rattle.moka_unsync.specs.Builder.{Builder, IsBuilt}
 use Rattle.moka_segments.specs.Calls.{AreCaches}
 use Rattle.moka_segments.specs.Plan.{settings_of, share}

@@ -1,6 +1,6 @@
 use Rattle.std.proofs.Common.{◌≡◌, ◌≤◌, vec_len}
 use Rattle.std.specs.Prelude.{vec_capacity}
-use Rattle.moka_base.specs.Keys.{keys_by}
+use Rattle.moka_common.specs.Keys.{keys_by}
 use Rattle.moka_segments.specs.Calls.{AreCaches}
 use Rattle.moka_segments.proofs.assemble.caches_of.Given as goal
 

@@ -1,6 +1,6 @@
 use Rattle.std.proofs.Common.{◌≡◌, rules, subst, sym}
-use Rattle.moka_base.specs.Keys.{Keys, keys_by}
-use Rattle.moka_machine.specs.Step.{Done, Invalidate}
+use Rattle.moka_common.specs.Keys.{Keys, keys_by}
+use Rattle.moka_unsync_model.specs.Step.{Done, Invalidate}
 use Rattle.moka_segments.specs.Calls.{Makes}
 use Rattle.moka_segments.specs.Plan.{place_of}
 use Rattle.moka_segments.proofs.call.invalidate.Given.{Over}

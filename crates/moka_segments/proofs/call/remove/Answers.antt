@@ -1,5 +1,5 @@
 use Rattle.std.proofs.Common.{◌≡◌, rules}
-use Rattle.moka_base.specs.Keys.{Keys, keys_by}
+use Rattle.moka_common.specs.Keys.{Keys, keys_by}
 use Rattle.moka_segments.proofs.LawLemmas.{removes}
 use Rattle.moka_segments.specs.Plan.{place_of}
 use Rattle.moka_segments.proofs.call.remove.Given.{Over}

@@ -1,5 +1,5 @@
 use Rattle.std.proofs.Common.{◌∙◌, refl, rules, subst, sym}
-use Rattle.moka_base.specs.Keys.{keys_by}
+use Rattle.moka_common.specs.Keys.{keys_by}
 use Rattle.moka_segments.proofs.AllLemmas.{none_yet_if, one_more_if}
 use Rattle.moka_segments.proofs.invalidate_if.invalidate_entries_if.Goals as goal
 

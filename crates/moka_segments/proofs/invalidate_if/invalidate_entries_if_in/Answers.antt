@@ -1,6 +1,6 @@
 use Rattle.std.proofs.Common.{◌≡◌, ◌∙◌, ◌∷◌, [], ap, refl, subst, sym}
-use Rattle.moka_base.specs.Keys.{Keys, keys_by}
-use Rattle.moka_machine.specs.Step.{Done, InvalidateEntriesIf, IsStep}
+use Rattle.moka_common.specs.Keys.{Keys, keys_by}
+use Rattle.moka_unsync_model.specs.Step.{Done, InvalidateEntriesIf, IsStep}
 use Rattle.atomic_table.specs.Table.{rest}
 use Rattle.moka_segments.specs.History.{IsAccount}
 use Rattle.moka_segments.specs.TellsAll.{leavers}

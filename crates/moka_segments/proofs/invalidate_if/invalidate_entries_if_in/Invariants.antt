@@ -1,5 +1,5 @@
 use Rattle.std.proofs.Common.{[], ◌∷◌, Some}
-use Rattle.moka_machine.specs.Step.{Done, InvalidateEntriesIf}
+use Rattle.moka_unsync_model.specs.Step.{Done, InvalidateEntriesIf}
 use Rattle.moka_segments.specs.TellsAll.{leavers}
 use Rattle.moka_segments.proofs.invalidate_if.invalidate_entries_if_in.Given as goal
 

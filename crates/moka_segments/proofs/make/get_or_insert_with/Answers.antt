@@ -1,6 +1,6 @@
 use Rattle.std.specs.Prelude.{option_map}
 use Rattle.std.proofs.Common.{◌∙◌, ◌∷◌, ap, subst, sym}
-use Rattle.moka_base.specs.Keys.{Keys, keys_by}
+use Rattle.moka_common.specs.Keys.{Keys, keys_by}
 use Rattle.atomic_table.specs.Table.{rest}
 use Rattle.moka_segments.specs.History.{IsAccount}
 use Rattle.moka_segments.specs.Put.{visit_of}

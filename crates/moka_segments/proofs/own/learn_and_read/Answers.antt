@@ -1,8 +1,8 @@
 use Rattle.std.proofs.Common.{Ok, ap, subst}
-use Rattle.moka_base.specs.Keys.{keys_by}
+use Rattle.moka_common.specs.Keys.{keys_by}
 use Rattle.moka_segments.specs.Plan.{place_of}
 use Rattle.moka_segments.specs.Tells.{Gets}
-use Rattle.visits.specs.Visits.{at}
+use Rattle.moka_segments.specs.Visits.{at}
 use Rattle.moka_segments.proofs.NoteLemmas.{finds_from_note}
 use Rattle.moka_segments.proofs.own.learn_and_read.Goals as goal
 

@@ -1,6 +1,6 @@
 use Rattle.std.proofs.Common.{ap, subst}
-use Rattle.moka_base.specs.Keys.{keys_by}
-use Rattle.moka_machine.specs.Step.{Insert}
+use Rattle.moka_common.specs.Keys.{keys_by}
+use Rattle.moka_unsync_model.specs.Step.{Insert}
 use Rattle.moka_segments.specs.Plan.{place_of}
 use Rattle.moka_segments.specs.Calls.{Makes}
 use Rattle.moka_segments.specs.Tells.{Gets, answer_of}

@@ -1,6 +1,6 @@
-use Rattle.moka_base.proofs.KeysLemmas.{keys_by-respects}
+use Rattle.moka_common.proofs.KeysLemmas.{keys_by-respects}
 use Rattle.std.proofs.Common.{◌≡◌, ◌+◌, ◌∙◌, ◌++◌, ap, refl, rules, subst, sym}
-use Rattle.moka_base.specs.Keys.{Keys, keys_by}
+use Rattle.moka_common.specs.Keys.{Keys, keys_by}
 use Rattle.moka_segments.specs.TellsAll.{Snapshots}
 use Rattle.moka_segments.proofs.PairLemmas.{no_snapshot, snapshot_more}
 use Rattle.moka_segments.proofs.pairs.pairs.Given.{Over}

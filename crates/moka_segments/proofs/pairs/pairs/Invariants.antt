@@ -1,6 +1,6 @@
 use Rattle.std.proofs.Common.{◌≡◌}
-use Rattle.moka_base.specs.Keys.{keys_by}
-use Rattle.visits.specs.Visits.{IsIdle}
+use Rattle.moka_common.specs.Keys.{keys_by}
+use Rattle.moka_segments.specs.Visits.{IsIdle}
 use Rattle.moka_segments.specs.TellsAll.{Snapshots}
 use Rattle.moka_segments.proofs.pairs.pairs.Given as goal
 

@@ -1,5 +1,5 @@
 use Rattle.std.proofs.Common.{[], ◌∷◌, Some}
-use Rattle.moka_machine.specs.Step.{Iterate, Pairs}
+use Rattle.moka_unsync_model.specs.Step.{Iterate, Pairs}
 use Rattle.moka_segments.proofs.pairs.pairs_of.Given as goal
 
 abbrev pub ghosts-leave : goal.ghosts-leave

@@ -1,5 +1,5 @@
 use Rattle.std.proofs.Common.{[], ◌∷◌, Some}
-use Rattle.moka_machine.specs.Step.{ContainsKey, Truth}
+use Rattle.moka_unsync_model.specs.Step.{ContainsKey, Truth}
 use Rattle.moka_segments.proofs.visit.contains_key.Given as goal
 
 abbrev pub ghosts-leave : goal.ghosts-leave

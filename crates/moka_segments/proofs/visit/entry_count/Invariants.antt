@@ -1,5 +1,5 @@
 use Rattle.std.proofs.Common.{[], ◌∷◌, Some}
-use Rattle.moka_machine.specs.Step.{EntryCount, Number}
+use Rattle.moka_unsync_model.specs.Step.{EntryCount, Number}
 use Rattle.moka_segments.proofs.visit.entry_count.Given as goal
 
 abbrev pub ghosts-leave : goal.ghosts-leave

@@ -1,6 +1,6 @@
 use Rattle.std.specs.Prelude.{option_map}
 use Rattle.std.proofs.Common.{[], ◌∷◌, Some}
-use Rattle.moka_machine.specs.Step.{Found, Get}
+use Rattle.moka_unsync_model.specs.Step.{Found, Get}
 use Rattle.moka_segments.proofs.visit.get.Given as goal
 
 abbrev pub ghosts-leave : goal.ghosts-leave

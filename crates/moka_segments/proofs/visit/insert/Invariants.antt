@@ -1,5 +1,5 @@
 use Rattle.std.proofs.Common.{[], ◌∷◌, Some}
-use Rattle.moka_machine.specs.Step.{Insert}
+use Rattle.moka_unsync_model.specs.Step.{Insert}
 use Rattle.moka_segments.specs.Tells.{answer_of}
 use Rattle.moka_segments.proofs.visit.insert.Given as goal
 

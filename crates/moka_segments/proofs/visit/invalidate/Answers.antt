@@ -1,6 +1,6 @@
 use Rattle.std.proofs.Common.{◌≡◌, ◌∙◌, ◌∷◌, [], ap, refl, subst, sym}
-use Rattle.moka_base.specs.Keys.{Keys, keys_by}
-use Rattle.moka_machine.specs.Step.{IsStep, Done, Invalidate}
+use Rattle.moka_common.specs.Keys.{Keys, keys_by}
+use Rattle.moka_unsync_model.specs.Step.{IsStep, Done, Invalidate}
 use Rattle.atomic_table.specs.Table.{rest}
 use Rattle.moka_segments.specs.History.{IsAccount}
 use Rattle.moka_segments.proofs.CallLemmas.{call_of, its_hash, none_behind, one_call, same_head, stands, visited}

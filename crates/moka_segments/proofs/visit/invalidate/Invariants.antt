@@ -1,5 +1,5 @@
 use Rattle.std.proofs.Common.{[], ◌∷◌, Some}
-use Rattle.moka_machine.specs.Step.{Done, Invalidate}
+use Rattle.moka_unsync_model.specs.Step.{Done, Invalidate}
 use Rattle.moka_segments.proofs.visit.invalidate.Given as goal
 
 abbrev pub ghosts-leave : goal.ghosts-leave

@@ -1,5 +1,5 @@
 use Rattle.std.proofs.Common.{[], ◌∷◌, Some}
-use Rattle.moka_machine.specs.Step.{Number, WeightedSize}
+use Rattle.moka_unsync_model.specs.Step.{Number, WeightedSize}
 use Rattle.moka_segments.proofs.visit.weighted_size.Given as goal
 
 abbrev pub ghosts-leave : goal.ghosts-leave

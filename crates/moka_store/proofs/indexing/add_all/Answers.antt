@@ -1,8 +1,8 @@
 use Rattle.std.proofs.Common.{◌≡◌, ◌∙◌, ◌<◌, ap, is_some, length, refl, subst, sym, true}
-use Rattle.moka_deque.specs.Deque.{next_id}
+use Rattle.moka_list.specs.Nodes.{next_id}
 use Rattle.std.proofs.lemmas.Bool.{false_from_ne_true}
-use Rattle.moka_index.specs.HashIndex.{is_candidate, Adds}
-use Rattle.moka_deque.proofs.WalkLemmas.{first_is_in, fewer_behind, from_node, next_is_in}
+use Rattle.moka_list.specs.HashIndex.{is_candidate, Adds}
+use Rattle.moka_list.proofs.WalkLemmas.{first_is_in, fewer_behind, from_node, next_is_in}
 use Rattle.moka_store.proofs.IndexLemmas.{IsUpTo, up_to_none, up_to_next, up_to_end, not_yet}
 use Rattle.moka_store.proofs.indexing.add_all.Goals as goal
 

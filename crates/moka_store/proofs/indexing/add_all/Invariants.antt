@@ -1,6 +1,6 @@
 use Rattle.std.proofs.Common.{◌≡◌, length, IfSome}
-use Rattle.moka_deque.specs.Deque.{IsIn}
-use Rattle.moka_deque.proofs.WalkLemmas.{from_node}
+use Rattle.moka_list.specs.Nodes.{IsIn}
+use Rattle.moka_list.proofs.WalkLemmas.{from_node}
 use Rattle.moka_store.proofs.IndexLemmas.{IsUpTo}
 use Rattle.moka_store.proofs.indexing.add_all.Given as goal
 

@@ -1,5 +1,5 @@
 use Rattle.std.proofs.Common.{◌∙◌, ◌<◌, ◌≤◌, ap, sym, subst}
-use Rattle.moka_machine.specs.Contents.{is_protected, protected_of, total_weight}
+use Rattle.moka_unsync_model.specs.Contents.{is_protected, protected_of, total_weight}
 use Rattle.std.specs.Map.{values_of}
 use Rattle.moka_store.specs.Nodes.{bare}
 use Rattle.moka_store.proofs.BalanceLemmas.{balanced-demoted, balanced-within}

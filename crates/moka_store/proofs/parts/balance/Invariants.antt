@@ -1,7 +1,7 @@
 use Rattle.std.proofs.Common.{◌≡◌, length}
 use Rattle.std.specs.Map.{keys_of, values_of}
-use Rattle.moka_machine.specs.Contents.{InOrder, balanced, protected_of}
-use Rattle.moka_machine.specs.declared.entry.Part.TheVariants.{Probation}
+use Rattle.moka_unsync_model.specs.Contents.{InOrder, balanced, protected_of}
+use Rattle.moka_unsync_model.specs.declared.entry.Part.TheVariants.{Probation}
 use Rattle.moka_store.specs.Nodes.{AreMarks, SameBy, bare, weights_of}
 use Rattle.moka_store.proofs.parts.balance.Given as goal
 

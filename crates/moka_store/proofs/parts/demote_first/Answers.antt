@@ -1,5 +1,5 @@
 use Rattle.std.proofs.Common.{◌∙◌, ◌≤◌, ◌-◌, ap, is_some, nat_eq, sym, subst}
-use Rattle.moka_deque.proofs.DequeLemmas.{lookup-set, nat_eq-same}
+use Rattle.moka_list.proofs.ItemLemmas.{lookup-set, nat_eq-same}
 use Rattle.std.proofs.lemmas.Bool.{cond-true}
 use Rattle.moka_store.proofs.BalanceLemmas.{begins, begins_in, demotes, marks_demoted, weight_in_protected, weights_demoted}
 use Rattle.moka_store.proofs.parts.demote_first.Goals as goal

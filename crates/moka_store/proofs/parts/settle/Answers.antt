@@ -1,8 +1,8 @@
 use Rattle.std.proofs.Common.{◌≡◌, ◌≢◌, ◌∙◌, sym, subst, ap, nat_eq, IfSome}
 use Rattle.std.specs.Map.{remove_entry}
-use Rattle.moka_deque.specs.Deque.{IsIn}
-use Rattle.moka_deque.proofs.IdLemmas.{IsDistinct-removed, some_parts}
-use Rattle.moka_deque.proofs.InsertedLemmas.{apart_from_distinct}
+use Rattle.moka_list.specs.Nodes.{IsIn}
+use Rattle.moka_list.proofs.IdLemmas.{IsDistinct-removed, some_parts}
+use Rattle.moka_list.proofs.InsertedLemmas.{apart_from_distinct}
 use Rattle.moka_store.specs.Nodes.{AreMarks, behind, latest_node, moved, with_mark}
 use Rattle.moka_store.proofs.MarkLemmas.{behind-first, marks-joined, moved-latest, next_is}
 use Rattle.moka_store.proofs.parts.settle.Goals as goal

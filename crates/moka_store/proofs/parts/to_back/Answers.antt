@@ -1,6 +1,6 @@
 use Rattle.std.proofs.Common.{◌≡◌, ◌∙◌, sym, refl, Option, None, Some, is_some, false}
 use Rattle.std.proofs.lemmas.Bool.{false≢true}
-use Rattle.moka_deque.proofs.DequeLemmas.{moved_to_back-last}
+use Rattle.moka_list.proofs.ItemLemmas.{moved_to_back-last}
 use Rattle.moka_store.proofs.parts.to_back.Goals as goal
 
 none_is : {X : Type 0} (o : Option X) → is_some o ≡ false → o ≡ None

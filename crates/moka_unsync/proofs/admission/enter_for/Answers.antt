@@ -1,5 +1,5 @@
 use Rattle.std.proofs.Common.{◌∙◌, ◌-◌, ap, arith}
-use Rattle.moka_machine.specs.Insert.{after_arrival}
+use Rattle.moka_unsync_model.specs.Insert.{after_arrival}
 use Rattle.moka_store.specs.Store.{contents_of}
 use Rattle.moka_unsync.specs.Turns.{after_eviction_of}
 use Rattle.moka_unsync.proofs.AdmissionLemmas.{absent_evicted, replaced_is}

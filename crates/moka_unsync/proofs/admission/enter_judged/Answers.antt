@@ -1,11 +1,11 @@
 use Rattle.std.proofs.Common.{◌≡◌, ◌∙◌, ◌-◌, ◌<◌, None, Some, ap, arith, is_some, refl, subst, sym}
-use Rattle.moka_machine.specs.Contents.{entry_at, main_of, total_weight, window_of}
-use Rattle.moka_machine.specs.Insert.{after_admission, after_entry}
-use Rattle.moka_machine.specs.Upkeep.{least_recent}
-use Rattle.moka_machine.specs.Shares.{main_limit}
-use Rattle.moka_machine.specs.Window.{after_candidates, victims_of}
-use Rattle.moka_machine.proofs.EnteringLemmas.{absent-judged, after_judging, entering-is_judged, entering-is_kept, entering_excess}
-use Rattle.moka_machine.proofs.EnteringLemmas.{excess_left, inside, outside, stands-arrived, stands-kept}
+use Rattle.moka_unsync_model.specs.Contents.{entry_at, main_of, total_weight, window_of}
+use Rattle.moka_unsync_model.specs.Insert.{after_admission, after_entry}
+use Rattle.moka_unsync_model.specs.Upkeep.{least_recent}
+use Rattle.moka_unsync_model.specs.Shares.{main_limit}
+use Rattle.moka_unsync_model.specs.Window.{after_candidates, victims_of}
+use Rattle.moka_unsync_model.proofs.EnteringLemmas.{absent-judged, after_judging, entering-is_judged, entering-is_kept, entering_excess}
+use Rattle.moka_unsync_model.proofs.EnteringLemmas.{excess_left, inside, outside, stands-arrived, stands-kept}
 use Rattle.moka_store.specs.Store.{contents_of, entries_of}
 use Rattle.moka_unsync.proofs.WindowLemmas.{entered_last}
 use Rattle.moka_unsync.proofs.admission.enter_judged.Given.{Over}

@@ -1,8 +1,8 @@
 use Rattle.std.proofs.Common.{◌≡◌, ◌∙◌, ap, arith, is_some, refl, sym}
-use Rattle.moka_deque.proofs.IdLemmas.{some_parts}
-use Rattle.moka_machine.specs.Contents.{entry_at}
-use Rattle.moka_machine.specs.Window.{after_candidate}
-use Rattle.moka_machine.proofs.EnteringLemmas.{entering_excess, inside, stands-kept}
+use Rattle.moka_list.proofs.IdLemmas.{some_parts}
+use Rattle.moka_unsync_model.specs.Contents.{entry_at}
+use Rattle.moka_unsync_model.specs.Window.{after_candidate}
+use Rattle.moka_unsync_model.proofs.EnteringLemmas.{entering_excess, inside, stands-kept}
 use Rattle.moka_store.specs.Store.{contents_of, entries_of}
 use Rattle.moka_unsync.proofs.WindowLemmas.{entered_last, entering_free, entering_last}
 use Rattle.moka_unsync.proofs.admission.enter_window.Goals as goal

@@ -1,5 +1,5 @@
 use Rattle.std.proofs.Common.{◌∙◌, ◌+◌, ◌-◌, ap, max, sym}
-use Rattle.moka_machine.specs.Contents.{is_window}
+use Rattle.moka_unsync_model.specs.Contents.{is_window}
 use Rattle.moka_store.specs.Store.{entries_of}
 use Rattle.moka_unsync.proofs.WindowLemmas.{excess-push}
 use Rattle.moka_unsync.proofs.admission.excess.Goals as goal

@@ -1,8 +1,8 @@
 use Rattle.std.proofs.Common.{◌≡◌, ◌∙◌, ◌+◌, ℕ, None, Some, arith, ap, sym}
-use Rattle.moka_deque.proofs.IdLemmas.{some_parts}
-use Rattle.moka_machine.specs.Contents.{main_of}
-use Rattle.moka_machine.specs.Shares.{main_limit}
-use Rattle.moka_machine.specs.Window.{victims_of}
+use Rattle.moka_list.proofs.IdLemmas.{some_parts}
+use Rattle.moka_unsync_model.specs.Contents.{main_of}
+use Rattle.moka_unsync_model.specs.Shares.{main_limit}
+use Rattle.moka_unsync_model.specs.Window.{victims_of}
 use Rattle.moka_store.specs.Store.{contents_of, entries_of}
 use Rattle.moka_unsync.specs.Turns.{after_eviction_of, counted}
 use Rattle.moka_unsync.proofs.AdmissionLemmas.{eviction_none}

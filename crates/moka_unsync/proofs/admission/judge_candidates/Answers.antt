@@ -1,5 +1,5 @@
 use Rattle.std.proofs.Common.{◌≡◌, ◌∙◌, ◌-◌, ap, sym}
-use Rattle.moka_deque.proofs.IdLemmas.{some_parts}
+use Rattle.moka_list.proofs.IdLemmas.{some_parts}
 use Rattle.moka_unsync.proofs.TurnLemmas.{continued}
 use Rattle.moka_unsync.proofs.WindowLemmas.{next_candidates, next_lacking}
 use Rattle.moka_unsync.proofs.admission.judge_candidates.Goals as goal

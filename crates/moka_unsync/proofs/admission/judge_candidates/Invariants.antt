@@ -1,7 +1,7 @@
 use Rattle.std.proofs.Common.{◌≡◌, ◌-◌, length}
-use Rattle.moka_machine.specs.Contents.{total_weight, window_of}
-use Rattle.moka_machine.specs.Upkeep.{least_recent}
-use Rattle.moka_machine.specs.Window.{after_candidates}
+use Rattle.moka_unsync_model.specs.Contents.{total_weight, window_of}
+use Rattle.moka_unsync_model.specs.Upkeep.{least_recent}
+use Rattle.moka_unsync_model.specs.Window.{after_candidates}
 use Rattle.moka_store.specs.Store.{Continues, contents_of, entries_of}
 use Rattle.moka_unsync.proofs.admission.judge_candidates.Given as goal
 

@@ -1,8 +1,8 @@
 use Rattle.std.proofs.Common.{◌≡◌, ◌∙◌, None, Some, ap, refl, sym, true}
-use Rattle.moka_deque.proofs.IdLemmas.{some_parts}
-use Rattle.moka_machine.specs.Contents.{is_window, main_of}
-use Rattle.moka_machine.specs.Shares.{main_limit}
-use Rattle.moka_machine.specs.Window.{victims_of}
+use Rattle.moka_list.proofs.IdLemmas.{some_parts}
+use Rattle.moka_unsync_model.specs.Contents.{is_window, main_of}
+use Rattle.moka_unsync_model.specs.Shares.{main_limit}
+use Rattle.moka_unsync_model.specs.Window.{victims_of}
 use Rattle.moka_store.specs.Store.{contents_of, entries_of}
 use Rattle.moka_unsync.specs.Turns.{counted}
 use Rattle.moka_unsync.proofs.WindowLemmas.{first_stays, promoted_last, replaced_last}

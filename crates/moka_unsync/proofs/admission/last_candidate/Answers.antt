@@ -1,5 +1,5 @@
 use Rattle.std.proofs.Common.{◌≤◌, ap, sym, ◌∙◌, subst}
-use Rattle.moka_deque.proofs.IdLemmas.{some_parts}
+use Rattle.moka_list.proofs.IdLemmas.{some_parts}
 use Rattle.moka_unsync.proofs.admission.last_candidate.Goals as goal
 
 pub returns : goal.returns

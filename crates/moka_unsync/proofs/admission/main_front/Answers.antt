@@ -1,6 +1,6 @@
 use Rattle.std.proofs.Common.{◌≡◌, ◌∙◌, ap, refl, subst, sym, false}
-use Rattle.moka_machine.specs.Contents.{is_window, main_of}
-use Rattle.moka_deque.proofs.IdLemmas.{some_parts}
+use Rattle.moka_unsync_model.specs.Contents.{is_window, main_of}
+use Rattle.moka_list.proofs.IdLemmas.{some_parts}
 use Rattle.moka_unsync.proofs.AdmissionLemmas.{no_main}
 use Rattle.moka_unsync.proofs.admission.main_front.Goals as goal
 

@@ -1,5 +1,5 @@
 use Rattle.std.proofs.Common.{arith}
-use Rattle.moka_machine.proofs.WindowLemmas.{total-split}
+use Rattle.moka_unsync_model.proofs.WindowLemmas.{total-split}
 use Rattle.moka_store.specs.Store.{entries_of}
 use Rattle.moka_unsync.proofs.admission.main_weight.Goals as goal
 

@@ -1,6 +1,6 @@
 use Rattle.std.proofs.Common.{◌∙◌, ◌<◌, ◌≤◌, ap, arith, length, subst, sym}
-use Rattle.moka_machine.specs.Contents.{main_of}
-use Rattle.moka_sketch.specs.Sketch.{estimate}
+use Rattle.moka_unsync_model.specs.Contents.{main_of}
+use Rattle.moka_common.specs.Sketch.{estimate}
 use Rattle.moka_store.specs.Store.{entries_of}
 use Rattle.moka_unsync.proofs.AdmissionLemmas.{IsMainWalk, main_and_window, main_end, main_next, main_over, main_shorter, main_start, walk_counts, walk_enough, walk_lost}
 use Rattle.moka_unsync.proofs.AdmissionLemmas.{walk_short, walk_step}

@@ -1,5 +1,5 @@
 use Rattle.std.proofs.Common.{length}
-use Rattle.moka_sketch.specs.Sketch.{estimate}
+use Rattle.moka_common.specs.Sketch.{estimate}
 use Rattle.moka_store.specs.Store.{entries_of}
 use Rattle.moka_unsync.proofs.AdmissionLemmas.{IsMainWalk}
 use Rattle.moka_unsync.proofs.admission.outvoted_count.Given as goal

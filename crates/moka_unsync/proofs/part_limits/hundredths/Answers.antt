@@ -1,5 +1,5 @@
 use Rattle.std.proofs.Common.{◌∙◌, ◌+◌, ◌*◌, ◌/◌, ◌%◌, sym}
-use Rattle.moka_machine.proofs.PartLemmas.{hundredths-split}
+use Rattle.moka_unsync_model.proofs.PartLemmas.{hundredths-split}
 use Rattle.moka_unsync.proofs.part_limits.hundredths.Goals as goal
 
 pub returns-clause-value : goal.returns-clause-value

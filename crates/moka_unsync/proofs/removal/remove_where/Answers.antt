@@ -1,8 +1,8 @@
 use Rattle.std.proofs.Common.{◌≡◌, ◌∙◌, Bool, IfSome, false, true, of_calls, refl, subst, sym}
-use Rattle.moka_deque.specs.Deque.{IsIn}
-use Rattle.moka_machine.specs.Invalidate.{AnswersAt}
+use Rattle.moka_list.specs.Nodes.{IsIn}
+use Rattle.moka_unsync_model.specs.Invalidate.{AnswersAt}
 use Rattle.moka_store.specs.Store.{contents_of}
-use Rattle.moka_deque.proofs.WalkLemmas.{first_is_in, next_is_in}
+use Rattle.moka_list.proofs.WalkLemmas.{first_is_in, next_is_in}
 use Rattle.moka_unsync.proofs.RemovalLemmas.{IsStop, answered, fewer_from, fewer_left, next_remains, remaining_first, remaining_kept}
 use Rattle.moka_unsync.proofs.RemovalLemmas.{remaining_left, remaining_none}
 use Rattle.moka_unsync.proofs.removal.remove_where.Given.{Over}

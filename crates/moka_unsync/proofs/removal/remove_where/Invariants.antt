@@ -1,7 +1,7 @@
 use Rattle.std.proofs.Common.{length, IfSome}
-use Rattle.moka_deque.specs.Deque.{IsIn}
+use Rattle.moka_list.specs.Nodes.{IsIn}
 use Rattle.moka_store.specs.Store.{Continues, contents_of}
-use Rattle.moka_deque.proofs.WalkLemmas.{from_node}
+use Rattle.moka_list.proofs.WalkLemmas.{from_node}
 use Rattle.moka_unsync.proofs.RemovalLemmas.{Remaining, entries_from}
 use Rattle.moka_unsync.proofs.removal.remove_where.Given as goal
 

@@ -1,9 +1,9 @@
 use Rattle.std.proofs.Common.{ap, inl, inr, refl, rules, subst}
-use Rattle.moka_base.specs.Keys.{Keys, keys_by}
+use Rattle.moka_common.specs.Keys.{Keys, keys_by}
 use Rattle.moka_unsync.specs.declared.runs.Call.TheVariants as call
-use Rattle.moka_machine.specs.Lookup.{found_by_get, found_by_peek}
+use Rattle.moka_unsync_model.specs.Lookup.{found_by_get, found_by_peek}
 use Rattle.moka_unsync.specs.Runs.{TellsFound}
-use Rattle.moka_machine.specs.Step.{Done, Found, Truth, Number, OutOfMemory}
+use Rattle.moka_unsync_model.specs.Step.{Done, Found, Truth, Number, OutOfMemory}
 use Rattle.moka_unsync.proofs.RunLemmas.{got, inserted, stepped, unowned, unroomed}
 use Rattle.moka_unsync.proofs.runs.reply_to.Given.{Over}
 use Rattle.moka_unsync.proofs.runs.reply_to.Goals as goal

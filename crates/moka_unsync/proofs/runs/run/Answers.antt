@@ -2,7 +2,7 @@ use Rattle.std.proofs.Common.{◌≡◌, ◌≤◌, ◌+◌, [], ◌∷◌, ◌+
 use Rattle.std.proofs.lemmas.List.{append-nil, nil_from_length}
 use Rattle.std.specs.Vec.{vec_capacity, vec_len}
 use Rattle.std.specs.Vec.Iter.{into_iter_items}
-use Rattle.moka_base.specs.Keys.{Keys, keys_by}
+use Rattle.moka_common.specs.Keys.{Keys, keys_by}
 use Rattle.moka_unsync.specs.Runs.{AreServed}
 use Rattle.moka_unsync.proofs.RunLemmas.{runs-append}
 use Rattle.moka_unsync.proofs.runs.run.Goals as goal

@@ -1,9 +1,9 @@
 use Rattle.std.proofs.Common.{◌≤◌, ◌+◌, List, ◌++◌, length}
 use Rattle.std.specs.Vec.{vec_capacity, vec_len}
 use Rattle.std.specs.Vec.Iter.{into_iter_items}
-use Rattle.moka_base.specs.Keys.{keys_by}
+use Rattle.moka_common.specs.Keys.{keys_by}
 use Rattle.moka_unsync.specs.Runs.{AreServed}
-use Rattle.moka_machine.specs.Step.{Runs}
+use Rattle.moka_unsync_model.specs.Step.{Runs}
 use Rattle.moka_unsync.proofs.runs.run.Given as goal
 
 -- there is room for the replies to come, and what serves the calls to come makes up, with the replies so far, what serves all

@@ -1,8 +1,8 @@
 use Rattle.std.proofs.Common.{◌∙◌, refl}
-use Rattle.moka_machine.specs.Contents.{protected_of}
-use Rattle.moka_machine.specs.declared.entry.Part.TheVariants.{Probation, Protected}
-use Rattle.moka_machine.specs.Upkeep.{after_idle}
-use Rattle.moka_machine.specs.declared.constants.TheConstants.{EVICTION_BATCH_SIZE}
+use Rattle.moka_unsync_model.specs.Contents.{protected_of}
+use Rattle.moka_unsync_model.specs.declared.entry.Part.TheVariants.{Probation, Protected}
+use Rattle.moka_unsync_model.specs.Upkeep.{after_idle}
+use Rattle.moka_unsync_model.specs.declared.constants.TheConstants.{EVICTION_BATCH_SIZE}
 use Rattle.moka_store.specs.Store.{entries_of}
 use Rattle.moka_unsync.proofs.upkeep.expire_by_use.Goals as goal
 

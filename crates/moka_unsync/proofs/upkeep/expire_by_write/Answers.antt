@@ -1,5 +1,5 @@
 use Rattle.std.proofs.Common.{◌≡◌, ◌-◌, ◌∙◌, suc, ap, sym, arith}
-use Rattle.moka_machine.specs.Upkeep.{after_live_expiry}
+use Rattle.moka_unsync_model.specs.Upkeep.{after_live_expiry}
 use Rattle.moka_store.specs.Store.{contents_of}
 use Rattle.moka_unsync.proofs.upkeep.expire_by_write.Goals as goal
 

@@ -1,6 +1,6 @@
 use Rattle.std.proofs.Common.{◌≡◌}
-use Rattle.moka_machine.specs.Upkeep.{after_live_expiry}
-use Rattle.moka_machine.specs.declared.constants.TheConstants.{EVICTION_BATCH_SIZE}
+use Rattle.moka_unsync_model.specs.Upkeep.{after_live_expiry}
+use Rattle.moka_unsync_model.specs.declared.constants.TheConstants.{EVICTION_BATCH_SIZE}
 use Rattle.moka_store.specs.Store.{Continues, contents_of}
 use Rattle.moka_unsync.proofs.upkeep.expire_by_write.Given as goal
 

@@ -1,6 +1,6 @@
 use Rattle.std.proofs.Common.{◌≡◌, false}
-use Rattle.moka_machine.specs.declared.constants.TheConstants.{EVICTION_BATCH_SIZE}
-use Rattle.moka_machine.specs.declared.entry.Part.{Part}
+use Rattle.moka_unsync_model.specs.declared.constants.TheConstants.{EVICTION_BATCH_SIZE}
+use Rattle.moka_unsync_model.specs.declared.entry.Part.{Part}
 use Rattle.moka_store.specs.Store.{Continues, contents_of, entries_of, is_of, those_of}
 use Rattle.moka_unsync.specs.Turns.{after_idle_of}
 use Rattle.moka_unsync.proofs.upkeep.expire_part.Given as goal

@@ -1,4 +1,4 @@
-use Rattle.moka_machine.specs.Upkeep.{after_eviction}
+use Rattle.moka_unsync_model.specs.Upkeep.{after_eviction}
 use Rattle.moka_store.specs.Store.{contents_of}
 use Rattle.moka_unsync.proofs.TurnLemmas.{continued, last_turn, next_turn}
 use Rattle.moka_unsync.proofs.upkeep.trim_to.Goals as goal

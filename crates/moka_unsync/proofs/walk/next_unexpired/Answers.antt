@@ -1,11 +1,11 @@
 use Rattle.std.proofs.Common.{◌≡◌, ◌∙◌, ◌<◌, ◌∷◌, Option, Some, ap, length, not, option_copied, refl, subst, sym}
 use Rattle.std.proofs.lemmas.Bool.{cond-false, cond-true}
 use Rattle.std.specs.Map.{values_of}
-use Rattle.moka_deque.specs.Deque.{next_id}
-use Rattle.moka_deque.proofs.WalkLemmas.{fewer_behind, from_next, from_node, from_none, next_is_in}
-use Rattle.moka_machine.specs.declared.entry.Entry.{Entry}
-use Rattle.moka_machine.specs.Iterate.{first_unexpired}
-use Rattle.moka_machine.specs.Upkeep.{is_expired}
+use Rattle.moka_list.specs.Nodes.{next_id}
+use Rattle.moka_list.proofs.WalkLemmas.{fewer_behind, from_next, from_node, from_none, next_is_in}
+use Rattle.moka_unsync_model.specs.declared.entry.Entry.{Entry}
+use Rattle.moka_unsync_model.specs.Iterate.{first_unexpired}
+use Rattle.moka_unsync_model.specs.Upkeep.{is_expired}
 use Rattle.moka_unsync.proofs.BehindLemmas.{behind_absent, found_behind}
 use Rattle.moka_store.specs.Store.{entries_of}
 use Rattle.moka_unsync.proofs.walk.next_unexpired.Given.{Over}

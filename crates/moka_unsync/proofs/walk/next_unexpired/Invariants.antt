@@ -1,8 +1,8 @@
 use Rattle.std.proofs.Common.{◌≡◌, length, IfSome}
 use Rattle.std.specs.Map.{values_of}
-use Rattle.moka_deque.specs.Deque.{IsIn}
-use Rattle.moka_deque.proofs.WalkLemmas.{from_node}
-use Rattle.moka_machine.specs.Iterate.{entries_behind, first_unexpired}
+use Rattle.moka_list.specs.Nodes.{IsIn}
+use Rattle.moka_list.proofs.WalkLemmas.{from_node}
+use Rattle.moka_unsync_model.specs.Iterate.{entries_behind, first_unexpired}
 use Rattle.moka_store.specs.Store.{entries_of}
 use Rattle.moka_unsync.proofs.walk.next_unexpired.Given as goal
 

@@ -1,5 +1,5 @@
-use Rattle.moka_base.specs.Keys.{Keys, keys_by}
-use Rattle.moka_engine_laws.proofs.CallLemmas.{call_rests}
+use Rattle.moka_common.specs.Keys.{Keys, keys_by}
+use Rattle.moka_sync_model.proofs.CallLemmas.{call_rests}
 use Rattle.moka_core.proofs.engine.Core.call.Given.{Over}
 use Rattle.moka_core.proofs.engine.Core.call.Goals as goal
 

@@ -1,7 +1,7 @@
 use Rattle.std.proofs.Common.{subst, sym}
-use Rattle.moka_base.specs.Keys.{keys_by}
-use Rattle.moka_engine.specs.Consistent.{IsConsistent}
-use Rattle.moka_engine_laws.proofs.CallLemmas.{good_scheduled}
+use Rattle.moka_common.specs.Keys.{keys_by}
+use Rattle.moka_sync_model.specs.Consistent.{IsConsistent}
+use Rattle.moka_sync_model.proofs.CallLemmas.{good_scheduled}
 use Rattle.moka_core.proofs.engine.Core.decide_for_reads.Goals as goal
 
 pub invariant_of-self : goal.invariant_of-self

@@ -1,5 +1,5 @@
-use Rattle.moka_base.specs.Keys.{keys_by}
-use Rattle.moka_parts.proofs.CallLemmas.{end_keeps_good}
+use Rattle.moka_common.specs.Keys.{keys_by}
+use Rattle.moka_core.proofs.CallLemmas.{end_keeps_good}
 use Rattle.moka_core.proofs.engine.Core.finish.Goals as goal
 
 pub invariant_of-self : goal.invariant_of-self

@@ -1,6 +1,6 @@
-use Rattle.moka_base.specs.Keys.{Keys, keys_by}
-use Rattle.moka_engine.specs.declared.call.Call.TheVariants as call
-use Rattle.moka_engine_laws.proofs.CallLemmas.{call_rests}
+use Rattle.moka_common.specs.Keys.{Keys, keys_by}
+use Rattle.moka_sync_model.specs.declared.call.Call.TheVariants as call
+use Rattle.moka_sync_model.proofs.CallLemmas.{call_rests}
 use Rattle.moka_core.proofs.engine.Core.get.Given.{Over}
 use Rattle.moka_core.proofs.engine.Core.get.Goals as goal
 

@@ -1,7 +1,7 @@
 use Rattle.std.proofs.Common.{subst, sym}
-use Rattle.moka_base.specs.Keys.{keys_by}
-use Rattle.moka_engine.specs.Consistent.{IsConsistent}
-use Rattle.moka_engine_laws.proofs.ConsistentLemmas.{new_is_consistent}
+use Rattle.moka_common.specs.Keys.{keys_by}
+use Rattle.moka_sync_model.specs.Consistent.{IsConsistent}
+use Rattle.moka_sync_model.proofs.ConsistentLemmas.{new_is_consistent}
 use Rattle.moka_core.proofs.engine.Core.of_parts.Goals as goal
 
 pub invariant_of-result : goal.invariant_of-result

@@ -1,5 +1,5 @@
-use Rattle.moka_base.specs.Keys.{keys_by}
-use Rattle.moka_parts.proofs.CallLemmas.{run_or_refusal_keeps}
+use Rattle.moka_common.specs.Keys.{keys_by}
+use Rattle.moka_core.proofs.CallLemmas.{run_or_refusal_keeps}
 use Rattle.moka_core.proofs.engine.Core.run.Goals as goal
 
 pub invariant_of-self : goal.invariant_of-self

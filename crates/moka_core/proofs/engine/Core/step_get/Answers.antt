@@ -1,5 +1,5 @@
-use Rattle.moka_base.specs.Keys.{keys_by}
-use Rattle.moka_engine_laws.proofs.CallLemmas.{consistent_step}
+use Rattle.moka_common.specs.Keys.{keys_by}
+use Rattle.moka_sync_model.proofs.CallLemmas.{consistent_step}
 use Rattle.moka_core.proofs.engine.Core.step_get.Goals as goal
 
 pub invariant_of-self : goal.invariant_of-self

@@ -1,9 +1,9 @@
 use Rattle.std.proofs.Common.{ap, subst, sym, ◌∙◌}
-use Rattle.moka_base.specs.Keys.{keys_by}
-use Rattle.moka_engine.specs.Consistent.{IsConsistent}
-use Rattle.moka_engine.specs.CoreState.{IsNew}
-use Rattle.moka_engine_laws.proofs.ConsistentLemmas.{new_is_consistent}
-use Rattle.moka_parts.proofs.NewLemmas.{new-started}
+use Rattle.moka_common.specs.Keys.{keys_by}
+use Rattle.moka_sync_model.specs.Consistent.{IsConsistent}
+use Rattle.moka_sync_model.specs.CoreState.{IsNew}
+use Rattle.moka_sync_model.proofs.ConsistentLemmas.{new_is_consistent}
+use Rattle.moka_core.proofs.MachineNewLemmas.{new-started}
 use Rattle.moka_core.proofs.engine.Core.with_first_ticket.Goals as goal
 
 pub invariant_of-self : goal.invariant_of-self

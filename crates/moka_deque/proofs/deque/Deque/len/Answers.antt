@@ -1,4 +1,4 @@
-use Rattle.moka_deque.proofs.DequeLemmas.{distinct_from_apart}
+use Rattle.moka_list.proofs.ItemLemmas.{distinct_from_apart}
 use Rattle.moka_deque.proofs.deque.Deque.len.Goals as goal
 
 pub returns-clause-distinct : goal.returns-clause-distinct

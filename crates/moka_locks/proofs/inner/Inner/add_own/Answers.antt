@@ -1,8 +1,8 @@
 use Rattle.std.proofs.Common.{◌≡◌, ◌∙◌, ◌++◌, [], ℕ, ap, append_assoc, sym}
 use Rattle.std.proofs.lemmas.List.{append-nil, nil_from_length}
 use Rattle.std.specs.Vec.Iter.{into_iter_items}
-use Rattle.moka_base.specs.Keys.{keys_by}
-use Rattle.moka_engine.specs.Ticket.{shard_of}
+use Rattle.moka_common.specs.Keys.{keys_by}
+use Rattle.moka_sync_model.specs.Ticket.{shard_of}
 use Rattle.moka_locks.specs.Cache.{Cache}
 use Rattle.moka_locks.specs.Snapshot.{own_pairs}
 use Rattle.moka_locks.proofs.SnapshotLemmas.{own_first, own_other}

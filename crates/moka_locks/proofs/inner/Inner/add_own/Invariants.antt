@@ -1,6 +1,6 @@
 use Rattle.std.proofs.Common.{◌≡◌, ◌++◌}
 use Rattle.std.specs.Vec.Iter.{into_iter_items}
-use Rattle.moka_base.specs.Keys.{keys_by}
+use Rattle.moka_common.specs.Keys.{keys_by}
 use Rattle.moka_locks.specs.Snapshot.{own_pairs}
 use Rattle.moka_locks.proofs.inner.Inner.add_own.Given as goal
 

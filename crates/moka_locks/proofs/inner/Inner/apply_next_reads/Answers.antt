@@ -1,7 +1,7 @@
 use Rattle.std.proofs.Common.{◌≡◌, ◌∙◌, ◌≤◌, length, subst, take, arith}
 use Rattle.std.proofs.lemmas.List.{length-map, length-take-le}
-use Rattle.moka_logs.specs.declared.logs.LoggedRead.{LoggedRead}
-use Rattle.moka_logs.specs.LoggedReads.{reads_of}
+use Rattle.moka_queues.specs.declared.logs.LoggedRead.{LoggedRead}
+use Rattle.moka_queues.specs.LoggedReads.{reads_of}
 use Rattle.moka_maintenance.specs.Taken.{reads_left}
 use Rattle.moka_locks.proofs.TurnLemmas.{reads_turn, takes_nothing}
 use Rattle.moka_locks.proofs.inner.Inner.apply_next_reads.Goals as goal

@@ -1,5 +1,5 @@
 use Rattle.std.proofs.Common.{◌≡◌, ◌∙◌, ◌≤◌, ◌+◌, [], Some, is_some, ap, false, arith}
-use Rattle.moka_engine.specs.declared.operation.Write.TheVariants.{Remove, Upsert}
+use Rattle.moka_sync_model.specs.declared.operation.Write.TheVariants.{Remove, Upsert}
 use Rattle.moka_maintenance.specs.Taken.{having_taken_write, writes_left}
 use Rattle.moka_locks.proofs.TurnLemmas.{alone, none_first, removed, takes_no_write, written}
 use Rattle.moka_locks.proofs.WritesLeftLemmas.{takes_one}

@@ -1,6 +1,6 @@
 use Rattle.std.proofs.Common.{◌+◌, ℕ, subst, sym}
-use Rattle.moka_base.proofs.KeysLemmas.{keys_by-respects}
-use Rattle.moka_base.specs.Keys.{keys_by}
+use Rattle.moka_common.proofs.KeysLemmas.{keys_by-respects}
+use Rattle.moka_common.specs.Keys.{keys_by}
 use Rattle.moka_locks.specs.Cache.{Cache}
 use Rattle.moka_locks.specs.Snapshot.{IsSnapshot}
 use Rattle.moka_locks.proofs.SnapshotLemmas.{on_ok, with_shard}

@@ -1,5 +1,5 @@
-use Rattle.moka_base.specs.Keys.{Keys, keys_by}
-use Rattle.moka_behind.proofs.PermittedLemmas.{finds_in}
+use Rattle.moka_common.specs.Keys.{Keys, keys_by}
+use Rattle.moka_guards.proofs.PermittedLemmas.{finds_in}
 use Rattle.moka_locks.proofs.inner.Inner.get.Given.{Over}
 use Rattle.moka_locks.proofs.inner.Inner.get.Goals as goal
 

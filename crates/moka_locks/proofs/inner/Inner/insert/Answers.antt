@@ -1,6 +1,6 @@
 use Rattle.std.proofs.Common.{◌∙◌, ap}
-use Rattle.moka_base.specs.Keys.{Keys, keys_by}
-use Rattle.moka_behind.proofs.PermittedLemmas.{inserts_in}
+use Rattle.moka_common.specs.Keys.{Keys, keys_by}
+use Rattle.moka_guards.proofs.PermittedLemmas.{inserts_in}
 use Rattle.moka_locks.proofs.inner.Inner.insert.Given.{Over}
 use Rattle.moka_locks.proofs.inner.Inner.insert.Goals as goal
 

@@ -1,5 +1,5 @@
-use Rattle.moka_base.specs.Keys.{Keys, keys_by}
-use Rattle.moka_behind.proofs.PermittedLemmas.{invalidates_in}
+use Rattle.moka_common.specs.Keys.{Keys, keys_by}
+use Rattle.moka_guards.proofs.PermittedLemmas.{invalidates_in}
 use Rattle.moka_locks.proofs.inner.Inner.invalidate.Given.{Over}
 use Rattle.moka_locks.proofs.inner.Inner.invalidate.Goals as goal
 

@@ -1,9 +1,9 @@
 use Rattle.std.proofs.Common.{◌≡◌, ℕ, List, Result, Ok, Err, IfOk}
-use Rattle.moka_base.specs.Keys.{Keys, keys_by}
-use Rattle.moka_base.specs.Settings.{Settings}
-use Rattle.moka_engine.specs.Parts.{ShardState}
+use Rattle.moka_common.specs.Keys.{Keys, keys_by}
+use Rattle.moka_common.specs.Settings.{Settings}
+use Rattle.moka_sync_model.specs.Parts.{ShardState}
 use Rattle.moka_shard.specs.ShardStep.{pairs_at}
-use Rattle.moka_behind.specs.Permitted.{CopiesIn, IsPermitted}
+use Rattle.moka_guards.specs.Permitted.{CopiesIn, IsPermitted}
 use Rattle.moka_locks.proofs.inner.Inner.pairs.Given.{Over}
 use Rattle.moka_locks.proofs.inner.Inner.pairs.Goals as goal
 

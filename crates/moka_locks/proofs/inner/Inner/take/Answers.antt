@@ -1,6 +1,6 @@
 use Rattle.std.proofs.Common.{IfOk, OnErr, Result, Ok, Err}
-use Rattle.moka_base.specs.Keys.{Keys, keys_by}
-use Rattle.moka_behind.proofs.PermittedLemmas.{takes_in}
+use Rattle.moka_common.specs.Keys.{Keys, keys_by}
+use Rattle.moka_guards.proofs.PermittedLemmas.{takes_in}
 use Rattle.moka_locks.proofs.inner.Inner.take.Given.{Over}
 use Rattle.moka_locks.proofs.inner.Inner.take.Goals as goal
 

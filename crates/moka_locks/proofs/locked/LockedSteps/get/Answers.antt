@@ -1,10 +1,10 @@
 use Rattle.std.proofs.Common.{ℕ, Option, Result, Ok, Err, IsErr, false, true, ◌≡◌, refl}
-use Rattle.moka_base.specs.Keys.{Keys, keys_by}
-use Rattle.moka_base.specs.declared.error.OutOfMemory.{OutOfMemory as MemoryError}
-use Rattle.moka_engine.specs.declared.constants.TheConstants.{CALLER}
-use Rattle.moka_engine.specs.declared.event.Event.TheVariants.{Get}
-use Rattle.moka_behind.specs.Permitted.{FindsIn}
-use Rattle.moka_steps.specs.Steps.{get_reply}
+use Rattle.moka_common.specs.Keys.{Keys, keys_by}
+use Rattle.moka_common.specs.declared.error.OutOfMemory.{OutOfMemory as MemoryError}
+use Rattle.moka_sync_model.specs.declared.constants.TheConstants.{CALLER}
+use Rattle.moka_sync_model.specs.declared.event.Event.TheVariants.{Get}
+use Rattle.moka_guards.specs.Permitted.{FindsIn}
+use Rattle.moka_sync_model.specs.Steps.{get_reply}
 use Rattle.moka_locks.specs.Locked.{Locked, locked_allows}
 use Rattle.moka_locks.proofs.locked.LockedSteps.get.Given.{Over}
 use Rattle.moka_locks.proofs.locked.LockedSteps.get.Goals as goal

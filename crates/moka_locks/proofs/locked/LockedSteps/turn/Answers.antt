@@ -1,10 +1,10 @@
 use Rattle.std.proofs.Common.{◌≡◌, ◌∙◌, Some, None, true, ap}
 use Rattle.std.specs.Option.{option_map}
-use Rattle.moka_base.specs.Keys.{Keys, keys_by}
+use Rattle.moka_common.specs.Keys.{Keys, keys_by}
 use Rattle.moka_locks.specs.Locked.{Locked, locked_caller, running}
 use Rattle.moka_locks.specs.SameTickets.{AtWork}
-use Rattle.moka_steps.specs.Steps.{maintaining}
-use Rattle.moka_steps.proofs.StepsLemmas.{goes_on_elsewhere}
+use Rattle.moka_sync_model.specs.Steps.{maintaining}
+use Rattle.moka_sync_model.proofs.StepsLemmas.{goes_on_elsewhere}
 use Rattle.moka_locks.proofs.TurnLemmas.{given_back, kept_elsewhere, turns_allowed}
 use Rattle.moka_locks.proofs.locked.LockedSteps.turn.Goals.{In_default-place}
 use Rattle.moka_locks.proofs.locked.LockedSteps.turn.Given.{Over}

@@ -1,5 +1,5 @@
 use Rattle.std.proofs.Common.{◌≡◌, ◌∙◌, ap, sym}
-use Rattle.moka_engine.specs.Turn.Apply.{after_removal}
+use Rattle.moka_sync_model.specs.Turn.Apply.{after_removal}
 use Rattle.moka_maintenance.specs.Held.{maintenance_of, place_of}
 use Rattle.moka_maintenance.proofs.TakenLemmas.{less_one, removal_turn}
 use Rattle.moka_maintenance.proofs.maintenance.Maintenance.turn_with_removal.Goals as goal

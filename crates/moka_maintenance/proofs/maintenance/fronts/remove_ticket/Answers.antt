@@ -1,5 +1,5 @@
 use Rattle.std.proofs.Common.{refl, sym}
-use Rattle.moka_orders.specs.OrdersState.{orders_of}
+use Rattle.moka_queues.specs.OrdersState.{orders_of}
 use Rattle.moka_maintenance.proofs.AbsentLemmas.{without_absent}
 use Rattle.moka_maintenance.proofs.maintenance.fronts.remove_ticket.Goals as goal
 

@@ -1,7 +1,7 @@
 use Rattle.std.proofs.Common.{◌-◌}
-use Rattle.moka_engine.specs.Orders.{all_used}
-use Rattle.moka_engine.specs.Turn.Admission.{absent_of}
-use Rattle.moka_orders.specs.OrdersState.{orders_of}
+use Rattle.moka_sync_model.specs.Orders.{all_used}
+use Rattle.moka_sync_model.specs.Turn.Admission.{absent_of}
+use Rattle.moka_queues.specs.OrdersState.{orders_of}
 use Rattle.moka_maintenance.specs.Held.{first_seen}
 use Rattle.moka_maintenance.proofs.WalkLemmas.{IsWalked}
 use Rattle.moka_maintenance.proofs.maintenance.fronts.send_absent_back.Given as goal

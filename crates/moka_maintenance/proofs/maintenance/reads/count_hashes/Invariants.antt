@@ -1,6 +1,6 @@
 use Rattle.std.proofs.Common.{◌≡◌, take}
 use Rattle.std.specs.List.{fold}
-use Rattle.moka_logs.specs.LoggedReads.{reads_of}
+use Rattle.moka_queues.specs.LoggedReads.{reads_of}
 use Rattle.moka_maintenance.specs.Taken.{counted}
 use Rattle.moka_maintenance.proofs.maintenance.reads.count_hashes.Given as goal
 

@@ -1,7 +1,7 @@
 use Rattle.std.proofs.Common.{◌≡◌, take}
 use Rattle.std.specs.List.{fold}
-use Rattle.moka_orders.specs.OrdersState.{orders_of}
-use Rattle.moka_logs.specs.LoggedReads.{reads_of}
+use Rattle.moka_queues.specs.OrdersState.{orders_of}
+use Rattle.moka_queues.specs.LoggedReads.{reads_of}
 use Rattle.moka_maintenance.specs.Taken.{used_by}
 use Rattle.moka_maintenance.proofs.maintenance.reads.use_nodes.Given as goal
 

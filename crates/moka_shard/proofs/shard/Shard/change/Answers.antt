@@ -1,6 +1,6 @@
 use Rattle.std.proofs.Common.{ap, refl, set, Some, sym}
-use Rattle.moka_engine.specs.Entry.{touched, with_upsert_done}
-use Rattle.moka_engine.specs.Turn.Plan.{Becomes}
+use Rattle.moka_sync_model.specs.Entry.{touched, with_upsert_done}
+use Rattle.moka_sync_model.specs.Turn.Plan.{Becomes}
 use Rattle.moka_shard.specs.Shard.{state_of}
 use Rattle.moka_shard.proofs.SlotLemmas.{change_at, changed-is, leaves, nothing_changes, rewritten}
 use Rattle.moka_shard.proofs.shard.Shard.change.Goals as goal

@@ -1,8 +1,8 @@
 use Rattle.std.proofs.Common.{◌≡◌, ◌∙◌, ap, subst, sym, true, inl, inr}
 use Rattle.std.proofs.lemmas.Bool.{cases_Bool}
-use Rattle.moka_base.proofs.KeysLemmas.{keys_by-respects}
-use Rattle.moka_engine.specs.declared.ticket.Ticket.{Ticket}
-use Rattle.moka_engine.specs.Entry.{Entry}
+use Rattle.moka_common.proofs.KeysLemmas.{keys_by-respects}
+use Rattle.moka_sync_model.specs.declared.ticket.Ticket.{Ticket}
+use Rattle.moka_sync_model.specs.Entry.{Entry}
 use Rattle.moka_shard.proofs.SlotLemmas.{ahead_behind, all_ahead, all_stand, entry_at-is, has_hash}
 use Rattle.moka_shard.proofs.SlotLemmas.{none_ahead, stand_behind, AreStanding, IsAhead}
 use Rattle.moka_shard.proofs.SlotListLemmas.{find-none}

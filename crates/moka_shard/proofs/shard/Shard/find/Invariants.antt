@@ -1,5 +1,5 @@
 use Rattle.std.proofs.Common.{◌≡◌}
-use Rattle.moka_base.specs.Keys.{keys_by}
+use Rattle.moka_common.specs.Keys.{keys_by}
 use Rattle.moka_shard.proofs.SlotLemmas.{AreStanding, IsAhead}
 use Rattle.moka_shard.proofs.shard.Shard.find.Given as goal
 

@@ -1,8 +1,8 @@
 use Rattle.std.proofs.Common.{◌≡◌, ◌∙◌, ap, subst, sym}
-use Rattle.moka_engine.specs.declared.ticket.Ticket.{Ticket}
-use Rattle.moka_engine.specs.Entry.{Entry, entry_of}
-use Rattle.moka_engine.specs.Ticket.{same_ticket}
-use Rattle.moka_engine.proofs.TicketLemmas.{same_is}
+use Rattle.moka_sync_model.specs.declared.ticket.Ticket.{Ticket}
+use Rattle.moka_sync_model.specs.Entry.{Entry, entry_of}
+use Rattle.moka_sync_model.specs.Ticket.{same_ticket}
+use Rattle.moka_sync_model.proofs.TicketLemmas.{same_is}
 use Rattle.moka_shard.specs.Shard.{entries_in}
 use Rattle.moka_shard.proofs.SlotLemmas.{entry_of-is, entry_of-none_stays, none_ahead, IsAhead}
 use Rattle.moka_shard.proofs.shard.Shard.find_ticket.Goals as goal

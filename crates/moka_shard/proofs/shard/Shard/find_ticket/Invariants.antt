@@ -1,4 +1,4 @@
-use Rattle.moka_engine.specs.Ticket.{same_ticket}
+use Rattle.moka_sync_model.specs.Ticket.{same_ticket}
 use Rattle.moka_shard.proofs.SlotLemmas.{IsAhead}
 use Rattle.moka_shard.proofs.shard.Shard.find_ticket.Given as goal
 

@@ -1,7 +1,7 @@
 use Rattle.std.proofs.Common.{◌≡◌, ◌∙◌, Some, ap, sym}
-use Rattle.moka_engine.specs.declared.ticket.Ticket.{Ticket}
-use Rattle.moka_engine.specs.Entry.{entry_of}
-use Rattle.moka_engine.proofs.TicketLemmas.{same_is}
+use Rattle.moka_sync_model.specs.declared.ticket.Ticket.{Ticket}
+use Rattle.moka_sync_model.specs.Entry.{entry_of}
+use Rattle.moka_sync_model.proofs.TicketLemmas.{same_is}
 use Rattle.moka_shard.specs.Shard.{entries_in, entry_in}
 use Rattle.moka_shard.proofs.SlotLemmas.{entry_of-is}
 use Rattle.moka_shard.proofs.shard.Shard.find_ticket_at.Goals as goal

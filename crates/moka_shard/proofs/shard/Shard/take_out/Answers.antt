@@ -1,6 +1,6 @@
-use Rattle.moka_index.specs.HashIndex.{is_candidate}
+use Rattle.moka_list.specs.HashIndex.{is_candidate}
 use Rattle.std.proofs.Common.{◌≡◌, subst, sym, true}
-use Rattle.moka_engine.specs.declared.ticket.Ticket.{Ticket}
+use Rattle.moka_sync_model.specs.declared.ticket.Ticket.{Ticket}
 use Rattle.moka_shard.proofs.SlotLemmas.{invalidation_at, removed}
 use Rattle.moka_shard.proofs.shard.Shard.take_out.Goals as goal
 

@@ -1,8 +1,8 @@
 use Rattle.std.proofs.Common.{◌≡◌, ◌∙◌, ap, length, nat_eq, None, refl, subst, sym, arith}
 use Rattle.std.specs.Map.{lookup, remove_entry}
-use Rattle.moka_deque.proofs.IdLemmas.{IsDistinct-pushed}
-use Rattle.moka_index.specs.HashIndex.{Adds}
-use Rattle.moka_machine.specs.Contents.{entry_at}
+use Rattle.moka_list.proofs.IdLemmas.{IsDistinct-pushed}
+use Rattle.moka_list.specs.HashIndex.{Adds}
+use Rattle.moka_unsync_model.specs.Contents.{entry_at}
 use Rattle.moka_store.specs.Nodes.{AreMarks, latest_node, written_under}
 use Rattle.moka_store.specs.Store.{entries_of}
 use Rattle.moka_store.proofs.LatestLemmas.{length-latest, pushed-at, removed-pushed}

@@ -1,5 +1,5 @@
 use Rattle.std.proofs.Common.{ap, refl}
-use Rattle.moka_machine.specs.declared.entry.Part.TheVariants.{Probation}
+use Rattle.moka_unsync_model.specs.declared.entry.Part.TheVariants.{Probation}
 use Rattle.moka_store.proofs.ChangeLemmas.{set_here, set_marks, set_once, settled, shift_fits, shifted, writes_kept}
 use Rattle.moka_store.proofs.RelistLemmas.{length-settled, stored-settled}
 use Rattle.moka_store.proofs.StepLemmas.{promotes_is}

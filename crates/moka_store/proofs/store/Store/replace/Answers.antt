@@ -1,6 +1,6 @@
 use Rattle.std.proofs.Common.{◌≡◌, ◌∙◌, ap, is_some, None, refl, subst, sym}
-use Rattle.moka_index.specs.HashIndex.{Adds, Removes as Unlists}
-use Rattle.moka_machine.specs.Contents.{entry_at}
+use Rattle.moka_list.specs.HashIndex.{Adds, Removes as Unlists}
+use Rattle.moka_unsync_model.specs.Contents.{entry_at}
 use Rattle.moka_store.specs.Nodes.{written_under}
 use Rattle.moka_store.specs.Store.{entries_of}
 use Rattle.moka_store.proofs.ChangeLemmas.{fits, heavier, parts_lighter, set_here, set_marks, set_once, settled, writes_replaced}

@@ -1,6 +1,6 @@
 use Rattle.std.proofs.Common.{◌∙◌, ◌<◌, ◌^◌, ap, is_some, refl, subst, sym}
-use Rattle.moka_machine.specs.Contents.{writes_without}
-use Rattle.moka_machine.specs.Insert.{with_write}
+use Rattle.moka_unsync_model.specs.Contents.{writes_without}
+use Rattle.moka_unsync_model.specs.Insert.{with_write}
 use Rattle.moka_store.specs.Nodes.{written_under}
 use Rattle.moka_store.proofs.ChangeLemmas.{fits, found_balanced, heavier, parts_lighter, set_here, set_marks, set_once, settled, writes_last}
 use Rattle.moka_store.proofs.RelistLemmas.{length-settled, stored-settled}

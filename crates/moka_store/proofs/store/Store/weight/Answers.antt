@@ -1,5 +1,5 @@
 use Rattle.std.proofs.Common.{◌∙◌, ap, sym, subst, ◌<◌, ◌+◌, ◌-◌, ◌^◌}
-use Rattle.moka_machine.specs.Contents.{total_weight}
+use Rattle.moka_unsync_model.specs.Contents.{total_weight}
 use Rattle.moka_store.specs.Store.{entries_of}
 use Rattle.moka_store.proofs.WeightLemmas.{weight-all, weight-small}
 use Rattle.moka_store.proofs.store.Store.weight.Goals as goal

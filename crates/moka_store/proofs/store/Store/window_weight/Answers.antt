@@ -1,6 +1,6 @@
 use Rattle.std.proofs.Common.{◌∙◌, ap, subst, sym, ◌≤◌}
 use Rattle.std.specs.Map.{values_of}
-use Rattle.moka_machine.specs.Contents.{is_window, total_weight, window_of}
+use Rattle.moka_unsync_model.specs.Contents.{is_window, total_weight, window_of}
 use Rattle.moka_store.specs.Store.{entries_of}
 use Rattle.moka_store.proofs.WeightLemmas.{weight-part, weight-values}
 use Rattle.moka_store.proofs.store.Store.window_weight.Goals as goal

@@ -1,5 +1,5 @@
 use Rattle.std.proofs.Common.{◌≡◌, subst, sym}
-use Rattle.moka_base.specs.Keys.{keys_by}
+use Rattle.moka_common.specs.Keys.{keys_by}
 use Rattle.moka_unsync.proofs.CachedLemmas.{IsCached-touch, IsCached-upkeep, has_hash}
 use Rattle.moka_unsync.proofs.cache.Cache.get_hashed.Goals as goal
 

@@ -1,17 +1,17 @@
 use Rattle.std.proofs.Common.{◌≡◌, ◌∙◌, ◌<◌, ◌≤◌, ◌+◌, ℕ, Bool, Option, None, Some, ap, arith, is_some, length, refl, rules, subst, sym, true}
-use Rattle.moka_base.specs.Settings.{keeps_writes}
-use Rattle.moka_machine.specs.CacheState.{CacheState}
-use Rattle.moka_machine.specs.Contents.{entry_at, main_of}
-use Rattle.moka_deque.proofs.IdLemmas.{some_parts}
-use Rattle.moka_machine.specs.Insert.{after_admission, after_update, new_entry}
-use Rattle.moka_machine.specs.Upkeep.{after_upkeep}
-use Rattle.moka_machine.specs.Window.{victims_of}
+use Rattle.moka_common.specs.Settings.{keeps_writes}
+use Rattle.moka_unsync_model.specs.CacheState.{CacheState}
+use Rattle.moka_unsync_model.specs.Contents.{entry_at, main_of}
+use Rattle.moka_list.proofs.IdLemmas.{some_parts}
+use Rattle.moka_unsync_model.specs.Insert.{after_admission, after_update, new_entry}
+use Rattle.moka_unsync_model.specs.Upkeep.{after_upkeep}
+use Rattle.moka_unsync_model.specs.Window.{victims_of}
 use Rattle.moka_store.specs.Store.{Store, contents_of, entries_of}
-use Rattle.moka_base.specs.Keys.{keys_by}
-use Rattle.moka_machine.specs.declared.entry.Entry.{Entry}
-use Rattle.moka_machine.specs.declared.entry.Part.TheVariants.{Probation}
-use Rattle.moka_machine.specs.declared.shares.PartLimits.{PartLimits}
-use Rattle.moka_machine.specs.Shares.{windowed_limits}
+use Rattle.moka_common.specs.Keys.{keys_by}
+use Rattle.moka_unsync_model.specs.declared.entry.Entry.{Entry}
+use Rattle.moka_unsync_model.specs.declared.entry.Part.TheVariants.{Probation}
+use Rattle.moka_unsync_model.specs.declared.shares.PartLimits.{PartLimits}
+use Rattle.moka_unsync_model.specs.Shares.{windowed_limits}
 use Rattle.moka_unsync.specs.Cached.{IsCached, IsPut}
 use Rattle.moka_unsync.proofs.CachedLemmas.{IsCached-put, IsCached-room, IsCached-update, IsCached-upkeep, has_hash, length-entries}
 use Rattle.moka_unsync.proofs.InsertLemmas.{insert_drops, insert_stays, insert_updates, kept, put_main, stays_main}

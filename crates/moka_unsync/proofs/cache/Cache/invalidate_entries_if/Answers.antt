@@ -1,5 +1,5 @@
-use Rattle.moka_machine.specs.Contents.{entry_keys}
-use Rattle.moka_machine.specs.Invalidate.{chosen}
+use Rattle.moka_unsync_model.specs.Contents.{entry_keys}
+use Rattle.moka_unsync_model.specs.Invalidate.{chosen}
 use Rattle.moka_store.specs.Store.{entries_of}
 use Rattle.moka_unsync.proofs.CachedLemmas.{IsCached-leaving}
 use Rattle.moka_unsync.proofs.cache.Cache.invalidate_entries_if.Goals as goal

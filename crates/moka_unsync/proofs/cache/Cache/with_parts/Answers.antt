@@ -1,5 +1,5 @@
 use Rattle.std.proofs.Common.{◌∙◌, ap}
-use Rattle.moka_machine.specs.Shares.{protected_room, windowed_limits}
+use Rattle.moka_unsync_model.specs.Shares.{protected_room, windowed_limits}
 use Rattle.moka_store.specs.Store.{entries_of}
 use Rattle.moka_unsync.proofs.CachedLemmas.{IsCached-new}
 use Rattle.moka_unsync.proofs.cache.Cache.with_parts.Goals as goal

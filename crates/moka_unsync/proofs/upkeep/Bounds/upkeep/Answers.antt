@@ -1,7 +1,7 @@
 use Rattle.std.proofs.Common.{◌≡◌, ◌≤◌, ◌∙◌, None, ap, arith, false, inl, inr, is_some, refl, subst, sym}
-use Rattle.moka_machine.specs.Contents.{total_weight}
-use Rattle.moka_machine.specs.Upkeep.{after_expiry, after_trim, after_upkeep}
-use Rattle.moka_laws.proofs.MapLemmas.{expiry-same}
+use Rattle.moka_unsync_model.specs.Contents.{total_weight}
+use Rattle.moka_unsync_model.specs.Upkeep.{after_expiry, after_trim, after_upkeep}
+use Rattle.moka_unsync_model.proofs.MapLemmas.{expiry-same}
 use Rattle.moka_store.specs.Store.{contents_of, entries_of}
 use Rattle.moka_unsync.proofs.TurnLemmas.{lasting, trim-above, trim-within}
 use Rattle.moka_unsync.proofs.upkeep.Bounds.upkeep.Goals.{then-self, else-self}

@@ -1,4 +1,4 @@
-use Rattle.moka_base.specs.Keys.{Keys, keys_by}
+use Rattle.moka_common.specs.Keys.{Keys, keys_by}
 use Rattle.moka_core.proofs.CoreCallerLemmas.{found_out, refused_get}
 use Rattle.moka_core.proofs.engine.caller.CoreSteps.get.Given.{Over}
 use Rattle.moka_core.proofs.engine.caller.CoreSteps.get.Goals as goal

@@ -1,6 +1,6 @@
 use Rattle.std.proofs.Common.{◌∙◌, ap, sym}
-use Rattle.moka_base.specs.Keys.{Keys, keys_by}
-use Rattle.moka_steps.specs.Steps.{left_by_insert, pends}
+use Rattle.moka_common.specs.Keys.{Keys, keys_by}
+use Rattle.moka_sync_model.specs.Steps.{left_by_insert, pends}
 use Rattle.moka_core.proofs.CoreCallerLemmas.{accepted, refused_insert}
 use Rattle.moka_core.proofs.engine.caller.CoreSteps.insert.Given.{Over}
 use Rattle.moka_core.proofs.engine.caller.CoreSteps.insert.Goals as goal

@@ -1,6 +1,6 @@
 use Rattle.std.proofs.Common.{◌∙◌, ap, sym}
-use Rattle.moka_base.specs.Keys.{Keys, keys_by}
-use Rattle.moka_steps.specs.Steps.{left_by_invalidate, pends}
+use Rattle.moka_common.specs.Keys.{Keys, keys_by}
+use Rattle.moka_sync_model.specs.Steps.{left_by_invalidate, pends}
 use Rattle.moka_core.proofs.CoreCallerLemmas.{taken}
 use Rattle.moka_core.proofs.engine.caller.CoreSteps.invalidate.Given.{Over}
 use Rattle.moka_core.proofs.engine.caller.CoreSteps.invalidate.Goals as goal

@@ -1,10 +1,10 @@
 use Rattle.std.proofs.Common.{◌∙◌, ap, subst, sym}
-use Rattle.moka_base.specs.Keys.{Keys, keys_by}
-use Rattle.moka_engine.specs.declared.event.Event.TheVariants.{Turn}
-use Rattle.moka_engine.specs.Place.{name_of}
-use Rattle.moka_engine.specs.Run.{Happens}
+use Rattle.moka_common.specs.Keys.{Keys, keys_by}
+use Rattle.moka_sync_model.specs.declared.event.Event.TheVariants.{Turn}
+use Rattle.moka_sync_model.specs.Place.{name_of}
+use Rattle.moka_sync_model.specs.Run.{Happens}
 use Rattle.moka_core.specs.CoreCaller.{core_allows, core_caller}
-use Rattle.moka_steps.specs.Steps.{OneTurn, TakesTurns, goes_on, maintaining}
+use Rattle.moka_sync_model.specs.Steps.{OneTurn, TakesTurns, goes_on, maintaining}
 use Rattle.moka_core.proofs.CoreCallerLemmas.{turned, turned_to}
 use Rattle.moka_core.proofs.engine.caller.CoreSteps.turn.Given.{Over}
 use Rattle.moka_core.proofs.engine.caller.CoreSteps.turn.Goals as goal

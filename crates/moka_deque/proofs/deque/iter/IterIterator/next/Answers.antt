@@ -1,9 +1,9 @@
 use Rattle.std.proofs.Common.{◌∷◌, ◌∙◌, ap, sym, subst, length, arith}
 use Rattle.std.specs.Map.{values_of}
 use Rattle.std.specs.Prelude.{IfSome}
-use Rattle.moka_deque.specs.Deque.{IsIn}
-use Rattle.moka_deque.specs.Linked.{items_from}
-use Rattle.moka_deque.proofs.WalkLemmas.{left_next, next_is_in}
+use Rattle.moka_list.specs.Nodes.{IsIn}
+use Rattle.moka_list.specs.Nodes.{items_from}
+use Rattle.moka_list.proofs.WalkLemmas.{left_next, next_is_in}
 use Rattle.moka_deque.proofs.deque.iter.IterIterator.next.Goals as goal
 
 pub invariant_of-self : goal.invariant_of-self

@@ -1,6 +1,6 @@
 use Rattle.std.proofs.Common.{◌≡◌, refl, subst, sym, ap, ◌∙◌, nat_eq, Some}
 use Rattle.std.specs.Map.{lookup}
-use Rattle.moka_deque.specs.Deque.{IsIn}
+use Rattle.moka_list.specs.Nodes.{IsIn}
 use Rattle.moka_deque.specs.Slots.{AreTied, items_of, shown_if}
 use Rattle.moka_deque.proofs.SlotLemmas.{shown-written, tied-written}
 use Rattle.moka_deque.proofs.deque.linked.Linked.get_mut.Goals as goal

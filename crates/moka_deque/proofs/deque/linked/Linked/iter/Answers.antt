@@ -1,7 +1,7 @@
 use Rattle.std.proofs.Common.{sym, subst}
 use Rattle.std.specs.Prelude.{IfSome}
-use Rattle.moka_deque.specs.Deque.{IsIn}
-use Rattle.moka_deque.proofs.WalkLemmas.{first_is_in}
+use Rattle.moka_list.specs.Nodes.{IsIn}
+use Rattle.moka_list.proofs.WalkLemmas.{first_is_in}
 use Rattle.moka_deque.proofs.deque.linked.Linked.iter.Goals as goal
 
 pub invariant_of-result : goal.invariant_of-result

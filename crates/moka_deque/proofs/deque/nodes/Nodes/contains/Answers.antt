@@ -2,7 +2,7 @@ use Rattle.std.proofs.Common.{◌≡◌, ◌∙◌, ap, sym, is_some, Some, None
 use Rattle.slab.specs.Slab.{get}
 use Rattle.moka_deque.specs.Slots.{live_at, nodes_of, spares_of}
 use Rattle.moka_deque.specs.declared.deque.nodes.Slot.{Slot}
-use Rattle.moka_deque.proofs.IdLemmas.{not_none, some_parts}
+use Rattle.moka_list.proofs.IdLemmas.{not_none, some_parts}
 use Rattle.moka_deque.proofs.SlotLemmas.{apart_items, node_of_id, node_of_slot, slot_of_node, unlinked_items}
 use Rattle.moka_deque.proofs.deque.nodes.Nodes.contains.Goals as goal
 

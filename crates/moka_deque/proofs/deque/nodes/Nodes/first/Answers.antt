@@ -1,6 +1,6 @@
 use Rattle.std.proofs.Common.{◌∙◌, ap, sym, Some, arith}
 use Rattle.moka_deque.specs.RawNodes.{pairs}
-use Rattle.moka_deque.specs.Deque.{first_id}
+use Rattle.moka_list.specs.Nodes.{first_id}
 use Rattle.moka_deque.specs.Slots.{nodes_of}
 use Rattle.moka_deque.proofs.EndLemmas.{cut_front}
 use Rattle.moka_deque.proofs.deque.nodes.Nodes.first.Goals as goal

@@ -1,7 +1,7 @@
 use Rattle.std.proofs.Common.{◌++◌, ◌∷◌, ◌∙◌, ap, sym, length, Some, arith}
 use Rattle.std.proofs.lemmas.List.{length-append}
 use Rattle.moka_deque.specs.RawNodes.{pairs}
-use Rattle.moka_deque.specs.Deque.{first_id}
+use Rattle.moka_list.specs.Nodes.{first_id}
 use Rattle.moka_deque.specs.Slots.{nodes_of, spares_of}
 use Rattle.moka_deque.proofs.SlotLemmas.{apart_items, behind_cut, next_of_cut, only_last}
 use Rattle.moka_deque.proofs.deque.nodes.Nodes.next.Goals as goal

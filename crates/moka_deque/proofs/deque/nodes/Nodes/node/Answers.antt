@@ -1,6 +1,6 @@
 use Rattle.std.proofs.Common.{◌∙◌, ap, sym, Some, is_some}
 use Rattle.moka_deque.specs.Slots.{live_at, nodes_of, spares_of}
-use Rattle.moka_deque.proofs.IdLemmas.{some_parts}
+use Rattle.moka_list.proofs.IdLemmas.{some_parts}
 use Rattle.moka_deque.proofs.SlotLemmas.{node_of_id, slot_of_node}
 use Rattle.moka_deque.proofs.deque.nodes.Nodes.node.Goals as goal
 

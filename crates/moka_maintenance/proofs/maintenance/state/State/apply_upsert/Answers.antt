@@ -1,13 +1,13 @@
 use Rattle.std.proofs.Common.{◌≡◌, ◌∙◌, Some, false, ap, is_some, nat_eq, subst, sym}
 use Rattle.std.specs.Map.{lookup}
 use Rattle.std.proofs.lemmas.Bool.{cond-true}
-use Rattle.moka_deque.specs.Deque.{IsIn}
-use Rattle.moka_deque.proofs.DequeLemmas.{lookup-set, nat_eq-same}
-use Rattle.moka_engine.specs.Entry.{with_upsert_done}
-use Rattle.moka_engine.specs.Orders.{recharged, renewed}
-use Rattle.moka_engine.specs.Turn.Plan.{Becomes}
-use Rattle.moka_orders.specs.declared.orders.Node.{Node}
-use Rattle.moka_orders.specs.OrdersState.{orders_of}
+use Rattle.moka_list.specs.Nodes.{IsIn}
+use Rattle.moka_list.proofs.ItemLemmas.{lookup-set, nat_eq-same}
+use Rattle.moka_sync_model.specs.Entry.{with_upsert_done}
+use Rattle.moka_sync_model.specs.Orders.{recharged, renewed}
+use Rattle.moka_sync_model.specs.Turn.Plan.{Becomes}
+use Rattle.moka_queues.specs.declared.orders.Node.{Node}
+use Rattle.moka_queues.specs.OrdersState.{orders_of}
 use Rattle.moka_maintenance.proofs.maintenance.state.State.apply_upsert.Goals as goal
 
 pub returns-in_default-clause-holds : goal.returns-in_default-clause-holds

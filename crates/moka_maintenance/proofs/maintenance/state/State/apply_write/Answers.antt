@@ -1,6 +1,6 @@
 use Rattle.std.proofs.Common.{ap, sym}
-use Rattle.moka_engine.specs.Turn.Apply.{after_upsert}
-use Rattle.moka_engine.specs.Turn.Turn.{write_turn}
+use Rattle.moka_sync_model.specs.Turn.Apply.{after_upsert}
+use Rattle.moka_sync_model.specs.Turn.Turn.{write_turn}
 use Rattle.moka_maintenance.specs.Held.{maintenance_of}
 use Rattle.moka_maintenance.proofs.maintenance.state.State.apply_write.Goals as goal
 

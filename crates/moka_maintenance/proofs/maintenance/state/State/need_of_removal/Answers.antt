@@ -1,15 +1,15 @@
 use Rattle.std.proofs.Common.{◌≡◌, Some, ap, is_some, nat_eq, subst, sym}
 use Rattle.std.specs.List.{IsDistinct}
 use Rattle.std.specs.Map.{keys_of, lookup}
-use Rattle.moka_deque.specs.Deque.{IsIn}
-use Rattle.moka_engine.specs.Parts.{need_of}
+use Rattle.moka_list.specs.Nodes.{IsIn}
+use Rattle.moka_sync_model.specs.Parts.{need_of}
 use Rattle.moka_maintenance.specs.Held.{Held}
 use Rattle.moka_maintenance.proofs.PlanLemmas.{removal_present, removal_absent, removal_goes_on, removal_node}
 use Rattle.moka_maintenance.proofs.maintenance.state.State.need_of_removal.Goals as goal
 
 pub get-node-requires : goal.get-node-requires
 get-node-requires g c =
-    let work : Rattle.moka_engine.specs.declared.at_hand.Work.Work = record { round = 0; left = 0 } in
+    let work : Rattle.moka_sync_model.specs.declared.at_hand.Work.Work = record { round = 0; left = 0 } in
     let once = subst (λ (v : Held). IsDistinct nat_eq (keys_of v.orders.nodes)) c.self.view_is c.len.ensures.distinct in
     let held = c.args.self.now in
     subst (λ (v : Held). IsIn v.orders.nodes c.in-Some.id) (sym c.self.view_is)

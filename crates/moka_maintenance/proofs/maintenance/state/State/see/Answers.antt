@@ -1,9 +1,9 @@
 use Rattle.std.proofs.Common.{◌≡◌, ◌∙◌, ◌++◌, ◌∷◌, [], ap, is_some, subst, sym}
-use Rattle.moka_engine.specs.Place as place
-use Rattle.moka_engine.specs.Turn.Plan.{Stays}
-use Rattle.moka_engine.specs.Turn.Admission.{after_finding, is_decided}
-use Rattle.moka_orders.specs.declared.orders.Node.{Node}
-use Rattle.moka_deque.proofs.IdLemmas.{some_parts}
+use Rattle.moka_sync_model.specs.Place as place
+use Rattle.moka_sync_model.specs.Turn.Plan.{Stays}
+use Rattle.moka_sync_model.specs.Turn.Admission.{after_finding, is_decided}
+use Rattle.moka_queues.specs.declared.orders.Node.{Node}
+use Rattle.moka_list.proofs.IdLemmas.{some_parts}
 use Rattle.moka_maintenance.specs.Held.{Held, IsScanning, first_seen}
 use Rattle.moka_maintenance.proofs.ScanLemmas.{next_parts, scanned_node, scanning_on, seen_more, is_some_weighed}
 use Rattle.moka_maintenance.proofs.maintenance.state.State.see.Goals as goal

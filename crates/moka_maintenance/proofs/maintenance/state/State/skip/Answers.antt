@@ -1,5 +1,5 @@
 use Rattle.std.proofs.Common.{ap, is_some, subst, sym}
-use Rattle.moka_engine.specs.Turn.Plan.{gone_to}
+use Rattle.moka_sync_model.specs.Turn.Plan.{gone_to}
 use Rattle.moka_maintenance.specs.Held.{IsAtHand, IsRemoving, Held, maintenance_of}
 use Rattle.moka_maintenance.proofs.ScanLemmas.{next_node, skipped_place, skipped_holds}
 use Rattle.moka_maintenance.proofs.maintenance.state.State.skip.Goals as goal

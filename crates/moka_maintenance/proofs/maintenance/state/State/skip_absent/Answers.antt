@@ -1,7 +1,7 @@
 use Rattle.std.proofs.Common.{◌∙◌, ap, nat_eq, subst, sym}
 use Rattle.std.specs.List.{IsDistinct}
 use Rattle.std.specs.Map.{keys_of}
-use Rattle.moka_engine.specs.Turn.Plan.{Alone}
+use Rattle.moka_sync_model.specs.Turn.Plan.{Alone}
 use Rattle.moka_maintenance.specs.Held.{Held}
 use Rattle.moka_maintenance.proofs.PlanLemmas.{removal_absent, removal_needs_nothing, removal_goes_on, removal_node}
 use Rattle.moka_maintenance.proofs.maintenance.state.State.skip_absent.Goals as goal

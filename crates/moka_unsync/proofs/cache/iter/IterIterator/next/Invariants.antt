@@ -1,5 +1,5 @@
 use Rattle.std.proofs.Common.{◌≡◌, length}
-use Rattle.moka_machine.specs.Iterate.{unexpired_pairs}
+use Rattle.moka_unsync_model.specs.Iterate.{unexpired_pairs}
 use Rattle.moka_unsync.proofs.cache.iter.IterIterator.next.Given as goal
 
 -- what is left to give is the same

@@ -1,0 +1,232 @@
+// The caches that are played on, as threads share them. All calls are of one moment, so that none of them reads a clock.
+use crate::play::error::PlayError;
+use crate::play::hasher::MultiplyState;
+use moka_common::time::Instant;
+use moka_common::weigh::UnitWeight;
+use moka_guards::counts::CountPass;
+use moka_segments::cache::SegmentedCache;
+use moka_segments::rule::Unruled;
+use moka_segments::session::Session;
+use moka_sync::builder::CacheBuilder as SyncBuilder;
+use moka_sync::cache::{Cache as SyncCache, ConcurrentCacheExt};
+use moka_unsync::builder::CacheBuilder as UnsyncBuilder;
+use moka_unsync::cache::Cache as UnsyncCache;
+use std::alloc::{AllocError, Global};
+use std::marker::Model;
+use std::sync::{Arc, Mutex, Wait};
+
+/// A cache as threads share it.
+pub(crate) trait Side: Sized + Drop {
+    /// The same cache once more, for another thread.
+    fn another(&mut self) -> Result<Self, AllocError>;
+
+    /// A copy of the value of a key.
+    fn look<R: Wait>(&mut self, rt: &R, key: u64) -> Result<Option<u64>, PlayError>;
+
+    /// Inserts a key with itself for its value.
+    fn put<R: Wait>(&mut self, rt: &R, key: u64) -> Result<(), PlayError>;
+
+    /// How many entries were counted last.
+    fn count<R: Wait>(&mut self, rt: &R) -> u64;
+
+    /// How many entries there are, once all is done that was put off.
+    fn entries<R: Wait>(&mut self, rt: &R) -> u64;
+}
+
+/// The moment of all calls.
+fn moment() -> Instant {
+    Instant::from_nanos(0)
+}
+
+/// The builder of a cache for threads with this limit.
+fn sync_builder(alloc: Global, capacity: Option<u64>) -> SyncBuilder<u64, u64> {
+    let builder = SyncBuilder::default(alloc);
+    match capacity {
+        Some(capacity) => builder.max_capacity(capacity),
+        None => builder,
+    }
+}
+
+/// The cache that is made for threads.
+#[derive(Drop)]
+pub(crate) struct Shared {
+    cache: SyncCache<u64, u64, MultiplyState>,
+}
+
+impl Shared {
+    pub(crate) fn new(alloc: Global, capacity: Option<u64>) -> Result<Shared, PlayError> {
+        let cache = sync_builder(alloc, capacity).build_with_hasher(MultiplyState)?;
+        Ok(Shared { cache })
+    }
+}
+
+impl Side for Shared {
+    fn another(&mut self) -> Result<Shared, AllocError> {
+        Ok(Shared {
+            cache: self.cache.clone()?,
+        })
+    }
+
+    fn look<R: Wait>(&mut self, rt: &R, key: u64) -> Result<Option<u64>, PlayError> {
+        Ok(self.cache.get(rt, &key, moment())?)
+    }
+
+    fn put<R: Wait>(&mut self, rt: &R, key: u64) -> Result<(), PlayError> {
+        self.cache.insert(rt, key, key, moment())?;
+        Ok(())
+    }
+
+    fn count<R: Wait>(&mut self, _rt: &R) -> u64 {
+        self.cache.entry_count()
+    }
+
+    fn entries<R: Wait>(&mut self, rt: &R) -> u64 {
+        self.cache.sync(rt, moment());
+        self.cache.entry_count()
+    }
+}
+
+/// The same, with its counts published.
+#[derive(Drop)]
+pub(crate) struct Counted {
+    cache: SyncCache<u64, u64, MultiplyState>,
+    pass: CountPass,
+}
+
+impl Model for Counted {
+    ghost use Rattle.std.specs.Prelude.{◌≡◌, Some};
+    ghost use Rattle.moka_guards.specs.Counts.{CountPass as PassValue};
+
+    ghost Value = { PassValue };
+
+    ghost view = { λ c. c.pass };
+
+    ghost invariant = { λ c. c.cache.counted ≡ Some c.pass.counts };
+}
+
+impl Counted {
+    pub(crate) fn new(alloc: Global, capacity: Option<u64>) -> Result<Counted, PlayError> {
+        let (cache, pass) = sync_builder(alloc, capacity).build_counted(MultiplyState)?;
+        Ok(Counted { cache, pass })
+    }
+}
+
+impl Side for Counted {
+    fn another(&mut self) -> Result<Counted, AllocError> {
+        let cache = self.cache.clone()?;
+        let pass = self.cache.split_pass(&mut self.pass);
+        Ok(Counted { cache, pass })
+    }
+
+    fn look<R: Wait>(&mut self, rt: &R, key: u64) -> Result<Option<u64>, PlayError> {
+        Ok(self.cache.get(rt, &key, moment())?)
+    }
+
+    fn put<R: Wait>(&mut self, rt: &R, key: u64) -> Result<(), PlayError> {
+        self.cache.insert(rt, key, key, moment())?;
+        Ok(())
+    }
+
+    fn count<R: Wait>(&mut self, rt: &R) -> u64 {
+        self.cache.published(rt, &mut self.pass).count
+    }
+
+    fn entries<R: Wait>(&mut self, rt: &R) -> u64 {
+        self.cache.sync(rt, moment());
+        self.cache.entry_count()
+    }
+}
+
+/// The cache for one thread, with one lock round it.
+#[derive(Drop)]
+pub(crate) struct Locked {
+    cache: Arc<Mutex<UnsyncCache<u64, u64, MultiplyState>>>,
+}
+
+impl Locked {
+    pub(crate) fn new(alloc: Global, capacity: Option<u64>) -> Result<Locked, PlayError> {
+        let mut builder = UnsyncBuilder::default(alloc);
+        if let Some(capacity) = capacity {
+            builder = builder.max_capacity(capacity);
+        }
+        let cache = builder.build_with_hasher(MultiplyState)?;
+        Ok(Locked {
+            cache: Arc::new(alloc, Mutex::new(cache))?,
+        })
+    }
+}
+
+impl Side for Locked {
+    fn another(&mut self) -> Result<Locked, AllocError> {
+        Ok(Locked {
+            cache: self.cache.clone()?,
+        })
+    }
+
+    fn look<R: Wait>(&mut self, rt: &R, key: u64) -> Result<Option<u64>, PlayError> {
+        let mut cache = self.cache.lock(rt);
+        let found = cache.get(&key, moment()).copied();
+        Ok(found)
+    }
+
+    fn put<R: Wait>(&mut self, rt: &R, key: u64) -> Result<(), PlayError> {
+        let mut cache = self.cache.lock(rt);
+        cache.insert(key, key, moment())?;
+        Ok(())
+    }
+
+    fn count<R: Wait>(&mut self, rt: &R) -> u64 {
+        self.entries(rt)
+    }
+
+    fn entries<R: Wait>(&mut self, rt: &R) -> u64 {
+        let cache = self.cache.lock(rt);
+        cache.entry_count()
+    }
+}
+
+/// The cache of segments, which each thread calls by a session of its own.
+#[derive(Drop)]
+pub(crate) struct Segmented {
+    cache: SegmentedCache<u64, u64, MultiplyState>,
+    session: Session<u64, u64, MultiplyState, UnitWeight, Unruled>,
+}
+
+impl Segmented {
+    pub(crate) fn new(alloc: Global, capacity: Option<u64>) -> Result<Segmented, PlayError> {
+        let mut builder = SegmentedCache::<u64, u64>::builder(alloc);
+        if let Some(capacity) = capacity {
+            builder = builder.max_capacity(capacity);
+        }
+        let cache = builder.build_with_hasher(MultiplyState)?;
+        let session = cache.session()?;
+        Ok(Segmented { cache, session })
+    }
+}
+
+impl Side for Segmented {
+    fn another(&mut self) -> Result<Segmented, AllocError> {
+        let cache = self.cache.clone()?;
+        let Ok(session) = cache.session() else {
+            return Err(AllocError);
+        };
+        Ok(Segmented { cache, session })
+    }
+
+    fn look<R: Wait>(&mut self, rt: &R, key: u64) -> Result<Option<u64>, PlayError> {
+        Ok(self.session.get(rt, &key, moment())?)
+    }
+
+    fn put<R: Wait>(&mut self, rt: &R, key: u64) -> Result<(), PlayError> {
+        self.session.insert(rt, key, key, moment())?;
+        Ok(())
+    }
+
+    fn count<R: Wait>(&mut self, rt: &R) -> u64 {
+        self.entries(rt)
+    }
+
+    fn entries<R: Wait>(&mut self, rt: &R) -> u64 {
+        self.session.entry_count(rt)
+    }
+}

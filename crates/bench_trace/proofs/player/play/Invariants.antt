@@ -1,0 +1,8 @@
+use Rattle.std.proofs.Common.{◌≤◌}
+use Rattle.bench_trace.proofs.player.play.Given as goal
+
+abbrev pub invariant-loop-operation : goal.invariant-loop-operation
+invariant-loop-operation g l = record {
+  ready : g.W.Weigh.ready l.cache.weigher;
+  hits : l.found.hits ≤ l.operation-index;
+}

@@ -1,0 +1,296 @@
+//! A cache of bytes.
+ghost use Rattle.std.specs.Prelude.{◌≡◌, ◌<◌, length, nat_le, IfErr, IfOk, is_some, None, OnErr, OnOk, option_copied, option_map};
+ghost use Rattle.std.specs.Map.Iter.{deref_pair};
+ghost use Rattle.moka_unsync.specs.Builder.{IsBuilt, refusal_of};
+ghost use Rattle.moka_unsync.specs.Insert.{IsInserted};
+ghost use Rattle.moka_unsync.specs.Invalidate.{after_invalidate, after_invalidate_all};
+ghost use Rattle.moka_unsync.specs.Lookup.{after_get, after_look, found_by_get, found_by_peek, is_contained};
+ghost use Rattle.mini_moka_c.specs.Buffer.{IsTaken, copied_to};
+ghost use Rattle.mini_moka_c.specs.ByteKeys.{byte_keys, byte_weighs};
+ghost use Rattle.mini_moka_c.specs.Walk.{IsLong, fitting, met_after, next_pair, step_of, walk_after};
+ghost use Rattle.mini_moka_c.specs.declared.bytes_walk.Walk.TheVariants.{AtStart, Ended};
+ghost use Rattle.mini_moka_c.specs.Statistics.{no_statistics, with_calls, with_get, with_insert, with_left};
+
+use crate::bytes_walk::{Step, Walk};
+use crate::key::{Key, SHORT_KEY};
+use crate::seed::Seed;
+use crate::statistics::Statistics;
+use crate::value::Value;
+use crate::weight::ByteWeight;
+use moka_common::error::{BuildError, InsertError, OutOfMemory};
+use moka_common::time::Instant;
+use moka_unsync::builder::CacheBuilder;
+use moka_unsync::cache::Cache;
+use std::alloc::Global;
+
+/// A cache for one thread whose keys and values are bytes. It copies in what it is given, and copies out what it finds.
+///
+/// A look-up of a key of up to `SHORT_KEY` bytes asks for no memory. It copies a longer key into memory that the cache keeps, so it asks for none once that is
+/// long enough; where it is refused, nothing is done.
+#[derive(Drop)]
+pub struct ByteCache {
+    pub cache: Cache<Key, Value, Seed, ByteWeight>,
+    pub statistics: Statistics,
+    // The key that is looked for.
+    sought: Key,
+    walk: Walk,
+    // The key that the walk met last.
+    met: Key,
+}
+
+impl ByteCache {
+    /// A cache with what is set, whose hash has this key. It is refused as `CacheBuilder::build` is.
+    pub fn build(
+        alloc: Global,
+        builder: CacheBuilder<Key, Value, ByteWeight>,
+        seed: Seed,
+    ) -> Result<ByteCache, BuildError>
+        ensures ok { IfOk result (λ made. IsBuilt builder seed made.cache) }
+        ensures counts { IfOk result (λ made. made.statistics ≡ no_statistics) }
+        ensures walk { IfOk result (λ made. made.walk ≡ Ended) }
+        ensures err { IfErr result (λ error. error ≡ refusal_of builder) }
+    {
+        Ok(ByteCache {
+            cache: builder.build_with_hasher(seed)?,
+            statistics: Statistics::none(),
+            sought: Key::new(alloc),
+            walk: Walk::Ended,
+            met: Key::new(alloc),
+        })
+    }
+
+    /// Puts a copy of the value at a copy of the key, as `Cache::insert` does. If memory is refused, for the copies or for room, no entry changes and a walk goes
+    /// on.
+    pub fn insert(
+        &mut self,
+        alloc: Global,
+        key: &[u8],
+        value: &[u8],
+        now: Instant,
+    ) -> Result<(), InsertError>
+        ensures step { OnOk result (IsInserted byte_keys byte_weighs self.old.cache key.now value.now now self.new.cache) }
+        ensures counts { OnOk result (self.new.statistics
+            ≡ with_calls with_insert self.old.cache self.new.cache self.old.statistics) }
+        ensures walk { OnOk result (self.new.walk ≡ Ended) }
+        ensures refused { OnErr result (self.new ≡ record self.old { cache = record self.old.cache { capacity = self.new.cache.capacity } }) }
+        ensures error { IfErr result (λ error. error ≡ InsertError.OutOfMemory) }
+    {
+        let (key, value) = copies(alloc, key, value)?;
+        let before = self.cache.entry_count();
+        self.cache.insert(key, value, now)?;
+        self.walk = Walk::Ended;
+        self.statistics.count_insert();
+        self.statistics.count_left(before, self.cache.entry_count());
+        Ok(())
+    }
+
+    /// Looks the key up, as `Cache::get` does, and answers the length of its value, which is copied to the beginning of the buffer if that is long enough.
+    pub fn get(
+        &mut self,
+        key: &[u8],
+        now: Instant,
+        buffer: &mut [u8],
+    ) -> Result<Option<usize>, OutOfMemory>
+        ensures value { IfOk result (λ found. found ≡ option_map length (found_by_get byte_keys self.old.cache key.now now)) }
+        ensures copied { OnOk result (buffer.new ≡ copied_to buffer.old (found_by_get byte_keys self.old.cache key.now now)) }
+        ensures step { OnOk result (self.new.cache ≡ after_get byte_keys self.old.cache key.now now) }
+        ensures counts { OnOk result (self.new.statistics
+            ≡ with_calls (with_get (is_some (found_by_get byte_keys self.old.cache key.now now))) self.old.cache self.new.cache self.old.statistics) }
+        ensures walk { OnOk result (self.new.walk ≡ Ended) }
+        ensures refused { OnErr result ((self.new ≡ self.old) × (buffer.new ≡ buffer.old)) }
+        ensures short { OnErr result (SHORT_KEY < length key.now) }
+    {
+        self.sought.set(key)?;
+        self.walk = Walk::Ended;
+        let before = self.cache.entry_count();
+        let found = copied(self.cache.get(&self.sought, now), buffer);
+        self.statistics.count_get(found.is_some());
+        self.statistics.count_left(before, self.cache.entry_count());
+        Ok(found)
+    }
+
+    /// The same as `Cache::peek` does it.
+    pub fn peek(
+        &mut self,
+        key: &[u8],
+        now: Instant,
+        buffer: &mut [u8],
+    ) -> Result<Option<usize>, OutOfMemory>
+        ensures value { IfOk result (λ found. found ≡ option_map length (found_by_peek byte_keys self.old.cache key.now now)) }
+        ensures copied { OnOk result (buffer.new ≡ copied_to buffer.old (found_by_peek byte_keys self.old.cache key.now now)) }
+        ensures rest { self.new ≡ record self.old { sought = self.new.sought } }
+        ensures refused { OnErr result ((self.new ≡ self.old) × (buffer.new ≡ buffer.old)) }
+        ensures short { OnErr result (SHORT_KEY < length key.now) }
+    {
+        self.sought.set(key)?;
+        Ok(copied(self.cache.peek(&self.sought, now), buffer))
+    }
+
+    /// Whether the key has an unexpired entry, as `Cache::contains_key` says it.
+    pub fn contains(&mut self, key: &[u8], now: Instant) -> Result<bool, OutOfMemory>
+        ensures value { IfOk result (λ there. there ≡ is_contained byte_keys self.old.cache key.now now) }
+        ensures step { OnOk result (self.new.cache ≡ after_look byte_keys self.old.cache now) }
+        ensures counts { OnOk result (self.new.statistics ≡ with_calls (λ counts. counts) self.old.cache self.new.cache self.old.statistics) }
+        ensures walk { OnOk result (self.new.walk ≡ Ended) }
+        ensures refused { OnErr result (self.new ≡ self.old) }
+        ensures short { OnErr result (SHORT_KEY < length key.now) }
+    {
+        self.sought.set(key)?;
+        self.walk = Walk::Ended;
+        let before = self.cache.entry_count();
+        let is_there = self.cache.contains_key(&self.sought, now);
+        self.statistics.count_left(before, self.cache.entry_count());
+        Ok(is_there)
+    }
+
+    /// Removes the entry of the key, as `Cache::remove` does, and returns the length of its value, which it copies as `get` does. An entry whose value is
+    /// longer than the buffer stays.
+    pub fn remove(
+        &mut self,
+        key: &[u8],
+        now: Instant,
+        buffer: &mut [u8],
+    ) -> Result<Option<usize>, OutOfMemory>
+        ensures step { IfOk result (IsTaken self.old.cache key.now now buffer.old self.new.cache buffer.new) }
+        ensures walk { OnOk result (self.new.walk ≡ Ended) }
+        ensures refused { OnErr result ((self.new ≡ self.old) × (buffer.new ≡ buffer.old)) }
+        ensures counts { self.new.statistics ≡ self.old.statistics }
+        ensures short { OnErr result (SHORT_KEY < length key.now) }
+    {
+        self.sought.set(key)?;
+        self.walk = Walk::Ended;
+        if let Some(value) = self.cache.peek(&self.sought, now) {
+            let length = value.as_slice().len();
+            if length > buffer.len() {
+                return Ok(Some(length));
+            }
+        }
+        let value = self.cache.remove(&self.sought, now);
+        Ok(copied(value.as_ref(), buffer))
+    }
+
+    /// Removes the entry of the key, if there is one.
+    pub fn invalidate(&mut self, key: &[u8], now: Instant) -> Result<(), OutOfMemory>
+        ensures step { OnOk result (self.new.cache ≡ after_invalidate byte_keys self.old.cache key.now now) }
+        ensures walk { OnOk result (self.new.walk ≡ Ended) }
+        ensures refused { OnErr result (self.new ≡ self.old) }
+        ensures counts { self.new.statistics ≡ self.old.statistics }
+        ensures short { OnErr result (SHORT_KEY < length key.now) }
+    {
+        self.sought.set(key)?;
+        self.walk = Walk::Ended;
+        self.cache.invalidate(&self.sought, now);
+        Ok(())
+    }
+
+    /// Removes all entries.
+    pub fn invalidate_all(&mut self)
+        ensures { self.new ≡ record self.old { cache = after_invalidate_all self.old.cache; walk = Ended } }
+    {
+        self.walk = Walk::Ended;
+        self.cache.invalidate_all();
+    }
+
+    /// Begins a walk through the unexpired entries, in the order of `Cache::iter`. Each call that may change the cache ends it, unless it is refused memory: all
+    /// but `peek` and the looks at counts.
+    pub fn begin_walk(&mut self)
+        ensures { self.new ≡ record self.old { walk = AtStart } }
+    {
+        self.walk = Walk::AtStart;
+    }
+
+    /// The next entry of the walk: the lengths of its key and its value, which are copied to the beginnings of the buffers if both are long enough. Else
+    /// the walk stays where it is, so that the step can be made again.
+    pub fn step(
+        &mut self,
+        now: Instant,
+        keys: &mut [u8],
+        values: &mut [u8],
+    ) -> Result<Step, OutOfMemory>
+        ensures told { IfOk result (λ step. step ≡ step_of self.old.walk (next_pair self.old.walk self.old.cache self.old.met now)) }
+        ensures key { OnOk result (keys.new ≡ copied_to keys.old (option_map (λ p. p.0)
+            (fitting (next_pair self.old.walk self.old.cache self.old.met now) keys.old values.old))) }
+        ensures value { OnOk result (values.new ≡ copied_to values.old (option_map (λ p. p.1)
+            (fitting (next_pair self.old.walk self.old.cache self.old.met now) keys.old values.old))) }
+        ensures walk { OnOk result (self.new.walk ≡ walk_after self.old.walk
+            (fitting (next_pair self.old.walk self.old.cache self.old.met now) keys.old values.old)) }
+        ensures met { OnOk result (self.new.met ≡ met_after self.old.met
+            (fitting (next_pair self.old.walk self.old.cache self.old.met now) keys.old values.old)) }
+        ensures refused { OnErr result ((self.new ≡ self.old) × (keys.new ≡ keys.old) × (values.new ≡ values.old)) }
+        ensures long { OnErr result (IsLong (next_pair self.old.walk self.old.cache self.old.met now)) }
+        ensures cache { self.new.cache ≡ self.old.cache }
+        ensures counts { self.new.statistics ≡ self.old.statistics }
+    {
+        let ByteCache {
+            cache,
+            walk,
+            met,
+            ..
+        } = self;
+        let Some((key, value)) = next_of(cache, *walk, met, now) else {
+            return Ok(end_of(*walk));
+        };
+        let (key, value) = (key.as_slice(), value.as_slice());
+        let step = Step::Pair {
+            key: key.len(),
+            value: value.len(),
+        };
+        if key.len() <= keys.len() && value.len() <= values.len() {
+            met.set(key)?;
+            *walk = Walk::Behind;
+            keys[..key.len()].copy_from_slice(key);
+            values[..value.len()].copy_from_slice(value);
+        }
+        Ok(step)
+    }
+}
+
+/// The entry that a walk comes to next.
+fn next_of<'a>(
+    cache: &'a Cache<Key, Value, Seed, ByteWeight>,
+    walk: Walk,
+    met: &Key,
+    now: Instant,
+) -> Option<(&'a Key, &'a Value)>
+    ensures { option_map deref_pair result ≡ next_pair walk cache.now met.now now }
+{
+    match walk {
+        Walk::Ended => None,
+        Walk::AtStart => cache.iter(now).next(),
+        Walk::Behind => cache.next_after(met, now),
+    }
+}
+
+/// What a step of a walk gives where there is no next entry.
+fn end_of(walk: Walk) -> Step
+    ensures { result ≡ step_of walk None }
+{
+    match walk {
+        Walk::Ended => Step::Ended,
+        _ => Step::Done,
+    }
+}
+
+/// Copies of a key and a value.
+fn copies(alloc: Global, key: &[u8], value: &[u8]) -> Result<(Key, Value), InsertError>
+    ensures ok { IfOk result (λ pair. (pair.0 ≡ key.now) × (pair.1 ≡ value.now)) }
+    ensures error { IfErr result (λ error. error ≡ InsertError.OutOfMemory) }
+{
+    match (Key::copy_of(alloc, key), Value::copy_of(alloc, value)) {
+        (Ok(key), Ok(value)) => Ok((key, value)),
+        _ => Err(InsertError::OutOfMemory),
+    }
+}
+
+/// The length of what was found, which is copied to the beginning of the buffer if that is long enough.
+fn copied(found: Option<&Value>, buffer: &mut [u8]) -> Option<usize>
+    ensures value { result ≡ option_map length (option_copied found.entry) }
+    ensures copied { buffer.new ≡ copied_to buffer.old (option_copied found.entry) }
+{
+    let value = found?.as_slice();
+    let length = value.len();
+    if length <= buffer.len() {
+        buffer[..length].copy_from_slice(value);
+    }
+    Some(length)
+}

@@ -1,4 +1,0 @@
-pub mod RuleLemmas
-pub mod TurnLemmas
-pub mod FindLemmas
-pub mod PermittedLemmas

@@ -1,5 +1,0 @@
-pub mod Weight
-pub mod Statistics
-pub mod Buffer
-pub mod ByteKeys
-pub mod Walk

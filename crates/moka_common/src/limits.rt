@@ -1,0 +1,102 @@
+//! The limits of a cache as its calls use them.
+ghost use Rattle.std.specs.Prelude.{◌≡◌, ◌+◌, is_some, nat_le};
+ghost use Rattle.moka_common.specs.Moment.{idle_expired, live_expired};
+ghost use Rattle.moka_common.specs.Settings.{idle_nanos, live_nanos};
+
+use crate::policy::Policy;
+use crate::time::Instant;
+use std::marker::Model;
+
+/// The policy of a cache, with its durations in nanoseconds, which are worked out once. A contract sees the policy alone.
+#[derive(Drop)]
+pub struct Limits {
+    policy: Policy,
+    live: Option<u128>,
+    idle: Option<u128>,
+}
+
+impl Model for Limits {
+    ghost use Rattle.std.specs.Prelude.{◌≡◌};
+    ghost use Rattle.moka_common.specs.Policy.{Policy as PolicyState};
+    ghost use Rattle.moka_common.specs.Settings.{idle_nanos, live_nanos};
+
+    ghost Value = { PolicyState };
+
+    ghost view = { λ l. l.policy };
+
+    ghost invariant = { λ l. (l.live ≡ live_nanos l.policy) × (l.idle ≡ idle_nanos l.policy) };
+}
+
+impl Limits {
+    /// The limits of a policy.
+    pub fn new(policy: Policy) -> Limits
+        ensures { result ≡ policy }
+    {
+        Limits {
+            policy,
+            live: policy.time_to_live().map(|duration| duration.as_nanos()),
+            idle: policy.time_to_idle().map(|duration| duration.as_nanos()),
+        }
+    }
+
+    /// The policy that these are the limits of.
+    #[inline]
+    pub fn policy(&self) -> Policy
+        ensures { result ≡ self.now }
+    {
+        self.policy
+    }
+
+    /// The most that all entries may weigh together. Without a weigher each weighs 1.
+    #[inline]
+    pub fn max_capacity(&self) -> Option<u64>
+        ensures { result ≡ self.now.max_capacity }
+    {
+        self.policy.max_capacity()
+    }
+
+    /// Whether entries live a limited time from their last write.
+    #[inline]
+    pub fn has_time_to_live(&self) -> bool
+        ensures { result ≡ is_some self.now.time_to_live }
+    {
+        self.live.is_some()
+    }
+
+    /// Whether entries live a limited time from their last use.
+    #[inline]
+    pub fn has_time_to_idle(&self) -> bool
+        ensures { result ≡ is_some self.now.time_to_idle }
+    {
+        self.idle.is_some()
+    }
+
+    /// Whether an entry that was last written at a moment is expired: it is so from the moment on at which its time to live has passed.
+    #[inline]
+    pub fn has_lived(&self, modified: Instant, now: Instant) -> bool
+        ensures { result ≡ live_expired (live_nanos self.now) modified now }
+    {
+        match self.live {
+            Some(nanos) => has_passed(nanos, modified, now),
+            None => false,
+        }
+    }
+
+    /// Whether an entry that was last accessed at a moment is expired: it is so from the moment on at which its time to idle has passed.
+    #[inline]
+    pub fn is_idle(&self, accessed: Instant, now: Instant) -> bool
+        ensures { result ≡ idle_expired (idle_nanos self.now) accessed now }
+    {
+        match self.idle {
+            Some(nanos) => has_passed(nanos, accessed, now),
+            None => false,
+        }
+    }
+}
+
+#[inline]
+fn has_passed(nanos: u128, since: Instant, now: Instant) -> bool
+    ensures { result ≡ nat_le (since + nanos) now }
+{
+    since <= now && nanos <= u128::from(now.nanos() - since.nanos())
+}

@@ -1,0 +1,23 @@
+use Rattle.std.proofs.Common.{false}
+use Rattle.moka_common.specs.Keys.{Keys, keys_by}
+use Rattle.moka_core.proofs.MapTurnLemmas.{still_own, turned_at}
+use Rattle.moka_core.proofs.map.Map.turn_of_scan.Given.{Over}
+use Rattle.moka_core.proofs.map.Map.turn_of_scan.Goals as goal
+
+-- the keys of the map
+abbrev keys : (g : Over) → Keys g.row.K.Denot g.row.S.Denot
+keys g = keys_by (record { eq = g.K.PartialEq.eq; hash_input = g.K.Hash.hash_input }) g.S.BuildHasher g.S.Hasher.Hasher
+
+pub invariant_of-self : goal.invariant_of-self
+invariant_of-self g c =
+    still_own (keys g) c.self.inside.settings c.self.inside.shards.items c.self.invariant c.args.ticket _ c.scan_with_shard.new.shard
+    c.index_mut-shard.ensures.value c.len.ensures.valid c.args.valid_after false c.args.maintenance.now c.scan_with_shard.new.maintenance
+    c.scan_with_shard.ensures
+
+pub returns : goal.returns
+returns g c =
+    rw (← c.self.view_is) (
+    turned_at (keys g) c.self.inside.settings c.self.inside.shards.items c.self.invariant c.args.ticket _ c.scan_with_shard.new.shard
+    c.index_mut-shard.ensures.value c.len.ensures.valid c.args.valid_after false c.args.maintenance.now c.scan_with_shard.new.maintenance
+    c.scan_with_shard.ensures
+    )

@@ -1,0 +1,14 @@
+use Rattle.std.proofs.Common.{◌∙◌, ap, false, option_map, refl, sym}
+use Rattle.moka_sync_model.specs.Entry.{entry_of}
+use Rattle.moka_shard.specs.Shard.{state_of}
+use Rattle.moka_shard.proofs.ShardTurnLemmas.{turns_on_shard}
+use Rattle.moka_core.proofs.map.scan_with_shard.Goals as goal
+
+pub returns : goal.returns
+returns g c =
+    let shard = state_of c.args.shard.now in
+    let found = entry_of c.args.ticket shard.entries in
+    let here = c.find_ticket-slot.ensures.value in
+    turns_on_shard c.args.settings.now c.args.valid_after false c.args.maintenance.now c.scan-change.new.self c.args.ticket c.requires.need
+    found c.scan-change.result (c.scan-change.ensures found (sym (c.weight.ensures ∙ ap (option_map (λ e. e.weight)) here)))
+    shard (state_of c.change.new.self) refl (c.change.ensures.step c.args.ticket here)

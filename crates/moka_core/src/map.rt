@@ -1,0 +1,414 @@
+//! The map of the core: its shards, and the settings by whose hash state keys find theirs.
+ghost use Rattle.std.specs.Prelude.{◌≡◌, ◌≢◌, ◌<◌, ◌↔◌, ℕ, Bool, IsTrue, slice_index, false, [], map};
+ghost use Rattle.std.specs.Prelude.{replicate, IfOk, OnOk, IsSome, IsErr, is_some, option_map};
+ghost use Rattle.moka_common.specs.Keys.{keys_by};
+ghost use Rattle.moka_sync_model.specs.declared.constants.TheConstants.{SHARDS};
+ghost use Rattle.moka_sync_model.specs.Entry.{entry_at, touched};
+ghost use Rattle.moka_sync_model.specs.Turn.Plan.{Becomes, after_change};
+ghost use Rattle.moka_shard.specs.Shard.{entries_in, state_of, unexpired};
+ghost use Rattle.moka_sync_model.specs.Parts.{NeedsShard, entries_of, need_of};
+ghost use Rattle.moka_sync_model.specs.Turn.Turn.{turn_at};
+ghost use Rattle.moka_sync_model.specs.declared.operation.Write.TheVariants.{Upsert};
+ghost use Rattle.moka_queues.specs.LoggedReads.{reads_of};
+ghost use Rattle.moka_maintenance.specs.Taken.{IsScan, TakesWrite, having_taken_write};
+ghost use Rattle.moka_core.specs.MapTurn.{touched_by};
+ghost use Rattle.moka_core.specs.MapTurn.{TurnsOnMap};
+ghost use Rattle.moka_shard.specs.ShardTurn.{TurnsOnShard};
+ghost use Rattle.std.specs.List.{All, fold};
+ghost use Rattle.moka_core.specs.MapState.{IsInserted, IsInvalidated, IsNewMap, pairs_in};
+ghost use Rattle.moka_core.specs.Shards.{AreOwn, IsAsBuilt, started, states_of};
+
+use crate::rows::Rows;
+use moka_common::error::{InsertError, OutOfMemory};
+use moka_common::hash::FixedState;
+use moka_common::shared::Shared;
+use moka_common::time::Instant;
+use moka_maintenance::maintenance::Maintenance;
+use moka_queues::logs::LoggedRead;
+use moka_shard::shard::Shard;
+use moka_sync_model::constants::SHARDS;
+use moka_sync_model::operation::Read;
+use moka_sync_model::settings::Settings;
+use moka_sync_model::ticket::Ticket;
+use moka_sync_model::weigh::WeighShared;
+use std::alloc::{Allocator, Global};
+use std::hash::{BuildHasher, Hash};
+use std::marker::Model;
+
+/// The entries of a core.
+#[derive(Drop)]
+pub struct Map<
+    K: Eq + Hash + Drop,
+    V: Drop,
+    S: BuildHasher + Drop = FixedState,
+    A: Allocator + Clone + Drop = Global,
+> {
+    settings: Settings<S, A>,
+    shards: Vec<Shard<K, V, S, A>, A>,
+}
+
+impl<K: Eq + Hash + Drop, V: Drop, S: BuildHasher + Drop, A: Allocator + Clone + Drop> Model
+    for Map<K, V, S, A> {
+    ghost use Rattle.moka_common.specs.Keys.{keys_by};
+    ghost use Rattle.moka_core.specs.MapState.{MapState};
+    ghost use Rattle.moka_core.specs.Shards.{AreOwn, map_in, states_of};
+
+    ghost Value = { MapState K V S };
+
+    ghost view = { λ m. map_in m.settings (states_of m.shards.items) };
+
+    ghost invariant = { λ m. AreOwn
+        (keys_by (record { eq = K.eq; hash_input = K.hash_input }) S.BuildHasher S.Hasher.Hasher)
+        m.settings.hash_state (states_of m.shards.items) };
+}
+
+impl<K: Eq + Hash + Drop, V: Drop, S: BuildHasher + Drop, A: Allocator + Clone + Drop> Map<
+    K,
+    V,
+    S,
+    A,
+> {
+    /// A map with no entries and room for `capacity` of them in each shard.
+    pub fn new(alloc: A, settings: Settings<S, A>, capacity: usize) -> Result<Self, OutOfMemory>
+        ensures { IfOk result (λ map. map ≡ record { settings = settings; entries = []; next_numbers = replicate SHARDS 0 }) }
+    {
+        let shards = shards_as_built(alloc, settings.hash_state(), capacity)?;
+        Ok(Map { settings, shards })
+    }
+
+    pub fn settings(&self) -> &Settings<S, A>
+        ensures { result.now ≡ self.now.settings }
+    {
+        &self.settings
+    }
+
+    /// The number of the next ticket of the first shard.
+    pub fn first_ticket(&self) -> u64
+        ensures { result ≡ slice_index self.now.next_numbers 0 }
+    {
+        self.shards[0].next_number()
+    }
+
+    /// Whether there is no entry, and each shard gives out this number next.
+    pub fn is_new(&self, first: u64) -> bool
+        ensures { IsTrue result ↔ IsNewMap first self.now }
+    {
+        are_as_built(&self.shards, first)
+    }
+
+    /// The shards give out the numbers from this one on. There must be no entry.
+    pub fn start_at(&mut self, first: u64)
+        requires { self.old.entries ≡ [] }
+        ensures { self.new ≡ record self.old { next_numbers = replicate SHARDS first } }
+    {
+        start_all_at(&mut self.shards, first);
+    }
+
+    /// The hash of a key.
+    pub fn hash_of(&self, key: &K) -> u64
+        ensures { result ≡ (keys_by K.Hash S.BuildHasher S.Hasher.Hasher).hash_of self.now.settings.hash_state key.now }
+    {
+        self.settings.hash_state().get().hash_one(key)
+    }
+
+    /// Whether a key has an entry that counts at a moment.
+    pub fn contains_key(&self, key: &K, valid_after: Instant, now: Instant) -> bool
+        ensures { result ≡ is_some (unexpired self.now.settings valid_after now (entry_at K.eq key.now self.now.entries)) }
+    {
+        let hash = self.hash_of(key);
+        let shard = &self.shards[(hash % SHARDS as u64) as usize];
+        shard.contains_key(key, hash, &self.settings, valid_after, now)
+    }
+
+    /// The value at a key, shared once more, and the ticket of its entry, if that counts at a moment; and the slot in which it may be found again.
+    #[inline(always)]
+    pub fn get(
+        &self,
+        key: &K,
+        hash: u64,
+        valid_after: Instant,
+        now: Instant,
+    ) -> Result<(Option<(Shared<V, A>, Ticket)>, usize), OutOfMemory>
+        requires { hash ≡ (keys_by K.Hash S.BuildHasher S.Hasher.Hasher).hash_of self.now.settings.hash_state key.now }
+        ensures value { IfOk result (λ found. found.0 ≡ option_map (λ e. (e.value, e.ticket))
+            (unexpired self.now.settings valid_after now (entry_at K.eq key.now self.now.entries))) }
+        ensures refused { IsErr result → IsSome (unexpired self.now.settings valid_after now (entry_at K.eq key.now self.now.entries)) }
+    {
+        let shard = &self.shards[(hash % SHARDS as u64) as usize];
+        shard.get(key, hash, &self.settings, valid_after, now)
+    }
+
+    /// Puts the value at the key. The answer is the entry's ticket.
+    pub fn insert<W: WeighShared<K, V>>(
+        &mut self,
+        key: Shared<K, A>,
+        value: Shared<V, A>,
+        weigher: &W,
+        now: Instant,
+    ) -> Result<Ticket, InsertError>
+        requires ready { W.ready weigher.now }
+        ensures step { (weight : ℕ) × (refused : Bool) × OnOk result (W.weighs weigher.now key value weight)
+            × IsInserted self.old ((keys_by K.Hash S.BuildHasher S.Hasher.Hasher).hash_of self.old.settings.hash_state key)
+            key value weight now refused (entry_at K.eq key self.old.entries) result self.new }
+    {
+        let hash = self.hash_of(key.get());
+        let shard = &mut self.shards[(hash % SHARDS as u64) as usize];
+        let ticket = shard.insert(hash, key, value, weigher, now);
+        let _ = shard.len();
+        ticket
+    }
+
+    /// The pairs of a shard that count at a moment, shared once more. Only where there are any does it take memory.
+    pub fn copy(
+        &self,
+        alloc: &A,
+        shard: usize,
+        valid_after: Instant,
+        now: Instant,
+    ) -> Result<Rows<K, V, A>, OutOfMemory>
+        requires { shard < SHARDS }
+        ensures value { IfOk result (λ rows. rows ≡ pairs_in self.now shard valid_after now) }
+        ensures refused { IsErr result → pairs_in self.now shard valid_after now ≢ [] }
+    {
+        let shard = &self.shards[shard];
+        if !shard.has_pairs(&self.settings, valid_after, now) {
+            return Ok(Rows::none());
+        }
+        let pairs = shard.pairs(alloc.clone()?, &self.settings, valid_after, now)?;
+        Ok(Rows::new(pairs))
+    }
+
+    /// Takes out the entry of a key. The answer is its ticket.
+    pub fn invalidate(&mut self, key: &K) -> Option<Ticket>
+        ensures step { IsInvalidated self.old (entry_at K.eq key.now self.old.entries) result self.new }
+    {
+        let hash = self.hash_of(key);
+        let shard = &mut self.shards[(hash % SHARDS as u64) as usize];
+        let ticket = shard.invalidate(key, hash);
+        let _ = shard.len();
+        ticket
+    }
+
+    /// The same, and the answer has its value too, if it counts at a moment.
+    pub fn take(
+        &mut self,
+        key: &K,
+        valid_after: Instant,
+        now: Instant,
+    ) -> (Option<Shared<V, A>>, Option<Ticket>)
+        ensures value { result.0 ≡ option_map (λ e. e.value)
+            (unexpired self.old.settings valid_after now (entry_at K.eq key.now self.old.entries)) }
+        ensures step { IsInvalidated self.old (entry_at K.eq key.now self.old.entries) result.1 self.new }
+    {
+        let hash = self.hash_of(key);
+        let shard = &mut self.shards[(hash % SHARDS as u64) as usize];
+        let taken = shard.take(key, hash, &self.settings, valid_after, now);
+        let _ = shard.len();
+        taken
+    }
+}
+
+impl<K: Eq + Hash + Drop, V: Drop, S: BuildHasher + Drop, A: Allocator + Clone + Drop> Map<
+    K,
+    V,
+    S,
+    A,
+> {
+    /// A turn of the maintenance that needs the entry of a ticket.
+    pub fn turn(&mut self, maintenance: &mut Maintenance<A>, ticket: Ticket, valid_after: Instant)
+        requires { need_of (turn_at {K = K} {V = V} self.old.settings valid_after false maintenance.old.place maintenance.old) ≡ NeedsShard ticket }
+        ensures { (refused : Bool) × TurnsOnMap self.old self.new valid_after refused maintenance.old maintenance.new }
+    {
+        let shard = &mut self.shards[(ticket.hash % SHARDS as u64) as usize];
+        turn_with_shard(maintenance, shard, ticket, &self.settings, valid_after);
+        let _ = shard.len();
+    }
+
+    /// A turn of a scan that needs the entry of a ticket.
+    #[inline(always)]
+    pub fn turn_of_scan(
+        &mut self,
+        maintenance: &mut Maintenance<A>,
+        ticket: Ticket,
+        valid_after: Instant,
+    )
+        requires scans { IsScan maintenance.old.place }
+        requires need { need_of (turn_at {K = K} {V = V} self.old.settings valid_after false maintenance.old.place maintenance.old)
+            ≡ NeedsShard ticket }
+        ensures { TurnsOnMap self.old self.new valid_after false maintenance.old maintenance.new }
+    {
+        let shard = &mut self.shards[(ticket.hash % SHARDS as u64) as usize];
+        scan_with_shard(maintenance, shard, ticket, &self.settings, valid_after);
+        let _ = shard.len();
+    }
+
+    /// The entry of a hit, if it stands, was used; it is looked for in a slot first. The answer is where its node may be found.
+    #[inline(always)]
+    fn touch(&mut self, read: Read, slot: usize) -> usize
+        ensures { self.new ≡ record self.old { entries = touched_by self.old.entries read } }
+    {
+        match read {
+            Read::Hit { ticket, moment } => self.touch_entry(ticket, slot, moment),
+            Read::Miss { .. } => 0,
+        }
+    }
+
+    /// The same of a ticket, at a moment.
+    #[inline(always)]
+    fn touch_entry(&mut self, ticket: Ticket, slot: usize, moment: Instant) -> usize
+        ensures { self.new ≡ record self.old { entries = after_change ticket (Becomes (touched moment)) self.old.entries } }
+    {
+        let shard = &mut self.shards[(ticket.hash % SHARDS as u64) as usize];
+        let place = shard.touch(ticket, slot, moment);
+        let _ = shard.len();
+        place
+    }
+
+    /// The entries of hits were used, one after another. Their hints tell then where their nodes may be found.
+    pub fn touch_all(&mut self, reads: &mut [LoggedRead])
+        ensures entries { self.new ≡ record self.old { entries = fold touched_by self.old.entries (reads_of reads.old) } }
+        ensures reads { reads_of reads.new ≡ reads_of reads.old }
+    {
+        for logged in reads.iter_mut() {
+            logged.hint = self.touch(logged.read, logged.hint);
+        }
+    }
+
+    /// The turn that applies an upsert, which the maintenance has just taken from its log.
+    #[inline(always)]
+    pub fn turn_with_upsert(
+        &mut self,
+        maintenance: &mut Maintenance<A>,
+        ticket: Ticket,
+        valid_after: Instant,
+    )
+        requires { TakesWrite maintenance.old }
+        ensures { (refused : Bool)
+            × TurnsOnMap self.old self.new valid_after refused (having_taken_write (Upsert ticket) maintenance.old) maintenance.new }
+    {
+        let shard = &mut self.shards[(ticket.hash % SHARDS as u64) as usize];
+        apply_upsert(maintenance, shard, ticket, &self.settings, valid_after);
+        let _ = shard.len();
+    }
+}
+
+/// A turn of the maintenance that needs the entry of a ticket, with the shard in which that would stand.
+fn turn_with_shard<
+    K: Eq + Hash + Drop,
+    V: Drop,
+    S: BuildHasher + Drop,
+    A: Allocator + Clone + Drop,
+>(
+    maintenance: &mut Maintenance<A>,
+    shard: &mut Shard<K, V, S, A>,
+    ticket: Ticket,
+    settings: &Settings<S, A>,
+    valid_after: Instant,
+)
+    requires { need_of (turn_at {K = K} {V = V} settings.now valid_after false maintenance.old.place maintenance.old) ≡ NeedsShard ticket }
+    ensures { (refused : Bool) × TurnsOnShard settings.now valid_after refused ticket maintenance.old maintenance.new
+        (state_of shard.old) (state_of shard.new) }
+{
+    let slot = shard.find_ticket(ticket);
+    let change = maintenance.turn_at_entry(settings, valid_after, shard.entry(slot));
+    shard.change(slot, change);
+}
+
+/// A turn of a scan that needs the entry of a ticket, with the shard in which that would stand.
+#[inline(always)]
+fn scan_with_shard<
+    K: Eq + Hash + Drop,
+    V: Drop,
+    S: BuildHasher + Drop,
+    A: Allocator + Clone + Drop,
+>(
+    maintenance: &mut Maintenance<A>,
+    shard: &mut Shard<K, V, S, A>,
+    ticket: Ticket,
+    settings: &Settings<S, A>,
+    valid_after: Instant,
+)
+    requires scans { IsScan maintenance.old.place }
+    requires need { need_of (turn_at {K = K} {V = V} settings.now valid_after false maintenance.old.place maintenance.old) ≡ NeedsShard ticket }
+    ensures { TurnsOnShard settings.now valid_after false ticket maintenance.old maintenance.new (state_of shard.old) (state_of shard.new) }
+{
+    let slot = shard.find_ticket(ticket);
+    let change = maintenance.scan::<K, V, S>(settings, valid_after, shard.weight(slot));
+    shard.change(slot, change);
+}
+
+/// The turn that applies an upsert, with the shard in which the ticket's entry would stand.
+#[inline(always)]
+fn apply_upsert<K: Eq + Hash + Drop, V: Drop, S: BuildHasher + Drop, A: Allocator + Clone + Drop>(
+    maintenance: &mut Maintenance<A>,
+    shard: &mut Shard<K, V, S, A>,
+    ticket: Ticket,
+    settings: &Settings<S, A>,
+    valid_after: Instant,
+)
+    requires { TakesWrite maintenance.old }
+    ensures { (refused : Bool)
+        × TurnsOnShard settings.now valid_after refused ticket (having_taken_write (Upsert ticket) maintenance.old) maintenance.new
+        (state_of shard.old) (state_of shard.new) }
+{
+    let slot = shard.find_ticket(ticket);
+    let change = maintenance.turn_with_upsert(settings, valid_after, ticket, shard.entry(slot));
+    shard.change(slot, change);
+}
+
+/// All shards of a new map, with room for `capacity` entries in each.
+fn shards_as_built<
+    K: Eq + Hash + Drop,
+    V: Drop,
+    S: BuildHasher + Drop,
+    A: Allocator + Clone + Drop,
+>(
+    alloc: A,
+    hash_state: &Shared<S, A>,
+    capacity: usize,
+) -> Result<Vec<Shard<K, V, S, A>, A>, OutOfMemory>
+    ensures own { IfOk result (λ shards.
+        AreOwn (keys_by K.Hash S.BuildHasher S.Hasher.Hasher) hash_state.now (states_of shards.items)) }
+    ensures empty { IfOk result (λ shards. entries_of (states_of shards.items) ≡ []) }
+    ensures numbers { IfOk result (λ shards. map (λ s. s.next_number) (states_of shards.items) ≡ replicate SHARDS 0) }
+{
+    let mut shards = Vec::with_capacity(alloc.clone()?, SHARDS)?;
+    for number in 0..SHARDS {
+        let shard = Shard::new(alloc.clone()?, number, 0, capacity, hash_state.try_clone()?)?;
+        // What holds of every shard.
+        let _ = shard.len();
+        shards.push(shard)?;
+    }
+    Ok(shards)
+}
+
+/// Each shard gives out the numbers from this one on.
+fn start_all_at<K: Eq + Hash + Drop, V: Drop, S: BuildHasher + Drop, A: Allocator + Clone + Drop>(
+    shards: &mut Vec<Shard<K, V, S, A>, A>,
+    first: u64,
+)
+    requires { All (λ shard. entries_in shard.slots ≡ []) shards.old.items }
+    ensures { shards.new.items ≡ map (started first) shards.old.items }
+{
+    for shard in shards.iter_mut() {
+        shard.start_at(first);
+    }
+}
+
+/// Whether no shard has an entry, and each gives out this number next.
+fn are_as_built<K: Eq + Hash + Drop, V: Drop, S: BuildHasher + Drop, A: Allocator + Clone + Drop>(
+    shards: &[Shard<K, V, S, A>],
+    number: u64,
+) -> bool
+    ensures { IsTrue result ↔ All (λ shard. IsAsBuilt number (state_of shard)) shards.now }
+{
+    for shard in shards {
+        if shard.len() > 0 {
+            return false;
+        }
+        if shard.next_number() != number {
+            return false;
+        }
+    }
+    true
+}

@@ -1,9 +1,0 @@
-use Rattle.moka_base.specs.Keys.{keys_by}
-use Rattle.moka_engine_laws.proofs.CalledLemmas.{calls_keep_last_written}
-use Rattle.moka_engine_laws.proofs.laws.calls_keep_last_written.Goals as goal
-
-pub returns : goal.returns
-returns g c weigher =
-    calls_keep_last_written
-    (keys_by (record { eq = g.K.PartialEq.eq; hash_input = g.K.Hash.hash_input }) g.S.BuildHasher g.S.Hasher.Hasher)
-    (g.W.WeighShared.weighs weigher) g.met.K.Eq.laws

@@ -1,6 +1,0 @@
-use Rattle.moka_base.specs.Keys.{keys_by}
-use Rattle.moka_engine_laws.proofs.QuiescentLemmas.{pairs_at_rest}
-use Rattle.moka_engine_laws.proofs.laws.charges_are_weights_at_rest.Goals as goal
-
-pub returns : goal.returns
-returns g c = pairs_at_rest (keys_by (record { eq = g.K.PartialEq.eq; hash_input = g.K.Hash.hash_input }) g.S.BuildHasher g.S.Hasher.Hasher)

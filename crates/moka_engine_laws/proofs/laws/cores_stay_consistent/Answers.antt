@@ -1,8 +1,0 @@
-use Rattle.moka_base.specs.Keys.{keys_by}
-use Rattle.moka_engine_laws.proofs.ConsistentLemmas.{keeps_consistent}
-use Rattle.moka_engine_laws.proofs.laws.cores_stay_consistent.Goals as goal
-
-pub returns : goal.returns
-returns g c =
-    keeps_consistent (keys_by (record { eq = g.K.PartialEq.eq; hash_input = g.K.Hash.hash_input }) g.S.BuildHasher g.S.Hasher.Hasher)
-    g.met.K.Eq.laws

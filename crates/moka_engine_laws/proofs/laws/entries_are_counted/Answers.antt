@@ -1,6 +1,0 @@
-use Rattle.moka_base.specs.Keys.{keys_by}
-use Rattle.moka_engine_laws.proofs.CountLemmas.{stays_counted}
-use Rattle.moka_engine_laws.proofs.laws.entries_are_counted.Goals as goal
-
-pub returns : goal.returns
-returns g c = stays_counted (keys_by (record { eq = g.K.PartialEq.eq; hash_input = g.K.Hash.hash_input }) g.S.BuildHasher g.S.Hasher.Hasher)

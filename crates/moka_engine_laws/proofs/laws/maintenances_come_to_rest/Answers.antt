@@ -1,7 +1,0 @@
-use Rattle.moka_base.specs.Keys.{keys_by}
-use Rattle.moka_engine_laws.proofs.EndLemmas.{comes_to_rest}
-use Rattle.moka_engine_laws.proofs.laws.maintenances_come_to_rest.Goals as goal
-
-pub returns : goal.returns
-returns g c =
-    comes_to_rest (keys_by (record { eq = g.K.PartialEq.eq; hash_input = g.K.Hash.hash_input }) g.S.BuildHasher g.S.Hasher.Hasher)

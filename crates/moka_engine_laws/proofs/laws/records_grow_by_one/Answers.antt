@@ -1,8 +1,0 @@
-use Rattle.moka_base.specs.Keys.{keys_by}
-use Rattle.moka_engine_laws.proofs.ReplayLemmas.{replays_one_more}
-use Rattle.moka_engine_laws.proofs.laws.records_grow_by_one.Goals as goal
-
-pub returns : goal.returns
-returns g c weigher =
-    replays_one_more (keys_by (record { eq = g.K.PartialEq.eq; hash_input = g.K.Hash.hash_input }) g.S.BuildHasher g.S.Hasher.Hasher)
-    (g.W.WeighShared.weighs weigher)

@@ -1,8 +1,0 @@
-use Rattle.moka_base.specs.Keys.{keys_by}
-use Rattle.moka_engine_laws.proofs.WeightLemmas.{runs_keep_weighed}
-use Rattle.moka_engine_laws.proofs.laws.stored_weights_stay_answers.Goals as goal
-
-pub returns : goal.returns
-returns g c weigher =
-    runs_keep_weighed (keys_by (record { eq = g.K.PartialEq.eq; hash_input = g.K.Hash.hash_input }) g.S.BuildHasher g.S.Hasher.Hasher)
-    (g.W.WeighShared.weighs weigher) g.met.K.Eq.laws

@@ -1,7 +1,0 @@
-use Rattle.moka_base.specs.Keys.{keys_by}
-use Rattle.moka_engine_laws.proofs.AdmitLemmas.{admits_undisturbed}
-use Rattle.moka_engine_laws.proofs.laws.undisturbed_admissions_follow_the_policy.Goals as goal
-
-pub returns : goal.returns
-returns g c =
-    admits_undisturbed (keys_by (record { eq = g.K.PartialEq.eq; hash_input = g.K.Hash.hash_input }) g.S.BuildHasher g.S.Hasher.Hasher)

@@ -1,7 +1,0 @@
-use Rattle.moka_base.specs.Keys.{keys_by}
-use Rattle.moka_engine_laws.proofs.SentenceLemmas.{drops_upserts}
-use Rattle.moka_engine_laws.proofs.laws.upserts_of_left_entries_are_dropped.Goals as goal
-
-pub returns : goal.returns
-returns g c =
-    drops_upserts (keys_by (record { eq = g.K.PartialEq.eq; hash_input = g.K.Hash.hash_input }) g.S.BuildHasher g.S.Hasher.Hasher)

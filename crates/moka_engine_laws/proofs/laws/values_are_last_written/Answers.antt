@@ -1,8 +1,0 @@
-use Rattle.moka_base.specs.Keys.{keys_by}
-use Rattle.moka_engine_laws.proofs.WrittenLemmas.{keeps_last_written}
-use Rattle.moka_engine_laws.proofs.laws.values_are_last_written.Goals as goal
-
-pub returns : goal.returns
-returns g c =
-    keeps_last_written (keys_by (record { eq = g.K.PartialEq.eq; hash_input = g.K.Hash.hash_input }) g.S.BuildHasher g.S.Hasher.Hasher)
-    g.met.K.Eq.laws

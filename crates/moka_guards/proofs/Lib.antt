@@ -1,0 +1,5 @@
+pub mod LogLemmas
+pub mod RuleLemmas
+pub mod TurnLemmas
+pub mod FindLemmas
+pub mod PermittedLemmas

@@ -1,0 +1,31 @@
+use Rattle.std.proofs.Common.{◌∙◌, ap, subst, sym}
+use Rattle.moka_sync_model.specs.Parts.{ShardState}
+use Rattle.moka_shard.specs.Shard.{entries_in, state_of}
+use Rattle.moka_guards.specs.Rule.{AllMeet}
+use Rattle.moka_guards.proofs.RuleLemmas.{after_change_meet}
+use Rattle.moka_guards.proofs.TurnLemmas.{at_entry}
+use Rattle.moka_shard.proofs.ShardTurnLemmas.{turns_on_shard}
+use Rattle.moka_guards.proofs.shard.RuledShard.turn.Goals as goal
+
+pub invariant_of-self : goal.invariant_of-self
+invariant_of-self g c =
+    let changed = c.change.ensures.step c.args.ticket c.find_ticket-slot.ensures.value in
+    subst (AllMeet g.P.PairRule.holds) (sym (ap (λ (s : ShardState g.row.K.Denot g.row.V.Denot g.row.S.Denot). s.entries) changed))
+    (after_change_meet g.P.PairRule.holds c.args.ticket c.turn_at_entry-change.result (entries_in c.self.inside.shard.slots)
+    c.self.invariant)
+
+pub returns-clause-turn : goal.returns-clause-turn
+returns-clause-turn g c =
+    let turn = c.turn_at_entry-change.ensures in
+    at_entry c.args.settings.now c.args.valid_after turn.0 c.args.maintenance.now c.turn_at_entry-change.new.self _ _ turn.1
+
+pub returns-clause-shard : goal.returns-clause-shard
+returns-clause-shard g c =
+    let (refused, turn) = c.turn_at_entry-change.ensures in
+    let here = c.find_ticket-slot.ensures.value in (
+      refused,
+      rw (← c.self.view_is)
+          (turns_on_shard c.args.settings.now c.args.valid_after refused c.args.maintenance.now c.turn_at_entry-change.new.self c.args.ticket
+          c.requires _ c.turn_at_entry-change.result turn (state_of c.self.inside.shard) _ (c.entry-found.ensures ∙ here)
+          (c.change.ensures.step c.args.ticket here)),
+    )

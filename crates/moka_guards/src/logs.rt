@@ -1,0 +1,156 @@
+//! The two logs of a cache, each behind a lock of its own, with a word beside it that tells what callers ask before they take the lock.
+ghost use Rattle.std.specs.Prelude.{◌≡◌, ◌≤◌, [], length};
+
+use crate::queue::WriteQueue;
+use crate::waiting::{ROOM_AWAITED, has_room, lock, lock_giving_way};
+use crossbeam_utils::CachePadded;
+use moka_common::error::OutOfMemory;
+use moka_queues::logs::{LoggedRead, ReadLog};
+use moka_queues::taken::TakenWrites;
+use moka_sync_model::constants::{FLUSH_POINT, READ_LOG_SIZE, WRITE_LOG_SIZE};
+use moka_sync_model::operation::Write;
+use std::alloc::{Allocator, Global};
+use std::sync::atomic::{AtomicUsize, Ordering};
+use std::sync::{Mutex, MutexGuard, Wait};
+
+/// The write log behind its lock. Whoever has taken the lock writes the word beside it, so both lie on one line.
+#[derive(Drop)]
+struct ToldQueue<A: Allocator + Clone + Drop> {
+    /// How many writes were on their way at least when the log was left last, as `told_writes` has it.
+    len: AtomicUsize,
+    queue: Mutex<WriteQueue<A>>,
+}
+
+/// The logs. What threads write to lies on lines of its own. No contract speaks of what lies behind a lock that nobody has taken, nor of the words beside
+/// the logs.
+#[derive(Drop)]
+pub struct Logs<A: Allocator + Clone + Drop = Global> {
+    read_log: CachePadded<Mutex<ReadLog<A>>>,
+    /// How many operations the read log held at least when it was left last, as `told_reads` has it. It seldom changes, so it lies apart from the lock,
+    /// where those who look at it keep the line.
+    reads: CachePadded<AtomicUsize>,
+    writes: CachePadded<ToldQueue<A>>,
+}
+
+impl<A: Allocator + Clone + Drop> Logs<A> {
+    /// Empty logs, with room for all that they will hold.
+    pub fn new(alloc: &A) -> Result<Self, OutOfMemory> {
+        let read_log = ReadLog::new(alloc.clone()?)?;
+        let writes = ToldQueue {
+            len: AtomicUsize::new(0),
+            queue: Mutex::new(WriteQueue::new(alloc.clone()?)?),
+        };
+        Ok(Logs {
+            read_log: CachePadded::new(Mutex::new(read_log)),
+            reads: CachePadded::new(AtomicUsize::new(0)),
+            writes: CachePadded::new(writes),
+        })
+    }
+
+    /// How many reads there were at least when their log was left last: as many as it can hold, the flush point, or none. It is one load.
+    pub fn reads(&self) -> usize {
+        self.reads.load(Ordering::Acquire)
+    }
+
+    /// How many writes were on their way at least when theirs was: a multiple of `ROOM_AWAITED`.
+    pub fn writes(&self) -> usize {
+        self.writes.len.load(Ordering::Acquire)
+    }
+
+    /// The read log, locked. Before it is left, `tell_reads` is to have its length.
+    #[inline]
+    pub fn lock_reads<R: Wait>(&self, rt: &R) -> MutexGuard<'_, ReadLog<A>> {
+        lock(rt, &self.read_log)
+    }
+
+    /// The write log, locked. Before it is left, `tell_writes` is to have its length.
+    #[inline]
+    pub fn lock_writes<R: Wait>(&self, rt: &R) -> MutexGuard<'_, WriteQueue<A>> {
+        lock(rt, &self.writes.queue)
+    }
+
+    /// Publishes how many reads there are. It stores only a value that differs, since a store takes the cache line from all who read it.
+    pub fn tell_reads(&self, len: usize) {
+        let told = told_reads(len);
+        if self.reads() != told {
+            self.reads.store(told, Ordering::Release);
+        }
+    }
+
+    /// Publishes how many writes are on their way. It stores only a value that differs, since a store is an exchange here.
+    pub fn tell_writes(&self, len: usize) {
+        let told = told_writes(len);
+        if self.writes() != told {
+            self.writes.len.store(told, Ordering::Release);
+        }
+    }
+
+    /// Puts a read into its log. Answers whether there was room. A log that its word tells full is not looked at.
+    pub fn push_read<R: Wait>(&self, rt: &R, logged: LoggedRead) -> bool {
+        if self.reads() >= READ_LOG_SIZE {
+            return false;
+        }
+        let mut log = self.lock_reads(rt);
+        let is_pushed = log.push_logged(logged).is_ok();
+        self.tell_reads(log.len());
+        is_pushed
+    }
+
+    /// Takes the first reads, and puts them to the front of a slice: as many as there are, as it holds, and as are wanted. Answers how many. Whoever puts
+    /// reads into the log goes first.
+    pub fn take_reads<R: Wait>(&self, rt: &R, wanted: usize, reads: &mut [LoggedRead]) -> usize
+        ensures wanted { result ≤ wanted }
+        ensures held { result ≤ length reads.old }
+        ensures same { length reads.new ≡ length reads.old }
+    {
+        let mut log = lock_giving_way(rt, &self.read_log);
+        let count = log.take_first(wanted, reads);
+        self.tell_reads(log.len());
+        count
+    }
+
+    /// Puts a write into its log. Answers whether there was room. While its word tells it full it is not looked at: the writer waits on the word.
+    pub fn push_write<R: Wait>(&self, rt: &R, write: Write) -> bool {
+        if !has_room(&self.writes.len, WRITE_LOG_SIZE) {
+            return false;
+        }
+        let mut queue = self.lock_writes(rt);
+        let is_pushed = queue.push(write);
+        self.tell_writes(queue.len());
+        is_pushed
+    }
+
+    /// Takes the first writes, once those are applied that were taken before: as many as there are, as can be taken at once, and as are wanted.
+    pub fn take_writes<R: Wait>(&self, rt: &R, wanted: usize, taken: &mut TakenWrites)
+        requires { taken.old ≡ [] }
+        ensures { length taken.new ≤ wanted }
+    {
+        let mut queue = self.lock_writes(rt);
+        queue.take_first(wanted, taken);
+        self.tell_writes(queue.len());
+    }
+
+    /// The writes that were taken are applied, and take no room any more.
+    pub fn note_applied<R: Wait>(&self, rt: &R) {
+        let mut queue = self.lock_writes(rt);
+        queue.note_applied();
+        self.tell_writes(queue.len());
+    }
+}
+
+/// The published length of the read log: callers ask whether it is full, and whether it has reached the flush point.
+fn told_reads(len: usize) -> usize {
+    if len >= READ_LOG_SIZE {
+        READ_LOG_SIZE
+    } else if len >= FLUSH_POINT {
+        FLUSH_POINT
+    } else {
+        0
+    }
+}
+
+/// The published length of the write log: callers ask whether it is full, whether it has reached the flush point, and whether it has room for
+/// `ROOM_AWAITED` operations, and all these lengths are multiples of that.
+fn told_writes(len: usize) -> usize {
+    len - len % ROOM_AWAITED
+}

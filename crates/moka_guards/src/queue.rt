@@ -1,0 +1,105 @@
+//! The writes on their way from callers to the maintenance.
+ghost use Rattle.std.specs.Prelude.{◌≡◌, ◌↔◌, ◌<◌, ◌++◌, Bool, false, [], ◌∷◌, length, min, take, drop, IfOk, IsTrue, IsFalse};
+ghost use Rattle.moka_sync_model.specs.declared.constants.TheConstants.{WRITE_LOG_SIZE};
+ghost use Rattle.moka_sync_model.specs.Parts.{NeedsWrites, TurnsWithWrites, need_of};
+ghost use Rattle.moka_sync_model.specs.Turn.Turn.{turn_at};
+ghost use Rattle.moka_guards.specs.WriteQueue.{on_their_way};
+
+use moka_common::error::OutOfMemory;
+use moka_common::time::Instant;
+use moka_maintenance::maintenance::Maintenance;
+use moka_queues::logs::WriteLog;
+use moka_queues::taken::TakenWrites;
+use moka_sync_model::constants::WRITE_LOG_SIZE;
+use moka_sync_model::operation::Write;
+use moka_sync_model::settings::Settings;
+use std::alloc::{Allocator, Global};
+use std::marker::Model;
+
+/// The write log, with how many writes the maintenance has taken out of it together. They take room as if they were in it still, until it is known that
+/// they are applied: so no more are on their way than the log can hold, as if each left it when its turn comes.
+#[derive(Drop)]
+pub struct WriteQueue<A: Allocator + Clone + Drop = Global> {
+    log: WriteLog<A>,
+    at_hand: usize,
+}
+
+impl<A: Allocator + Clone + Drop> Model for WriteQueue<A> {
+    ghost use Rattle.std.specs.Prelude.{◌≤◌, ◌+◌, length};
+    ghost use Rattle.moka_sync_model.specs.declared.constants.TheConstants.{WRITE_LOG_SIZE};
+    ghost use Rattle.moka_guards.specs.WriteQueue.{WriteQueue as QueueState};
+
+    ghost Value = { QueueState };
+
+    ghost view = { λ q. record { log = q.log; at_hand = q.at_hand } };
+
+    ghost invariant = { λ q. length q.log + q.at_hand ≤ WRITE_LOG_SIZE };
+}
+
+impl<A: Allocator + Clone + Drop> WriteQueue<A> {
+    /// An empty one, with room for all that it will hold.
+    pub(crate) fn new(alloc: A) -> Result<Self, OutOfMemory>
+        ensures { IfOk result (λ queue. queue ≡ record { log = []; at_hand = 0 }) }
+    {
+        Ok(WriteQueue {
+            log: WriteLog::new(alloc)?,
+            at_hand: 0,
+        })
+    }
+
+    /// How many writes are on their way.
+    pub fn len(&self) -> usize
+        ensures { result ≡ on_their_way self.now }
+    {
+        self.log.len() + self.at_hand
+    }
+
+    /// Puts a write behind the others. Answers whether there was room.
+    pub(crate) fn push(&mut self, write: Write) -> bool
+        ensures variant { IsTrue result ↔ (on_their_way self.old < WRITE_LOG_SIZE) }
+        ensures pushed { IsTrue result → self.new ≡ record self.old { log = self.old.log ++ write ∷ [] } }
+        ensures full { IsFalse result → self.new ≡ self.old }
+    {
+        if self.len() >= WRITE_LOG_SIZE {
+            return false;
+        }
+        self.log.push(write).is_ok()
+    }
+
+    /// Takes the first writes out of the log, once all are applied that were taken before: as many as there are, as can be taken at once, and as are
+    /// wanted.
+    pub(crate) fn take_first(&mut self, wanted: usize, taken: &mut TakenWrites)
+        requires { taken.old ≡ [] }
+        ensures count { length taken.new ≡ min (min wanted 16) (length self.old.log) }
+        ensures taken { taken.new ≡ take (length taken.new) self.old.log }
+        ensures rest { self.new ≡ record { log = drop (length taken.new) self.old.log; at_hand = length taken.new } }
+    {
+        let before = self.log.len();
+        taken.refill(&mut self.log, wanted);
+        self.at_hand = before - self.log.len();
+    }
+
+    /// Those that were taken are applied.
+    pub(crate) fn note_applied(&mut self)
+        ensures { self.new ≡ record self.old { at_hand = 0 } }
+    {
+        self.at_hand = 0;
+    }
+
+    /// A turn of the maintenance that looks at the log, where it has applied all that it has taken.
+    pub fn turn_with_writes<K: Drop, V: Drop, S: Drop>(
+        &mut self,
+        maintenance: &mut Maintenance<A>,
+        settings: &Settings<S, A>,
+        valid_after: Instant,
+    )
+        requires { need_of (turn_at {K = K} {V = V} settings.now valid_after false maintenance.old.place maintenance.old) ≡ NeedsWrites }
+        ensures turn { (refused : Bool)
+            × TurnsWithWrites K V settings.now valid_after refused maintenance.old maintenance.new self.old.log self.new.log }
+        ensures applied { self.new.at_hand ≡ 0 }
+    {
+        self.note_applied();
+        maintenance.turn_with_writes::<K, V, S>(settings, valid_after, &mut self.log);
+        let _ = self.log.len();
+    }
+}

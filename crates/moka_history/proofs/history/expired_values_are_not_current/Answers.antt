@@ -1,8 +1,0 @@
-use Rattle.moka_base.specs.Keys.{keys_by}
-use Rattle.moka_history.proofs.ExcludedLemmas.{expired}
-use Rattle.moka_history.proofs.history.expired_values_are_not_current.Goals as goal
-
-pub returns : goal.returns
-returns g c =
-    expired (keys_by (record { eq = g.K.PartialEq.eq; hash_input = g.K.Hash.hash_input }) g.S.BuildHasher g.S.Hasher.Hasher)
-    g.met.K.Eq.laws _

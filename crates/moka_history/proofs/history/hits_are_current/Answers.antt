@@ -1,8 +1,0 @@
-use Rattle.moka_base.specs.Keys.{keys_by}
-use Rattle.moka_history.proofs.HistoryLemmas.{hits_are_current}
-use Rattle.moka_history.proofs.history.hits_are_current.Goals as goal
-
-pub returns : goal.returns
-returns g c =
-    hits_are_current (keys_by (record { eq = g.K.PartialEq.eq; hash_input = g.K.Hash.hash_input }) g.S.BuildHasher g.S.Hasher.Hasher)
-    g.met.K.Eq.laws g.W.Weigh.weighs

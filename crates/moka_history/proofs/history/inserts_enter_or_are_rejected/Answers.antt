@@ -1,8 +1,0 @@
-use Rattle.moka_base.specs.Keys.{keys_by}
-use Rattle.moka_history.proofs.RemovalLemmas.{inserts}
-use Rattle.moka_history.proofs.history.inserts_enter_or_are_rejected.Goals as goal
-
-pub returns : goal.returns
-returns g c =
-    inserts (keys_by (record { eq = g.K.PartialEq.eq; hash_input = g.K.Hash.hash_input }) g.S.BuildHasher g.S.Hasher.Hasher)
-    g.met.K.Eq.laws g.W.Weigh.weighs

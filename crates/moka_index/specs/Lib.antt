@@ -1,3 +1,0 @@
-pub mod HashIndex
--- inside
-pub mod Probed

@@ -1,7 +1,0 @@
-use Rattle.moka_base.specs.Keys.{keys_by}
-use Rattle.moka_laws.proofs.RemainLemmas.{looks}
-use Rattle.moka_laws.proofs.laws.looks_change_nothing.Goals as goal
-
-pub returns : goal.returns
-returns g c =
-    looks (keys_by (record { eq = g.K.PartialEq.eq; hash_input = g.K.Hash.hash_input }) g.S.BuildHasher g.S.Hasher.Hasher) g.W.Weigh.weighs

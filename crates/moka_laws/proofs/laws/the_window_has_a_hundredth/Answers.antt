@@ -1,5 +1,0 @@
-use Rattle.moka_laws.proofs.ShareLemmas.{window-default}
-use Rattle.moka_laws.proofs.laws.the_window_has_a_hundredth.Goals as goal
-
-pub returns : goal.returns
-returns c = window-default

@@ -1,8 +1,0 @@
-use Rattle.moka_base.specs.Keys.{keys_by}
-use Rattle.moka_laws.proofs.OrderLemmas.{window_stays_empty}
-use Rattle.moka_laws.proofs.laws.the_window_stays_empty.Goals as goal
-
-pub returns : goal.returns
-returns g c =
-    window_stays_empty (keys_by (record { eq = g.K.PartialEq.eq; hash_input = g.K.Hash.hash_input }) g.S.BuildHasher g.S.Hasher.Hasher)
-    g.W.Weigh.weighs

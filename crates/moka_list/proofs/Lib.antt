@@ -1,0 +1,16 @@
+pub mod ItemLemmas
+pub mod IdLemmas
+pub mod WalkLemmas
+pub mod CutLemmas
+pub mod InsertedLemmas
+pub mod NodesLemmas
+pub mod ChainLemmas
+pub mod ListingLemmas
+pub mod ChosenLemmas
+pub mod RestLemmas
+pub mod StandsLemmas
+pub mod StepLemmas
+pub mod CountLemmas
+pub mod PutLemmas
+pub mod FreeLemmas
+pub mod WayLemmas

@@ -1,0 +1,11 @@
+pub mod Nodes
+pub mod Chain
+pub mod ChainLends
+pub mod IdList
+pub mod HashIndex
+-- inside
+pub mod Probed
+pub mod Links
+pub mod Chained
+pub mod Listing
+pub mod Link

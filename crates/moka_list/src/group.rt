@@ -1,0 +1,118 @@
+// A group of places for ids, and where a hash belongs.
+ghost use Rattle.std.specs.Prelude.{◌≡◌, ◌<◌, ◌≤◌, false, min, IfNone, IfSome};
+ghost use Rattle.moka_list.specs.HashIndex.{after, groups_of, home_of, places_of, places_with, tag_of};
+ghost use Rattle.moka_list.specs.Probed.{FREE, HasAt, is_among, with_id, without};
+ghost use Rattle.moka_list.specs.declared.constants.TheConstants.{FAR, MOST_IDS, PLACES};
+
+use crate::constants::{FAR, PLACES, SHARE, SPREAD};
+use std::simd::prelude::*;
+
+/// Ten places for ids, in 64 bytes.
+#[derive(Clone, Copy, Drop)]
+pub struct Group {
+    /// The tag of each place, or 0 if the place is free, and then the distance of each place: the number of groups from its id's home to this
+    /// group, or `FAR`.
+    pub(crate) marks: [u8; 20],
+    /// The number of ids that passed this full group on the way from their home. An id `FAR` groups from its home isn't counted.
+    pub(crate) passed: u32,
+    pub(crate) ids: [u32; 10],
+}
+
+impl Group {
+    /// A group without ids.
+    pub(crate) fn free() -> Self
+        ensures { result ≡ FREE }
+    {
+        Group {
+            marks: [0; 20],
+            passed: 0,
+            ids: [0; 10],
+        }
+    }
+
+    /// The free places, as bits.
+    pub(crate) fn free_places(&self) -> u64
+        ensures places { result ≡ places_with self.now 0 }
+        ensures bound { result < 1024 }
+    {
+        u8x16::from_slice(&self.marks)
+            .simd_eq(u8x16::splat(0))
+            .to_bitmask()
+            % 1024
+    }
+
+    /// The places with `tag` and `distance`, as bits.
+    #[inline(always)]
+    pub(crate) fn places_of(&self, tag: u8, distance: usize) -> u64
+        ensures places { result ≡ places_of self.now tag (min distance FAR) }
+        ensures bound { result < 1024 }
+    {
+        let distance = distance.min(FAR) as u8;
+        let tagged = u8x16::from_slice(&self.marks).simd_eq(u8x16::splat(tag));
+        let distant = u8x16::from_slice(&self.marks[4..]).simd_eq(u8x16::splat(distance));
+        tagged.to_bitmask() % 1024 & distant.to_bitmask() >> 6
+    }
+
+    /// The place of `id`, if it stands here with `tag` and `distance`.
+    pub(crate) fn place_of(&self, tag: u8, distance: usize, id: u32) -> Option<usize>
+        ensures some { IfSome result (HasAt self.now tag (min distance FAR) id) }
+        ensures none { IfNone result (is_among id (places_of self.now tag (min distance FAR)) self.now.ids ≡ false) }
+    {
+        let mut found = self.places_of(tag, distance);
+        while found != 0 {
+            let place = found.trailing_zeros() as usize;
+            if self.ids[place] == id {
+                return Some(place);
+            }
+            found -= 1 << place;
+        }
+        None
+    }
+
+    /// Puts `id` at `place`.
+    pub(crate) fn put(&mut self, place: usize, tag: u8, distance: usize, id: u32)
+        requires { place < PLACES }
+        ensures { self.new ≡ with_id self.old place tag (min distance FAR) id }
+    {
+        self.marks[place] = tag;
+        self.marks[PLACES + place] = distance.min(FAR) as u8;
+        self.ids[place] = id;
+    }
+
+    /// Frees `place`.
+    pub(crate) fn clear(&mut self, place: usize)
+        requires { place < PLACES }
+        ensures { self.new ≡ without self.old place }
+    {
+        self.marks[place] = 0;
+    }
+}
+
+/// The number of groups of a table with room for `ids` ids.
+#[inline]
+pub(crate) fn groups_of(ids: usize) -> usize
+    requires { ids ≤ MOST_IDS }
+    ensures { result ≡ groups_of ids }
+{
+    ids / SHARE + 1
+}
+
+/// The group at which a search for `hash` starts, and the tag of `hash`, which is never 0.
+#[inline(always)]
+pub(crate) fn probe_of(groups: usize, hash: u64) -> (usize, u8)
+    ensures home { result.0 ≡ home_of groups hash }
+    ensures tag { result.1 ≡ tag_of groups hash }
+{
+    let spread = u128::from(hash.wrapping_mul(SPREAD)) * groups as u128;
+    ((spread >> 64) as usize, ((spread >> 56) % 256).max(1) as u8)
+}
+
+/// The group after `at`, round and round.
+#[inline]
+pub(crate) fn after(groups: usize, at: usize) -> usize
+    requires { at < groups }
+    ensures is { result ≡ after groups at }
+    ensures inside { result < groups }
+{
+    if at + 1 == groups { 0 } else { at + 1 }
+}

@@ -1,4 +1,0 @@
-pub mod ContentsLemmas
-pub mod EnteringLemmas
-pub mod PartLemmas
-pub mod WindowLemmas

@@ -1,6 +1,0 @@
-pub mod TicketsLemmas
-pub mod KeptLemmas
-pub mod IndexLemmas
-pub mod RoomLemmas
-pub mod ChangeLemmas
-pub mod HighWaterLemmas

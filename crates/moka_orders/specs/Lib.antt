@@ -1,5 +1,0 @@
-pub mod OrdersState
--- inside
-pub mod Kept
-pub mod Indexed
-pub mod HighWater

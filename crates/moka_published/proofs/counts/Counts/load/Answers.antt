@@ -1,6 +1,0 @@
-use Rattle.std.proofs.Common.{rules}
-use Rattle.moka_published.proofs.LogLemmas.{sees}
-use Rattle.moka_published.proofs.counts.Counts.load.Goals as goal
-
-pub load_as-requires : goal.load_as-requires
-load_as-requires g c = (search rules, (search rules, (search rules, sees _ _)))

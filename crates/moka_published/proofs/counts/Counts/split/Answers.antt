@@ -1,6 +1,0 @@
-use Rattle.std.proofs.Common.{rules}
-use Rattle.moka_published.proofs.LogLemmas.{tells}
-use Rattle.moka_published.proofs.counts.Counts.split.Goals as goal
-
-pub split_pass-requires : goal.split_pass-requires
-split_pass-requires g c = (search rules, (search rules, (search rules, tells _ _)))

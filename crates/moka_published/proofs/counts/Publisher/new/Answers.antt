@@ -1,6 +1,0 @@
-use Rattle.std.proofs.Common.{rules}
-use Rattle.moka_published.proofs.LogLemmas.{opens}
-use Rattle.moka_published.proofs.counts.Publisher.new.Goals as goal
-
-pub ruled-requires : goal.ruled-requires
-ruled-requires g c = (search rules, (search rules, opens))

@@ -1,5 +1,0 @@
-use Rattle.moka_published.proofs.LogLemmas.{number_is_later}
-use Rattle.moka_published.proofs.laws.greater_numbers_are_later.Goals as goal
-
-pub returns : goal.returns
-returns c = number_is_later

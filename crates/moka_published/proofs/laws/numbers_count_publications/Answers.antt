@@ -1,5 +1,0 @@
-use Rattle.moka_published.proofs.LogLemmas.{number_is_place}
-use Rattle.moka_published.proofs.laws.numbers_count_publications.Goals as goal
-
-pub returns : goal.returns
-returns c = number_is_place

@@ -1,0 +1,6 @@
+pub mod LoggedReads
+pub mod OrdersState
+-- inside
+pub mod Kept
+pub mod Indexed
+pub mod HighWater

@@ -1,0 +1,382 @@
+//! What is charged for which ticket, in order of use and in order of writing. Only here is a node found, added, changed or removed.
+ghost use Rattle.std.specs.Prelude.{◌≡◌, ◌≤◌, ◌<◌, ◌+◌, ◌*◌, ◌-◌, ◌^◌, ℕ, [], length, nat_eq, slice_get};
+ghost use Rattle.std.specs.Prelude.{IfOk, OnErr, OnOk, IfSome, IsNone, IsSome, None, Some, false};
+ghost use Rattle.std.specs.List.{IsDistinct};
+ghost use Rattle.std.specs.Map.{keys_of, lookup, remove_entry, set_value};
+ghost use Rattle.moka_common.specs.Settings.{keeps_writes};
+ghost use Rattle.moka_list.specs.Nodes.{IsIn, first_id, moved_to_back, next_id};
+ghost use Rattle.moka_sync_model.specs.Orders.{charge_of, charged_weight, is_written, used, rewritten, renewed, recharged, with_node, without_node};
+ghost use Rattle.moka_list.specs.HashIndex.{candidates};
+ghost use Rattle.moka_queues.specs.Indexed.{IsIndexed};
+ghost use Rattle.moka_queues.specs.Kept.{PushesNode, room_after, without_write};
+ghost use Rattle.moka_queues.specs.OrdersState.{AddsNode, AtNode, IsNodeOf, orders_of};
+
+use crate::high_water::HighWater;
+use moka_common::error::OutOfMemory;
+use moka_common::limits::Limits;
+use moka_deque::deque::{CacheRegion, Deque, NodeId};
+use moka_list::chain::Chain;
+use moka_list::hash_index::HashIndex;
+use moka_list::link::Link;
+use moka_sync_model::ticket::Ticket;
+use std::alloc::{AllocError, Allocator, Global};
+use std::marker::Model;
+
+/// What is charged for the entry of a ticket.
+#[derive(Clone, Copy, Debug)]
+pub struct Node {
+    pub ticket: Ticket,
+    pub charge: u32,
+    /// A scan's mark: the entry stood when it was looked at.
+    pub is_present: bool,
+    write: Link,
+}
+
+/// The nodes of the entries that are charged, least recently used first, and with a time to live their tickets in order of writing. A node is
+/// found by its ticket in constant time on average. The nodes lie in a chain, where a use moves a node by links alone.
+#[derive(Drop)]
+pub struct Orders<A: Allocator + Clone + Drop = Global> {
+    access: Chain<Node, A>,
+    writes: Deque<Ticket, A>,
+    index: HashIndex<A>,
+    total: u128,
+    high_water: HighWater,
+}
+
+impl<A: Allocator + Clone + Drop> Model for Orders<A> {
+    ghost use Rattle.std.specs.Map.{values_of};
+    ghost use Rattle.moka_queues.specs.OrdersState.{OrdersState};
+    ghost use Rattle.moka_queues.specs.Kept.{IsKept, room_of};
+    ghost use Rattle.moka_queues.specs.Indexed.{IsIndexed};
+    ghost use Rattle.moka_queues.specs.HighWater.{AreCovered};
+
+    ghost Value = { OrdersState };
+
+    ghost view = { λ o. record {
+      nodes = o.access.items;
+      written = values_of o.writes.items;
+      room = room_of o.access.items o.access.room o.writes.room o.index.ids;
+    } };
+
+    ghost invariant = { λ o. IsKept o.access.items o.writes.items o.total × IsIndexed o.access.items o.index × AreCovered o.access.items o.high_water };
+}
+
+impl<A: Allocator + Clone + Drop> Orders<A> {
+    /// Orders without nodes.
+    pub fn new(alloc: A) -> Result<Self, AllocError>
+        ensures { IfOk result (λ orders. orders ≡ record { nodes = []; written = []; room = 0 }) }
+    {
+        Ok(Orders {
+            access: Chain::new(alloc.clone()?, alloc.clone()?),
+            writes: Deque::new(alloc.clone()?, CacheRegion::Other),
+            index: HashIndex::new(alloc),
+            total: 0,
+            high_water: HighWater::new(),
+        })
+    }
+
+    /// Makes room for one more node. Where there is none, there is room for twice as many nodes as before then, or for as many as the limit lets in and
+    /// one more, if that is less. Without a time to live the order of writing stays empty, with room for one.
+    pub fn reserve(&mut self, limits: &Limits) -> Result<(), OutOfMemory>
+        ensures ok { OnOk result (0 < self.new.room) }
+        ensures unchanged { self.new ≡ record self.old { room = self.new.room } }
+    {
+        let more = index_more(&mut self.index, &self.access, limits)?;
+        self.access.reserve_exact(more)?;
+        index_all(&mut self.index, &self.access, self.access.capacity())?;
+        let more_writes = if limits.has_time_to_live() { more } else { 1 };
+        self.writes.reserve_exact(more_writes)
+    }
+
+    /// How many nodes there are.
+    pub fn len(&self) -> usize
+        ensures value { result ≡ length self.now.nodes }
+
+        // What holds of all orders: no id stands twice.
+        ensures distinct { IsDistinct nat_eq (keys_of self.now.nodes) }
+    {
+        self.access.len()
+    }
+
+    /// What is charged in all.
+    pub fn charged_weight(&self) -> u128
+        ensures value { result ≡ charged_weight (orders_of self.now) }
+        ensures small { result < 2 ^ 96 }
+    {
+        // At most `usize::MAX` charges of 32 bits come to less than 2^96.
+        let _ = self.access.len();
+        self.total
+    }
+
+    /// The node of a ticket.
+    pub fn find(&self, ticket: Ticket) -> Option<NodeId>
+        ensures found { IfSome result (λ id. IsNodeOf self.now ticket id) }
+        ensures absent { IsNone result → charge_of ticket (orders_of self.now) ≡ None }
+        ensures unwritten { IsNone result → is_written ticket (orders_of self.now) ≡ false }
+    {
+        for number in self.index.candidates(ticket.hash) {
+            let id = NodeId::from_number(number);
+            if self.access.get(id).ticket == ticket {
+                return Some(id);
+            }
+        }
+        None
+    }
+
+    /// The node of a ticket, which is looked for at a place first: that where `enter` has put it, as far as the caller knows it. It spares the look-up
+    /// in the index, as it is spared where the ticket is above all of its shard that were charged.
+    pub fn find_at(&self, ticket: Ticket, place: usize) -> Option<NodeId>
+        ensures found { IfSome result (λ id. IsNodeOf self.now ticket id) }
+        ensures absent { IsNone result → charge_of ticket (orders_of self.now) ≡ None }
+        ensures unwritten { IsNone result → is_written ticket (orders_of self.now) ≡ false }
+    {
+        let id = NodeId::from_number(place);
+        if self.access.contains(id) && self.access.get(id).ticket == ticket {
+            return Some(id);
+        }
+        if self.high_water.is_below(ticket) {
+            return None;
+        }
+        self.find(ticket)
+    }
+
+    /// The node of an id.
+    pub fn get(&self, id: NodeId) -> &Node
+        requires { IsIn self.now.nodes id }
+        ensures value { lookup (nat_eq id) self.now.nodes ≡ Some result.now }
+        ensures small { result.now.charge < 2 ^ 32 }
+    {
+        self.access.get(id)
+    }
+
+    /// The least recently used node.
+    pub fn front(&self) -> Option<NodeId>
+        ensures { result ≡ first_id self.now.nodes }
+    {
+        self.access.front()
+    }
+
+    /// The node that was used next after this one.
+    pub fn next(&self, id: NodeId) -> Option<NodeId>
+        requires { IsIn self.now.nodes id }
+        ensures { result ≡ next_id id self.now.nodes }
+    {
+        self.access.next(id)
+    }
+
+    /// The ticket that was written the longest ago.
+    pub fn oldest(&self) -> Option<Ticket>
+        ensures value { result ≡ slice_get self.now.written 0 }
+        ensures stands { IfSome result (λ t. IsSome (charge_of t (orders_of self.now))) }
+    {
+        self.writes.peek_front().copied()
+    }
+
+    /// The node becomes the most recently used one.
+    #[inline]
+    pub fn use_node(&mut self, id: NodeId)
+        requires { IsIn self.old.nodes id }
+        ensures step { self.new ≡ record self.old { nodes = moved_to_back id self.old.nodes } }
+        ensures orders { AtNode self.old id (λ n. orders_of self.new ≡ used n.ticket (orders_of self.old)) }
+    {
+        self.access.move_to_back(id);
+    }
+
+    /// The ticket that was written the longest ago becomes the one written last.
+    pub fn rewrite_oldest(&mut self)
+        ensures step { self.new ≡ record self.old { written = self.new.written } }
+        ensures orders { IfSome (slice_get self.old.written 0) (λ t. orders_of self.new ≡ rewritten t (orders_of self.old)) }
+    {
+        self.writes.move_front_to_back();
+    }
+
+    /// The node becomes the most recent one in both orders.
+    pub fn renew(&mut self, id: NodeId)
+        requires { IsIn self.old.nodes id }
+        ensures nodes { self.new.nodes ≡ moved_to_back id self.old.nodes }
+        ensures unchanged { self.new ≡ record self.old { nodes = self.new.nodes; written = self.new.written } }
+        ensures orders { AtNode self.old id (λ n. orders_of self.new ≡ renewed n.ticket (orders_of self.old)) }
+    {
+        self.rewrite(id);
+        self.use_node(id);
+    }
+
+    /// The node becomes the one written last.
+    fn rewrite(&mut self, id: NodeId)
+        requires { IsIn self.old.nodes id }
+        ensures step { self.new ≡ record self.old { written = self.new.written } }
+        ensures orders { AtNode self.old id (λ n. orders_of self.new ≡ rewritten n.ticket (orders_of self.old)) }
+    {
+        let write = self.access.get(id).write.id();
+        if let Some(write) = write {
+            self.writes.move_to_back(write);
+        }
+    }
+
+    /// The node charges this weight.
+    pub fn recharge(&mut self, id: NodeId, weight: u32)
+        requires { IsIn self.old.nodes id }
+        ensures step { AtNode self.old id (λ n.
+            self.new ≡ record self.old { nodes = set_value (nat_eq id) self.old.nodes (record n { charge = weight }) }) }
+        ensures orders { AtNode self.old id (λ n. orders_of self.new ≡ recharged n.ticket weight (orders_of self.old)) }
+    {
+        let charge = self.access.get(id).charge;
+        self.total = with_charge(&self.access, self.total - u128::from(charge), weight);
+        self.access.get_mut(id).charge = weight;
+    }
+
+    /// The node has this mark.
+    pub fn mark(&mut self, id: NodeId, is_present: bool)
+        requires { IsIn self.old.nodes id }
+        ensures step { AtNode self.old id (λ n.
+            self.new ≡ record self.old { nodes = set_value (nat_eq id) self.old.nodes (record n { is_present = is_present }) }) }
+        ensures orders { orders_of self.new ≡ orders_of self.old }
+    {
+        self.access.get_mut(id).is_present = is_present;
+    }
+
+    /// A new node at the back, also in the order of writing where there is a time to live. There must be room for it, and no node of its
+    /// ticket: `reserve` and `find` tell. The answer is its place, for `find_at`.
+    pub fn enter(&mut self, ticket: Ticket, charge: u32, limits: &Limits) -> usize
+        requires room { 0 < self.old.room }
+        requires absent { charge_of ticket (orders_of self.old) ≡ None }
+        ensures step { AddsNode self.old self.new ticket charge }
+        ensures orders { orders_of self.new ≡ with_node (keeps_writes limits.now) ticket charge (orders_of self.old) }
+    {
+        self.total = with_charge(&self.access, self.total, charge);
+        self.high_water.rise_to(ticket);
+        let mut node = Node {
+            ticket,
+            charge,
+            is_present: false,
+            write: Link::none(),
+        };
+        if !limits.has_time_to_live() {
+            return push_node(&mut self.access, &mut self.index, node);
+        }
+        let write = self.writes.push_reserved(ticket);
+        // Its id is below the capacity, which is a word.
+        let _ = self.writes.capacity();
+        node.write = Link::to(write);
+        push_node(&mut self.access, &mut self.index, node)
+    }
+
+    /// The node leaves both orders, and its room stays.
+    pub fn remove(&mut self, id: NodeId)
+        requires { IsIn self.old.nodes id }
+        ensures nodes { self.new.nodes ≡ remove_entry (nat_eq id) self.old.nodes }
+        ensures room { self.old.room ≤ self.new.room }
+        ensures orders { AtNode self.old id (λ n. orders_of self.new ≡ without_node n.ticket (orders_of self.old)) }
+    {
+        let node = self.access.unlink(id);
+        self.index.remove(id.number(), node.ticket.hash);
+        self.total -= u128::from(node.charge);
+        unlink_write(&mut self.writes, node.write.id());
+    }
+}
+
+/// A sum with one more charge. Fewer than 2^64 charges, of 32 bits each, come to less than 2^96.
+fn with_charge<A: Allocator>(access: &Chain<Node, A>, total: u128, charge: u32) -> u128
+    requires { total ≤ length access.now.items * (2 ^ 32 - 1) }
+    ensures value { result ≡ total + charge }
+    ensures small { charge < 2 ^ 32 }
+{
+    let _ = access.len();
+    total + u128::from(charge)
+}
+
+/// A node at the back, in room that was made. The answer is the number of its id.
+fn push_node<A: Allocator>(
+    access: &mut Chain<Node, A>,
+    index: &mut HashIndex<A>,
+    node: Node,
+) -> usize
+    requires room { 0 < access.old.room }
+    requires ids { length access.old.items + access.old.room ≤ index.old.ids }
+    requires indexed { IsIndexed access.old.items index.old }
+    ensures pushes { PushesNode access.old access.new node }
+    ensures indexed { IsIndexed access.new.items index.new }
+{
+    let hash = node.ticket.hash;
+    let id = access.push_reserved(node);
+    index.add(id.number(), hash);
+    id.number()
+}
+
+/// Takes a write out of the order of writing, if there is one.
+fn unlink_write<A: Allocator>(writes: &mut Deque<Ticket, A>, write: Option<NodeId>)
+    requires { IfSome write (λ w. IsIn writes.old.items w) }
+    ensures items { writes.new.items ≡ without_write write writes.old.items }
+    ensures room { writes.new.room ≡ room_after write writes.old.room }
+{
+    if let Some(write) = write {
+        writes.unlink_and_drop(write);
+    }
+}
+
+/// Where there is no room for a node, makes room in the index for the next capacity, so that the queues are as they were where memory for it is
+/// refused. For how many more nodes the queues are to make room then.
+fn index_more<A: Allocator>(
+    index: &mut HashIndex<A>,
+    access: &Chain<Node, A>,
+    limits: &Limits,
+) -> Result<usize, OutOfMemory>
+    requires indexed { IsIndexed access.now.items index.old }
+    ensures indexed { IsIndexed access.now.items index.new }
+    ensures some { IfOk result (λ more. 0 < more) }
+{
+    let (len, ids) = (access.len(), access.capacity());
+    if len < ids {
+        return Ok(1);
+    }
+    let target = next_capacity(ids, limits);
+    index_all(index, access, target)?;
+    Ok((target - len).max(1))
+}
+
+/// For how many nodes there is room next: for twice as many, but not past the limit, as no more nodes than that weigh something. Weights of 0 pass it.
+fn next_capacity(ids: usize, limits: &Limits) -> usize
+    ensures { ids ≤ result }
+{
+    let twice = ids.saturating_add(1).max(ids.saturating_mul(2));
+    match limits.max_capacity() {
+        Some(limit) if (ids as u64) <= limit => twice.min((limit as usize).saturating_add(1)),
+        _ => twice,
+    }
+}
+
+/// Makes room in the index for all ids below this number.
+fn index_all<A: Allocator>(
+    index: &mut HashIndex<A>,
+    access: &Chain<Node, A>,
+    ids: usize,
+) -> Result<(), OutOfMemory>
+    requires bound { (id : ℕ) → IsIn access.now.items id → id < ids }
+    requires indexed { IsIndexed access.now.items index.old }
+    ensures indexed { IsIndexed access.now.items index.new }
+    ensures room { OnOk result (ids ≤ index.new.ids) }
+    ensures err { OnErr result (index.new ≡ index.old) }
+{
+    if ids <= index.ids() {
+        return Ok(());
+    }
+    index.clear_for(ids)?;
+    add_all(index, access);
+    Ok(())
+}
+
+/// Adds the ids of all nodes to an index that has none.
+fn add_all<A: Allocator>(index: &mut HashIndex<A>, access: &Chain<Node, A>)
+    requires bound { (id : ℕ) → IsIn access.now.items id → id < index.old.ids }
+    requires empty { (hash : ℕ) → candidates index.old hash ≡ [] }
+    ensures indexed { IsIndexed access.now.items index.new }
+    ensures ids { index.new.ids ≡ index.old.ids }
+{
+    // None stands twice.
+    let _ = access.len();
+    let mut here = access.front();
+    while let Some(id) = here {
+        index.add(id.number(), access.get(id).ticket.hash);
+        here = access.next(id);
+    }
+}

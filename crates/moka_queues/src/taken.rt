@@ -1,0 +1,81 @@
+//! The writes that a maintenance has taken out of their log and not applied yet.
+ghost use Rattle.std.specs.Prelude.{◌≡◌, ◌==◌, [], take, drop, length, min, slice_get};
+
+use crate::logs::WriteLog;
+use moka_sync_model::operation::Write;
+use moka_sync_model::ticket::Ticket;
+use std::alloc::Allocator;
+use std::marker::Model;
+
+/// How many writes a maintenance takes at once, at most. To take the lock of their log costs about as much as to apply one, while other threads push.
+const WRITES_AT_ONCE: usize = 16;
+
+/// What a place for a write has before one is copied to it.
+const NO_WRITE: Write = Write::Remove {
+    ticket: Ticket { hash: 0, number: 0 },
+};
+
+/// The writes that were taken, the first one first.
+#[derive(Drop)]
+pub struct TakenWrites {
+    writes: [Write; WRITES_AT_ONCE],
+    /// The place of the first one.
+    next: usize,
+    /// The place behind the last one.
+    end: usize,
+}
+
+impl Model for TakenWrites {
+    ghost use Rattle.std.specs.Prelude.{◌≡◌, ◌≤◌, List, take, drop, length};
+    ghost use Rattle.moka_sync_model.specs.declared.operation.Write.{Write as WriteState};
+
+    ghost Value = { List WriteState };
+
+    ghost view = { λ t. drop t.next (take t.end t.writes) };
+
+    ghost invariant = { λ t. (t.next ≤ t.end) × (t.end ≤ length t.writes) };
+}
+
+impl TakenWrites {
+    /// None so far.
+    pub fn new() -> TakenWrites
+        ensures { result ≡ [] }
+    {
+        TakenWrites {
+            writes: [NO_WRITE; WRITES_AT_ONCE],
+            next: 0,
+            end: 0,
+        }
+    }
+
+    /// Whether all were applied.
+    pub fn is_empty(&self) -> bool
+        ensures { result ≡ (length self.now == 0) }
+    {
+        self.next == self.end
+    }
+
+    /// Takes the first writes out of their log, once all are applied that were taken before: as many as there are, and as are wanted, and 16 at most.
+    pub fn refill<A: Allocator + Drop>(&mut self, log: &mut WriteLog<A>, wanted: usize)
+        requires { self.old ≡ [] }
+        ensures count { length self.new ≡ min (min wanted 16) (length log.old) }
+        ensures taken { self.new ≡ take (length self.new) log.old }
+        ensures rest { log.new ≡ drop (length self.new) log.old }
+    {
+        self.end = log.take_first(wanted, &mut self.writes);
+        self.next = 0;
+    }
+
+    /// The first one, which is to be applied now.
+    pub fn pop(&mut self) -> Option<Write>
+        ensures value { result ≡ slice_get self.old 0 }
+        ensures rest { self.new ≡ drop 1 self.old }
+    {
+        if self.is_empty() {
+            return None;
+        }
+        let write = self.writes[self.next];
+        self.next += 1;
+        Some(write)
+    }
+}

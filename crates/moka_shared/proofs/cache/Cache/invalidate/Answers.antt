@@ -1,8 +1,0 @@
-use Rattle.std.proofs.Common.{◌∙◌, ap}
-use Rattle.moka_locks.specs.Locked.{resting_at}
-use Rattle.moka_shared.proofs.cache.Cache.invalidate.Goals as goal
-
-pub returns : goal.returns
-returns g c =
-    let is = c.new.ensures ∙ ap resting_at (c.get.ensures ∙ c.self.view_is) in
-    record { call = (c.invalidate.new.steps, rw (← is) c.invalidate.ensures.call) }

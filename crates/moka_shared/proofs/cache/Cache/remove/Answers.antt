@@ -1,8 +1,0 @@
-use Rattle.std.proofs.Common.{◌∙◌, ap}
-use Rattle.moka_locks.specs.Locked.{resting_at}
-use Rattle.moka_shared.proofs.cache.Cache.remove.Goals as goal
-
-pub returns-clause-call : goal.returns-clause-call
-returns-clause-call g c =
-    let is = c.new.ensures ∙ ap resting_at (c.get.ensures ∙ c.self.view_is) in
-    (c.remove.new.steps, rw (← is) c.remove.ensures.call)

@@ -1,5 +1,0 @@
-use Rattle.moka_sketch.proofs.LawLemmas.{estimate_within}
-use Rattle.moka_sketch.proofs.laws.estimates_are_bounded.Goals as goal
-
-pub returns : goal.returns
-returns c = estimate_within

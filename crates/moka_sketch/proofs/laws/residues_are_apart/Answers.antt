@@ -1,5 +1,0 @@
-use Rattle.moka_sketch.proofs.LawLemmas.{residues_apart}
-use Rattle.moka_sketch.proofs.laws.residues_are_apart.Goals as goal
-
-pub returns : goal.returns
-returns c = residues_apart

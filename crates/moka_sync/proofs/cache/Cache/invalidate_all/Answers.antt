@@ -1,0 +1,8 @@
+use Rattle.std.proofs.Common.{◌∙◌, ap}
+use Rattle.moka_locks.specs.Locked.{resting_at}
+use Rattle.moka_sync.proofs.cache.Cache.invalidate_all.Goals as goal
+
+pub returns : goal.returns
+returns g c =
+    let is = c.new.ensures ∙ ap resting_at (c.get.ensures ∙ c.self.view_is) in
+    record { call = (c.invalidate_all.new.steps, rw (← is) c.invalidate_all.ensures.call) }

@@ -1,0 +1,377 @@
+//! The cache that threads share.
+ghost use Rattle.std.specs.Prelude.{◌≡◌, ◌∷◌, [], ℕ, List, None, Some, map, IfErr, IfOk, IfSome};
+ghost use Rattle.std.specs.List.{IsDistinct};
+ghost use Rattle.moka_common.specs.Keys.{keys_by};
+ghost use Rattle.moka_guards.specs.Rule.{PairsMeet};
+ghost use Rattle.moka_sync_model.specs.declared.constants.TheConstants.{CALLER};
+ghost use Rattle.moka_sync_model.specs.WholeCall.{CallsContains, CallsInsert, CallsInvalidate, CallsInvalidateAll, CallsSync};
+ghost use Rattle.moka_sync_model.specs.declared.event.Reply.TheVariants as reply;
+ghost use Rattle.moka_sync.specs.Builder.{new_builder};
+ghost use Rattle.moka_locks.specs.Cache.{new_cache};
+ghost use Rattle.moka_locks.specs.Charged.{counts_of};
+ghost use Rattle.moka_guards.specs.Log.{IsChain, IsSuffix, opening};
+ghost use Rattle.moka_locks.specs.Locked.{Locked as LockedValue, locked_allows, locked_caller, locked_decides, resting_at};
+ghost use Rattle.moka_sync_model.specs.Steps.{AnswersGet, AnswersRemove, insert_reply, pends_by};
+
+use crate::builder::CacheBuilder;
+use crate::iter::Iter;
+use moka_common::error::{BuildError, InsertError, OutOfMemory};
+use moka_common::hash::FixedState;
+use moka_common::policy::Policy;
+use moka_common::shared::Shared;
+use moka_common::time::Instant;
+use moka_common::weigh::UnitWeight;
+use moka_guards::counts::{CountPass, Publisher};
+use moka_guards::published_rule::Published;
+use moka_guards::rule::{AnyPair, PairRule};
+use moka_locks::inner::Inner;
+use moka_locks::locked::Locked;
+use moka_sync_model::constants::SHARDS;
+use moka_sync_model::settings::CoreParts;
+use moka_sync_model::steps;
+use moka_sync_model::weigh::WeighShared;
+use std::alloc::{AllocError, Allocator, Global};
+use std::hash::{BuildHasher, Hash};
+use std::marker::Model;
+use std::sync::Wait;
+
+/// A cache that threads share: a map that forgets, bounded by a number of entries or by their weight, with expiry by time to live and by time to
+/// idle. Its clones are the same cache.
+///
+/// ```
+/// let now = Instant::from_secs(0);
+/// let cache: Cache<u64, u64> = Cache::new(alloc, 100)?;
+/// let again = cache.clone()?;
+/// cache.insert(rt, 1, 10, now)?;
+/// again.insert(rt, 2, 20, now)?;
+/// cache.sync(rt, now);
+/// let counts = (cache.entry_count(), again.entry_count());
+/// ```
+///
+/// # Locks
+///
+/// The map has 16 shards, each behind a lock of its own. A call takes the lock of its key's shard, frees it, and then puts what it has done into a log
+/// behind another lock: a read into one, which drops it where it is full, and a write into the other, where it waits for room. No call takes two locks
+/// at a time but a maintenance, which has its own and one other. A value is cloned when no lock is held, but for `remove`, which clones it behind the
+/// shard's; the weigher is asked behind the shard's too.
+/// `policy`, `entry_count`, `weighted_size`, `invalidate_all` and `clone` take no lock. No clause says that a call which waits returns.
+///
+/// # Maintenance
+///
+/// Some caller drains the logs within its call: when one reaches 64 operations, every 500 ms by the moments that are handed in, or on `sync`. This
+/// maintenance charges entries, and admits or rejects them by the size-aware TinyLFU of Caffeine (Einziger, Friedman and Manes). It evicts entries that
+/// are expired, over the limit, or have no memory for a node. Until then the map may exceed its limit, by as many entries as the logs hold and threads
+/// are about to push, and the counts are those of the last maintenance. No read gives an expired entry, evicted or not.
+///
+/// # Pairs
+///
+/// A rule of keys and values (`PairRule`) can be a cache's type: then each insert has to meet it, and each pair that comes out does, by contract.
+///
+/// # Size, expiry, hashing
+///
+/// These are as at `unsync::Cache`, but that limits hold after a maintenance. A call hashes its key once, before it takes a lock; the insert of a key that
+/// isn't there hashes it once more behind the lock.
+///
+/// # Cost
+///
+/// A call takes constant time on average, beside waiting; the caller that runs a maintenance takes constant time for each operation that it applies and
+/// each entry that it looks at. Building and inserting allocate, and `iter` for its snapshot; a look-up allocates nothing of its own.
+///
+/// # What differs from mini-moka
+///
+/// Moments are handed in, and calls that wait take the runtime. Want of memory is a named refusal. Entries have tickets, so that a late operation acts on
+/// the entry that it meant. `iter` takes a snapshot and holds no lock when it comes out. There is no `Debug` of the cache itself, which would wait.
+pub struct Cache<
+    K: Eq + Hash + Drop,
+    V: Drop,
+    S: BuildHasher + Drop = FixedState,
+    P: PairRule<K, V> = AnyPair,
+    W: Drop = UnitWeight,
+    A: Allocator + Clone + Drop = Global,
+> {
+    inner: Shared<Inner<K, V, S, P, W, A>, A>,
+}
+
+// By hand, and not derived: wherever a cache may end, there is one call to prove then, in place of one for each of its parts.
+impl<
+    K: Eq + Hash + Drop,
+    V: Drop,
+    S: BuildHasher + Drop,
+    P: PairRule<K, V>,
+    W: Drop,
+    A: Allocator + Clone + Drop,
+> Drop for Cache<K, V, S, P, W, A> {
+    fn drop(self) {
+        let Cache { inner: _ } = self;
+    }
+}
+
+impl<
+    K: Eq + Hash + Drop,
+    V: Drop,
+    S: BuildHasher + Drop,
+    P: PairRule<K, V>,
+    W: Drop,
+    A: Allocator + Clone + Drop,
+> Model for Cache<K, V, S, P, W, A> {
+    ghost use Rattle.moka_locks.specs.Cache.{Cache as CacheValue};
+
+    ghost Value = { CacheValue S W };
+
+    ghost view = { λ c. c.inner };
+}
+
+impl<
+    K: Eq + Hash + Drop,
+    V: Drop,
+    S: BuildHasher + Drop,
+    P: PairRule<K, V>,
+    W: Drop,
+    A: Allocator + Clone + Drop,
+> Clone for Cache<K, V, S, P, W, A> {
+    ghost is_clone = { λ cache copy. copy ≡ cache };
+
+    /// The same cache once more. It takes no memory: only where there are too many clones to count is it refused.
+    fn clone(&self) -> Result<Self, AllocError> {
+        Ok(Cache {
+            inner: self.inner.try_clone()?,
+        })
+    }
+}
+
+impl<K: Eq + Hash + Drop, V: Drop, A: Allocator + Clone + Drop> Cache<
+    K,
+    V,
+    FixedState,
+    AnyPair,
+    UnitWeight,
+    A,
+> {
+    /// A cache with a limit: that many entries.
+    pub fn new(alloc: A, max_capacity: u64) -> Result<Self, BuildError>
+        ensures ok { IfOk result (λ cache. cache.settings.policy ≡ (new_builder (Some max_capacity) cache.weigher).policy) }
+        ensures err { IfErr result (λ error. error ≡ BuildError.OutOfMemory) }
+    {
+        CacheBuilder::new(alloc, max_capacity).build()
+    }
+
+    /// A builder of caches without limits.
+    pub fn builder(alloc: A) -> CacheBuilder<K, V, UnitWeight, A>
+        ensures { result ≡ new_builder None result.weigher }
+    {
+        CacheBuilder::default(alloc)
+    }
+}
+
+impl<
+    K: Eq + Hash + Drop,
+    V: Drop,
+    S: BuildHasher + Drop,
+    P: PairRule<K, V>,
+    W: Drop,
+    A: Allocator + Clone + Drop,
+> Cache<K, V, S, P, W, A> {
+    /// A cache of these parts, with nothing done to it, and its publisher, if there is one.
+    pub(crate) fn of_parts(
+        alloc: A,
+        parts: CoreParts<S, W>,
+        publisher: Option<Publisher<A>>,
+    ) -> Result<Self, OutOfMemory>
+        requires { IfSome publisher (λ p. p.published ≡ opening ∷ []) }
+        ensures { IfOk result (λ cache. cache ≡ new_cache
+            (record { hash_state = parts.hash_state; policy = parts.policy; is_weighed = parts.is_weighed }) parts.weigher (counts_of publisher)) }
+    {
+        let inner = Inner::new(alloc.clone()?, parts, publisher)?;
+        Ok(Cache {
+            inner: Shared::new(alloc, inner)?,
+        })
+    }
+
+    /// What it was built with.
+    pub fn policy(&self) -> Policy
+        ensures { result ≡ self.now.settings.policy }
+    {
+        self.inner.get().settings().limits().policy()
+    }
+
+    /// How many entries it had when a maintenance last ended, 0 before the first one. It is one load: no contract says of which maintenance.
+    pub fn entry_count(&self) -> u64 {
+        self.inner.get().entry_count()
+    }
+
+    /// What they weighed together, at most `u64::MAX`. It is another load, so it may be of another maintenance than the count.
+    pub fn weighted_size(&self) -> u64 {
+        self.inner.get().weighted_size()
+    }
+
+    /// Returns the count and the weight that were published last, with the number of the publication, from 1 on; before the first, three zeros.
+    ///
+    /// The pass must be of this cache. It has seen them then, and none is older than what it had seen. No lock is taken, unless a publication comes between.
+    pub fn published<R: Wait>(&self, rt: &R, pass: &mut CountPass) -> Published
+        requires { self.now.counted ≡ Some pass.old.counts }
+        ensures counts { pass.new.counts ≡ pass.old.counts }
+        ensures newest { (older : List _) × (pass.new.seen ≡ result ∷ older) }
+        ensures seen { IsSuffix pass.old.seen pass.new.seen }
+
+        // They are numbered from the opening three zeros on, so a greater number says how many maintenances lay between at least.
+        ensures chain { IsChain pass.new.seen }
+    {
+        self.inner.get().published(rt, pass)
+    }
+
+    /// One more pass, which has seen what this one has. It takes no memory.
+    pub fn split_pass(&self, pass: &mut CountPass) -> CountPass
+        requires { self.now.counted ≡ Some pass.old.counts }
+        ensures { (pass.new ≡ pass.old) × (result ≡ pass.old) }
+    {
+        self.inner.get().split(pass)
+    }
+
+    /// A snapshot of the unexpired pairs, shard by shard: the pairs of a shard are those of one moment, and no lock is held when they come out. It
+    /// counts as no read. It is refused for want of memory.
+    pub fn iter<R: Wait>(&self, rt: &R, now: Instant) -> Result<Iter<K, V, A>, OutOfMemory>
+        ensures ruled { IfOk result (λ pairs. PairsMeet P.holds pairs) }
+        ensures once { IfOk result (λ pairs. IsDistinct K.eq (map (λ p. p.0) pairs)) }
+    {
+        let inner = self.inner.get();
+        let mut pairs = Vec::new(inner.alloc().clone()?);
+        for number in 0..SHARDS {
+            inner.copy(rt, number, now, &mut pairs)?;
+        }
+        Ok(Iter::new(pairs))
+    }
+}
+
+impl<
+    K: Eq + Hash + Drop,
+    V: Drop,
+    S: BuildHasher + Drop,
+    P: PairRule<K, V>,
+    W: WeighShared<K, V>,
+    A: Allocator + Clone + Drop,
+> Cache<K, V, S, P, W, A> {
+    /// Whether a key has an unexpired value. That counts as no read.
+    pub fn contains_key<R: Wait>(&self, rt: &R, key: &K, now: Instant) -> bool
+        ensures call { CallsContains (locked_allows (keys_by K.Hash S.BuildHasher S.Hasher.Hasher) P.holds W.weighs) locked_decides
+            (pends_by locked_caller) CALLER key.now now (reply.Bool result) (resting_at self.now) (resting_at self.now) }
+    {
+        steps::contains_key(rt, &Locked::new(self.inner.get()), key, now)
+    }
+
+    /// Puts a value at a key, in place of the one that is there. The pair has to meet the rule. It is refused for want of memory, or where the key's
+    /// shard has no ticket left, and then the cache is as it was.
+    pub fn insert<R: Wait>(&self, rt: &R, key: K, value: V, now: Instant) -> Result<(), InsertError>
+        requires ruled { P.holds key value }
+        requires ready { W.ready self.now.weigher }
+        ensures call { (new : LockedValue S W) × CallsInsert (locked_allows (keys_by K.Hash S.BuildHasher S.Hasher.Hasher) P.holds W.weighs) locked_decides
+            (pends_by locked_caller) CALLER key value now (insert_reply result) (resting_at self.now) new }
+    {
+        let Some((key, value)) = shared(self.inner.get().alloc(), key, value) else {
+            return Err(InsertError::OutOfMemory);
+        };
+        steps::insert(rt, &mut Locked::new(self.inner.get()), key, value, now)
+    }
+
+    /// Takes the entry of a key out.
+    pub fn invalidate<R: Wait>(&self, rt: &R, key: &K, now: Instant)
+        ensures call { (new : LockedValue S W) × CallsInvalidate (locked_allows (keys_by K.Hash S.BuildHasher S.Hasher.Hasher) P.holds W.weighs) locked_decides
+            (pends_by locked_caller) CALLER key.now now reply.Done (resting_at self.now) new }
+    {
+        steps::invalidate(rt, &mut Locked::new(self.inner.get()), key, now);
+    }
+
+    /// Hides all entries that were inserted or read last before this moment. Those of the moment itself stay. It takes no lock.
+    pub fn invalidate_all(&self, now: Instant)
+        ensures call { (new : LockedValue S W) × CallsInvalidateAll
+            (locked_allows (keys_by K.Hash S.BuildHasher S.Hasher.Hasher) P.holds W.weighs) locked_decides
+            (pends_by locked_caller) CALLER now reply.Done (resting_at self.now) new }
+    {
+        steps::invalidate_all(&mut Locked::new(self.inner.get()), now);
+    }
+}
+
+impl<
+    K: Eq + Hash + Drop,
+    V: Clone,
+    S: BuildHasher + Drop,
+    P: PairRule<K, V>,
+    W: WeighShared<K, V>,
+    A: Allocator + Clone + Drop,
+> Cache<K, V, S, P, W, A> {
+    /// A clone of the unexpired value of a key, made when no lock is held.
+    pub fn get<R: Wait>(&self, rt: &R, key: &K, now: Instant) -> Result<Option<V>, OutOfMemory>
+        ensures call { (new : LockedValue S W) × AnswersGet (locked_allows (keys_by K.Hash S.BuildHasher S.Hasher.Hasher) P.holds W.weighs) locked_decides
+            locked_caller V.is_clone V.is_infallible key.now now result (resting_at self.now) new }
+
+        // It is a clone of a value that meets the rule with the key.
+        ensures ruled { IfOk result (λ found. IfSome found (λ copy. (value : V) × P.holds key.now value × V.is_clone value copy)) }
+    {
+        steps::get(rt, &mut Locked::new(self.inner.get()), key, now)
+    }
+
+    /// The same.
+    pub fn get_if_present<R: Wait>(
+        &self,
+        rt: &R,
+        key: &K,
+        now: Instant,
+    ) -> Result<Option<V>, OutOfMemory>
+        ensures call { (new : LockedValue S W) × AnswersGet (locked_allows (keys_by K.Hash S.BuildHasher S.Hasher.Hasher) P.holds W.weighs) locked_decides
+            locked_caller V.is_clone V.is_infallible key.now now result (resting_at self.now) new }
+        ensures ruled { IfOk result (λ found. IfSome found (λ copy. (value : V) × P.holds key.now value × V.is_clone value copy)) }
+    {
+        self.get(rt, key, now)
+    }
+
+    /// Takes the entry of a key out, and hands back a clone of its value where that is unexpired. The clone is made while the lock of the key's shard is
+    /// held, before the entry leaves: where it is refused, the cache is as it was. It counts as no read.
+    pub fn remove<R: Wait>(&self, rt: &R, key: &K, now: Instant) -> Result<Option<V>, OutOfMemory>
+        ensures call { (new : LockedValue S W) × AnswersRemove (locked_allows (keys_by K.Hash S.BuildHasher S.Hasher.Hasher) P.holds W.weighs)
+            locked_decides locked_caller V.is_clone V.is_infallible key.now now result (resting_at self.now) new }
+
+        // It is a clone of a value that meets the rule with the key.
+        ensures ruled { IfOk result (λ found. IfSome found (λ copy. (value : V) × P.holds key.now value × V.is_clone value copy)) }
+    {
+        steps::remove(rt, &mut Locked::new(self.inner.get()), key, now)
+    }
+}
+
+/// A key and a value as they are stored, unless memory is refused.
+fn shared<K: Drop, V: Drop, A: Allocator + Clone + Drop>(
+    alloc: &A,
+    key: K,
+    value: V,
+) -> Option<(Shared<K, A>, Shared<V, A>)>
+    ensures { IfSome result (λ pair. (pair.0 ≡ key) × (pair.1 ≡ value)) }
+{
+    let key = Shared::new(alloc.clone().ok()?, key).ok()?;
+    let value = Shared::new(alloc.clone().ok()?, value).ok()?;
+    Some((key, value))
+}
+
+/// A maintenance at a caller's word.
+pub trait ConcurrentCacheExt {
+    // What a whole maintenance is, at a moment.
+    ghost synced: { Self → ℕ → Type 0 };
+
+    /// Runs a whole maintenance, once nobody else does: it applies what is in the logs, takes out what is expired or too much, and publishes the counts.
+    fn sync<R: Wait>(&self, rt: &R, now: Instant)
+        ensures { synced self.now now };
+}
+
+impl<
+    K: Eq + Hash + Drop,
+    V: Drop,
+    S: BuildHasher + Drop,
+    P: PairRule<K, V>,
+    W: WeighShared<K, V>,
+    A: Allocator + Clone + Drop,
+> ConcurrentCacheExt for Cache<K, V, S, P, W, A> {
+    ghost synced = { λ cache now. (new : LockedValue S W) × CallsSync
+        (locked_allows (keys_by (record { eq = K.eq; hash_input = K.hash_input }) S.BuildHasher S.Hasher.Hasher) P.holds W.weighs)
+        locked_decides (pends_by locked_caller) CALLER now reply.Done (resting_at cache) new };
+
+    fn sync<R: Wait>(&self, rt: &R, now: Instant) {
+        steps::sync(rt, &mut Locked::new(self.inner.get()), now);
+    }
+}

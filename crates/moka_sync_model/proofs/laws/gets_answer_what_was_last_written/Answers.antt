@@ -1,0 +1,8 @@
+use Rattle.moka_common.specs.Keys.{keys_by}
+use Rattle.moka_sync_model.proofs.SentenceLemmas.{gets_last_written}
+use Rattle.moka_sync_model.proofs.laws.gets_answer_what_was_last_written.Goals as goal
+
+pub returns : goal.returns
+returns g c =
+    gets_last_written (keys_by (record { eq = g.K.PartialEq.eq; hash_input = g.K.Hash.hash_input }) g.S.BuildHasher g.S.Hasher.Hasher)
+    g.met.K.Eq.laws

@@ -1,0 +1,8 @@
+use Rattle.moka_common.specs.Keys.{keys_by}
+use Rattle.moka_sync_model.proofs.WeightLemmas.{runs_keep_weighed}
+use Rattle.moka_sync_model.proofs.laws.stored_weights_stay_answers.Goals as goal
+
+pub returns : goal.returns
+returns g c weigher =
+    runs_keep_weighed (keys_by (record { eq = g.K.PartialEq.eq; hash_input = g.K.Hash.hash_input }) g.S.BuildHasher g.S.Hasher.Hasher)
+    (g.W.WeighShared.weighs weigher) g.met.K.Eq.laws

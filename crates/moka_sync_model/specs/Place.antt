@@ -1,0 +1,72 @@
+-- Where a maintenance is, and what it has at hand there.
+use Rattle.std.specs.Prelude.{ℕ, Bool, true, false, List, [], ◌∷◌}
+use Rattle.moka_sync_model.specs.declared.at_hand.Work.{Work}
+use Rattle.moka_sync_model.specs.declared.at_hand.Candidate.{Candidate}
+use Rattle.moka_sync_model.specs.declared.at_hand.Tally.{Tally}
+use Rattle.moka_sync_model.specs.declared.operation.Read.{Read}
+use Rattle.moka_sync_model.specs.declared.operation.Write.{Write}
+use Rattle.moka_sync_model.specs.declared.operation.Write.TheVariants.{Upsert}
+use Rattle.moka_sync_model.specs.declared.place.Place.{Place as PlaceName}
+use Rattle.moka_sync_model.specs.declared.place.Place.TheVariants as name
+use Rattle.moka_sync_model.specs.declared.ticket.Ticket.{Ticket}
+
+-- a node that a scan has looked at: its entry stood, or was absent
+pub record Seen : Type 0 where
+  pub ticket : Ticket
+  pub is_present : Bool
+
+-- the places of a maintenance, each with what it has at hand
+pub data Place : Type 0 where
+  Idle : Place
+  ReadCount : ℕ → Place
+  Reads : Work → Place
+  ReadApply : Work → Read → Place
+  WriteCount : ℕ → Place
+  Writes : Work → Place
+  Apply : Work → Write → Place
+  -- the nodes seen so far are the first of the order of use
+  Scan : Work → Candidate → Tally → List Seen → Place
+  -- the nodes that are skipped, and after them those still to be removed, are the first of the order of use
+  Removing : Work → Candidate → Tally → List Ticket → List Seen → Place
+  Enter : Work → Candidate → List Ticket → Place
+  Sketch : ℕ → Place
+  MoreReads : ℕ → Place
+  MoreWrites : ℕ → Place
+  -- with how many turns were used
+  ExpireWrite : ℕ → Place
+  ExpireAccess : ℕ → Place
+  Evict : ℕ → Place
+  Publish : ℕ → Place
+
+-- the name of a place, without what it has at hand
+abbrev pub name_of : Place → PlaceName
+name_of Idle = name.Idle
+name_of (ReadCount round) = name.ReadCount
+name_of (Reads work) = name.Reads
+name_of (ReadApply work read) = name.ReadApply
+name_of (WriteCount round) = name.WriteCount
+name_of (Writes work) = name.Writes
+name_of (Apply work write) = name.Apply
+name_of (Scan work candidate tally seen) = name.Scan
+name_of (Removing work candidate tally skipped seen) = name.Removing
+name_of (Enter work candidate skipped) = name.Enter
+name_of (Sketch round) = name.Sketch
+name_of (MoreReads round) = name.MoreReads
+name_of (MoreWrites round) = name.MoreWrites
+name_of (ExpireWrite turns) = name.ExpireWrite
+name_of (ExpireAccess turns) = name.ExpireAccess
+name_of (Evict turns) = name.Evict
+name_of (Publish turns) = name.Publish
+
+-- whether no maintenance is under way
+abbrev pub is_idle : Place → Bool
+is_idle Idle = true
+is_idle other = false
+
+-- the write that a place holds
+abbrev pub held : Place → List Write
+held (Apply work write) = write ∷ []
+held (Scan work candidate tally seen) = Upsert candidate.ticket ∷ []
+held (Removing work candidate tally skipped seen) = Upsert candidate.ticket ∷ []
+held (Enter work candidate skipped) = Upsert candidate.ticket ∷ []
+held place = []

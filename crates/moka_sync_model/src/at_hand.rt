@@ -1,0 +1,70 @@
+//! What a maintenance keeps at some of its places.
+ghost use Rattle.std.specs.Prelude.{◌≡◌, ◌-◌};
+ghost use Rattle.moka_sync_model.specs.Turn.Admission.{is_admitted, is_decided};
+
+use crate::constants::MAX_ABSENT;
+use crate::ticket::Ticket;
+
+/// A round, and how many operations of this part of it are left.
+#[derive(Clone, Copy)]
+pub struct Work {
+    pub round: usize,
+    pub left: usize,
+}
+
+impl Work {
+    /// What is left once an operation is taken.
+    pub fn less_one(self) -> Work
+        ensures round { result.round ≡ self.round }
+        ensures left { result.left ≡ self.left - 1 }
+    {
+        self.less(1)
+    }
+
+    /// What is left once `count` more are taken.
+    pub fn less(self, count: usize) -> Work
+        ensures round { result.round ≡ self.round }
+        ensures left { result.left ≡ self.left - count }
+    {
+        Work {
+            round: self.round,
+            left: self.left.saturating_sub(count),
+        }
+    }
+}
+
+/// An entry that asks to enter, with its weight and its estimate as they were applied.
+#[derive(Clone, Copy)]
+pub struct Candidate {
+    pub ticket: Ticket,
+    pub weight: u32,
+    pub estimate: u8,
+}
+
+/// What a scan has found: the weights and the estimates of the present ones together, and how many absent ones came last in a row.
+#[derive(Clone, Copy)]
+pub struct Tally {
+    pub weight: u64,
+    pub estimate: u32,
+    pub absent: usize,
+}
+
+impl Tally {
+    /// Whether what was found decides: the present ones weigh enough, or are used more, or too many in a row were absent.
+    #[inline]
+    pub fn decides(&self, candidate: &Candidate) -> bool
+        ensures { result ≡ is_decided candidate.now self.now }
+    {
+        u64::from(candidate.weight) <= self.weight
+            || u32::from(candidate.estimate) < self.estimate
+            || MAX_ABSENT <= self.absent
+    }
+
+    /// Whether the candidate is admitted: the present ones weigh enough, and it is used more than all of them together.
+    #[inline]
+    pub fn admits(&self, candidate: &Candidate) -> bool
+        ensures { result ≡ is_admitted candidate.now self.now }
+    {
+        u64::from(candidate.weight) <= self.weight && self.estimate < u32::from(candidate.estimate)
+    }
+}

@@ -1,0 +1,8 @@
+use Rattle.moka_common.specs.Keys.{keys_by}
+use Rattle.moka_unsync_model.proofs.HistoryLemmas.{contains_as_get}
+use Rattle.moka_unsync_model.proofs.history.contains_as_get.Goals as goal
+
+pub returns : goal.returns
+returns g c =
+    contains_as_get (keys_by (record { eq = g.K.PartialEq.eq; hash_input = g.K.Hash.hash_input }) g.S.BuildHasher g.S.Hasher.Hasher)
+    g.W.Weigh.weighs

@@ -1,0 +1,8 @@
+use Rattle.moka_common.specs.Keys.{keys_by}
+use Rattle.moka_unsync_model.proofs.LimitLemmas.{stays_within}
+use Rattle.moka_unsync_model.proofs.laws.entry_count_stays_within_the_limit.Goals as goal
+
+pub returns : goal.returns
+returns g c =
+    stays_within (keys_by (record { eq = g.K.PartialEq.eq; hash_input = g.K.Hash.hash_input }) g.S.BuildHasher g.S.Hasher.Hasher)
+    g.met.K.Eq.laws g.W.Weigh.weighs

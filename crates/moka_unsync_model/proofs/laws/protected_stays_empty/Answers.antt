@@ -1,0 +1,8 @@
+use Rattle.moka_common.specs.Keys.{keys_by}
+use Rattle.moka_unsync_model.proofs.ShareLemmas.{stays_empty}
+use Rattle.moka_unsync_model.proofs.laws.protected_stays_empty.Goals as goal
+
+pub returns : goal.returns
+returns g c =
+    stays_empty (keys_by (record { eq = g.K.PartialEq.eq; hash_input = g.K.Hash.hash_input }) g.S.BuildHasher g.S.Hasher.Hasher)
+    g.W.Weigh.weighs

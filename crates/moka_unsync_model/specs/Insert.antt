@@ -1,0 +1,123 @@
+-- What an insert leaves.
+use Rattle.std.specs.Prelude.{◌≡◌, ◌<◌, ◌≤◌, ◌^◌, ℕ, Bool, true, false, List, [], ◌∷◌, ◌++◌, length, is_some, Option, Some, None, if◌then◌else◌}
+use Rattle.moka_common.specs.Enabling.{enables_sketch, capacity_asked}
+use Rattle.moka_common.specs.Keys.{Keys}
+use Rattle.moka_common.specs.Sketch.{Table}
+use Rattle.moka_common.specs.SketchCapacity.{after_ensure_capacity}
+use Rattle.moka_unsync_model.specs.declared.entry.Entry.{Entry}
+use Rattle.moka_unsync_model.specs.declared.entry.Part.TheVariants.{Probation, Window}
+use Rattle.moka_unsync_model.specs.Contents.{Contents, Write, total_weight, entry_keys, entry_at, writes_without, after_leaving, with_latest}
+use Rattle.moka_unsync_model.specs.CacheState.{CacheState, room_of, windowed}
+use Rattle.moka_common.specs.Settings.{Settings, keeps_writes}
+use Rattle.moka_unsync_model.specs.declared.shares.PartLimits.{PartLimits}
+use Rattle.moka_unsync_model.specs.Lookup.{after_using}
+use Rattle.moka_unsync_model.specs.Upkeep.{after_upkeep}
+use Rattle.moka_unsync_model.specs.Window.{candidates, victims_of, after_candidates}
+
+-- the writes with one more, where they are kept
+abbrev pub with_write : {K : Type 0} → Bool → List (Write K) → K → ℕ → List (Write K)
+with_write true written key now = written ++ record { key = key; modified = now } ∷ []
+with_write false written key now = written
+
+module _ {K V : Type 0} (eq : K → K → Bool) where
+  -- the contents once an entry has another's value, weight and moments: it keeps its key, is used, and is the most recent of the writes
+  abbrev pub after_update : Bool → ℕ → Entry K V → Entry K V → Contents K V → Contents K V
+  after_update keeps room old new contents =
+      record (after_using eq room (record new { key = old.key; hash = old.hash; part = old.part }) contents) {
+        written = with_write keeps (writes_without eq old.key contents.written) old.key new.modified;
+      }
+
+  -- the contents once a new entry is the most recent of its part, and of the writes
+  abbrev pub after_arrival : Bool → Entry K V → Contents K V → Contents K V
+  after_arrival keeps new contents =
+      record { entries = with_latest new contents.entries; written = with_write keeps contents.written new.key new.modified }
+
+  -- the same for one of the window, which is the most recent of all
+  abbrev pub after_entry : Bool → Entry K V → Contents K V → Contents K V
+  after_entry keeps new contents =
+      record { entries = contents.entries ++ new ∷ []; written = with_write keeps contents.written new.key new.modified }
+
+  -- the contents once a new entry was admitted in place of these, or was rejected
+  abbrev pub after_admission : Bool → Entry K V → Option (List (Entry K V)) → Contents K V → Contents K V
+  after_admission keeps new None contents = contents
+  after_admission keeps new (Some gone) contents = after_arrival keeps new (after_leaving eq (entry_keys gone) contents)
+
+  -- the contents once a new entry entered the window, and what then has to leave it were candidates for main
+  abbrev pub after_entering : Bool → PartLimits → Option Table → Entry K V → Contents K V → Contents K V
+  after_entering keeps limits sketch new contents =
+      let entered = after_entry keeps (record new { part = Window }) contents in
+      after_candidates eq limits sketch (candidates limits entered.entries) entered
+
+-- the sketch once a table was asked for, if these contents ask for one, and whether memory refuses it
+abbrev pub after_enabling : {K V S : Type 0} → Settings S → Option ℕ → Option Table → Contents K V → Bool → Option Table
+after_enabling settings None sketch contents refused = sketch
+after_enabling settings (Some limit) sketch contents true = sketch
+after_enabling settings (Some limit) sketch contents false =
+    if enables_sketch (Some limit) sketch (total_weight contents.entries) then
+    after_ensure_capacity sketch (capacity_asked settings.is_weighed limit (length contents.entries) (total_weight contents.entries))
+    else sketch
+
+module _ {K V S W : Type 0} (eq : K → K → Bool) where
+  -- the cache once it has asked whether to turn its sketch on
+  abbrev pub after_asking : Bool → CacheState K V S W → CacheState K V S W
+  after_asking refused cache =
+      record cache { sketch = after_enabling cache.settings cache.settings.policy.max_capacity cache.sketch cache.contents refused }
+
+  -- the cache once a new entry was admitted in place of these, or was rejected
+  abbrev pub after_verdict : CacheState K V S W → Entry K V → Option (List (Entry K V)) → Bool → CacheState K V S W
+  after_verdict cache new None refused = cache
+  after_verdict cache new (Some gone) refused =
+      after_asking refused (record cache {
+        contents = after_admission eq (keeps_writes cache.settings.policy) new (Some gone) cache.contents;
+      })
+
+  -- the cache once a new entry entered the window: it asks whether to turn its sketch on if that entry stands
+  abbrev pub after_standing : CacheState K V S W → Entry K V → Bool → CacheState K V S W
+  after_standing cache new refused =
+      if is_some (entry_at eq new.key cache.contents.entries) then after_asking refused cache else cache
+
+  -- the cache once a new entry was put, where there is a window or none
+  abbrev pub after_new : CacheState K V S W → Option PartLimits → Entry K V → Bool → CacheState K V S W
+  after_new cache None new refused =
+      after_verdict cache new (victims_of cache.settings.policy.max_capacity cache.sketch new cache.contents.entries) refused
+  after_new cache (Some limits) new refused =
+      let contents = after_entering eq (keeps_writes cache.settings.policy) limits cache.sketch new cache.contents in
+      after_standing (record cache { contents = contents }) new refused
+
+  -- the cache once an entry was put at its key, where one stands or none
+  abbrev pub after_put : CacheState K V S W → Option (Entry K V) → Entry K V → Bool → CacheState K V S W
+  after_put cache (Some old) new refused =
+      record cache { contents = after_update eq (keeps_writes cache.settings.policy) (room_of cache) old new cache.contents }
+  after_put cache None new refused = after_new cache (windowed cache) new refused
+
+  -- the cache after an insert that had its room: upkeep, and then the entry is put
+  abbrev pub after_insert : CacheState K V S W → Entry K V → ℕ → Bool → CacheState K V S W
+  after_insert cache new now refused =
+      let kept = after_upkeep eq cache.settings.policy now cache.contents in
+      after_put (record cache { contents = kept }) (entry_at eq new.key kept.entries) new refused
+
+-- the entry of a key, as it is written
+abbrev pub new_entry : {K V S : Type 0} → Keys K S → S → K → V → ℕ → ℕ → Entry K V
+new_entry keys state key value weight now =
+    record { key = key; value = value; hash = keys.hash_of state key; weight = weight; part = Probation; accessed = now; modified = now }
+
+module _ {K V S W : Type 0} where
+  -- there was no room for one more entry, and all is as it was, but that there may be another room
+  pub record IsRefused (old new : CacheState K V S W) : Type 0 where
+    pub full : old.capacity ≤ length old.contents.entries
+    pub same : new ≡ record old { capacity = new.capacity }
+
+module _ {K V S W : Type 0} (keys : Keys K S) where
+  -- there was room or it was made, the weigher was asked once, and the entry is put with its answer, whether or not memory refuses a table
+  pub record IsInserted (weighs : W → K → V → ℕ → W → Type 0) (old : CacheState K V S W) (key : K) (value : V) (now : ℕ)
+      (new : CacheState K V S W) : Type 0 where
+    pub weight : ℕ
+    pub weigher : W
+    pub refused : Bool
+    pub capacity : ℕ
+    pub grown : length old.contents.entries < capacity
+    pub kept : length old.contents.entries < old.capacity → capacity ≡ old.capacity
+    pub weighed : weighs old.weigher key value weight weigher
+    pub small : weight < 2 ^ 32
+    pub step : new ≡ after_insert keys.eq (record old { weigher = weigher; capacity = capacity })
+        (new_entry keys old.settings.hash_state key value weight now) now refused

@@ -1,0 +1,254 @@
+-- What a contract sees of the laws of the cache, which `src/laws.rt` promises, but for those of a plain map.
+use Rattle.std.specs.Prelude.{◌≡◌, ◌≢◌, ◌↔◌, ◌<◌, ◌≤◌, ◌^◌, ℕ, Bool, true, false, List, [], ◌∷◌, ◌++◌, All, filter, length, map, Option, Some, None, IsSome}
+use Rattle.std.specs.Prelude.{option_map}
+use Rattle.std.specs.List.{AllByRecursion, IsDistinct, find}
+use Rattle.moka_common.specs.Keys.{Keys}
+use Rattle.moka_unsync_model.specs.Contents.{Contents, entry_at, entry_keys, is_window, main_of, total_weight, window_of, write_of, probation_of, protected_of}
+use Rattle.moka_unsync_model.specs.declared.entry.Entry.{Entry}
+use Rattle.moka_unsync_model.specs.declared.entry.Part.TheVariants.{Probation, Protected, Window}
+use Rattle.moka_unsync_model.specs.CacheState.{CacheState, new_cache, room_of}
+use Rattle.moka_unsync_model.specs.Upkeep.{least_recent}
+use Rattle.moka_unsync_model.specs.Insert.{after_entry}
+use Rattle.moka_unsync_model.specs.Window.{after_candidate, candidates, victims_of}
+use Rattle.moka_common.specs.Sketch.{Table}
+use Rattle.moka_unsync_model.specs.OneList
+use Rattle.moka_common.specs.Settings.{Settings, keeps_writes}
+use Rattle.moka_unsync_model.specs.Lookup.{after_get, after_look, unexpired_at}
+use Rattle.moka_unsync_model.specs.GetOrInsert.{IsGot, IsPutBehind, IsRefusedBehind}
+use Rattle.moka_unsync_model.specs.Step.{Answer, IsStep, Done, Found, OutOfMemory, Request, Runs, Get, Peek, ContainsKey, Insert, Invalidate, Remove}
+use Rattle.moka_unsync_model.specs.Step.{InvalidateAll, InvalidateEntriesIf, Iterate, EntryCount, WeightedSize}
+use Rattle.moka_unsync_model.specs.declared.shares.Shares.{Shares}
+use Rattle.moka_unsync_model.specs.declared.shares.PartLimits.{PartLimits}
+use Rattle.moka_unsync_model.specs.Shares.{default_shares, main_limit, protected_room, windowed_limits}
+
+-- ---- limits and keys
+
+module _ {K V S W : Type 0} (keys : Keys K S) (weighs : W → K → V → ℕ → W → Type 0) where
+  -- from a new cache with a limit, whose weigher weighs each entry 1, no calls lead to more entries than that
+  abbrev pub StaysWithinLimit : Type 0
+  StaysWithinLimit =
+      ((old new : W) (key : K) (value : V) (weight : ℕ) → weighs old key value weight new → weight ≡ 1) →
+      (settings : Settings S) (shares : Shares) (weigher : W) (capacity limit : ℕ) (requests : List (Request K V)) (answers : List (Answer K V))
+      (cache : CacheState K V S W) →
+      settings.policy.max_capacity ≡ Some limit → Runs keys weighs (new_cache settings shares weigher capacity) requests answers cache →
+      length cache.contents.entries ≤ limit
+
+  -- from a new cache with a limit below its capacity, whose weigher weighs each entry 1, no call is refused, and the capacity stays
+  abbrev pub NeverRefuses : Type 0
+  NeverRefuses =
+      ((old new : W) (key : K) (value : V) (weight : ℕ) → weighs old key value weight new → weight ≡ 1) →
+      (settings : Settings S) (shares : Shares) (weigher : W) (capacity limit : ℕ) (requests : List (Request K V)) (answers : List (Answer K V))
+      (cache : CacheState K V S W) →
+      settings.policy.max_capacity ≡ Some limit → limit < capacity →
+      Runs keys weighs (new_cache settings shares weigher capacity) requests answers cache →
+      AllByRecursion (λ answer. answer ≢ OutOfMemory) answers × (cache.capacity ≡ capacity)
+
+  -- the call is an insert at a key that is there when it acts
+  abbrev pub IsUpdate : CacheState K V S W → Request K V → Type 0
+  IsUpdate old request =
+      (key : K) × (value : V) × (now : ℕ) × (request ≡ Insert key value now)
+      × IsSome (entry_at keys.eq key (after_look keys old now).contents.entries)
+
+  -- a call that leaves more weight than it found, and more than the limit, is an insert at a key that is there
+  abbrev pub OnlyUpdatesOutgrowLimit : Type 0
+  OnlyUpdatesOutgrowLimit =
+      (old new : CacheState K V S W) (request : Request K V) (answer : Answer K V) (limit : ℕ) →
+      old.settings.policy.max_capacity ≡ Some limit → IsStep keys weighs old request answer new →
+      total_weight old.contents.entries < total_weight new.contents.entries → limit < total_weight new.contents.entries
+      → IsUpdate old request
+
+  -- from a new cache no calls lead to a key with two entries
+  abbrev pub KeysStandOnce : Type 0
+  KeysStandOnce =
+      (settings : Settings S) (shares : Shares) (weigher : W) (capacity : ℕ) (requests : List (Request K V)) (answers : List (Answer K V))
+      (cache : CacheState K V S W) →
+      Runs keys weighs (new_cache settings shares weigher capacity) requests answers cache → IsDistinct keys.eq (entry_keys cache.contents.entries)
+
+-- ---- main and the window
+
+module _ {K V S W : Type 0} (keys : Keys K S) (weighs : W → K → V → ℕ → W → Type 0) where
+  -- from a new cache all calls leave the entries of main first, and behind them those of the window
+  abbrev pub WindowStandsBehind : Type 0
+  WindowStandsBehind =
+      (settings : Settings S) (shares : Shares) (weigher : W) (capacity : ℕ) (requests : List (Request K V)) (answers : List (Answer K V))
+      (cache : CacheState K V S W) →
+      Runs keys weighs (new_cache settings shares weigher capacity) requests answers cache →
+      cache.contents.entries ≡ main_of cache.contents.entries ++ window_of cache.contents.entries
+
+  -- and those of main in two parts, probation first
+  abbrev pub PartsStandInOrder : Type 0
+  PartsStandInOrder =
+      (settings : Settings S) (shares : Shares) (weigher : W) (capacity : ℕ) (requests : List (Request K V)) (answers : List (Answer K V))
+      (cache : CacheState K V S W) →
+      Runs keys weighs (new_cache settings shares weigher capacity) requests answers cache →
+      cache.contents.entries
+      ≡ probation_of cache.contents.entries ++ (protected_of cache.contents.entries ++ window_of cache.contents.entries)
+
+  -- from a new cache without a limit, or with one of which the window's share is nothing, no calls lead to an entry in the window
+  abbrev pub WindowStaysEmpty : Type 0
+  WindowStaysEmpty =
+      (settings : Settings S) (shares : Shares) (weigher : W) (capacity : ℕ) (requests : List (Request K V)) (answers : List (Answer K V))
+      (cache : CacheState K V S W) →
+      windowed_limits shares settings.policy.max_capacity ≡ None →
+      Runs keys weighs (new_cache settings shares weigher capacity) requests answers cache → window_of cache.contents.entries ≡ []
+
+  -- from a new cache no calls lead to more weight in protected than its share
+  abbrev pub ProtectedStaysWithinShare : Type 0
+  ProtectedStaysWithinShare =
+      (settings : Settings S) (shares : Shares) (weigher : W) (capacity : ℕ) (requests : List (Request K V)) (answers : List (Answer K V))
+      (cache : CacheState K V S W) →
+      Runs keys weighs (new_cache settings shares weigher capacity) requests answers cache →
+      total_weight (protected_of cache.contents.entries) ≤ protected_room shares settings.policy.max_capacity
+
+  -- from a new cache of which protected's share is nothing, no calls lead to an entry in protected
+  abbrev pub ProtectedStaysEmpty : Type 0
+  ProtectedStaysEmpty =
+      (settings : Settings S) (shares : Shares) (weigher : W) (capacity : ℕ) (requests : List (Request K V)) (answers : List (Answer K V))
+      (cache : CacheState K V S W) →
+      protected_room shares settings.policy.max_capacity ≡ 0 →
+      Runs keys weighs (new_cache settings shares weigher capacity) requests answers cache → protected_of cache.contents.entries ≡ []
+
+  -- from a new cache, a get that finds an entry of main which protected has room for at all leaves it in protected, whatever was there
+  abbrev pub HitsAreProtected : Type 0
+  HitsAreProtected =
+      (settings : Settings S) (shares : Shares) (weigher : W) (capacity : ℕ) (requests : List (Request K V)) (answers : List (Answer K V))
+      (cache : CacheState K V S W) →
+      Runs keys weighs (new_cache settings shares weigher capacity) requests answers cache → (key : K) (now : ℕ) (e : Entry K V) →
+      unexpired_at keys.eq cache.settings.policy now key (after_look keys cache now).contents ≡ Some e → is_window e.part ≡ false →
+      0 < room_of cache → e.weight ≤ room_of cache →
+      entry_at keys.eq key (after_get keys cache key now).contents.entries ≡ Some (record e { accessed = now; part = Protected })
+
+  -- with the shares that are set where nothing else is, calls lead from a new cache to one that does what one with main as one list does
+  abbrev pub IsCacheOfOneList : Type 0
+  IsCacheOfOneList =
+      (settings : Settings S) (weigher : W) (capacity : ℕ) (requests : List (Request K V)) (answers : List (Answer K V)) (cache : CacheState K V S W) →
+      Runs keys weighs (new_cache settings default_shares weigher capacity) requests answers cache →
+      (request : Request K V) (answer : Answer K V) (next : CacheState K V S W) →
+      IsStep keys weighs cache request answer next ↔ OneList.IsStep keys weighs cache request answer next
+
+-- ---- entries and their writes
+
+-- where writes are kept they are those of the entries, each key once; elsewhere there are none
+abbrev pub AreWritesOf : {K V : Type 0} → (K → K → Bool) → Bool → Contents K V → Type 0
+AreWritesOf {K} eq true contents =
+    IsDistinct eq (map (λ w. w.key) contents.written)
+    × ((key : K) → find (λ w. eq key w.key) contents.written ≡ option_map write_of (entry_at eq key contents.entries))
+AreWritesOf eq false contents = contents.written ≡ []
+
+module _ {K V S W : Type 0} (keys : Keys K S) (weighs : W → K → V → ℕ → W → Type 0) where
+  -- from a new cache all calls leave the entries' writes: with a time to live each entry's key and moment, and else none
+  abbrev pub WritesFollowEntries : Type 0
+  WritesFollowEntries =
+      (settings : Settings S) (shares : Shares) (weigher : W) (capacity : ℕ) (requests : List (Request K V)) (answers : List (Answer K V))
+      (cache : CacheState K V S W) →
+      Runs keys weighs (new_cache settings shares weigher capacity) requests answers cache →
+      AreWritesOf keys.eq (keeps_writes cache.settings.policy) cache.contents
+
+  -- from a new cache each entry has its key's hash, and a weight of 32 bits
+  abbrev pub EntriesAreOwn : Type 0
+  EntriesAreOwn =
+      (settings : Settings S) (shares : Shares) (weigher : W) (capacity : ℕ) (requests : List (Request K V)) (answers : List (Answer K V))
+      (cache : CacheState K V S W) →
+      Runs keys weighs (new_cache settings shares weigher capacity) requests answers cache →
+      All (λ e. (e.hash ≡ keys.hash_of cache.settings.hash_state e.key) × (e.weight < 2 ^ 32)) cache.contents.entries
+
+-- ---- looks and invalidations
+
+module _ {K V : Type 0} where
+  -- the call asks something, and is no use of an entry
+  abbrev pub IsLook : Request K V → Type 0
+  IsLook (Get key now) = ⊥
+  IsLook (Peek key now) = Unit {0}
+  IsLook (ContainsKey key now) = Unit {0}
+  IsLook (Insert key value now) = ⊥
+  IsLook (Invalidate key now) = ⊥
+  IsLook (Remove key now) = ⊥
+  IsLook InvalidateAll = ⊥
+  IsLook (InvalidateEntriesIf answers) = ⊥
+  IsLook (Iterate now) = Unit {0}
+  IsLook EntryCount = Unit {0}
+  IsLook WeightedSize = Unit {0}
+
+  -- the call is an invalidation or a removal
+  abbrev pub IsInvalidation : Request K V → Type 0
+  IsInvalidation (Get key now) = ⊥
+  IsInvalidation (Peek key now) = ⊥
+  IsInvalidation (ContainsKey key now) = ⊥
+  IsInvalidation (Insert key value now) = ⊥
+  IsInvalidation (Invalidate key now) = Unit {0}
+  IsInvalidation (Remove key now) = Unit {0}
+  IsInvalidation InvalidateAll = Unit {0}
+  IsInvalidation (InvalidateEntriesIf answers) = Unit {0}
+  IsInvalidation (Iterate now) = ⊥
+  IsInvalidation EntryCount = ⊥
+  IsInvalidation WeightedSize = ⊥
+
+  -- some entries and writes have left, and all others are as they were, in the same order
+  pub record Remains (old new : Contents K V) : Type 0 where
+    pub stays : K → Bool
+    pub entries : new.entries ≡ filter (λ e. stays e.key) old.entries
+    pub written : new.written ≡ filter (λ w. stays w.key) old.written
+
+module _ {K V S W : Type 0} (keys : Keys K S) (weighs : W → K → V → ℕ → W → Type 0) where
+  -- a look counts nothing, and what remains of it is as it was
+  abbrev pub LooksChangeNothing : Type 0
+  LooksChangeNothing =
+      (old new : CacheState K V S W) (request : Request K V) (answer : Answer K V) → IsLook request →
+      IsStep keys weighs old request answer new →
+      (new.sketch ≡ old.sketch) × Remains old.contents new.contents
+
+  -- an invalidation or a removal keeps what was counted, and what remains of it is as it was
+  abbrev pub InvalidationsKeepCounts : Type 0
+  InvalidationsKeepCounts =
+      (old new : CacheState K V S W) (request : Request K V) (answer : Answer K V) → IsInvalidation request →
+      IsStep keys weighs old request answer new →
+      (new.sketch ≡ old.sketch) × Remains old.contents new.contents
+
+-- ---- what leaves before entries of protected
+
+module _ {K V : Type 0} where
+  -- those that give way to an entry of these contents are of probation, if that weighs as much as the entry
+  abbrev pub TakesProbationFirst : ℕ → Option Table → Entry K V → Contents K V → Type 0
+  TakesProbationFirst limit sketch new contents =
+      (gone : List (Entry K V)) → victims_of (Some limit) sketch new (main_of contents.entries) ≡ Some gone →
+      new.weight ≤ total_weight (probation_of contents.entries) → All (λ e. e.part ≡ Probation) gone
+
+  -- so it is for each of these candidates, one after another
+  abbrev pub TakeProbationFirst : (K → K → Bool) → PartLimits → Option Table → List (Entry K V) → Contents K V → Type 0
+  TakeProbationFirst eq limits sketch [] contents = Unit {0}
+  TakeProbationFirst eq limits sketch (c ∷ cs) contents =
+      TakesProbationFirst (main_limit limits) sketch c contents
+      × TakeProbationFirst eq limits sketch cs (after_candidate eq limits sketch contents c)
+
+module _ {K V S W : Type 0} (keys : Keys K S) (weighs : W → K → V → ℕ → W → Type 0) where
+  -- of what remains of the contents that calls lead to from a new cache, no entry of protected leaves for want of room where probation suffices: not for
+  -- the limit, not for a new entry, and not for a candidate once a new entry entered the window
+  pub record ProtectedGivesWayLast : Type 0 where
+    pub trim : (settings : Settings S) (shares : Shares) (weigher : W) (capacity : ℕ) (requests : List (Request K V)) (answers : List (Answer K V))
+        (cache : CacheState K V S W) → Runs keys weighs (new_cache settings shares weigher capacity) requests answers cache →
+        (kept : Contents K V) → Remains cache.contents kept →
+        (above : ℕ) → above ≤ total_weight (probation_of kept.entries) → All (λ e. e.part ≡ Probation) (least_recent above kept.entries)
+    pub admission : (settings : Settings S) (shares : Shares) (weigher : W) (capacity : ℕ) (requests : List (Request K V))
+        (answers : List (Answer K V)) (cache : CacheState K V S W) →
+        Runs keys weighs (new_cache settings shares weigher capacity) requests answers cache →
+        (kept : Contents K V) → Remains cache.contents kept →
+        (limit : ℕ) (sketch : Option Table) (new : Entry K V) → TakesProbationFirst limit sketch new kept
+    pub candidates : (settings : Settings S) (shares : Shares) (weigher : W) (capacity : ℕ) (requests : List (Request K V))
+        (answers : List (Answer K V)) (cache : CacheState K V S W) →
+        Runs keys weighs (new_cache settings shares weigher capacity) requests answers cache →
+        (kept : Contents K V) → Remains cache.contents kept →
+        (keeps : Bool) (limits : PartLimits) (sketch : Option Table) (new : Entry K V) →
+        let entered = after_entry keys.eq keeps (record new { part = Window }) kept in
+        TakeProbationFirst keys.eq limits sketch (candidates limits entered.entries) entered
+
+-- ---- gets or inserts
+
+module _ {K V S W : Type 0} (keys : Keys K S) (weighs : W → K → V → ℕ → W → Type 0) where
+  -- a get or insert is a run: of a get, or of a get that finds nothing and an insert, which may be refused
+  pub record GetsOrInsertsAreRuns : Type 0 where
+    pub got : (old new : CacheState K V S W) (key : K) (value : V) (now : ℕ) → IsGot keys old key now value new
+        → Runs keys weighs old (Get key now ∷ []) (Found (Some value) ∷ []) new
+    pub inserted : (old new : CacheState K V S W) (key : K) (value : V) (now : ℕ) → IsPutBehind keys old key now weighs value new
+        → Runs keys weighs old (Get key now ∷ Insert key value now ∷ []) (Found None ∷ Done ∷ []) new
+    pub refused : (old new : CacheState K V S W) (key : K) (value : V) (now : ℕ) → IsRefusedBehind keys old key now new
+        → Runs keys weighs old (Get key now ∷ Insert key value now ∷ []) (Found None ∷ OutOfMemory ∷ []) new

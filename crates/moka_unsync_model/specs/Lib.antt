@@ -1,0 +1,17 @@
+pub mod Contents
+pub mod Shares
+pub mod CacheState
+pub mod Upkeep
+pub mod Lookup
+pub mod Window
+pub mod Insert
+pub mod Invalidate
+pub mod Iterate
+pub mod GetOrInsert
+pub mod Step
+pub mod Laws
+pub mod OneList
+pub mod PlainMap
+pub mod History
+pub mod Removal
+pub mod Excluded

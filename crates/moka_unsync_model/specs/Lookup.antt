@@ -1,0 +1,65 @@
+-- What look-ups answer and leave.
+use Rattle.std.specs.Prelude.{ℕ, Bool, ◌&&◌, nat_le, nat_lt, is_some, Option, Some, None, option_map, if◌then◌else◌}
+use Rattle.moka_common.specs.Keys.{Keys}
+use Rattle.moka_common.specs.Policy.{Policy}
+use Rattle.moka_common.specs.Sketch.{after_increment}
+use Rattle.moka_unsync_model.specs.declared.entry.Entry.{Entry}
+use Rattle.moka_unsync_model.specs.declared.entry.Part.{Part}
+use Rattle.moka_unsync_model.specs.declared.entry.Part.TheVariants.{Probation, Protected, Window}
+use Rattle.moka_unsync_model.specs.Contents.{Contents, entry_at, after_moving, balanced, is_window}
+use Rattle.moka_unsync_model.specs.CacheState.{CacheState, room_of}
+use Rattle.moka_unsync_model.specs.Upkeep.{after_upkeep, unexpired}
+
+-- where an entry of this part and weight is once it was used: in main it is protected, if that has room for it at all
+abbrev pub used_part : ℕ → Part → ℕ → Part
+used_part room part weight =
+    if is_window part then Window
+    else if nat_lt 0 room && nat_le weight room then Protected
+    else Probation
+
+module _ {K V : Type 0} (eq : K → K → Bool) where
+  -- the contents once an entry, which may be another than the one at its key, was used: it is the most recent of its part, and protected weighs no
+  -- more than this
+  abbrev pub after_using : ℕ → Entry K V → Contents K V → Contents K V
+  after_using room entry contents =
+      let moved = after_moving eq (record entry { part = used_part room entry.part entry.weight }) contents in
+      record moved { entries = balanced room moved.entries }
+
+  -- the unexpired entry of a key
+  abbrev pub unexpired_at : Policy → ℕ → K → Contents K V → Option (Entry K V)
+  unexpired_at policy now key contents = unexpired policy now (entry_at eq key contents.entries)
+
+  -- the contents once an entry was used then, or none was found
+  abbrev pub after_use : ℕ → ℕ → Option (Entry K V) → Contents K V → Contents K V
+  after_use room now None contents = contents
+  after_use room now (Some used) contents = after_using room (record used { accessed = now }) contents
+
+  -- the contents once a key was looked for: its unexpired entry is used
+  abbrev pub after_search : ℕ → Policy → ℕ → K → Contents K V → Contents K V
+  after_search room policy now key contents = after_use room now (unexpired_at policy now key contents) contents
+
+module _ {K V S W : Type 0} (keys : Keys K S) where
+  -- the cache after a call that only looks: upkeep
+  abbrev pub after_look : CacheState K V S W → ℕ → CacheState K V S W
+  after_look cache now = record cache { contents = after_upkeep keys.eq cache.settings.policy now cache.contents }
+
+  -- the cache after a get: upkeep, then the key is counted, and its unexpired entry is used
+  abbrev pub after_get : CacheState K V S W → K → ℕ → CacheState K V S W
+  after_get cache key now =
+      record cache {
+        contents = after_search keys.eq (room_of cache) cache.settings.policy now key (after_look cache now).contents;
+        sketch = after_increment cache.sketch (keys.hash_of cache.settings.hash_state key);
+      }
+
+  -- what a get finds, or a removal
+  abbrev pub found_by_get : CacheState K V S W → K → ℕ → Option V
+  found_by_get cache key now =
+      option_map (λ e. e.value) (unexpired_at keys.eq cache.settings.policy now key (after_look cache now).contents)
+
+  -- what a peek finds: the unexpired value as the cache stands
+  abbrev pub found_by_peek : CacheState K V S W → K → ℕ → Option V
+  found_by_peek cache key now = option_map (λ e. e.value) (unexpired_at keys.eq cache.settings.policy now key cache.contents)
+
+  -- whether a key is there, to a call that is no use of it
+  abbrev pub is_contained : CacheState K V S W → K → ℕ → Bool
+  is_contained cache key now = is_some (unexpired_at keys.eq cache.settings.policy now key (after_look cache now).contents)

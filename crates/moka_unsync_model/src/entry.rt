@@ -1,0 +1,24 @@
+//! What a cache for one thread keeps of a key.
+use moka_common::time::Instant;
+
+/// Where an entry is: in the window, or in one of main's two parts, protected for those that were used in main and probation for the others.
+#[repr(u8)]
+#[derive(Clone, Copy)]
+pub enum Part {
+    Probation,
+    Protected,
+    Window,
+}
+
+/// A key with its value and what the cache keeps of them. Contracts name it; no call of a cache takes or gives one.
+#[derive(Drop)]
+pub struct Entry<K: Drop, V: Drop> {
+    pub key: K,
+    pub value: V,
+    pub hash: u64,
+    pub weight: u32,
+    /// It takes bytes beside the weight that are free.
+    pub part: Part,
+    pub accessed: Instant,
+    pub modified: Instant,
+}

@@ -1,0 +1,187 @@
+// Inserts of the cache for one thread: how often the weigher is asked, when the sketch's table is asked for, and what is taken without memory.
+ghost use Rattle.std.specs.Prelude.{⊤};
+
+use moka_common::hash::FixedState;
+use moka_common::time::Instant;
+use moka_common::weigh::{UnitWeight, Weigh};
+use moka_unsync::builder::CacheBuilder;
+use moka_unsync::cache::Cache;
+use std::alloc::Global;
+use std::cell::Cell;
+use std::test::Fail;
+use tests_heap::{Refusals, RefusingHeap, for_each_refusal};
+
+/// More plays than any work here has requests.
+const BOUND: u64 = 200;
+
+type Heap = RefusingHeap<Global>;
+
+fn start() -> Instant {
+    Instant::from_nanos(0)
+}
+
+/// Weighs each entry 1, and counts how often it is asked.
+#[derive(Drop)]
+struct Counting<'a> {
+    asked: &'a Cell<u64>,
+}
+
+impl Weigh<u64, u64> for Counting<'_> {
+    ghost ready = { λ _. ⊤ };
+
+    ghost weighs = { λ _ _ _ _ _. ⊤ };
+
+    fn weigh(&mut self, _key: &u64, _value: &u64) -> u32 {
+        self.asked.set(self.asked.get().wrapping_add(1));
+        1
+    }
+}
+
+/// A call with this key.
+#[derive(Clone, Copy)]
+enum Call {
+    Insert(u64),
+    Get(u64),
+}
+
+/// A cache by such a weigher.
+type Counted<'a, 'h> = Cache<u64, u64, FixedState, Counting<'a>, &'h Heap>;
+
+/// Makes a call. How many inserts are taken.
+fn make(cache: &mut Counted, call: Call) -> u64 {
+    match call {
+        Call::Insert(key) => u64::from(cache.insert(key, 1, start()).is_ok()),
+        Call::Get(key) => {
+            let _ = cache.get(&key, start());
+            0
+        }
+    }
+}
+
+/// The keys in order of use, as a digit each.
+fn digits_of(cache: &Counted) -> u64 {
+    let mut digits = 0u64;
+    for (key, _) in cache.iter(start()) {
+        digits = digits.wrapping_mul(10).wrapping_add(*key);
+    }
+    digits
+}
+
+/// What is seen of a play: how many inserts were taken, how often the weigher was asked, and the digits of the keys.
+type Picture = (u64, u64, u64);
+
+/// Makes calls on a cache with this limit and this room from the start, or none where it is not built.
+fn seen(heap: &Heap, limit: u64, room: usize, calls: &[Call]) -> Option<Picture> {
+    let asked = Cell::new(0);
+    let builder = CacheBuilder::new(heap, limit).initial_capacity(room);
+    let Ok(mut cache) = builder.weigher(Counting { asked: &asked }).build() else {
+        return None;
+    };
+    let mut taken = 0u64;
+    for call in calls {
+        taken = taken.saturating_add(make(&mut cache, *call));
+    }
+    Some((taken, asked.get(), digits_of(&cache)))
+}
+
+/// New keys and updates at growths, and a key that is rejected.
+const INSERTS: [Call; 6] = [
+    Call::Insert(0),
+    Call::Insert(0),
+    Call::Insert(1),
+    Call::Insert(1),
+    Call::Insert(9),
+    Call::Insert(0),
+];
+
+fn insert_all(heap: &Heap) -> Result<(), &'static str> {
+    let Some((taken, asked, _)) = seen(heap, 2, 0, &INSERTS) else {
+        return Err("a build takes memory");
+    };
+    if asked == taken && (heap.refused() > 0 || taken == 6) {
+        Ok(())
+    } else {
+        Err("how often the weigher is asked")
+    }
+}
+
+#[test]
+fn the_weigher_is_asked_once_for_each_insert_that_is_taken(rt: HostRuntime) -> Result<(), Fail> {
+    let plays = for_each_refusal(rt.alloc(), rt.alloc(), BOUND, |heap| insert_all(heap))?;
+    assert_eq!(rt; plays, 16);
+    Ok(())
+}
+
+/// Fills a cache with a limit of four, and inserts two keys more. One was asked for when two entries were there, the other when it was full.
+const FILL: [Call; 12] = [
+    Call::Insert(0),
+    Call::Insert(1),
+    Call::Get(7),
+    Call::Get(7),
+    Call::Get(7),
+    Call::Insert(2),
+    Call::Insert(3),
+    Call::Insert(7),
+    Call::Get(8),
+    Call::Get(8),
+    Call::Get(8),
+    Call::Insert(8),
+];
+
+/// The table is asked for at key 1, and where it is refused at keys 2 and 3. The gets before it is there count for nothing. A build ends at a refusal.
+fn fill_with_table(heap: &Heap) -> Result<(), &'static str> {
+    let Some((_, _, digits)) = seen(heap, 4, 5, &FILL) else {
+        return Ok(());
+    };
+    let want = match heap.refused() {
+        0 => 2378,
+        1 => 1238,
+        _ => 123,
+    };
+    if digits == want {
+        Ok(())
+    } else {
+        Err("which keys were admitted")
+    }
+}
+
+#[test]
+fn a_refused_table_is_asked_for_at_the_next_new_entry(rt: HostRuntime) -> Result<(), Fail> {
+    let plays = for_each_refusal(rt.alloc(), rt.alloc(), BOUND, |heap| fill_with_table(heap))?;
+    // Three requests of the build, and the table.
+    assert_eq!(rt; plays, 8);
+    Ok(())
+}
+
+/// How many keys are taken, of a thousand of which every second is invalidated, where a cache that was built with this room gets no memory any more.
+fn taken_without_memory(heap: &Heap, limit: u64, room: usize) -> Option<u64> {
+    let mut cache: Cache<u64, u64, FixedState, UnitWeight, _> = CacheBuilder::new(heap, limit)
+        .initial_capacity(room)
+        .build()
+        .ok()?;
+    heap.refuse(Refusals::From(1));
+    let mut taken = 1000;
+    for key in 0..1000u64 {
+        if cache.insert(key, 1, start()).is_err() {
+            taken = key;
+            break;
+        }
+        if key % 2 == 0 {
+            cache.invalidate(&key, start());
+        }
+    }
+    heap.refuse(Refusals::Never);
+    Some(taken)
+}
+
+// Above a limit of ten no insert takes memory. Without one the 41st key would be the 21st entry.
+#[test]
+fn room_from_the_start_is_for_as_many_entries(rt: HostRuntime) -> Result<(), Fail> {
+    let heap = RefusingHeap::new(rt.alloc(), rt.alloc(), Refusals::Never)?;
+    let taken = [
+        taken_without_memory(&heap, 10, 11),
+        taken_without_memory(&heap, u64::MAX, 20),
+    ];
+    assert_eq!(rt; taken, [Some(1000), Some(40)]);
+    Ok(())
+}
