@@ -3,6 +3,7 @@
 
 pub mod audit;
 pub mod calling;
+pub mod configuration;
 pub mod metrics;
 pub mod pages;
 pub mod shared;

@@ -1,5 +1,5 @@
 -- What a session finds that was told of another's history.
-use Rattle.std.proofs.Common.{◌≡◌, ◌∙◌, ◌++◌, ℕ, Option, Some, Ok, ap, append_assoc, subst, sym}
+use Rattle.std.proofs.Common.{◌≡◌, ◌∙◌, ◌++◌, ℕ, Option, Ok, ap, append_assoc, subst, sym}
 use Rattle.moka_common.specs.declared.error.OutOfMemory as error
 use Rattle.moka_common.specs.Keys.{Keys}
 use Rattle.moka_unsync_model.specs.History.{IsCurrent, exchanges}

@@ -2,7 +2,7 @@
 use Rattle.std.proofs.Common.{◌≡◌, ℕ, ◌+◌, ◌<◌, ◌∙◌, Bool, true, false, cond, not, List, [], ◌∷◌, ◌++◌, All, filter, map, ap, arith, refl, subst, sym}
 use Rattle.std.specs.Prelude.{slice_index_or}
 use Rattle.std.specs.Cmp.{IsEquivalence}
-use Rattle.std.specs.List.{AllByRecursion, IsDistinct}
+use Rattle.std.specs.List.{AllByRecursion, AllZip, IsDistinct}
 use Rattle.std.proofs.Math.ListN.{get_or-append}
 use Rattle.std.proofs.Math.Seq.{get_or-append_seam}
 use Rattle.std.proofs.lemmas.List.Elements.{All-head, All-tail}
@@ -27,6 +27,13 @@ use Rattle.moka_segments.specs.TellsAll.{Snapshots}
 use Rattle.moka_segments.proofs.AllLemmas.{no_parts, parts_more}
 use Rattle.moka_segments.proofs.CallLemmas.{every_both}
 use Rattle.moka_segments.proofs.LawLemmas.{parts, rest_is, step_of}
+
+-- what holds pair by pair of two lists and of two others holds of both together
+pub zipped_both : {A B : Type 0} (R : A → B → Type 0) (xs : List A) (ys : List B) (us : List A) (vs : List B) → AllZip R xs ys → AllZip R us vs → AllZip R (xs ++ us) (ys ++ vs)
+zipped_both R [] [] us vs a b = b
+zipped_both R [] (y ∷ ys) us vs a b = absurd a
+zipped_both R (x ∷ xs) [] us vs a b = absurd a
+zipped_both R (x ∷ xs) (y ∷ ys) us vs a b = (a.0, zipped_both R xs ys us vs a.1 b)
 
 every_of_all : {X : Type 0} (P : X → Type 0) (xs : List X) → All P xs → Every P xs
 every_of_all P [] all = tt

@@ -1,7 +1,7 @@
 -- What calls of all segments tell: an invalidation by a predicate, and a snapshot.
 use Rattle.std.specs.Prelude.{◌≡◌, ◌<◌, ◌≤◌, ℕ, Bool, not, is_some, List, [], map, slice_index_or}
 use Rattle.std.specs.Borrow.{Bor}
-use Rattle.std.specs.List.{IsDistinct}
+use Rattle.std.specs.List.{AllZip, IsDistinct}
 use Rattle.moka_common.specs.Keys.{Keys}
 use Rattle.moka_unsync_model.specs.declared.entry.Entry.{Entry}
 use Rattle.moka_unsync_model.specs.Contents.{entry_at}
@@ -18,6 +18,10 @@ use Rattle.moka_segments.specs.Calls.{Copies, MakesIn, SameIn}
 -- which entries left, one answer an entry: those whose key has none after
 abbrev pub leavers : {K V : Type 0} → (K → K → Bool) → List (Entry K V) → List (Entry K V) → List Bool
 leavers eq before after = map (λ e. not (is_some (entry_at eq e.key after))) before
+
+-- one pair is a clone of another, key and value each
+abbrev pub IsPairClone : {K V : Type 0} → (K → K → Type 0) → (V → V → Type 0) → K × V → K × V → Type 0
+IsPairClone key_clone value_clone pair copy = key_clone pair.0 copy.0 × value_clone pair.1 copy.1
 
 module _ {K V S W : Type 0} (keys : Keys K S) (weighs : W → K → V → ℕ → W → Type 0) (rules : Rules K V) (plan : Plan S) where
   -- what an invalidation by a predicate makes and tells in a segment: the predicate is called once at each entry, and those at which it answers true leave
@@ -41,3 +45,8 @@ module _ {K V S W : Type 0} (keys : Keys K S) (weighs : W → K → V → ℕ �
     pub once : IsDistinct keys.eq (map (λ p. p.0) pairs)
     pub current : (i : ℕ) → i < count
         → Every (λ p. IsCurrent keys plan.policy now (exchanges (calls (rest (at new.seen i)))) p.0 p.1) (slice_index_or copies.parts i [])
+
+  -- what a snapshot tells: clones of such pairs
+  abbrev pub TellsSnapshot : (K → K → Type 0) → (V → V → Type 0) → Knows K V S W → ℕ → ℕ → List (K × V) → Knows K V S W → Type 0
+  TellsSnapshot key_clone value_clone old count now pairs new =
+      (found : List (K × V)) × AllZip (IsPairClone key_clone value_clone) found pairs × Snapshots old count now found new

@@ -7,12 +7,12 @@ ghost use Rattle.moka_segments.specs.Calls.{Makes, MakesAll, Sums};
 ghost use Rattle.moka_segments.specs.Plan.{place_of};
 ghost use Rattle.moka_segments.specs.Session.{ByGuest};
 ghost use Rattle.moka_segments.specs.Tells.{Gets, GetsOrInserts, Inserts, Looks, Peeks, Removes};
-ghost use Rattle.moka_segments.specs.TellsAll.{InvalidatesAllIf, Snapshots};
+ghost use Rattle.moka_segments.specs.TellsAll.{InvalidatesAllIf, TellsSnapshot};
 ghost use Rattle.moka_segments.specs.Visits.{guest, newcomer};
 
 use crate::builder::CacheBuilder;
 use crate::invalidate_if::invalidate_entries_if;
-use crate::pairs::pairs;
+use crate::iter::snapshot;
 use crate::row::come;
 use crate::rule::{Rule, Unruled};
 use crate::session::Session;
@@ -163,25 +163,27 @@ impl<
 }
 
 impl<
-    K: Eq + Hash + Copy,
-    V: Copy,
+    K: Eq + Hash + Clone + Drop,
+    V: Clone + Drop,
     S: BuildHasher + Drop,
     W: Weighing<K, V>,
     P: Rule<K, V>,
 > SegmentedCache<K, V, S, W, P> {
-    /// Copies the unexpired pairs, one segment after another: those of a segment as they are at one moment, in its order of use. Each key is there once.
-    pub fn pairs<R: Wait>(
+    /// Clones the live pairs, one segment after another: those of a segment as they are at one moment, in its order of use. Each key comes once.
+    /// If memory is refused for the list or a clone, it answers `OutOfMemory` and the cache is as it was.
+    pub fn iter<R: Wait>(
         &self,
         rt: &R,
         alloc: Global,
         now: Instant,
     ) -> Result<Vec<(K, V)>, OutOfMemory>
-        ensures made { IfOk result (λ pairs. ByGuest {K = K} {V = V} {S = S} {W = W} self.now.plan (λ old new. Snapshots (keys_by K.Hash
-            S.BuildHasher S.Hasher.Hasher) W.weighs P.rules self.now.plan old self.now.plan.count now pairs.items new)) }
+        ensures made { IfOk result (λ pairs. ByGuest {K = K} {V = V} {S = S} {W = W} self.now.plan (λ old new. TellsSnapshot (keys_by
+            K.Hash S.BuildHasher S.Hasher.Hasher) W.weighs P.rules self.now.plan K.is_clone V.is_clone old self.now.plan.count now pairs.items
+            new)) }
     {
         let shared = &*self.shared;
         let mut caller = come(&shared.table.shared);
-        pairs(
+        snapshot(
             rt,
             alloc,
             &shared.table.shared,

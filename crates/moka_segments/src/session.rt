@@ -5,13 +5,13 @@ ghost use Rattle.moka_unsync_model.specs.Step.{Done, EntryCount, Invalidate, Inv
 ghost use Rattle.moka_segments.specs.Calls.{Makes, MakesAll, Sums};
 ghost use Rattle.moka_segments.specs.Plan.{place_of};
 ghost use Rattle.moka_segments.specs.Tells.{Gets, GetsOrInserts, Inserts, Looks, Peeks, Removes};
-ghost use Rattle.moka_segments.specs.TellsAll.{InvalidatesAllIf, Snapshots};
+ghost use Rattle.moka_segments.specs.TellsAll.{InvalidatesAllIf, TellsSnapshot};
 ghost use Rattle.moka_segments.specs.Kept.{Hears};
 
 use crate::account::Caller;
 use crate::invalidate_if::invalidate_entries_if;
+use crate::iter::snapshot;
 use crate::note::Note;
-use crate::pairs::pairs;
 use crate::rule::{Rule, Unruled};
 use crate::shared::Shared;
 use crate::weigher::Weighing;
@@ -110,26 +110,27 @@ impl<
     }
 }
 
-impl<K: Eq + Hash + Copy, V: Copy, S: BuildHasher + Drop, W: Weighing<K, V>, P: Rule<K, V>> Session<
-    K,
-    V,
-    S,
-    W,
-    P,
-> {
-    /// Copies the unexpired pairs, one segment after another: those of a segment as they are at one moment, in its order of use. Each key is there once.
-    pub fn pairs<R: Wait>(
+impl<
+    K: Eq + Hash + Clone + Drop,
+    V: Clone + Drop,
+    S: BuildHasher + Drop,
+    W: Weighing<K, V>,
+    P: Rule<K, V>,
+> Session<K, V, S, W, P> {
+    /// Clones the live pairs, one segment after another: those of a segment as they are at one moment, in its order of use. Each key comes once.
+    /// If memory is refused for the list or a clone, it answers `OutOfMemory` and the cache is as it was.
+    pub fn iter<R: Wait>(
         &mut self,
         rt: &R,
         alloc: Global,
         now: Instant,
     ) -> Result<Vec<(K, V)>, OutOfMemory>
         ensures same { self.new.cache ≡ self.old.cache }
-        ensures made { IfOk result (λ pairs. Snapshots (keys_by K.Hash S.BuildHasher S.Hasher.Hasher) W.weighs P.rules self.old.cache.plan
-            self.old.knows self.old.cache.plan.count now pairs.items self.new.knows) }
+        ensures made { IfOk result (λ pairs. TellsSnapshot (keys_by K.Hash S.BuildHasher S.Hasher.Hasher) W.weighs P.rules self.old.cache.plan
+            K.is_clone V.is_clone self.old.knows self.old.cache.plan.count now pairs.items self.new.knows) }
     {
         let shared = &*self.shared;
-        pairs(
+        snapshot(
             rt,
             alloc,
             &shared.table.shared,

@@ -230,7 +230,7 @@ impl Soaked for SoakedSegments {
         alloc: Global,
         now: Instant,
     ) -> Result<Vec<(u64, Stamp)>, OutOfMemory> {
-        SegmentedCache::pairs(self, rt, alloc, now)
+        SegmentedCache::iter(self, rt, alloc, now)
     }
 
     /// A call of a key first removes what is expired or too much in its segment, and each segment has a key of the soak.

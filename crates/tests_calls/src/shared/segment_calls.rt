@@ -36,7 +36,7 @@ fn found_by_another<R: Wait>(rt: &R, alloc: Global) -> Result<(u64, u64, usize),
         }
     }
     let entries = one.entry_count(rt);
-    let pairs = other.pairs(rt, alloc, now)?.len();
+    let pairs = other.iter(rt, alloc, now)?.len();
     Ok((found, entries, pairs))
 }
 

@@ -6,6 +6,7 @@ use mini_moka::sync::Cache;
 use mini_moka::sync::housekeeper::Housekeeper;
 use moka_examples::audit::{is_replayed, new_core, record_of_threads};
 use moka_examples::calling::empty_if_due;
+use moka_examples::configuration::configured_by_threads;
 use moka_examples::metrics::watched_while_filled;
 use moka_examples::shared::{
     IsSquare, charged_in_bytes, counted_twice, key_and_length, some_square, square,
@@ -25,6 +26,13 @@ fn examples_of_a_shared_cache_give_what_they_say(rt: HostRuntime) -> Result<(), 
     );
     let charged = charged_in_bytes(&rt, alloc, String::from_str(alloc, "alice")?)?;
     assert_eq!(rt; (found, charged), (((1240, 16), (2, 2), (true, false)), 5));
+    Ok(())
+}
+
+// Two readers were told of the second version of a setting, so neither finds the first.
+#[test]
+fn readers_find_the_version_that_they_were_told_of(rt: HostRuntime) -> Result<(), Fail> {
+    assert_eq!(rt; configured_by_threads(rt, rt.alloc())?, 22);
     Ok(())
 }
 

@@ -1,4 +1,4 @@
-use Rattle.std.proofs.Common.{Ok, ap, subst}
+use Rattle.std.proofs.Common.{ap, subst}
 use Rattle.moka_common.specs.Keys.{keys_by}
 use Rattle.moka_segments.specs.Plan.{place_of}
 use Rattle.moka_segments.specs.Tells.{Gets}

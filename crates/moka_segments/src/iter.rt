@@ -1,9 +1,10 @@
-//! The pairs of a cache, copied.
-ghost use Rattle.std.specs.Prelude.{◌≡◌, ◌*◌, ◌≤◌, ◌^◌, IfOk};
+//! Snapshots of a cache: clones of its live pairs.
+ghost use Rattle.std.specs.Prelude.{◌≡◌, ◌*◌, ◌≤◌, ◌^◌, IfOk, List, OnOk};
+ghost use Rattle.std.specs.List.{AppendsClones};
 ghost use Rattle.moka_common.specs.Keys.{keys_by};
 ghost use Rattle.moka_unsync_model.specs.Step.{Iterate, Pairs};
 ghost use Rattle.moka_segments.specs.Calls.{Makes};
-ghost use Rattle.moka_segments.specs.TellsAll.{Snapshots};
+ghost use Rattle.moka_segments.specs.TellsAll.{IsPairClone, TellsSnapshot};
 ghost use Rattle.moka_segments.specs.Visits.{IsIdle, IsPlace};
 
 use crate::account::{Caller, Segments};
@@ -20,53 +21,52 @@ use std::marker::Brand;
 use std::snapshot::Snapshot;
 use std::sync::Wait;
 
-/// Copies the pairs that an iterator gives.
-fn copies<K: Copy, V: Copy>(
-    alloc: Global,
+/// Adds clones of the pairs that an iterator gives.
+fn add_clones<K: Clone + Drop, V: Clone + Drop>(
+    pairs: &mut Vec<(K, V)>,
     entries: Iter<'_, K, V>,
-) -> Result<Vec<(K, V)>, AllocError>
-    ensures { IfOk result (λ pairs. pairs.items ≡ entries.entry) }
+) -> Result<(), AllocError>
+    ensures { OnOk result (AppendsClones (IsPairClone K.is_clone V.is_clone) pairs.old.items pairs.new.items entries.entry) }
 {
-    let mut pairs = Vec::new(alloc);
     for (key, value) in entries {
-        pairs.push((*key, *value))?;
+        pairs.push((key.clone()?, value.clone()?))?;
     }
-    Ok(pairs)
+    Ok(())
 }
 
-/// Copies the unexpired pairs of a segment, in order of use.
-fn pairs_of<
-    K: Eq + Hash + Copy,
-    V: Copy,
+/// Adds clones of the live pairs of a segment, in order of use.
+fn add_segment<
+    K: Eq + Hash + Clone + Drop,
+    V: Clone + Drop,
     S: BuildHasher + Drop,
     W: Weighing<K, V>,
     P: Rule<K, V>,
     R: Wait,
 >(
     rt: &R,
-    alloc: Global,
+    pairs: &mut Vec<(K, V)>,
     row: &Segments<K, V, S, W, P>,
     me: &mut Caller<K, V, S, W>,
     i: usize,
     now: Instant,
-) -> Result<Vec<(K, V)>, OutOfMemory>
+) -> Result<(), OutOfMemory>
     requires table { (me.old.table_id ≡ row.now.table_id) × IsPlace row.now.table_id i }
     requires idle { IsIdle row.now.key me.old.me }
     ensures same { (me.new.table_id ≡ me.old.table_id) × (me.new.me.0.by ≡ me.old.me.0.by) }
     ensures idle { IsIdle row.now.key me.new.me }
-    ensures made { IfOk result (λ pairs. Makes (keys_by K.Hash S.BuildHasher S.Hasher.Hasher) W.weighs P.rules row.now.key me.old.me.0 i
-        (Iterate now) (Pairs pairs.items) me.new.me.0) }
+    ensures made { OnOk result ((found : List (K × V)) × AppendsClones (IsPairClone K.is_clone V.is_clone) pairs.old.items pairs.new.items found
+        × Makes (keys_by K.Hash S.BuildHasher S.Hasher.Hasher) W.weighs P.rules row.now.key me.old.me.0 i (Iterate now) (Pairs found)
+        me.new.me.0) }
 {
     lock(rt, row, me, i);
     let cache = me.slot_mut(row, i);
     let before = Snapshot::of(&*cache);
     let moment = Snapshot::of(&now);
-    match copies(alloc, cache.iter(now)) {
-        Ok(pairs) => {
-            let told = Snapshot::of(&pairs);
+    match add_clones(pairs, cache.iter(now)) {
+        Ok(()) => {
             let after = Snapshot::of(&*cache);
-            leave::<_, _, _, _, _, Brand>(row, me, i, (before, after, moment, told));
-            Ok(pairs)
+            leave::<_, _, _, _, _, Brand>(row, me, i, (before, after, moment));
+            Ok(())
         }
         Err(_) => {
             leave_unsaid(row, me, i);
@@ -75,10 +75,10 @@ fn pairs_of<
     }
 }
 
-/// Copies the unexpired pairs of all segments, one segment after another.
-pub fn pairs<
-    K: Eq + Hash + Copy,
-    V: Copy,
+/// Clones the live pairs of all segments, one segment after another.
+pub fn snapshot<
+    K: Eq + Hash + Clone + Drop,
+    V: Clone + Drop,
     S: BuildHasher + Drop,
     W: Weighing<K, V>,
     P: Rule<K, V>,
@@ -96,15 +96,14 @@ pub fn pairs<
     requires idle { IsIdle row.now.key me.old.me }
     ensures same { (me.new.table_id ≡ me.old.table_id) × (me.new.me.0.by ≡ me.old.me.0.by) }
     ensures idle { IsIdle row.now.key me.new.me }
-    ensures made { IfOk result (λ pairs. Snapshots (keys_by K.Hash S.BuildHasher S.Hasher.Hasher) W.weighs P.rules row.now.key me.old.me.0
-        count now pairs.items me.new.me.0) }
+    ensures made { IfOk result (λ pairs. TellsSnapshot (keys_by K.Hash S.BuildHasher S.Hasher.Hasher) W.weighs P.rules row.now.key K.is_clone
+        V.is_clone me.old.me.0 count now pairs.items me.new.me.0) }
 {
     pairs_are_current::<K, V, S, Asks<W>>();
     last_writes_are_inserts::<K, V, S>();
     let mut all = Vec::new(alloc);
     for i in 0..count {
-        let pairs = pairs_of(rt, alloc, row, me, i, now)?;
-        all.extend_from_slice(pairs.as_slice())?;
+        add_segment(rt, &mut all, row, me, i, now)?;
     }
     Ok(all)
 }

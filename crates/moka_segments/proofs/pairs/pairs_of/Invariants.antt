@@ -1,8 +1,0 @@
-use Rattle.std.proofs.Common.{[], ◌∷◌, Some}
-use Rattle.moka_unsync_model.specs.Step.{Iterate, Pairs}
-use Rattle.moka_segments.proofs.pairs.pairs_of.Given as goal
-
-abbrev pub ghosts-leave : goal.ghosts-leave
-ghosts-leave g a = record {
-  entry = Some (record { before = a._about.0.value; request = Iterate a._about.2.value; answer = Pairs a._about.3.value.items; after = a._about.1.value } ∷ []);
-}
