@@ -9,3 +9,4 @@ pub mod Calls
 pub mod ByteCalls
 -- inside
 pub mod Held
+pub mod HandleLends

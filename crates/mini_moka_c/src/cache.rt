@@ -282,12 +282,12 @@ fn copies(alloc: Global, key: &[u8], value: &[u8]) -> Result<(Key, Value), Inser
     }
 }
 
-/// The length of what was found, which is copied to the beginning of the buffer if that is long enough.
+/// Copies what was found to the beginning of the buffer, if it fits, and returns its length.
 fn copied(found: Option<&Value>, buffer: &mut [u8]) -> Option<usize>
     ensures value { result ≡ option_map length (option_copied found.entry) }
     ensures copied { buffer.new ≡ copied_to buffer.old (option_copied found.entry) }
 {
-    let value = found?.as_slice();
+    let value = found?.bytes.as_slice();
     let length = value.len();
     if length <= buffer.len() {
         buffer[..length].copy_from_slice(value);

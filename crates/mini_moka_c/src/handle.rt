@@ -1,20 +1,27 @@
-// What C keeps of a cache between its calls: a handle, whose memory is C's, on a cache in a box, whose memory is the library's. Raw pointers are only here
+// A handle: what C keeps of a cache between its calls. The handle lies in C's memory, and the cache in a box in the library's. Raw pointers are only here
 // and in `handle/loose.rt`.
 //
 // | Value | Owns |
 // |---|---|
 // | `Kept` | the cache |
-// | `Loose` | the value at its pointer, and the right to free the block: what a box owns |
+// | `Loose` | what a box owns: the value at its pointer, and the right to free the block |
 // | `Handle`, open | the same, at `Kept` |
-// | `Handle`, closed | nothing, whatever its pointer is, so one of zeros is a closed handle |
+// | `Handle`, closed | nothing, whatever its pointer is, so a handle of zeros is closed |
 //
-// `closed`, `open` and `into_loose` make a handle and take it apart, and are proved by hand; so are `of` and `into_box` of a `Loose`. `take` and `put`, by
-// which every call has the cache, are ordinary code.
+// Six functions are proved by hand. All others are ordinary code over them.
+//
+// | Function | Does |
+// |---|---|
+// | `Handle::closed`, `open` | make a handle |
+// | `Handle::kept` | lends what an open handle keeps: a call reaches the cache by it, or by `bytes` or `numbers` over it |
+// | `Handle::into_loose` | takes a handle apart, for `take` and `put`, by which a handle is closed and opened |
+// | `Loose::of`, `into_box` | take a box apart, and put it together again |
 
-ghost use Rattle.std.specs.Prelude.{◌≡◌};
+ghost use Rattle.std.specs.Prelude.{◌≡◌, IfErr, IfOk};
 ghost use Rattle.std.specs.Option.{MatchOption};
 ghost use Rattle.std.specs.declared.option.Option.{Option};
 ghost use Rattle.std.specs.declared.option.Option.TheVariants.{None, Some};
+ghost use Rattle.std.specs.Borrow.{sem};
 ghost use Rattle.std.specs.Box.Ownership.{box_owns};
 ghost use Rattle.std.specs.contracts.impls.GlobalAllocator.TheImpl.{ghosts};
 ghost use Rattle.mini_moka_c.specs.declared.handle.Kept.{Kept};
@@ -24,6 +31,7 @@ ghost use Rattle.mini_moka_c.specs.Held.{held};
 mod loose;
 
 use crate::cache::ByteCache;
+use crate::constants::{CLOSED, OTHER_KIND};
 use loose::Loose;
 use moka_unsync::cache::Cache;
 use std::alloc::Global;
@@ -36,6 +44,40 @@ use std::ptr::null_mut;
 pub enum Kept {
     Numbers(Cache<u64, u64>),
     Bytes(ByteCache),
+}
+
+impl Kept {
+    ghost use Rattle.mini_moka_c.specs.Calls.{count_of, emptied, weight_of};
+
+    /// Removes all entries.
+    pub(crate) fn invalidate_all(&mut self)
+        ensures { self.new ≡ emptied self.old }
+    {
+        match self {
+            Kept::Numbers(cache) => cache.invalidate_all(),
+            Kept::Bytes(bytes) => bytes.invalidate_all(),
+        }
+    }
+
+    /// Counts the entries.
+    pub(crate) fn entry_count(&self) -> u64
+        ensures { result ≡ count_of self.now }
+    {
+        match self {
+            Kept::Numbers(cache) => cache.entry_count(),
+            Kept::Bytes(bytes) => bytes.cache.entry_count(),
+        }
+    }
+
+    /// Sums the weights of the entries.
+    pub(crate) fn weighted_size(&self) -> u64
+        ensures { result ≡ weight_of self.now }
+    {
+        match self {
+            Kept::Numbers(cache) => cache.weighted_size(),
+            Kept::Bytes(bytes) => bytes.cache.weighted_size(),
+        }
+    }
 }
 
 /// A handle on a cache, or on none. C sets it to zeros at first, and then only passes it on: it neither changes nor copies it.
@@ -54,6 +96,9 @@ impl Model for Handle {
 }
 
 impl Handle {
+    ghost use Rattle.mini_moka_c.specs.HandleLends.{KeepsNoBytes, KeepsNoNumbers, lends_bytes, lends_kept, lends_numbers};
+
+    /// Makes a closed handle.
     pub fn closed(alloc: Global) -> Handle
         ensures { result.value ≡ None }
     {
@@ -64,6 +109,7 @@ impl Handle {
         }
     }
 
+    /// Makes an open handle, which keeps what is in the box.
     pub(crate) fn open(loose: Loose<Kept, Global>) -> Handle
         ensures { result.value ≡ Some loose.value }
     {
@@ -75,7 +121,7 @@ impl Handle {
         }
     }
 
-    /// What it owned, if it is open.
+    /// Takes the handle apart, and returns the box of an open one.
     pub(crate) fn into_loose(self) -> Option<Loose<Kept, Global>>
         ensures { MatchOption result (self.value ≡ None) (λ loose. self.value ≡ Some loose.value) }
     {
@@ -90,7 +136,45 @@ impl Handle {
         }
     }
 
-    /// Takes out what is kept, and leaves the handle closed.
+    /// Lends what an open handle keeps.
+    pub(crate) fn kept(&mut self) -> Option<&mut Kept>
+        ensures* writes_back { sem 𝓛 (lends_kept self.entry result) }
+        ensures value { MatchOption result (self.old.value ≡ None) (λ kept. self.old.value ≡ Some kept.now) }
+    {
+        if self.is_open {
+            Some(unsafe { &mut *(self.at as *mut Kept) })
+        } else {
+            None
+        }
+    }
+
+    /// Lends the cache of bytes. The error is the status of a call on a handle without one: `CLOSED` or `OTHER_KIND`.
+    pub(crate) fn bytes(&mut self) -> Result<&mut ByteCache, u32>
+        ensures* writes_back { sem 𝓛 (lends_bytes self.entry result) }
+        ensures ok { IfOk result (λ bytes. self.old.value ≡ Some (Kept.Bytes bytes.now)) }
+        ensures err { IfErr result (KeepsNoBytes self.old.value) }
+    {
+        match self.kept() {
+            Some(Kept::Bytes(bytes)) => Ok(bytes),
+            Some(Kept::Numbers(_)) => Err(OTHER_KIND),
+            None => Err(CLOSED),
+        }
+    }
+
+    /// Lends the cache of numbers. The error is the status of a call on a handle without one: `CLOSED` or `OTHER_KIND`.
+    pub(crate) fn numbers(&mut self) -> Result<&mut Cache<u64, u64>, u32>
+        ensures* writes_back { sem 𝓛 (lends_numbers self.entry result) }
+        ensures ok { IfOk result (λ cache. self.old.value ≡ Some (Kept.Numbers cache.now)) }
+        ensures err { IfErr result (KeepsNoNumbers self.old.value) }
+    {
+        match self.kept() {
+            Some(Kept::Numbers(cache)) => Ok(cache),
+            Some(Kept::Bytes(_)) => Err(OTHER_KIND),
+            None => Err(CLOSED),
+        }
+    }
+
+    /// Closes the handle, and returns what it kept.
     pub(crate) fn take(&mut self, alloc: Global) -> Option<Box<Kept>>
         ensures left { self.new.value ≡ None }
         ensures taken { MatchOption result (self.old.value ≡ None) (λ kept. self.old.value ≡ Some kept.value) }
@@ -101,7 +185,7 @@ impl Handle {
         }
     }
 
-    /// Keeps a value. What was kept before is dropped.
+    /// Opens the handle with `kept`, and drops what it kept before.
     pub(crate) fn put(&mut self, kept: Box<Kept>)
         ensures { self.new.value ≡ Some kept.value }
     {
@@ -111,7 +195,7 @@ impl Handle {
     }
 }
 
-/// What a handle keeps may go from thread to thread, one call at a time.
+/// Shows that what a handle keeps may go from thread to thread, one call at a time.
 pub(crate) fn keeps_what_may_be_sent() {
     may_be_sent::<Kept>();
 }

@@ -8,7 +8,7 @@ use std::marker::Model;
 /// The bytes of a value, of any length. A contract sees the list of them.
 #[derive(Drop)]
 pub struct Value {
-    bytes: Vec<u8>,
+    pub(crate) bytes: Vec<u8>,
 }
 
 impl Model for Value {
