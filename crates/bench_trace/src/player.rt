@@ -1,13 +1,17 @@
-// Plays the operations of a trace on a cache.
-ghost use Rattle.std.specs.Prelude.{◌+◌, ◌≡◌, ◌≤◌, length, IfOk};
+// Plays traces on any cache that takes their operations.
+ghost use Rattle.std.specs.Prelude.{◌+◌, ◌≡◌, ◌≢◌, ◌≤◌, length, IfOk};
 
-use crate::constants::{GET, GET_AND_INSERT, INSERT, READ_THROUGH, REMOVE_AND_INSERT};
+use crate::Settings;
+use crate::constants::{
+    DONE, GET, GET_AND_INSERT, INSERT, OUT_OF_MEMORY, READ_THROUGH, REMOVE_AND_INSERT,
+    SHARE_TOO_LARGE, UNKNOWN_KIND,
+};
+use crate::hasher::MultiplyState;
 use crate::operation::Operation;
 use moka_common::error::{BuildError, InsertError, OutOfMemory};
+use moka_common::hash::FixedState;
 use moka_common::time::Instant;
-use moka_common::weigh::Weigh;
-use moka_unsync::cache::Cache;
-use std::alloc::{AllocError, AllocFailed};
+use std::alloc::{AllocError, AllocFailed, Global};
 use std::hash::BuildHasher;
 
 /// What a trace gave.
@@ -94,80 +98,147 @@ impl Found {
     }
 }
 
-/// Makes the operations in turn, the first at the moment `start` and each further one `tick` later.
-pub(crate) fn play<S: BuildHasher + Drop, W: Weigh<u64, u64>>(
-    cache: &mut Cache<u64, u64, S, W>,
+/// A cache that takes the operations of a trace.
+pub(crate) trait Traced {
+    // Whether it can take one.
+    ghost ready: { Self → Type 0 };
+
+    /// Looks a key up.
+    fn look(&mut self, key: u64, now: Instant) -> Result<Option<u64>, PlayError>
+        requires { ready self.old }
+        ensures { ready self.new };
+
+    /// Inserts a pair.
+    fn put(&mut self, key: u64, value: u64, now: Instant) -> Result<(), PlayError>
+        requires { ready self.old }
+        ensures { ready self.new };
+
+    /// Removes the entry of a key.
+    fn take(&mut self, key: u64, now: Instant) -> Result<(), PlayError>
+        requires { ready self.old }
+        ensures { ready self.new };
+
+    /// Does what is still to be done, and returns the number of entries and their weight.
+    fn finish(&mut self, now: Instant) -> Result<(u64, u64), PlayError>
+        requires { ready self.old }
+        ensures { ready self.new };
+}
+
+/// A kind of caches that traces are played on.
+pub(crate) trait Plays {
+    /// Plays a trace on a new cache with this hash state.
+    fn play_hashed<S: BuildHasher + Drop>(
+        alloc: Global,
+        settings: &Settings,
+        operations: &[Operation],
+        hash_state: S,
+    ) -> Result<Outcome, PlayError>
+        ensures { IfOk result (λ outcome. outcome.hits ≤ length operations.now) };
+}
+
+/// Plays a trace on a new cache. What it gave is in `outcome` if the answer is `DONE`; else `outcome` is as it was.
+pub(crate) fn play_trace<P: Plays>(
+    alloc: Global,
+    settings: &Settings,
     operations: &[Operation],
-    start: u64,
-    tick: u64,
+    outcome: &mut Outcome,
+) -> u32
+    ensures known { result ≤ SHARE_TOO_LARGE }
+    ensures done { result ≡ DONE → outcome.new.hits ≤ length operations.now }
+    ensures refused { result ≢ DONE → outcome.new ≡ outcome.old }
+{
+    let played = if settings.is_std_hashed {
+        P::play_hashed(alloc, settings, operations, FixedState::default())
+    } else {
+        P::play_hashed(alloc, settings, operations, MultiplyState)
+    };
+    match played {
+        Ok(gave) => {
+            *outcome = gave;
+            DONE
+        }
+        Err(PlayError::OutOfMemory) => OUT_OF_MEMORY,
+        Err(PlayError::UnknownKind) => UNKNOWN_KIND,
+        Err(PlayError::ShareTooLarge) => SHARE_TOO_LARGE,
+    }
+}
+
+/// Makes the operations in turn, the first at the settings' `start` and each further one `tick` later.
+pub(crate) fn play<C: Traced>(
+    cache: &mut C,
+    settings: &Settings,
+    operations: &[Operation],
 ) -> Result<Outcome, PlayError>
-    requires { W.ready cache.old.weigher }
+    requires { C.ready cache.old }
     ensures { IfOk result (λ outcome. outcome.hits ≤ length operations.now) }
 {
     let mut found = Found::nothing();
-    let mut now = start;
+    let mut now = settings.start;
     for operation in operations {
         play_one(cache, operation, Instant::from_nanos(now), &mut found)?;
-        now = now.saturating_add(tick);
+        now = now.saturating_add(settings.tick);
     }
+    let (entries, weight) = cache.finish(Instant::from_nanos(now))?;
     Ok(Outcome {
         hits: found.hits,
         checksum: found.checksum,
-        entries: cache.entry_count(),
-        weight: cache.weighted_size(),
+        entries,
+        weight,
     })
 }
 
 /// Makes one operation.
-fn play_one<S: BuildHasher + Drop, W: Weigh<u64, u64>>(
-    cache: &mut Cache<u64, u64, S, W>,
+fn play_one<C: Traced>(
+    cache: &mut C,
     operation: &Operation,
     now: Instant,
     found: &mut Found,
 ) -> Result<(), PlayError>
-    requires { W.ready cache.old.weigher }
-    ensures ready { W.ready cache.new.weigher }
+    requires { C.ready cache.old }
+    ensures ready { C.ready cache.new }
     ensures hits { found.new.hits ≤ found.old.hits + 1 }
 {
+    let key = operation.key;
+    let value = u64::from(operation.value);
     match operation.kind {
         GET => {
-            look(cache, operation.key, now, found);
+            is_found(cache, key, now, found)?;
         }
-        INSERT => cache.insert(operation.key, u64::from(operation.value), now)?,
+        INSERT => cache.put(key, value, now)?,
         READ_THROUGH => {
-            if !look(cache, operation.key, now, found) {
-                cache.insert(operation.key, u64::from(operation.value), now)?;
+            if !is_found(cache, key, now, found)? {
+                cache.put(key, value, now)?;
             }
         }
         GET_AND_INSERT => {
-            look(cache, operation.key, now, found);
-            cache.insert(operation.key, u64::from(operation.value), now)?;
+            is_found(cache, key, now, found)?;
+            cache.put(key, value, now)?;
         }
         REMOVE_AND_INSERT => {
-            let _ = cache.remove(&operation.key, now);
-            cache.insert(operation.key, u64::from(operation.value), now)?;
+            cache.take(key, now)?;
+            cache.put(key, value, now)?;
         }
         _ => return Err(PlayError::UnknownKind),
     }
     Ok(())
 }
 
-/// Looks a key up, and says whether it was found.
-fn look<S: BuildHasher + Drop, W: Weigh<u64, u64>>(
-    cache: &mut Cache<u64, u64, S, W>,
+/// Looks a key up, notes its value, and answers if it was found.
+fn is_found<C: Traced>(
+    cache: &mut C,
     key: u64,
     now: Instant,
     found: &mut Found,
-) -> bool
-    requires { W.ready cache.old.weigher }
-    ensures ready { W.ready cache.new.weigher }
+) -> Result<bool, PlayError>
+    requires { C.ready cache.old }
+    ensures ready { C.ready cache.new }
     ensures hits { found.new.hits ≤ found.old.hits + 1 }
 {
-    match cache.get(&key, now) {
+    match cache.look(key, now)? {
         Some(value) => {
-            found.add(*value);
-            true
+            found.add(value);
+            Ok(true)
         }
-        None => false,
+        None => Ok(false),
     }
 }
