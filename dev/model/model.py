@@ -1,4 +1,4 @@
-"""An independent model of what scripts reply: written from the rules in docs/SCRIPTS.md and docs/DEFINITIONS.md alone, not from the code.
+"""An independent model of what scripts reply: written from docs/SCRIPTS.md and the sentences of dev/definitions alone, not from the code.
 
 reply_text(script_bytes) -> (reply_bytes, status); status 0 done, 2 bad line.
 """
