@@ -23,8 +23,9 @@ fn main() {
 /// The folder that the variable names, which must have the archive.
 fn named(folder: &Path) -> PathBuf {
     // The linker runs in another folder than this program, so the path is made absolute.
-    let Ok(folder) = folder.canonicalize() else {
-        fail(&format!("{FOLDER} names no folder: {}", folder.display()));
+    let folder = match folder.canonicalize() {
+        Ok(found) => found,
+        Err(_) => fail(&format!("{FOLDER} names no folder: {}", folder.display())),
     };
     let archive = folder.join(ARCHIVE);
     if !archive.is_file() {

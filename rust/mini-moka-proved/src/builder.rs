@@ -172,8 +172,9 @@ impl Limits {
 
 /// A duration as the library takes it, in nanoseconds.
 fn limit(duration: Option<Duration>) -> Result<u64, BuildError> {
-    let Some(duration) = duration else {
-        return Ok(UNLIMITED);
+    let duration = match duration {
+        Some(set) => set,
+        None => return Ok(UNLIMITED),
     };
     match u64::try_from(duration.as_nanos()) {
         Ok(nanoseconds) if nanoseconds != UNLIMITED => Ok(nanoseconds),

@@ -15,7 +15,7 @@ thread_local! {
 // SAFETY: each call is the system allocator's, or refuses.
 unsafe impl GlobalAlloc for Limited {
     unsafe fn alloc(&self, layout: Layout) -> *mut u8 {
-        if layout.size() > LIMIT.get() {
+        if layout.size() > LIMIT.with(Cell::get) {
             return null_mut();
         }
         System.alloc(layout)
@@ -26,7 +26,7 @@ unsafe impl GlobalAlloc for Limited {
     }
 
     unsafe fn realloc(&self, place: *mut u8, layout: Layout, size: usize) -> *mut u8 {
-        if size > LIMIT.get() {
+        if size > LIMIT.with(Cell::get) {
             return null_mut();
         }
         System.realloc(place, layout, size)
@@ -38,9 +38,9 @@ static ALLOCATOR: Limited = Limited;
 
 /// Makes a call that is refused each allocation of more than `limit` bytes.
 fn limited<T>(limit: usize, call: impl FnOnce() -> T) -> T {
-    LIMIT.set(limit);
+    LIMIT.with(|it| it.set(limit));
     let answer = call();
-    LIMIT.set(usize::MAX);
+    LIMIT.with(|it| it.set(usize::MAX));
     answer
 }
 
