@@ -40,11 +40,11 @@ pub const UNKNOWN_KIND: u32 = 2;
 /// A share is above 100. Nothing was made.
 pub const SHARE_TOO_LARGE: u32 = 3;
 
-/// What the hasher multiplies by: an odd number of 64 bits, so that no two words of a key have one hash.
+/// The hasher's multiplier. It is an odd number of 64 bits, so that no two words of a key have one hash.
 pub(crate) const MULTIPLIER: u64 = 0x517C_C1B7_2722_0A95;
 
 /// How far the hasher rotates before it mixes a word in, so that the order of words counts.
 pub(crate) const ROTATION: u32 = 5;
 
-/// What the sum of a list, or of sizes, is multiplied by before its next element is added, so that the order counts.
+/// Multiplier of the sum of a list, or of sizes, before its next element is added, so that the order counts.
 pub(crate) const ORDER: u64 = 31;

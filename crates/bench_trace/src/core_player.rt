@@ -88,7 +88,7 @@ impl Plays for OnCore {
     }
 }
 
-/// What the core is built of. It grows from nothing, as its original does.
+/// Returns the parts of a new core. It grows from nothing, as its original does.
 fn parts_of<S: Drop, W: Drop>(settings: &Settings, hash_state: S, weigher: W) -> CoreParts<S, W>
     ensures { result.weigher ≡ weigher }
 {

@@ -8,8 +8,8 @@ use moka_list::hash_index::HashIndex;
 use std::alloc::{AllocError, Global};
 use std::collections::HashMap;
 
-/// Makes an index in which each hash has its place in the list as id, plays a load on it `rounds` times over, and drops it. A round looks for all of
-/// `sought`. The sum of the ids that were found, modulo 2^64, is in `sum` where the answer is `DONE`.
+/// Makes an index over the list of hashes, plays a load on it `rounds` times over, and drops it. A round looks for all of `sought`. The sum of the ids that
+/// were found, modulo 2^64, is in `sum` where the answer is `DONE`.
 #[unsafe(no_mangle)]
 pub extern "C" fn bench_trace_index(
     alloc: Global,
@@ -56,12 +56,7 @@ fn fill(index: &mut HashIndex, hashes: &[u64])
 fn find(index: &HashIndex, hashes: &[u64], hash: u64) -> Option<usize>
     ensures { IfSome result (λ id. is_candidate index.now hash id ≡ true) }
 {
-    for id in index.candidates(hash) {
-        if hashes.get(id) == Some(&hash) {
-            return Some(id);
-        }
-    }
-    None
+    index.find(hash, |id| hashes.get(id) == Some(&hash))
 }
 
 /// Looks for each hash, and sums up the ids that are found.

@@ -23,7 +23,7 @@ use crate::player::{Outcome, play_trace};
 use crate::unsync_player::OnUnsync;
 use std::alloc::Global;
 
-/// What a cache is built of, and when the operations are made. A capacity or a duration, in nanoseconds, that is `UNLIMITED` isn't set.
+/// The settings of a cache, and the moments of its operations. A capacity or a duration, in nanoseconds, that is `UNLIMITED` isn't set.
 #[repr(C)]
 #[derive(Clone, Copy)]
 pub struct Settings {
@@ -32,11 +32,11 @@ pub struct Settings {
     pub time_to_idle: u64,
     /// The moment of the first operation.
     pub start: u64,
-    /// How much later each further operation is made.
+    /// Nanoseconds from one operation to the next.
     pub tick: u64,
-    /// Whether an entry weighs its value in place of 1.
+    /// True if an entry weighs its value and not 1.
     pub is_weighed: bool,
-    /// Whether keys are hashed by std's default hash state in place of one multiplication.
+    /// True if keys are hashed by std's default hash state and not by one multiplication.
     pub is_std_hashed: bool,
     /// The shares of the window and of protected entries, in percent.
     pub window_share: u8,

@@ -14,17 +14,17 @@ use moka_common::time::Instant;
 use std::alloc::{AllocError, AllocFailed, Global};
 use std::hash::BuildHasher;
 
-/// What a trace gave.
+/// The outcome of a trace.
 #[repr(C)]
 #[derive(Clone, Copy)]
 pub struct Outcome {
-    /// How many look-ups found their key.
+    /// Number of look-ups that found their key.
     pub hits: u64,
     /// The sum of the values that were found, modulo 2^64.
     pub checksum: u64,
-    /// How many entries there were in the end.
+    /// Number of entries in the end.
     pub entries: u64,
-    /// What they weighed together.
+    /// Their weight.
     pub weight: u64,
 }
 
@@ -72,7 +72,7 @@ impl<T: Drop> From<AllocFailed<T>> for PlayError {
     }
 }
 
-/// What was found so far.
+/// The hits so far.
 #[derive(Clone, Copy)]
 pub(crate) struct Found {
     pub(crate) hits: u64,

@@ -106,14 +106,14 @@ impl<
         })
     }
 
-    /// Whether nothing has been done with it, so that a record of its calls can begin.
+    /// Returns `true` if nothing has been done with it, so that a record of its calls can begin.
     pub fn is_new(&self) -> bool
         ensures { IsTrue result ↔ IsNew self.now.state }
     {
         self.machine.is_new()
     }
 
-    /// The same core, whose shards give out the ticket numbers from this one on. It must be new, and stays so: `is_new` is the test.
+    /// Returns the same core, with shards that give out the ticket numbers from this one on. It must be new, and stays so: `is_new` is the test.
     pub fn with_first_ticket(mut self, first: u64) -> Self
         requires new { IsNew self.state }
         ensures state { result.state ≡ new_core self.state.settings first }
@@ -130,7 +130,7 @@ impl<
         self.machine.first_ticket()
     }
 
-    /// Whether nothing is under way: no maintenance, and no operation that a caller has not pushed.
+    /// Returns `true` if nothing is under way: no maintenance, and no operation that a caller has not pushed.
     pub fn is_at_rest(&self) -> bool
         ensures rest { IsTrue result ↔ IsAtRest self.now.state }
 

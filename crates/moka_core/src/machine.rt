@@ -130,7 +130,7 @@ impl<
         self.map.start_at(first);
     }
 
-    /// Whether nothing has been done with it.
+    /// Returns `true` if nothing has been done with it.
     pub fn is_new(&self) -> bool
         ensures { IsTrue result ↔ IsNew self.now.state }
     {
@@ -140,7 +140,7 @@ impl<
         self.map.is_new(self.map.first_ticket())
     }
 
-    /// Whether nothing has been done with it, but for what its map shows.
+    /// Returns `true` if nothing has been done with it, but for its map.
     fn is_untouched(&self) -> bool
         ensures { IsTrue result ↔ IsUntouched self.now.state }
     {
@@ -153,7 +153,7 @@ impl<
         self.pending.is_empty() && self.maintenance.is_new()
     }
 
-    /// Whether nothing is under way.
+    /// Returns `true` if nothing is under way.
     pub fn is_at_rest(&self) -> bool
         ensures { IsTrue result ↔ IsAtRest self.now.state }
     {
@@ -194,7 +194,7 @@ impl<
         }
     }
 
-    /// What an insert by any caller does to the map that has nothing pending, and the write that it leaves pending.
+    /// Inserts into the map for a caller who has nothing pending, and returns the write that it leaves pending.
     fn insert_into_map(
         &mut self,
         key: Shared<K, A>,
@@ -229,7 +229,7 @@ impl<
         Reply::Found(found)
     }
 
-    /// What a get by any caller finds that has nothing pending, and the read that it leaves pending.
+    /// Looks a key up for a caller who has nothing pending, and returns the read that it leaves pending.
     #[inline(always)]
     fn look_up(
         &self,
@@ -258,7 +258,7 @@ impl<
         }
     }
 
-    /// Whether a key has an entry that counts.
+    /// Looks if a key has a live entry.
     pub fn contains_key(&self, key: &K, now: Instant) -> Reply<Shared<V, A>, Rows<K, V, A>>
         ensures step { Happens (keys_by K.Hash S.BuildHasher S.Hasher.Hasher) (W.weighs self.now.weigher)
             self.now.state (Event.Contains key.now now) result self.now.state }
@@ -288,7 +288,7 @@ impl<
         Reply::Done
     }
 
-    /// What an invalidation by any caller does to the map that has nothing pending, and the write that it leaves pending, if there was an entry.
+    /// Invalidates a key for a caller who has nothing pending, and returns the write that it leaves pending, if there was an entry.
     fn take_from_map(&mut self, key: &K) -> Option<Write>
         ensures taken { TakesFor (keys_by K.Hash S.BuildHasher S.Hasher.Hasher) (W.weighs self.old.weigher)
             self.old.state self.new.state key.now result }
@@ -316,7 +316,7 @@ impl<
         Reply::Found(found)
     }
 
-    /// What a removal by any caller finds and does to the map that has nothing pending, and the write that it leaves pending, if there was an entry.
+    /// Removes a key for a caller who has nothing pending. It returns the key's live value, and the write that it leaves pending if there was an entry.
     fn take_value(&mut self, key: &K, now: Instant) -> (Option<Shared<V, A>>, Option<Write>)
         ensures taken { RemovesFor (keys_by K.Hash S.BuildHasher S.Hasher.Hasher) (W.weighs self.old.weigher)
             self.old.state self.new.state key.now now result.0 result.1 }
@@ -450,7 +450,7 @@ impl<
         }
     }
 
-    /// What is charged.
+    /// Returns the number of charged entries and their weight.
     fn counts(&self) -> Reply<Shared<V, A>, Rows<K, V, A>>
         ensures step { Happens (keys_by K.Hash S.BuildHasher S.Hasher.Hasher) (W.weighs self.now.weigher)
             self.now.state Event.Counts result self.now.state }

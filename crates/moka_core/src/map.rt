@@ -6,7 +6,7 @@ ghost use Rattle.moka_sync_model.specs.declared.constants.TheConstants.{SHARDS};
 ghost use Rattle.moka_sync_model.specs.Entry.{entry_at, touched};
 ghost use Rattle.moka_sync_model.specs.Turn.Plan.{Becomes, after_change};
 ghost use Rattle.moka_shard.specs.Shard.{entries_in, state_of, unexpired};
-ghost use Rattle.moka_sync_model.specs.Parts.{NeedsShard, entries_of, need_of};
+ghost use Rattle.moka_sync_model.specs.Parts.{IsValidShard, NeedsShard, entries_of, need_of};
 ghost use Rattle.moka_sync_model.specs.Turn.Turn.{turn_at};
 ghost use Rattle.moka_sync_model.specs.declared.operation.Write.TheVariants.{Upsert};
 ghost use Rattle.moka_queues.specs.LoggedReads.{reads_of};
@@ -89,7 +89,7 @@ impl<K: Eq + Hash + Drop, V: Drop, S: BuildHasher + Drop, A: Allocator + Clone +
         self.shards[0].next_number()
     }
 
-    /// Whether there is no entry, and each shard gives out this number next.
+    /// Returns `true` if there is no entry, and each shard gives out this number next.
     pub fn is_new(&self, first: u64) -> bool
         ensures { IsTrue result ↔ IsNewMap first self.now }
     {
@@ -111,7 +111,7 @@ impl<K: Eq + Hash + Drop, V: Drop, S: BuildHasher + Drop, A: Allocator + Clone +
         self.settings.hash_state().get().hash_one(key)
     }
 
-    /// Whether a key has an entry that counts at a moment.
+    /// Returns `true` if a key has a live entry.
     pub fn contains_key(&self, key: &K, valid_after: Instant, now: Instant) -> bool
         ensures { result ≡ is_some (unexpired self.now.settings valid_after now (entry_at K.eq key.now self.now.entries)) }
     {
@@ -120,7 +120,7 @@ impl<K: Eq + Hash + Drop, V: Drop, S: BuildHasher + Drop, A: Allocator + Clone +
         shard.contains_key(key, hash, &self.settings, valid_after, now)
     }
 
-    /// The value at a key, shared once more, and the ticket of its entry, if that counts at a moment; and the slot in which it may be found again.
+    /// Returns the value of a key's live entry, shared, its ticket, and the slot in which it may be found again.
     #[inline(always)]
     pub fn get(
         &self,
@@ -153,9 +153,7 @@ impl<K: Eq + Hash + Drop, V: Drop, S: BuildHasher + Drop, A: Allocator + Clone +
     {
         let hash = self.hash_of(key.get());
         let shard = &mut self.shards[(hash % SHARDS as u64) as usize];
-        let ticket = shard.insert(hash, key, value, weigher, now);
-        let _ = shard.len();
-        ticket
+        shard.insert(hash, key, value, weigher, now)
     }
 
     /// The pairs of a shard that count at a moment, shared once more. Only where there are any does it take memory.
@@ -184,12 +182,10 @@ impl<K: Eq + Hash + Drop, V: Drop, S: BuildHasher + Drop, A: Allocator + Clone +
     {
         let hash = self.hash_of(key);
         let shard = &mut self.shards[(hash % SHARDS as u64) as usize];
-        let ticket = shard.invalidate(key, hash);
-        let _ = shard.len();
-        ticket
+        shard.invalidate(key, hash)
     }
 
-    /// The same, and the answer has its value too, if it counts at a moment.
+    /// Removes the entry of a key as `invalidate` does, and returns its value if it is live.
     pub fn take(
         &mut self,
         key: &K,
@@ -202,9 +198,7 @@ impl<K: Eq + Hash + Drop, V: Drop, S: BuildHasher + Drop, A: Allocator + Clone +
     {
         let hash = self.hash_of(key);
         let shard = &mut self.shards[(hash % SHARDS as u64) as usize];
-        let taken = shard.take(key, hash, &self.settings, valid_after, now);
-        let _ = shard.len();
-        taken
+        shard.take(key, hash, &self.settings, valid_after, now)
     }
 }
 
@@ -221,7 +215,6 @@ impl<K: Eq + Hash + Drop, V: Drop, S: BuildHasher + Drop, A: Allocator + Clone +
     {
         let shard = &mut self.shards[(ticket.hash % SHARDS as u64) as usize];
         turn_with_shard(maintenance, shard, ticket, &self.settings, valid_after);
-        let _ = shard.len();
     }
 
     /// A turn of a scan that needs the entry of a ticket.
@@ -239,7 +232,6 @@ impl<K: Eq + Hash + Drop, V: Drop, S: BuildHasher + Drop, A: Allocator + Clone +
     {
         let shard = &mut self.shards[(ticket.hash % SHARDS as u64) as usize];
         scan_with_shard(maintenance, shard, ticket, &self.settings, valid_after);
-        let _ = shard.len();
     }
 
     /// The entry of a hit, if it stands, was used; it is looked for in a slot first. The answer is where its node may be found.
@@ -253,15 +245,13 @@ impl<K: Eq + Hash + Drop, V: Drop, S: BuildHasher + Drop, A: Allocator + Clone +
         }
     }
 
-    /// The same of a ticket, at a moment.
+    /// Touches the entry of a ticket, and returns the place at which its node may be found.
     #[inline(always)]
     fn touch_entry(&mut self, ticket: Ticket, slot: usize, moment: Instant) -> usize
         ensures { self.new ≡ record self.old { entries = after_change ticket (Becomes (touched moment)) self.old.entries } }
     {
         let shard = &mut self.shards[(ticket.hash % SHARDS as u64) as usize];
-        let place = shard.touch(ticket, slot, moment);
-        let _ = shard.len();
-        place
+        shard.touch(ticket, slot, moment)
     }
 
     /// The entries of hits were used, one after another. Their hints tell then where their nodes may be found.
@@ -288,7 +278,6 @@ impl<K: Eq + Hash + Drop, V: Drop, S: BuildHasher + Drop, A: Allocator + Clone +
     {
         let shard = &mut self.shards[(ticket.hash % SHARDS as u64) as usize];
         apply_upsert(maintenance, shard, ticket, &self.settings, valid_after);
-        let _ = shard.len();
     }
 }
 
@@ -306,8 +295,9 @@ fn turn_with_shard<
     valid_after: Instant,
 )
     requires { need_of (turn_at {K = K} {V = V} settings.now valid_after false maintenance.old.place maintenance.old) ≡ NeedsShard ticket }
-    ensures { (refused : Bool) × TurnsOnShard settings.now valid_after refused ticket maintenance.old maintenance.new
+    ensures turn { (refused : Bool) × TurnsOnShard settings.now valid_after refused ticket maintenance.old maintenance.new
         (state_of shard.old) (state_of shard.new) }
+    ensures valid { IsValidShard (keys_by K.Hash S.BuildHasher S.Hasher.Hasher) (state_of shard.new) }
 {
     let slot = shard.find_ticket(ticket);
     let change = maintenance.turn_at_entry(settings, valid_after, shard.entry(slot));
@@ -330,7 +320,8 @@ fn scan_with_shard<
 )
     requires scans { IsScan maintenance.old.place }
     requires need { need_of (turn_at {K = K} {V = V} settings.now valid_after false maintenance.old.place maintenance.old) ≡ NeedsShard ticket }
-    ensures { TurnsOnShard settings.now valid_after false ticket maintenance.old maintenance.new (state_of shard.old) (state_of shard.new) }
+    ensures turn { TurnsOnShard settings.now valid_after false ticket maintenance.old maintenance.new (state_of shard.old) (state_of shard.new) }
+    ensures valid { IsValidShard (keys_by K.Hash S.BuildHasher S.Hasher.Hasher) (state_of shard.new) }
 {
     let slot = shard.find_ticket(ticket);
     let change = maintenance.scan::<K, V, S>(settings, valid_after, shard.weight(slot));
@@ -347,9 +338,10 @@ fn apply_upsert<K: Eq + Hash + Drop, V: Drop, S: BuildHasher + Drop, A: Allocato
     valid_after: Instant,
 )
     requires { TakesWrite maintenance.old }
-    ensures { (refused : Bool)
+    ensures turn { (refused : Bool)
         × TurnsOnShard settings.now valid_after refused ticket (having_taken_write (Upsert ticket) maintenance.old) maintenance.new
         (state_of shard.old) (state_of shard.new) }
+    ensures valid { IsValidShard (keys_by K.Hash S.BuildHasher S.Hasher.Hasher) (state_of shard.new) }
 {
     let slot = shard.find_ticket(ticket);
     let change = maintenance.turn_with_upsert(settings, valid_after, ticket, shard.entry(slot));
@@ -375,8 +367,6 @@ fn shards_as_built<
     let mut shards = Vec::with_capacity(alloc.clone()?, SHARDS)?;
     for number in 0..SHARDS {
         let shard = Shard::new(alloc.clone()?, number, 0, capacity, hash_state.try_clone()?)?;
-        // What holds of every shard.
-        let _ = shard.len();
         shards.push(shard)?;
     }
     Ok(shards)
@@ -395,7 +385,7 @@ fn start_all_at<K: Eq + Hash + Drop, V: Drop, S: BuildHasher + Drop, A: Allocato
     }
 }
 
-/// Whether no shard has an entry, and each gives out this number next.
+/// Returns `true` if no shard has an entry, and each gives out this number next.
 fn are_as_built<K: Eq + Hash + Drop, V: Drop, S: BuildHasher + Drop, A: Allocator + Clone + Drop>(
     shards: &[Shard<K, V, S, A>],
     number: u64,

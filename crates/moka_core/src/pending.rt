@@ -50,14 +50,14 @@ impl<A: Allocator + Drop> PendingOperations<A> {
         Ok(())
     }
 
-    /// Whether nothing is pending.
+    /// Returns `true` if nothing is pending.
     pub fn is_empty(&self) -> bool
         ensures { IsTrue result ↔ self.now.operations ≡ [] }
     {
         self.operations.is_empty()
     }
 
-    /// What a caller has pending.
+    /// Returns what a caller has pending.
     pub fn of(&self, caller: u32) -> Option<Operation>
         ensures { result ≡ lookup (nat_eq caller) self.now.operations }
     {
@@ -65,7 +65,7 @@ impl<A: Allocator + Drop> PendingOperations<A> {
         Some(self.operations[place].1)
     }
 
-    /// For how many more callers there is room.
+    /// Returns the number of further callers that fit.
     pub fn room(&self) -> usize
         ensures value { result ≡ self.now.room }
 
@@ -98,7 +98,7 @@ impl<A: Allocator + Drop> PendingOperations<A> {
     }
 }
 
-/// Where the operation of a caller stands.
+/// Returns the place of a caller's operation.
 fn position_of(operations: &[(u32, Operation)], caller: u32) -> Option<usize>
     ensures found { IfSome result (IsPendingAt caller operations.now) }
     ensures absent { IfNone result (lookup (nat_eq caller) operations.now ≡ None) }

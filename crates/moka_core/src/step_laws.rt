@@ -5,7 +5,7 @@ ghost use Rattle.moka_core.specs.StepLaws.{AreCalls};
 use moka_sync_model::weigh::WeighShared;
 use std::hash::{BuildHasher, Hash};
 
-/// A whole call over the steps of a core is that whole call of the core: it gets the same reply and leaves the same core.
+/// States that a whole call over the steps of a core gives the reply and the core of `Core::call`.
 pub fn calls_by_steps_are_calls<K: Eq + Hash, V, S: BuildHasher, W: WeighShared<K, V>>()
     ensures { AreCalls {V = V} (keys_by K.Hash S.BuildHasher S.Hasher.Hasher) W.weighs }
 {}

@@ -37,7 +37,7 @@ impl<A: Allocator + Drop> Model for Counts<A> {
     ghost view = { λ c. (arc_value c.cell).table.shared.table_id };
 }
 
-/// What one who loads has seen.
+/// The view of one who loads counts.
 #[derive(Drop)]
 pub struct CountPass {
     pass: Pass<Published, Known>,

@@ -51,7 +51,7 @@ impl<T> InMemory<T> {
         }
     }
 
-    /// The same once more.
+    /// Returns the same answer once more.
     pub(crate) fn again(&self) -> Self {
         InMemory { of: self.of }
     }

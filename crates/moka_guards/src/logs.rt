@@ -16,7 +16,7 @@ use std::sync::{Mutex, MutexGuard, Wait};
 /// The write log behind its lock. Whoever has taken the lock writes the word beside it, so both lie on one line.
 #[derive(Drop)]
 struct ToldQueue<A: Allocator + Clone + Drop> {
-    /// How many writes were on their way at least when the log was left last, as `told_writes` has it.
+    /// The published length of the write log, as `told_writes` has it when the log was left last.
     len: AtomicUsize,
     queue: Mutex<WriteQueue<A>>,
 }
@@ -26,8 +26,8 @@ struct ToldQueue<A: Allocator + Clone + Drop> {
 #[derive(Drop)]
 pub struct Logs<A: Allocator + Clone + Drop = Global> {
     read_log: CachePadded<Mutex<ReadLog<A>>>,
-    /// How many operations the read log held at least when it was left last, as `told_reads` has it. It seldom changes, so it lies apart from the lock,
-    /// where those who look at it keep the line.
+    /// The published length of the read log, as `told_reads` has it when the log was left last. It seldom changes, so it lies apart from the lock, where those
+    /// who look at it keep the line.
     reads: CachePadded<AtomicUsize>,
     writes: CachePadded<ToldQueue<A>>,
 }
@@ -47,12 +47,12 @@ impl<A: Allocator + Clone + Drop> Logs<A> {
         })
     }
 
-    /// How many reads there were at least when their log was left last: as many as it can hold, the flush point, or none. It is one load.
+    /// Returns the published length of the read log: its capacity, the flush point, or 0. It is one load.
     pub fn reads(&self) -> usize {
         self.reads.load(Ordering::Acquire)
     }
 
-    /// How many writes were on their way at least when theirs was: a multiple of `ROOM_AWAITED`.
+    /// Returns the published number of writes that are on their way, a multiple of `ROOM_AWAITED`.
     pub fn writes(&self) -> usize {
         self.writes.len.load(Ordering::Acquire)
     }
@@ -120,7 +120,7 @@ impl<A: Allocator + Clone + Drop> Logs<A> {
         is_pushed
     }
 
-    /// Takes the first writes, once those are applied that were taken before: as many as there are, as can be taken at once, and as are wanted.
+    /// Takes the first writes, when those that were taken before are applied: as many as are there, wanted, and can be taken at once.
     pub fn take_writes<R: Wait>(&self, rt: &R, wanted: usize, taken: &mut TakenWrites)
         requires { taken.old ≡ [] }
         ensures { length taken.new ≤ wanted }
@@ -149,8 +149,8 @@ fn told_reads(len: usize) -> usize {
     }
 }
 
-/// The published length of the write log: callers ask whether it is full, whether it has reached the flush point, and whether it has room for
-/// `ROOM_AWAITED` operations, and all these lengths are multiples of that.
+/// Returns the published length of the write log. Callers ask if it is full, has reached the flush point, or has space for `ROOM_AWAITED` operations, and all
+/// these are multiples of that.
 fn told_writes(len: usize) -> usize {
     len - len % ROOM_AWAITED
 }

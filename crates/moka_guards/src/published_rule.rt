@@ -8,14 +8,14 @@ use crossbeam_utils::atomic::seq_cell::Words;
 use crossbeam_utils::rule::{Outcome, Protocol};
 use std::marker::Model;
 
-/// What a maintenance publishes when it ends.
+/// The counts that a maintenance publishes when it ends.
 #[derive(Clone, Copy, Debug, PartialEq, Eq)]
 pub struct Published {
-    /// How many came before it, at most `u64::MAX`.
+    /// Number of publications before it, at most `u64::MAX`.
     pub number: u64,
-    /// How many entries are charged.
+    /// Number of charged entries.
     pub count: u64,
-    /// What they weigh together, at most `u64::MAX`.
+    /// Their weight, at most `u64::MAX`.
     pub weight: u64,
 }
 
@@ -36,7 +36,7 @@ impl Words<3> for Published {
     }
 }
 
-/// What a pass knows of the list. No value of it is made.
+/// A pass's knowledge of the list. No value of it is made.
 pub struct Known;
 
 impl Model for Known {

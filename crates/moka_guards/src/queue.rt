@@ -47,7 +47,7 @@ impl<A: Allocator + Clone + Drop> WriteQueue<A> {
         })
     }
 
-    /// How many writes are on their way.
+    /// Returns the number of writes that are on their way.
     pub fn len(&self) -> usize
         ensures { result ≡ on_their_way self.now }
     {
@@ -66,8 +66,7 @@ impl<A: Allocator + Clone + Drop> WriteQueue<A> {
         self.log.push(write).is_ok()
     }
 
-    /// Takes the first writes out of the log, once all are applied that were taken before: as many as there are, as can be taken at once, and as are
-    /// wanted.
+    /// Takes the first writes out of the log, up to `wanted` or as many as fit in `taken`. All that were taken before must be applied.
     pub(crate) fn take_first(&mut self, wanted: usize, taken: &mut TakenWrites)
         requires { taken.old ≡ [] }
         ensures count { length taken.new ≡ min (min wanted 16) (length self.old.log) }

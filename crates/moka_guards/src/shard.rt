@@ -84,8 +84,7 @@ impl<
         }
     }
 
-    /// The value at a key, found by its hash and shared once more, and the ticket of its entry, if that counts at a moment; and the slot in which it may
-    /// be found again.
+    /// Returns the value of a key's live entry, shared, its ticket, and the slot in which it may be found again. It is found by the hash.
     #[inline(always)]
     pub fn get(
         &self,
@@ -109,14 +108,12 @@ impl<
         ensures refused { IsErr result →
             IsSome (unexpired settings.now valid_after now (entry_at K.eq key.now (entries_in self.now.slots))) }
     {
-        // What holds of every shard.
-        let _ = self.shard.len();
         let slot = self.shard.find(key, hash);
         let found = self.shard.value(slot, settings, valid_after, now)?;
         Ok((found, slot.unwrap_or(0)))
     }
 
-    /// Whether a key has an entry, found by its hash, that counts at a moment.
+    /// Returns `true` if a key has a live entry. It is found by the hash.
     pub fn contains_key(
         &self,
         key: &K,
@@ -133,8 +130,6 @@ impl<
         ensures found { IsTrue result
             → IsTrue (is_some (unexpired settings.now valid_after now (entry_at K.eq key.now (entries_in self.now.slots)))) }
     {
-        // What holds of every shard.
-        let _ = self.shard.len();
         let slot = self.shard.find(key, hash);
         self.shard.counts(slot, settings, valid_after, now)
     }
@@ -157,8 +152,6 @@ impl<
         ensures step { IsInsertBy (keys_by K.Hash S.BuildHasher S.Hasher.Hasher) (W.weighs weigher.now) (state_of self.old) hash key value now result
             (state_of self.new) }
     {
-        // What holds of every shard.
-        let _ = self.shard.len();
         if let Some(slot) = self.shard.find(key.get(), hash) {
             return self.shard.update(slot, key, value, weigher, now);
         }
@@ -179,13 +172,11 @@ impl<
             IsInvalidation (state_of self.old) (entry_at K.eq key.now (entries_in self.old.slots)) (Some t) (state_of self.new)) }
         ensures none { IsNone result → self.new ≡ self.old }
     {
-        // What holds of every shard.
-        let _ = self.shard.len();
         let slot = self.shard.find(key, hash)?;
         Some(self.shard.remove(slot))
     }
 
-    /// The value of the entry in a slot, if it counts at a moment.
+    /// Returns the value of a live entry in a slot.
     fn value(
         &self,
         slot: usize,
@@ -217,8 +208,6 @@ impl<
         // Only where there are any can it be refused.
         ensures refused { IsErr result → pairs_at settings.now valid_after now (state_of self.now) ≢ [] }
     {
-        // What holds of every shard.
-        let _ = self.shard.len();
         self.shard.pairs(alloc, settings, valid_after, now)
     }
 
@@ -278,8 +267,8 @@ impl<
     P: PairRule<K, V>,
     A: Allocator + Clone + Drop,
 > RuledShard<K, V, S, P, A> {
-    /// Takes out the entry of a key, found by its hash. The answer is a clone of its value, if it counts at a moment, and its ticket. The clone is made
-    /// before the entry leaves: where it is refused, nothing is done.
+    /// Removes the entry of a key, and returns its ticket and a clone of its value if it is live. The clone is made before the entry leaves, so a refused
+    /// clone changes nothing.
     pub fn take(
         &mut self,
         key: &K,
@@ -294,8 +283,6 @@ impl<
         ensures refused { OnErr result ((self.new ≡ self.old) × ((value : V) × (¬ (V.is_infallible value))
             × (counted_value settings.now valid_after now (entry_at K.eq key.now (entries_in self.old.slots)) ≡ Some value))) }
     {
-        // What holds of every shard.
-        let _ = self.shard.len();
         let Some(slot) = self.shard.find(key, hash) else {
             return Ok((None, None));
         };

@@ -4,14 +4,14 @@ use std::hint;
 use std::sync::atomic::{AtomicUsize, Ordering};
 use std::sync::{Mutex, MutexGuard, Wait};
 
-/// How many pauses, each twice as long as the one before, a thread makes at once where it finds a lock held. Together they take about as long
-/// as a part of a cache is held.
+/// Pauses, each twice as long as the one before, that a thread makes at once when it finds a lock held. Together they take about as long as a part of a cache
+/// is held.
 const FIRST_PAUSES: usize = 4;
 
 /// How often a thread looks at a lock then, each time after a longer pause, before it sleeps in wait for it.
 const LOCK_LOOKS: usize = 64;
 
-/// How many hints to the processor a thread makes that gives way to others, before it looks at a lock again: about 30 microseconds.
+/// Hints to the processor that a thread makes which gives way to others, before it looks at a lock again: about 30 microseconds.
 const GIVING_WAY: usize = 600;
 
 /// How often it does so. Then it waits as others do, and so lets a thread run that has the lock and no processor.
@@ -76,12 +76,12 @@ fn make_hints(count: usize) {
     }
 }
 
-/// Whether a log has room, or gets it while one waits, by the word that tells its length.
+/// Returns `true` if a log has space, or gets it while one waits, by the word with its length.
 pub(crate) fn has_room(len: &AtomicUsize, size: usize) -> bool {
     len.load(Ordering::Acquire) < size || gets_room(len, size)
 }
 
-/// Whether a log that was found full gets room while one looks at its word, ever more seldom.
+/// Returns `true` if a full log gets space while one looks at its word, ever more seldom.
 #[cold]
 #[inline(never)]
 fn gets_room(len: &AtomicUsize, size: usize) -> bool {

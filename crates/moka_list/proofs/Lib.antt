@@ -14,3 +14,4 @@ pub mod CountLemmas
 pub mod PutLemmas
 pub mod FreeLemmas
 pub mod WayLemmas
+pub mod FindLemmas

@@ -1,6 +1,6 @@
 -- What a contract sees of a `HashIndex`.
 use Rattle.std.specs.Prelude.{◌≡◌, ℕ, zero, suc, ◌+◌, ◌*◌, ◌/◌, ◌%◌, ◌^◌, Bool, true, false, nat_eq, if◌then◌else◌, max, min}
-use Rattle.std.specs.Prelude.{List, [], ◌∷◌, ◌++◌, length, map, slice_index_or}
+use Rattle.std.specs.Prelude.{List, [], ◌∷◌, ◌++◌, length, map, slice_index_or, Option, None, Some, ◌⊎◌}
 use Rattle.std.specs.List.{list_any}
 use Rattle.std.specs.Prelude.{bit_and}
 use Rattle.std.specs.Simd.Lanes.{chunk, mask_l}
@@ -75,6 +75,11 @@ candidates index hash =
 -- the id is one of them
 abbrev pub is_candidate : HashIndex → ℕ → ℕ → Bool
 is_candidate index hash id = list_any (nat_eq id) (candidates index hash)
+
+-- a search answers the first of the ids that passes its test
+abbrev pub FindsFirst : (ℕ → Bool → Type 0) → List ℕ → Option ℕ → Type 0
+FindsFirst test [] result = result ≡ None
+FindsFirst test (id ∷ ids) result = (test id true × (result ≡ Some id)) ⊎ (test id false × FindsFirst test ids result)
 
 -- all ids but this one are candidates of what they were candidates of
 abbrev pub KeepsOthers : HashIndex → ℕ → HashIndex → Type 0

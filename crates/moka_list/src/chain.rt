@@ -105,7 +105,7 @@ impl<T, A: Allocator> Chain<T, A> {
         self.slots.len()
     }
 
-    /// Makes room for `additional` more elements and no more than that. Where it is refused, there may be less room than before.
+    /// Reserves capacity for `additional` more elements when there is none. Where it is refused, there may be less room than before.
     pub fn reserve_exact(&mut self, additional: usize) -> Result<(), OutOfMemory>
         ensures ok { OnOk result (additional ≤ self.new.room) }
         ensures holds_all { OnOk result (length self.new.items + additional ≤ self.new.capacity) }
@@ -121,7 +121,7 @@ impl<T, A: Allocator> Chain<T, A> {
         }
     }
 
-    /// The same where there is no room. Links come first: so where memory for them or for elements is refused, there is as much room as before.
+    /// Reserves capacity for `additional` more elements when there is none. Links come first, so a refusal leaves the capacity as it was.
     fn grow(&mut self, additional: usize) -> Result<(), AllocError>
         ensures ok { OnOk result (additional ≤ self.new.room) }
         ensures holds_all { OnOk result (length self.new.items + additional ≤ self.new.capacity) }
@@ -135,7 +135,7 @@ impl<T, A: Allocator> Chain<T, A> {
         self.links.grow(self.slots.capacity())
     }
 
-    /// Whether `additional` more fit.
+    /// Returns `true` if `additional` more elements fit.
     fn has_room_for(&self, additional: usize) -> bool
         ensures holds_all { IsTrue result ↔ length self.now.items + additional ≤ self.now.capacity }
         ensures room { IsTrue result → additional ≤ self.now.room }
@@ -157,7 +157,7 @@ impl<T, A: Allocator> Chain<T, A> {
         self.slots.capacity()
     }
 
-    /// How many elements fit with no allocation, with those that are there: fewer than 2^32.
+    /// Returns the number of elements that fit with no allocation, those in the chain among them. It is below 2^32.
     pub fn fits(&self) -> usize
         ensures value { result ≡ self.now.capacity }
         ensures few { result < 2 ^ 32 }
@@ -170,7 +170,7 @@ impl<T, A: Allocator> Chain<T, A> {
         capacity
     }
 
-    /// Whether the node is in the chain.
+    /// Returns `true` if the node is in the chain.
     pub fn contains(&self, id: NodeId) -> bool
         ensures { IsTrue result ↔ IsIn self.now.items id }
     {
@@ -264,8 +264,8 @@ impl<T, A: Allocator> Chain<T, A> {
         self.links.link_back(id.number);
     }
 
-    /// Moves the node to right before the node `next`, in constant time: for an owner that keeps its nodes in an order and has found where one belongs. No
-    /// other node moves. Both must be in the chain, which `contains` tells, and be two nodes, which `!=` tells.
+    /// Moves the node to right before the node `next`, in constant time. No other node moves. Both must be in the chain, which `contains` tells, and be two
+    /// nodes, which `!=` tells.
     #[inline]
     pub fn move_before(&mut self, id: NodeId, next: NodeId)
         requires here { IsIn self.old.items id }

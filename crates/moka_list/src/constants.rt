@@ -4,8 +4,8 @@
 /// in 32 bits.
 pub const MOST_IDS: usize = 2_000_000_000;
 
-/// What a hash is multiplied by to spread it over the table: 2^64 over the golden ratio, which spreads numbers that follow one another evenly
-/// (Knuth's Fibonacci hashing). It is odd, so that hashes that differ in their highest bits alone stay different.
+/// The multiplier that spreads hashes over the table: 2^64 over the golden ratio, which spreads numbers that follow one another evenly (Knuth's Fibonacci
+/// hashing). It is odd, so that hashes that differ in their highest bits alone stay different.
 pub const SPREAD: u64 = 0x9E37_79B9_7F4A_7C15;
 
 /// The ids that a group has places for: as many as fit in a cache line with their tags and distances.

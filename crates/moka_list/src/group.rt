@@ -10,8 +10,7 @@ use std::simd::prelude::*;
 /// Ten places for ids, in 64 bytes.
 #[derive(Clone, Copy, Drop)]
 pub struct Group {
-    /// The tag of each place, or 0 if the place is free, and then the distance of each place: the number of groups from its id's home to this
-    /// group, or `FAR`.
+    /// The tag of each place, or 0 if it is free, and then the distance of each. A distance is the number of groups from an id's home to this one, or `FAR`.
     pub(crate) marks: [u8; 20],
     /// The number of ids that passed this full group on the way from their home. An id `FAR` groups from its home isn't counted.
     pub(crate) passed: u32,

@@ -1,8 +1,9 @@
 //! An index from hashes to ids, by open addressing over groups of ten places. It keeps eight bits of each hash beside the id, so that its
 //! owner, which has the hash and the key of each id, is seldom asked in vain.
 ghost use Rattle.std.specs.Prelude.{◌≡◌, ℕ, ◌<◌, ◌≤◌, [], false, true, max, IsOk, OnOk, OnErr};
-ghost use Rattle.std.specs.Iterator.{YieldsFirst, item_count};
-ghost use Rattle.moka_list.specs.HashIndex.{candidates, is_candidate, Adds, Removes};
+ghost use Rattle.std.specs.Iterator.{YieldsFirst};
+ghost use Rattle.moka_list.specs.HashIndex.{candidates, is_candidate, Adds, FindsFirst, Removes};
+ghost use Rattle.moka_list.specs.IdList.{is_listed};
 
 use crate::constants::{FAR, MOST_IDS};
 use crate::group::{Group, after, groups_of, probe_of};
@@ -82,7 +83,16 @@ impl<A: Allocator> HashIndex<A> {
         Ok(())
     }
 
-    /// The ids that may have this hash.
+    /// Returns the first candidate of a hash that passes the test. The owner tests whether what the id names has the hash, and is what it looks for.
+    #[inline(always)]
+    pub fn find<F: Fn(usize) -> bool>(&self, hash: u64, eq: F) -> Option<usize>
+        requires { (id : ℕ) → is_candidate self.now hash id ≡ true → F.pre eq id }
+        ensures { FindsFirst (F.post eq) (candidates self.now hash) result }
+    {
+        self.candidates(hash).find(eq)
+    }
+
+    /// Begins a search: the ids that may have this hash.
     pub fn candidates(&self, hash: u64) -> Candidates<'_>
         ensures { result ≡ candidates self.now hash }
     {
@@ -132,7 +142,7 @@ impl<A: Allocator> HashIndex<A> {
     }
 }
 
-/// An iterator over the candidates of a hash. A contract sees the ids that are left.
+/// A search that has begun. A contract sees the candidates that are left.
 #[derive(Drop)]
 pub struct Candidates<'a> {
     pub(crate) groups: &'a [Group],
@@ -158,14 +168,26 @@ impl<'a> Model for Candidates<'a> {
     ghost invariant = { λ it. (it.found < 1024) × (length it.groups.now ≤ it.at → (it.found ≡ 0) × (it.left ≡ 0)) × (it.distance + it.left < 2 ^ 64) };
 }
 
-impl<'a> Iterator for Candidates<'a> {
-    type Item = usize;
+impl<'a> Candidates<'a> {
+    /// Ends the search: returns the first candidate that passes the test.
+    #[inline(always)]
+    pub fn find<F: Fn(usize) -> bool>(mut self, eq: F) -> Option<usize>
+        requires { (id : ℕ) → is_listed self id ≡ true → F.pre eq id }
+        ensures { FindsFirst (F.post eq) self.entry result }
+    {
+        while let Some(id) = self.next() {
+            if eq(id) {
+                return Some(id);
+            }
+        }
+        None
+    }
 
-    ghost next_gives = { YieldsFirst (λ ids. ids) };
-
-    ghost remaining = { item_count (λ ids. ids) };
-
-    fn next(&mut self) -> Option<usize> {
+    /// Takes the next candidate.
+    #[inline(always)]
+    fn next(&mut self) -> Option<usize>
+        ensures { YieldsFirst (λ ids. ids) self.old result self.new }
+    {
         while let Some(group) = self.groups.get(self.at) {
             if self.found != 0 {
                 let place = self.found.trailing_zeros() as usize;

@@ -3,10 +3,11 @@ use Rattle.std.proofs.Common.{◌≡◌, ◌<◌, ◌≤◌, ◌+◌, ◌-◌, �
 use Rattle.std.proofs.Common.{nat_eq, List, [], ◌∷◌, ◌++◌, map, take, drop, length, Option}
 use Rattle.std.proofs.Common.{Some, None, is_some, option_map, unwrap_or, refl, sym, ap, ◌∙◌, subst, arith, inl, inr}
 use Rattle.std.proofs.lemmas.Bool.{eqb-true, false_from_ne_true, false≢true}
-use Rattle.std.proofs.lemmas.Map.{length-set_value}
+use Rattle.std.proofs.lemmas.Map.{keys-set_value, length-set_value}
 use Rattle.std.specs.List.{IsDistinct}
 use Rattle.std.specs.Map.{lookup, remove_entry, set_value, keys_of}
 use Rattle.moka_list.specs.Nodes.{first_id, next_id}
+use Rattle.moka_list.proofs.IdLemmas.{IsDistinct-removed}
 use Rattle.moka_list.proofs.ItemLemmas.{length-remove}
 use Rattle.moka_sync_model.specs.declared.constants.TheConstants.{MAX_ROUNDS}
 use Rattle.moka_sync_model.specs.declared.ticket.Ticket.{Ticket}
@@ -142,6 +143,7 @@ module _ (o : OrdersState) (work : Work) (r : Removal) (once : IsDistinct nat_eq
   skipped_holds round next next_is =
       let one : r.skipped + 1 ≡ suc r.skipped = omega arith in
       removal_holds work o r.candidate r.tally (r.skipped + 1) (r.left - 1) next round (record {
+        counted = s.counted;
         awaited = s.awaited;
         within = omega (arith, s.within, some);
         next = next_is ∙ (next_node.next ∙ ap first_id (sym (ap (λ m. drop m o.nodes) one ∙ next_node.behind)));
@@ -178,6 +180,10 @@ module _ (o : OrdersState) (work : Work) (r : Removal) (once : IsDistinct nat_eq
         (record { candidate = r.candidate; tally = r.tally; skipped = r.skipped; left = r.left - 1; next = next }))
     removed_holds round next next_is room step =
         removal_holds work new r.candidate r.tally r.skipped (r.left - 1) next round (record {
+          counted = record {
+            distinct = subst (λ es. IsDistinct nat_eq (keys_of es)) (sym removed) (IsDistinct-removed id o.nodes once);
+            few = omega (arith, s.counted.few, ap length removed, length-remove id o.nodes (ap is_some next_node.found));
+          };
           awaited = record {
             room = omega (arith, s.awaited.room, room);
             absent =
@@ -227,6 +233,18 @@ module _ (o : OrdersState) (scan : Scan) (once : IsDistinct nat_eq (keys_of o.no
     scanning_on tally next next_is step =
         let one : scan.seen + 1 ≡ suc scan.seen = omega arith in
         record {
+          counted = record {
+            distinct =
+                subst (IsDistinct nat_eq)
+                (sym (ap (λ v. keys_of v.nodes) new_is
+                ∙ keys-set_value (nat_eq id) o.nodes (record scanned_node.x { is_present = b }))) once;
+            few = omega (
+              arith,
+              s.counted.few,
+              ap (λ v. length v.nodes) new_is,
+              length-set_value (nat_eq id) o.nodes (record scanned_node.x { is_present = b }),
+            );
+          };
           awaited = record {
             room = subst (λ v. 0 < v.room) (sym new_is) s.awaited.room;
             absent = ap (charge_of scan.candidate.ticket) step ∙ s.awaited.absent;

@@ -1,6 +1,8 @@
 -- How a maintenance keeps its place: in numbers and in the marks of the nodes. No public clause cites this module.
 use Rattle.std.specs.Prelude.{◌≡◌, ◌<◌, ◌≤◌, ◌+◌, ℕ, ◌==◌, Bool, true, false, if◌then◌else◌}
-use Rattle.std.specs.Prelude.{List, [], Option, None, map, take, drop, length}
+use Rattle.std.specs.Prelude.{◌^◌, List, [], Option, None, map, take, drop, length, nat_eq}
+use Rattle.std.specs.List.{IsDistinct}
+use Rattle.std.specs.Map.{keys_of}
 use Rattle.moka_list.specs.Nodes.{first_id}
 use Rattle.moka_common.specs.Sketch.{Table, estimate}
 use Rattle.moka_sync_model.specs.declared.constants.TheConstants.{MAX_ROUNDS}
@@ -101,14 +103,21 @@ pub record IsAwaited (orders : OrdersState) (candidate : Candidate) : Type 0 whe
   pub room : 0 < orders.room
   pub absent : charge_of candidate.ticket (orders_of orders) ≡ None
 
+-- no id stands twice, and 64 bits count the nodes
+pub record AreCounted (orders : OrdersState) : Type 0 where
+  pub distinct : IsDistinct nat_eq (keys_of orders.nodes)
+  pub few : length orders.nodes < 2 ^ 64
+
 -- as many nodes were looked at as there are at least, and the next one is the one behind them
 pub record IsScanning (orders : OrdersState) (scan : Scan) : Type 0 where
+  pub counted : AreCounted orders
   pub awaited : IsAwaited orders scan.candidate
   pub within : scan.seen ≤ length orders.nodes
   pub next : scan.next ≡ first_id (drop scan.seen orders.nodes)
 
 -- the same of those that are skipped, and those that are left behind them
 pub record IsRemoving (orders : OrdersState) (removal : Removal) : Type 0 where
+  pub counted : AreCounted orders
   pub awaited : IsAwaited orders removal.candidate
   pub within : removal.skipped + removal.left ≤ length orders.nodes
   pub next : removal.next ≡ first_id (drop removal.skipped orders.nodes)

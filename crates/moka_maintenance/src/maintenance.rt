@@ -40,7 +40,7 @@ pub use publish::Published;
 use std::alloc::{AllocError, Allocator, Global};
 use std::marker::Model;
 
-/// What a turn needs besides the maintenance.
+/// The need of a turn besides the maintenance.
 #[derive(Clone, Copy, Debug)]
 pub enum Need {
     Nothing,
@@ -50,7 +50,7 @@ pub enum Need {
     Entry(Ticket),
 }
 
-/// What lies behind the lock of the maintenance.
+/// The maintenance, which lies behind its lock.
 #[derive(Drop)]
 pub struct Maintenance<A: Allocator + Clone + Drop = Global> {
     state: State<A>,
@@ -87,42 +87,42 @@ impl<A: Allocator + Clone + Drop> Maintenance<A> {
         })
     }
 
-    /// How many entries are charged.
+    /// Returns the number of charged entries.
     pub fn count(&self) -> usize
         ensures { result ≡ length self.now.orders.access }
     {
         self.state.orders.len()
     }
 
-    /// What is charged for them together.
+    /// Returns the sum of their charges.
     pub fn charged_weight(&self) -> u128
         ensures { result ≡ charged_weight self.now.orders }
     {
         self.state.orders.charged_weight()
     }
 
-    /// What was published last.
+    /// Returns the counts that were published last.
     pub fn published(&self) -> Published
         ensures { published_of result ≡ self.now.published }
     {
         self.state.published
     }
 
-    /// Whether nothing has been done with it.
+    /// Returns `true` if nothing has been done with it.
     pub fn is_new(&self) -> bool
         ensures { IsTrue result ↔ (self.now ≡ new_maintenance) }
     {
         self.state.is_new()
     }
 
-    /// Where it is.
+    /// Returns its place.
     pub fn place(&self) -> Place
         ensures { result ≡ name_of self.now.place }
     {
         self.state.stage.name()
     }
 
-    /// What the next turn needs.
+    /// Returns what the next turn needs.
     pub fn need<K: Drop, V: Drop, S: Drop>(
         &self,
         settings: &Settings<S, A>,
@@ -180,14 +180,14 @@ impl<A: Allocator + Clone + Drop> Maintenance<A> {
         }
     }
 
-    /// Whether the next turn is to take a read.
+    /// Returns `true` if the next turn is to take a read.
     pub fn takes_read(&self) -> bool
         ensures { IsTrue result ↔ TakesRead self.now }
     {
         matches!(self.state.stage, Stage::Reads { .. })
     }
 
-    /// How many reads its round is still to take, where the next turn is to take one.
+    /// Returns the number of reads that its round is still to take, if the next turn is to take one.
     pub fn reads_left(&self) -> usize
         ensures { result ≡ reads_left self.now.place }
     {
@@ -208,14 +208,14 @@ impl<A: Allocator + Clone + Drop> Maintenance<A> {
         }
     }
 
-    /// Whether the next turn is to take a write.
+    /// Returns `true` if the next turn is to take a write.
     pub fn takes_write(&self) -> bool
         ensures { IsTrue result ↔ TakesWrite self.now }
     {
         matches!(self.state.stage, Stage::Writes { .. })
     }
 
-    /// How many writes its round is still to take, where the next turn is to take one.
+    /// Returns the number of writes that its round is still to take, if the next turn is to take one.
     pub fn writes_left(&self) -> usize
         requires { TakesWrite self.now }
         ensures { result ≡ writes_left self.now.place }
@@ -433,7 +433,7 @@ impl<A: Allocator + Clone + Drop> Maintenance<A> {
     }
 }
 
-/// What an entry weighs, where it stands.
+/// Returns the weight of an entry, if it stands.
 #[inline(always)]
 fn weight_of<K: Drop, V: Drop, A: Allocator + Drop>(found: Option<&Entry<K, V, A>>) -> Option<u32>
     ensures { result ≡ option_map (λ e. e.weight) (option_copied found.entry) }
@@ -441,7 +441,7 @@ fn weight_of<K: Drop, V: Drop, A: Allocator + Drop>(found: Option<&Entry<K, V, A
     Some(found?.weight())
 }
 
-/// What a read needs to be applied.
+/// Returns what a read needs to be applied.
 fn need_of_read(read: Read) -> Need
     ensures { result ≡ need_to_read read }
 {
@@ -451,7 +451,7 @@ fn need_of_read(read: Read) -> Need
     }
 }
 
-/// What a write needs to be applied.
+/// Returns what a write needs to be applied.
 fn need_of_write(write: Write) -> Need
     ensures { result ≡ need_to_write write }
 {
@@ -461,7 +461,7 @@ fn need_of_write(write: Write) -> Need
     }
 }
 
-/// What a turn at a front needs: its entry, or nothing where there is none.
+/// Returns what a turn at a front needs: its entry, or nothing if there is none.
 fn need_of_front(front: Option<Ticket>) -> Need
     ensures { result ≡ need_at_front front }
 {

@@ -1,6 +1,6 @@
 -- The high-water marks of the tickets that were charged: what each change of the nodes leaves of them, and what they tell.
 use Rattle.std.proofs.Common.{◌≡◌, ◌∙◌, ◌++◌, ◌∷◌, ℕ, cond, nat_eq, List, [], Some, None, is_some, refl, sym, ap, inl, inr, subst}
-use Rattle.std.proofs.lemmas.Bool.{cases_Bool, cond-true, cond-false, false≢true}
+use Rattle.std.proofs.lemmas.Bool.{cases_Bool, cond-true, cond-false}
 use Rattle.std.specs.List.{IsDistinct}
 use Rattle.std.specs.Map.{lookup, remove_entry, keys_of, set_value}
 use Rattle.moka_list.specs.Nodes.{moved_to_back}
@@ -12,7 +12,9 @@ use Rattle.moka_queues.specs.declared.high_water.HighWater.{HighWater}
 use Rattle.moka_queues.specs.declared.orders.Node.{Node}
 use Rattle.moka_queues.specs.HighWater.{AreCovered, IsCovered}
 use Rattle.moka_queues.specs.OrdersState.{access_of}
-use Rattle.moka_queues.proofs.IndexLemmas.{none_ahead}
+use Rattle.moka_queues.proofs.IndexLemmas.{none_of_ticket}
+use Rattle.moka_sync_model.proofs.TicketLemmas.{same_is}
+use Rattle.moka_sync_model.specs.Ticket.{same_ticket}
 
 -- where there are no nodes, all are covered
 pub AreCovered-none : (water : HighWater) → AreCovered [] water
@@ -72,9 +74,9 @@ module _ (nodes : List (ℕ × Node)) (water : HighWater) (s : AreCovered nodes 
 pub none_above : (nodes : List (ℕ × Node)) (water : HighWater) → AreCovered nodes water → (t : Ticket) → (IsCovered water t → ⊥)
     → IsDistinct nat_eq (keys_of nodes) → (write : List Ticket) → charge_of t (record { access = access_of nodes; write = write }) ≡ None
 none_above nodes water s t above once write =
-    none_ahead t nodes once
-    (record {
-      standing = λ id h. absurd (false≢true h);
-      ahead = λ id n stands equal. absurd (above (subst (IsCovered water) equal (s id n stands)));
-    })
+    none_of_ticket t nodes once
+    (λ id n stands. elim (cases_Bool (same_ticket t n.ticket)) [
+      | inl equal ↦ absurd (above (subst (IsCovered water) (sym (same_is t n.ticket equal)) (s id n stands)))
+      | inr differ ↦ differ
+    ])
     write

@@ -1,8 +1,8 @@
 -- Lemmas on the index of the orders: what each change of the nodes leaves of it, and what it finds.
-use Rattle.std.proofs.Common.{◌≡◌, ◌⊎◌, ◌∙◌, ◌++◌, ◌∷◌, ℕ, Bool, true, false, cond, nat_eq}
-use Rattle.std.proofs.Common.{List, [], Option, Some, None, is_some, IsSome, refl, sym}
+use Rattle.std.proofs.Common.{◌≡◌, ◌∙◌, ◌++◌, ◌∷◌, ℕ, Bool, true, false, cond, nat_eq}
+use Rattle.std.proofs.Common.{List, [], Option, Some, None, is_some, IfSome, IsSome, refl, sym}
 use Rattle.std.proofs.Common.{ap, inl, inr, subst, option_map}
-use Rattle.std.proofs.lemmas.Bool.{cases_Bool, cond_both, cond-true, cond-false, eqb-true, false≢true, or_cases, or_right}
+use Rattle.std.proofs.lemmas.Bool.{cases_Bool, cond_both, cond-true, cond-false, eqb-true, false≢true}
 use Rattle.std.proofs.lemmas.Cmp.{nat_eq_equiv}
 use Rattle.std.proofs.lemmas.List.{append_assoc}
 use Rattle.std.proofs.lemmas.Map.Keys.{IsDistinct-head, IsDistinct-tail}
@@ -13,7 +13,7 @@ use Rattle.moka_list.specs.HashIndex.{HashIndex, candidates, is_candidate, Adds,
 use Rattle.moka_sync_model.specs.declared.ticket.Ticket.{Ticket}
 use Rattle.moka_sync_model.specs.Ticket.{same_ticket}
 use Rattle.moka_sync_model.specs.Orders.{charge_of}
-use Rattle.moka_sync_model.proofs.TicketLemmas.{same_is}
+use Rattle.moka_sync_model.proofs.TicketLemmas.{same_is, same_self}
 use Rattle.moka_queues.specs.declared.orders.Node.{Node}
 use Rattle.moka_queues.specs.Indexed.{IsIndexed}
 use Rattle.moka_queues.specs.OrdersState.{charged, access_of}
@@ -22,16 +22,6 @@ use Rattle.moka_list.proofs.IdLemmas.{each_found, lookup-removed, not_none, some
 use Rattle.moka_list.proofs.WalkLemmas.{from_first, from_node, from_next, from_none}
 use Rattle.moka_queues.proofs.TicketsLemmas.{seen-absent}
 
--- the id is among these
-abbrev is_among : ℕ → List ℕ → Bool
-is_among id ids = list_any (nat_eq id) ids
-
-among_behind : (id i : ℕ) (ids : List ℕ) → is_among id ids ≡ true → is_among id (i ∷ ids) ≡ true
-among_behind id i ids h = or_right (nat_eq id i) (is_among id ids) h
-
-among_cases : (id i : ℕ) (ids : List ℕ) → is_among id (i ∷ ids) ≡ true → (nat_eq id i ≡ true) ⊎ (is_among id ids ≡ true)
-among_cases id i ids h = or_cases (nat_eq id i) (is_among id ids) h
-
 -- ---- what each change leaves
 
 -- an index without ids is that of no nodes
@@ -39,7 +29,7 @@ pub IsIndexed-none : (index : HashIndex) → ((hash : ℕ) → candidates index 
 IsIndexed-none index empty =
     record {
       listed = λ id e h. not_none e (sym h);
-      standing = λ hash id h. absurd (false≢true (sym (ap (is_among id) (empty hash)) ∙ h));
+      standing = λ hash id h. absurd (false≢true (sym (ap (list_any (nat_eq id)) (empty hash)) ∙ h));
     }
 
 module _ {nodes : List (ℕ × Node)} {index : HashIndex} (s : IsIndexed nodes index) (id : ℕ) where
@@ -121,59 +111,45 @@ module _ {nodes : List (ℕ × Node)} {index : HashIndex} (s : IsIndexed nodes i
 -- ---- a search among candidates
 
 module _ (ticket : Ticket) (nodes : List (ℕ × Node)) where
-  -- these ids are nodes, and if there is a node of the ticket, it is among them
-  pub record IsAhead (ids : List ℕ) : Type 0 where
-    pub standing : (id : ℕ) → is_among id ids ≡ true → IsSome (lookup (nat_eq id) nodes)
-    pub ahead : (id : ℕ) (e : Node) → lookup (nat_eq id) nodes ≡ Some e → e.ticket ≡ ticket → is_among id ids ≡ true
-
-  -- at first all candidates are ahead
-  pub all_ahead : (index : HashIndex) → IsIndexed nodes index → (ids : List ℕ) → ids ≡ candidates index ticket.hash → IsAhead ids
-  all_ahead index s ids is =
-      record {
-        standing = λ id h. s.standing ticket.hash id (sym (ap (is_among id) is) ∙ h);
-        ahead = λ id e stands equal.
-            ap (is_among id) is
-            ∙ subst (λ (t : Ticket). is_candidate index t.hash id ≡ true) equal (s.listed id e stands);
-      }
-
-  -- the first of them is a node
-  pub first_stands : (id : ℕ) (ids : List ℕ) → IsAhead (id ∷ ids) → IsSome (lookup (nat_eq id) nodes)
-  first_stands id ids s =
-      s.standing id (Rattle.std.proofs.lemmas.Bool.or_left (nat_eq id id) (is_among id ids)
-      (Rattle.moka_list.proofs.ItemLemmas.nat_eq-same id))
-
-  -- behind one of another ticket
-  pub ahead_behind : (id : ℕ) (ids : List ℕ) (e : Node) → IsAhead (id ∷ ids) → lookup (nat_eq id) nodes ≡ Some e
-      → (e.ticket ≡ ticket → ⊥) → IsAhead ids
-  ahead_behind id ids e s stands differ =
-      record {
-        standing = λ i h. s.standing i (among_behind i id ids h);
-        ahead = λ i x there equal.
-            elim (among_cases i id ids (s.ahead i x there equal)) [
-              | inl same ↦
-                  let is : x ≡ e =
-                  some_parts x e (sym there ∙ (ap (λ j. lookup (nat_eq j) nodes) (eqb-true i id same) ∙ stands)) in
-                  absurd (differ (subst (λ y. y.ticket ≡ ticket) is equal))
-              | inr later ↦ later
-            ];
-      }
-
-  -- where none is ahead, the ticket has no node
-  pub none_ahead : IsDistinct nat_eq (keys_of nodes) → IsAhead [] → (write : List Ticket)
+  -- if no node has the ticket, nothing is charged for it
+  pub none_of_ticket : IsDistinct nat_eq (keys_of nodes)
+      → ((id : ℕ) (n : Node) → lookup (nat_eq id) nodes ≡ Some n → same_ticket ticket n.ticket ≡ false) → (write : List Ticket)
       → charge_of ticket (record { access = access_of nodes; write = write }) ≡ None
-  none_ahead once s write =
+  none_of_ticket once differ write =
       ap (option_map (λ c. c.charge)) (seen-absent charged (λ c. same_ticket ticket c.ticket) nodes (by nodes (each_found nodes once)))
     where
       by : (es : List (ℕ × Node)) → AllByRecursion (λ p. lookup (nat_eq p.0) nodes ≡ Some p.1) es
           → AllByRecursion (λ p. same_ticket ticket p.1.ticket ≡ false) es
       by [] a = tt
-      by (p ∷ es) a = (
-        elim (cases_Bool (same_ticket ticket p.1.ticket)) [
-          | inl equal ↦ absurd (false≢true (s.ahead p.0 p.1 a.0 (sym (same_is ticket p.1.ticket equal))))
-          | inr differ ↦ differ
-        ],
-        by es a.1,
-      )
+      by (p ∷ es) a = (differ p.0 p.1 a.0, by es a.1)
+
+  -- a search tests this of a node: whether it has the ticket
+  abbrev pub IsTested : ℕ → Bool → Type 0
+  IsTested id answer = IfSome (lookup (nat_eq id) nodes) (λ n. answer ≡ same_ticket n.ticket ticket)
+
+  -- one that passes has it
+  pub passes : (id : ℕ) → IsSome (lookup (nat_eq id) nodes) → IsTested id true
+      → (n : Node) × (lookup (nat_eq id) nodes ≡ Some n) × (n.ticket ≡ ticket)
+  passes id stands s = by (lookup (nat_eq id) nodes) stands s
+    where
+      by : (o : Option Node) → IsSome o → IfSome o (λ n. true ≡ same_ticket n.ticket ticket)
+          → (n : Node) × (o ≡ Some n) × (n.ticket ≡ ticket)
+      by None some t = absurd (false≢true some)
+      by (Some n) some t = (n, refl, same_is n.ticket ticket (sym t))
+
+  -- one that is a candidate of the ticket's hash, and fails if it is one, has another ticket
+  pub fails : (index : HashIndex) → IsIndexed nodes index → (id : ℕ) (n : Node) → lookup (nat_eq id) nodes ≡ Some n
+      → (is_candidate index ticket.hash id ≡ true → IsTested id false) → same_ticket ticket n.ticket ≡ false
+  fails index s id n stands test =
+      elim (cases_Bool (same_ticket ticket n.ticket)) [
+        | inl equal ↦
+            let is : n.ticket ≡ ticket = sym (same_is ticket n.ticket equal) in
+            let own = subst (λ (t : Ticket). is_candidate index t.hash id ≡ true) is (s.listed id n stands) in
+            let tested : false ≡ same_ticket n.ticket ticket =
+            subst (λ o. IfSome o (λ m. false ≡ same_ticket m.ticket ticket)) stands (test own) in
+            absurd (false≢true (tested ∙ subst (λ t. same_ticket t ticket ≡ true) (sym is) (same_self ticket)))
+        | inr differ ↦ differ
+      ]
 
 -- ---- all ids, one after another
 

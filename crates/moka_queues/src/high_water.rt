@@ -19,7 +19,7 @@ impl HighWater {
         HighWater { marks: [0; SHARDS] }
     }
 
-    /// Whether the ticket is above the mark of its shard.
+    /// Returns `true` if the ticket is above the mark of its shard.
     pub(crate) fn is_below(&self, ticket: Ticket) -> bool
         ensures { IsTrue result → IsCovered self.now ticket → ⊥ }
     {

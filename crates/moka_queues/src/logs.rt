@@ -9,17 +9,17 @@ pub use moka_sync_model::operation::{Read, Write};
 use std::alloc::{Allocator, Global};
 use std::marker::Model;
 
-/// How many reads a maintenance takes and applies at once, at most. Each of them waits for memory, and so they wait together.
+/// Reads that a maintenance takes and applies at once, at most. Each of them waits for memory, and so they wait together.
 pub const READS_AT_ONCE: usize = 16;
 
-/// A read, and a hint for that of a hit: in which slot its entry may be found, and once that was touched, at which place its node may.
+/// A read, with a hint for a hit: the likely slot of its entry, and after that was touched, the likely place of its node.
 #[derive(Clone, Copy, Debug)]
 pub struct LoggedRead {
     pub read: Read,
     pub hint: usize,
 }
 
-/// What a place for a read has before one is copied to it.
+/// The read in a place to which none was copied yet.
 pub const NO_READ: LoggedRead = LoggedRead {
     read: Read::Miss { hash: 0 },
     hint: 0,
@@ -53,7 +53,7 @@ impl<A: Allocator + Drop> ReadLog<A> {
         })
     }
 
-    /// How many reads it holds.
+    /// Returns the number of reads.
     pub fn len(&self) -> usize
         ensures len { result ≡ length self.now }
         ensures within { result ≤ READ_LOG_SIZE }
@@ -71,7 +71,7 @@ impl<A: Allocator + Drop> ReadLog<A> {
         self.push_logged(LoggedRead { read, hint: 0 })
     }
 
-    /// The same of a read with its hint.
+    /// Adds a read with its hint, as `push` does.
     pub fn push_logged(&mut self, logged: LoggedRead) -> Result<(), Read>
         ensures variant { IsOk result ↔ (length self.old < READ_LOG_SIZE) }
         ensures ok { OnOk result (self.new ≡ self.old ++ logged.read ∷ []) }
@@ -133,7 +133,7 @@ impl<A: Allocator + Drop> WriteLog<A> {
         })
     }
 
-    /// How many writes it holds.
+    /// Returns the number of writes.
     pub fn len(&self) -> usize
         ensures len { result ≡ length self.now }
         ensures within { result ≤ WRITE_LOG_SIZE }

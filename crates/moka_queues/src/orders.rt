@@ -4,6 +4,7 @@ ghost use Rattle.std.specs.Prelude.{IfOk, OnErr, OnOk, IfSome, IsNone, IsSome, N
 ghost use Rattle.std.specs.List.{IsDistinct};
 ghost use Rattle.std.specs.Map.{keys_of, lookup, remove_entry, set_value};
 ghost use Rattle.moka_common.specs.Settings.{keeps_writes};
+ghost use Rattle.moka_sync_model.specs.Ticket.{same_ticket};
 ghost use Rattle.moka_list.specs.Nodes.{IsIn, first_id, moved_to_back, next_id};
 ghost use Rattle.moka_sync_model.specs.Orders.{charge_of, charged_weight, is_written, used, rewritten, renewed, recharged, with_node, without_node};
 ghost use Rattle.moka_list.specs.HashIndex.{candidates};
@@ -22,7 +23,7 @@ use moka_sync_model::ticket::Ticket;
 use std::alloc::{AllocError, Allocator, Global};
 use std::marker::Model;
 
-/// What is charged for the entry of a ticket.
+/// The charge for the entry of a ticket.
 #[derive(Clone, Copy, Debug)]
 pub struct Node {
     pub ticket: Ticket,
@@ -88,7 +89,7 @@ impl<A: Allocator + Clone + Drop> Orders<A> {
         self.writes.reserve_exact(more_writes)
     }
 
-    /// How many nodes there are.
+    /// Returns the number of nodes.
     pub fn len(&self) -> usize
         ensures value { result ≡ length self.now.nodes }
 
@@ -98,7 +99,7 @@ impl<A: Allocator + Clone + Drop> Orders<A> {
         self.access.len()
     }
 
-    /// What is charged in all.
+    /// Returns the sum of all charges.
     pub fn charged_weight(&self) -> u128
         ensures value { result ≡ charged_weight (orders_of self.now) }
         ensures small { result < 2 ^ 96 }
@@ -114,17 +115,17 @@ impl<A: Allocator + Clone + Drop> Orders<A> {
         ensures absent { IsNone result → charge_of ticket (orders_of self.now) ≡ None }
         ensures unwritten { IsNone result → is_written ticket (orders_of self.now) ≡ false }
     {
-        for number in self.index.candidates(ticket.hash) {
-            let id = NodeId::from_number(number);
-            if self.access.get(id).ticket == ticket {
-                return Some(id);
-            }
-        }
-        None
+        let access = &self.access;
+        let is_sought = |number|
+            requires { IsSome (lookup (nat_eq number) access.now.items) }
+            ensures { IfSome (lookup (nat_eq number) access.entry.now.items) (λ n. result ≡ same_ticket n.ticket ticket) }
+        { access.get(NodeId::from_number(number)).ticket == ticket };
+        let number = self.index.find(ticket.hash, is_sought)?;
+        Some(NodeId::from_number(number))
     }
 
-    /// The node of a ticket, which is looked for at a place first: that where `enter` has put it, as far as the caller knows it. It spares the look-up
-    /// in the index, as it is spared where the ticket is above all of its shard that were charged.
+    /// Returns the node of a ticket. It looks at a place first: that where `enter` has put it, as far as the caller knows. It spares the look-up in the index,
+    /// as it is spared where the ticket is above all of its shard that were charged.
     pub fn find_at(&self, ticket: Ticket, place: usize) -> Option<NodeId>
         ensures found { IfSome result (λ id. IsNodeOf self.now ticket id) }
         ensures absent { IsNone result → charge_of ticket (orders_of self.now) ≡ None }
@@ -314,8 +315,8 @@ fn unlink_write<A: Allocator>(writes: &mut Deque<Ticket, A>, write: Option<NodeI
     }
 }
 
-/// Where there is no room for a node, makes room in the index for the next capacity, so that the queues are as they were where memory for it is
-/// refused. For how many more nodes the queues are to make room then.
+/// Reserves capacity in the index for the next capacity of nodes, if there is none for one more. If memory is refused, the queues are as they were. For how
+/// many more nodes the queues are to make room then.
 fn index_more<A: Allocator>(
     index: &mut HashIndex<A>,
     access: &Chain<Node, A>,
@@ -334,7 +335,7 @@ fn index_more<A: Allocator>(
     Ok((target - len).max(1))
 }
 
-/// For how many nodes there is room next: for twice as many, but not past the limit, as no more nodes than that weigh something. Weights of 0 pass it.
+/// Returns the next capacity of nodes: twice as many, but not past the limit. Weights of 0 pass it.
 fn next_capacity(ids: usize, limits: &Limits) -> usize
     ensures { ids ≤ result }
 {

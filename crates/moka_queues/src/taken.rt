@@ -7,10 +7,10 @@ use moka_sync_model::ticket::Ticket;
 use std::alloc::Allocator;
 use std::marker::Model;
 
-/// How many writes a maintenance takes at once, at most. To take the lock of their log costs about as much as to apply one, while other threads push.
+/// Writes that a maintenance takes at once, at most. To take the lock of their log costs about as much as to apply one, while other threads push.
 const WRITES_AT_ONCE: usize = 16;
 
-/// What a place for a write has before one is copied to it.
+/// The write in a place to which none was copied yet.
 const NO_WRITE: Write = Write::Remove {
     ticket: Ticket { hash: 0, number: 0 },
 };
@@ -48,14 +48,14 @@ impl TakenWrites {
         }
     }
 
-    /// Whether all were applied.
+    /// Returns `true` if all taken writes were applied.
     pub fn is_empty(&self) -> bool
         ensures { result ≡ (length self.now == 0) }
     {
         self.next == self.end
     }
 
-    /// Takes the first writes out of their log, once all are applied that were taken before: as many as there are, and as are wanted, and 16 at most.
+    /// Takes the first writes out of their log, up to `wanted` and up to 16. All that were taken before must be applied.
     pub fn refill<A: Allocator + Drop>(&mut self, log: &mut WriteLog<A>, wanted: usize)
         requires { self.old ≡ [] }
         ensures count { length self.new ≡ min (min wanted 16) (length log.old) }

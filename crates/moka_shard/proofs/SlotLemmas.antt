@@ -1,13 +1,14 @@
 -- Lemmas on the slots of a shard: what a search finds, and what each change leaves.
-use Rattle.std.proofs.Common.{◌≡◌, ◌≢◌, ◌<◌, ◌+◌, ℕ, Bool, true, false, nat_eq, List, [], ◌∷◌, Option, Some, None, IsSome, Result, Ok, Err}
+use Rattle.std.proofs.Common.{◌≡◌, ◌≢◌, ◌<◌, ◌+◌, ℕ, Bool, true, false, nat_eq, List, [], ◌∷◌, Option, Some, None, IfSome, IsSome, Result, Ok, Err}
 use Rattle.std.proofs.Common.{refl, sym, ap, ◌∙◌, subst, inl, inr, arith, set, length, suc}
 use Rattle.std.proofs.lemmas.List.{get_or-set_same, get_or-set_other}
 use Rattle.std.specs.Cmp.{IsEquivalence}
 use Rattle.std.specs.List.{list_any}
-use Rattle.std.proofs.lemmas.Bool.{cases_Bool, cases_eq, false≢true, false_from_ne_true, eqb-true, eq-eqb, ne_eqb, or_cases, or_right}
+use Rattle.std.proofs.lemmas.Bool.{cases_Bool, cases_eq, false≢true, false_from_ne_true, eqb-true, eq-eqb, ne_eqb}
 use Rattle.std.proofs.lemmas.List.Elements.{All-from_recursion}
 use Rattle.moka_common.specs.Keys.{Keys}
-use Rattle.moka_list.specs.HashIndex.{HashIndex, candidates, is_candidate, Adds as Lists, Removes as Unlists}
+use Rattle.moka_list.proofs.FindLemmas.{found_passes, none_passes}
+use Rattle.moka_list.specs.HashIndex.{HashIndex, candidates, is_candidate, Adds as Lists, FindsFirst, Removes as Unlists}
 use Rattle.moka_sync_model.specs.declared.ticket.Ticket.{Ticket}
 use Rattle.moka_sync_model.specs.Ticket.{same_ticket, shard_of, changed, without}
 use Rattle.moka_sync_model.specs.Entry.{Entry, entry_at, entry_of, updated}
@@ -42,6 +43,15 @@ module _ {K V S : Type 0} (keys : Keys K S) where
   empty_slots {slots = slots} s none first = record {
     keys_apart = s.keys_apart;
     tickets_apart = s.tickets_apart;
+    belong = λ i e here. absurd (none_in slots none i e here);
+  }
+
+  -- slots without entries are those of a shard
+  pub no_slots : (state : S) (number next : ℕ) (slots : List (Option (Entry K V))) → entries_in slots ≡ []
+      → AreSlots keys state number next slots
+  no_slots state number next slots none = record {
+    keys_apart = λ i j e f here. absurd (none_in slots none i e here);
+    tickets_apart = λ i j e f here. absurd (none_in slots none i e here);
     belong = λ i e here. absurd (none_in slots none i e here);
   }
 
@@ -274,54 +284,29 @@ module _ {K V : Type 0} where
 
   -- ---- a search among candidates
 
-  -- these slots have entries
-  pub record AreStanding (slots : List (Option (Entry K V))) (ids : List ℕ) : Type 0 where
-    pub standing : (i : ℕ) → list_any (nat_eq i) ids ≡ true → IsSome (entry_in slots i)
+  module _ (test : Entry K V → Bool) (slots : List (Option (Entry K V))) where
+    -- a search tests this of the entry in a slot
+    abbrev pub IsTested : ℕ → Bool → Type 0
+    IsTested i answer = IfSome (entry_in slots i) (λ e. answer ≡ test e)
 
-  -- at first they are the candidates of a hash
-  pub all_stand : (slots : List (Option (Entry K V))) (index : HashIndex) (hash : ℕ) → IsIndexed slots index → (ids : List ℕ)
-      → ids ≡ candidates index hash → AreStanding slots ids
-  all_stand slots index hash s ids is = record { standing = λ i h. s.standing hash i (sym (ap (list_any (nat_eq i)) is) ∙ h) }
+    module _ (index : HashIndex) (hash : ℕ) (s : IsIndexed slots index) where
+      -- the entry that is found passes
+      pub passes : (i : ℕ) → FindsFirst IsTested (candidates index hash) (Some i)
+          → (e : Entry K V) × (entry_in slots i ≡ Some e) × (test e ≡ true)
+      passes i found =
+          let f = found_passes IsTested (candidates index hash) i found in
+          by (entry_in slots i) (s.standing hash i f.0) f.1
+        where
+          by : (o : Option (Entry K V)) → IsSome o → IfSome o (λ e. true ≡ test e) → (e : Entry K V) × (o ≡ Some e) × (test e ≡ true)
+          by None some t = absurd (false≢true some)
+          by (Some e) some t = (e, refl, sym t)
 
-  -- then those behind one
-  pub stand_behind : (slots : List (Option (Entry K V))) (i : ℕ) (ids : List ℕ) → AreStanding slots (i ∷ ids) → AreStanding slots ids
-  stand_behind slots i ids s = record { standing = λ j h. s.standing j (or_right (nat_eq j i) (list_any (nat_eq j) ids) h) }
-
-  -- these slots have entries, and one that passes is among them, if there is one
-  pub record IsAhead (p : Entry K V → Bool) (slots : List (Option (Entry K V))) (ids : List ℕ) : Type 0 where
-    pub standing : (i : ℕ) → list_any (nat_eq i) ids ≡ true → IsSome (entry_in slots i)
-    pub ahead : (i : ℕ) (e : Entry K V) → entry_in slots i ≡ Some e → p e ≡ true → list_any (nat_eq i) ids ≡ true
-
-  -- at first all candidates of the hash are ahead
-  pub all_ahead : (p : Entry K V → Bool) (slots : List (Option (Entry K V))) (index : HashIndex) (hash : ℕ) → IsIndexed slots index
-      → ((i : ℕ) (e : Entry K V) → entry_in slots i ≡ Some e → p e ≡ true → e.ticket.hash ≡ hash)
-      → (ids : List ℕ) → ids ≡ candidates index hash → IsAhead p slots ids
-  all_ahead p slots index hash s hashed ids is = record {
-    standing = λ i h. s.standing hash i (sym (ap (list_any (nat_eq i)) is) ∙ h);
-    ahead =
-        λ i e here passes.
-        ap (list_any (nat_eq i)) is
-        ∙ subst (λ n. is_candidate index n i ≡ true) (hashed i e here passes) (s.listed i e here);
-  }
-
-  -- behind one that doesn't pass
-  pub ahead_behind : (p : Entry K V → Bool) (slots : List (Option (Entry K V))) (i : ℕ) (ids : List ℕ) (e : Entry K V)
-      → IsAhead p slots (i ∷ ids) → entry_in slots i ≡ Some e → p e ≡ false → IsAhead p slots ids
-  ahead_behind p slots i ids e s here fails = record {
-    standing = λ j h. s.standing j (or_right (nat_eq j i) (list_any (nat_eq j) ids) h);
-    ahead =
-        λ j x there passes. elim (or_cases (nat_eq j i) (list_any (nat_eq j) ids) (s.ahead j x there passes)) [
-          | inl same ↦
-              let is : x ≡ e = some_parts x e (sym there ∙ ap (entry_in slots) (eqb-true j i same) ∙ here) in
-              absurd (false≢true (sym fails ∙ ap p (sym is) ∙ passes))
-          | inr later ↦ later
-        ];
-  }
-
-  -- where none is ahead, none passes
-  pub none_ahead : (p : Entry K V → Bool) (slots : List (Option (Entry K V))) → IsAhead p slots [] → (i : ℕ) (e : Entry K V)
-      → entry_in slots i ≡ Some e → p e ≡ false
-  none_ahead p slots s i e here = false_from_ne_true (p e) (λ passes. false≢true (s.ahead i e here passes))
+      -- where none is found, each entry of the hash fails
+      pub fails : FindsFirst IsTested (candidates index hash) None → (i : ℕ) (e : Entry K V) → entry_in slots i ≡ Some e
+          → e.ticket.hash ≡ hash → test e ≡ false
+      fails none i e here own =
+          let listed = subst (λ n. is_candidate index n i ≡ true) own (s.listed i e here) in
+          sym (subst (λ o. IfSome o (λ y. false ≡ test y)) here (none_passes IsTested (candidates index hash) none i listed))
 
   -- where there is an entry there is a slot
   within : (slots : List (Option (Entry K V))) (i : ℕ) (e : Entry K V) → entry_in slots i ≡ Some e → i < length slots

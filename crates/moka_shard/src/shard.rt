@@ -1,5 +1,5 @@
 //! One shard of the map: the entries whose hashes belong to it, in the slots of a slab, found by the hashes of their keys.
-ghost use Rattle.std.specs.Prelude.{◌≡◌, ◌≢◌, ◌≤◌, ◌↔◌, ℕ, Bool, false, [], Some, None, IfSome, IfOk, OnOk};
+ghost use Rattle.std.specs.Prelude.{◌≡◌, ◌≢◌, ◌≤◌, ◌↔◌, ◌==◌, ◌&&◌, ℕ, Bool, false, [], Some, None, IfSome, IfOk, OnOk};
 ghost use Rattle.std.specs.Prelude.{IsSome, IsErr, IsTrue, IsFalse, is_some, length, option_map, option_copied};
 ghost use Rattle.slab.specs.Slab.{HasRoomFor};
 ghost use Rattle.moka_common.specs.Keys.{keys_by};
@@ -7,7 +7,7 @@ ghost use Rattle.moka_list.specs.HashIndex.{candidates};
 ghost use Rattle.moka_sync_model.specs.EntryChange.{change_of};
 ghost use Rattle.moka_sync_model.specs.Entry.{entry_at, entry_of};
 ghost use Rattle.moka_sync_model.specs.Parts.{IsValidShard};
-ghost use Rattle.moka_sync_model.specs.Ticket.{shard_of};
+ghost use Rattle.moka_sync_model.specs.Ticket.{same_ticket, shard_of};
 ghost use Rattle.moka_sync_model.specs.declared.entry.EntryChange.TheVariants.{Touched};
 ghost use Rattle.moka_sync_model.specs.declared.ticket.Ticket.{Ticket};
 ghost use Rattle.moka_sync_model.specs.Turn.Plan.{after_change};
@@ -30,7 +30,7 @@ use std::alloc::{Allocator, Global};
 use std::hash::{BuildHasher, Hash};
 use std::marker::Model;
 
-/// For how many more entries room is made at least, so that a small shard seldom grows.
+/// Fewest entries that a growth adds, so that a small shard seldom grows.
 const LEAST_GROWTH: usize = 4;
 
 /// One shard of the map. It gives out the ticket numbers of its entries.
@@ -82,8 +82,9 @@ impl<K: Eq + Hash + Drop, V: Drop, S: BuildHasher + Drop, A: Allocator + Clone +
         capacity: usize,
         hash_state: Shared<S, A>,
     ) -> Result<Self, OutOfMemory>
-        ensures { IfOk result (λ shard. state_of shard ≡
+        ensures state { IfOk result (λ shard. state_of shard ≡
             record { number = number; next_number = next_number; entries = []; hash_state = hash_state }) }
+        ensures valid { IfOk result (λ shard. IsValidShard (keys_by K.Hash S.BuildHasher S.Hasher.Hasher) (state_of shard)) }
     {
         let slots = Slab::with_capacity(alloc.clone()?, capacity)?;
         let mut index = HashIndex::new(alloc);
@@ -97,7 +98,7 @@ impl<K: Eq + Hash + Drop, V: Drop, S: BuildHasher + Drop, A: Allocator + Clone +
         })
     }
 
-    /// How many entries there are.
+    /// Returns the number of entries.
     pub fn len(&self) -> usize
         ensures len { result ≡ length (state_of self.now).entries }
 
@@ -129,7 +130,7 @@ impl<K: Eq + Hash + Drop, V: Drop, S: BuildHasher + Drop, A: Allocator + Clone +
         self.hash_state.get().hash_one(key)
     }
 
-    /// Whether keys of this hash belong here.
+    /// Returns `true` if keys of this hash belong to this shard.
     pub fn is_of(&self, hash: u64) -> bool
         ensures { IsTrue result ↔ shard_of hash ≡ self.now.number }
     {
@@ -142,34 +143,40 @@ impl<K: Eq + Hash + Drop, V: Drop, S: BuildHasher + Drop, A: Allocator + Clone +
             → entry_found self.now.slots result ≡ entry_at K.eq key.now (entries_in self.now.slots) }
         ensures found { IfSome result (λ slot. IsSome (entry_in self.now.slots slot)) }
         ensures same { IfSome result (λ slot. entry_in self.now.slots slot ≡ entry_at K.eq key.now (entries_in self.now.slots)) }
+        ensures valid { IsValidShard (keys_by K.Hash S.BuildHasher S.Hasher.Hasher) (state_of self.now) }
     {
-        for slot in self.index.candidates(hash) {
-            let entry = &self.slots[slot];
-            if entry.ticket().hash == hash && *key == *entry.key().get() {
-                return Some(slot);
-            }
-        }
-        None
+        let slots = &self.slots;
+        let is_sought = |slot|
+            requires { IsSome (entry_in slots.now.slots slot) }
+            ensures { IfSome (entry_in slots.entry.now.slots slot)
+                (λ e. result ≡ ((e.ticket.hash == hash) && K.eq key.entry.now e.key)) }
+        {
+            let entry = &slots[slot];
+            entry.ticket().hash == hash && *key == *entry.key().get()
+        };
+        self.index.find(hash, is_sought)
     }
 
     /// The slot of the entry of a ticket.
     pub fn find_ticket(&self, ticket: Ticket) -> Option<usize>
         ensures value { entry_found self.now.slots result ≡ entry_of ticket (entries_in self.now.slots) }
         ensures found { IfSome result (λ slot. IsSome (entry_in self.now.slots slot)) }
+        ensures valid { IsValidShard (keys_by K.Hash S.BuildHasher S.Hasher.Hasher) (state_of self.now) }
     {
-        for slot in self.index.candidates(ticket.hash) {
-            if self.slots[slot].ticket() == ticket {
-                return Some(slot);
-            }
-        }
-        None
+        let slots = &self.slots;
+        let is_sought = |slot|
+            requires { IsSome (entry_in slots.now.slots slot) }
+            ensures { IfSome (entry_in slots.entry.now.slots slot) (λ e. result ≡ same_ticket e.ticket ticket) }
+        { slots[slot].ticket() == ticket };
+        self.index.find(ticket.hash, is_sought)
     }
 
-    /// The slot of the entry of a ticket, which is looked for in a slot first: that in which it was found before, as far as the caller knows it. It
-    /// spares the look-up in the index.
+    /// Returns the slot of the entry of a ticket. It looks in a slot first: that in which the entry was found before, as far as the caller knows. It spares the
+    /// look-up in the index.
     fn find_ticket_at(&self, ticket: Ticket, slot: usize) -> Option<usize>
         ensures value { entry_found self.now.slots result ≡ entry_of ticket (entries_in self.now.slots) }
         ensures found { IfSome result (λ slot. IsSome (entry_in self.now.slots slot)) }
+        ensures valid { IsValidShard (keys_by K.Hash S.BuildHasher S.Hasher.Hasher) (state_of self.now) }
     {
         if let Some(entry) = self.slots.get(slot) {
             if entry.ticket() == ticket {
@@ -179,21 +186,21 @@ impl<K: Eq + Hash + Drop, V: Drop, S: BuildHasher + Drop, A: Allocator + Clone +
         self.find_ticket(ticket)
     }
 
-    /// The entry in a slot, if a search has found one.
+    /// Returns the entry in a slot, if a search has found one.
     pub fn entry(&self, slot: Option<usize>) -> Option<&Entry<K, V, A>>
         ensures { option_copied result ≡ entry_found self.now.slots slot }
     {
         self.slots.get(slot?)
     }
 
-    /// What the entry in a slot weighs, if a search has found one.
+    /// Returns the weight of the entry in a slot, if a search has found one.
     pub fn weight(&self, slot: Option<usize>) -> Option<u32>
         ensures { result ≡ option_map (λ e. e.weight) (entry_found self.now.slots slot) }
     {
         Some(self.entry(slot)?.weight())
     }
 
-    /// The entry in a slot, if a search has found one and it counts at a moment.
+    /// Returns the entry in a slot, if a search has found one and it is live.
     pub fn unexpired(
         &self,
         slot: Option<usize>,
@@ -210,7 +217,7 @@ impl<K: Eq + Hash + Drop, V: Drop, S: BuildHasher + Drop, A: Allocator + Clone +
         Some(entry)
     }
 
-    /// Whether a search has found an entry that counts at a moment.
+    /// Returns `true` if a search has found a live entry.
     pub fn counts(
         &self,
         slot: Option<usize>,
@@ -223,7 +230,7 @@ impl<K: Eq + Hash + Drop, V: Drop, S: BuildHasher + Drop, A: Allocator + Clone +
         self.unexpired(slot, settings, valid_after, now).is_some()
     }
 
-    /// The value of the entry that a search has found, shared once more, and its ticket, if it counts at a moment.
+    /// Returns the value of a live entry that a search has found, shared, and its ticket.
     pub fn value(
         &self,
         slot: Option<usize>,
@@ -244,7 +251,7 @@ impl<K: Eq + Hash + Drop, V: Drop, S: BuildHasher + Drop, A: Allocator + Clone +
         Ok(Some((value, entry.ticket())))
     }
 
-    /// Whether a key, whose hash it is, has an entry that counts at a moment.
+    /// Returns `true` if a key, whose hash it is, has a live entry.
     pub fn contains_key(
         &self,
         key: &K,
@@ -259,8 +266,7 @@ impl<K: Eq + Hash + Drop, V: Drop, S: BuildHasher + Drop, A: Allocator + Clone +
         self.counts(self.find(key, hash), settings, valid_after, now)
     }
 
-    /// The value at a key, whose hash it is, shared once more, and the ticket of its entry, if that counts at a moment; and the slot in which it may be
-    /// found again.
+    /// Returns the value of a key's live entry, shared, its ticket, and the slot in which it may be found again. The hash must be the key's.
     #[inline(always)]
     pub fn get(
         &self,
@@ -283,8 +289,8 @@ impl<K: Eq + Hash + Drop, V: Drop, S: BuildHasher + Drop, A: Allocator + Clone +
         Ok((found, slot.unwrap_or(0)))
     }
 
-    /// Puts the value at the key, whose hash it is. An equal key that is there stays, with its ticket, which is the answer; a new entry has the
-    /// next one. The weigher is asked once, and only where the insert isn't refused: room is made first.
+    /// Puts the value at the key, whose hash it is, and returns the entry's ticket. An equal key that is there stays, with its ticket. Memory is reserved
+    /// before the weigher is asked, so a refused insert doesn't ask it.
     pub fn insert<W: WeighShared<K, V>>(
         &mut self,
         hash: u64,
@@ -299,6 +305,7 @@ impl<K: Eq + Hash + Drop, V: Drop, S: BuildHasher + Drop, A: Allocator + Clone +
         ensures step { (weight : ℕ) × (refused : Bool) × OnOk result (W.weighs weigher.now key value weight)
             × IsInsert (state_of self.old) hash key value weight now refused
             (entry_at K.eq key (entries_in self.old.slots)) result (state_of self.new) }
+        ensures valid { IsValidShard (keys_by K.Hash S.BuildHasher S.Hasher.Hasher) (state_of self.new) }
     {
         match self.find(key.get(), hash) {
             Some(slot) => self.update(slot, key, value, weigher, now),
@@ -319,6 +326,7 @@ impl<K: Eq + Hash + Drop, V: Drop, S: BuildHasher + Drop, A: Allocator + Clone +
         requires ready { W.ready weigher.now }
         ensures step { (weight : ℕ) × OnOk result (W.weighs weigher.now key value weight)
             × IsInsert (state_of self.old) 0 key value weight now false (entry_in self.old.slots slot) result (state_of self.new) }
+        ensures valid { IsValidShard (keys_by K.Hash S.BuildHasher S.Hasher.Hasher) (state_of self.new) }
     {
         let entry = &mut self.slots[slot];
         if entry.outstanding() == MAX_OUTSTANDING {
@@ -329,7 +337,7 @@ impl<K: Eq + Hash + Drop, V: Drop, S: BuildHasher + Drop, A: Allocator + Clone +
         Ok(entry.ticket())
     }
 
-    /// Adds the entry of a key that has none. The weigher is asked once room is made.
+    /// Adds the entry of a key that has none. Memory is reserved before the weigher is asked.
     pub fn add<W: WeighShared<K, V>>(
         &mut self,
         hash: u64,
@@ -344,6 +352,7 @@ impl<K: Eq + Hash + Drop, V: Drop, S: BuildHasher + Drop, A: Allocator + Clone +
         requires ready { W.ready weigher.now }
         ensures step { (weight : ℕ) × (refused : Bool) × OnOk result (W.weighs weigher.now key value weight)
             × IsInsert (state_of self.old) hash key value weight now refused None result (state_of self.new) }
+        ensures valid { IsValidShard (keys_by K.Hash S.BuildHasher S.Hasher.Hasher) (state_of self.new) }
     {
         if self.next_number == NO_TICKET {
             return Err(InsertError::TicketsUsedUp);
@@ -367,12 +376,13 @@ impl<K: Eq + Hash + Drop, V: Drop, S: BuildHasher + Drop, A: Allocator + Clone +
     pub fn invalidate(&mut self, key: &K, hash: u64) -> Option<Ticket>
         requires { hash ≡ (keys_by K.Hash S.BuildHasher S.Hasher.Hasher).hash_of self.old.hash_state key.now }
         ensures step { IsInvalidation (state_of self.old) (entry_at K.eq key.now (entries_in self.old.slots)) result (state_of self.new) }
+        ensures valid { IsValidShard (keys_by K.Hash S.BuildHasher S.Hasher.Hasher) (state_of self.new) }
     {
         let slot = self.find(key, hash)?;
         Some(self.remove(slot))
     }
 
-    /// The same, and the answer has its value too, if it counts at a moment.
+    /// Removes the entry of a key as `invalidate` does, and returns its value if it is live.
     pub fn take(
         &mut self,
         key: &K,
@@ -385,6 +395,7 @@ impl<K: Eq + Hash + Drop, V: Drop, S: BuildHasher + Drop, A: Allocator + Clone +
         ensures value { result.0 ≡ option_map (λ e. e.value)
             (unexpired settings.now valid_after now (entry_at K.eq key.now (entries_in self.old.slots))) }
         ensures step { IsInvalidation (state_of self.old) (entry_at K.eq key.now (entries_in self.old.slots)) result.1 (state_of self.new) }
+        ensures valid { IsValidShard (keys_by K.Hash S.BuildHasher S.Hasher.Hasher) (state_of self.new) }
     {
         let Some(slot) = self.find(key, hash) else {
             return (None, None);
@@ -397,20 +408,22 @@ impl<K: Eq + Hash + Drop, V: Drop, S: BuildHasher + Drop, A: Allocator + Clone +
         (Some(value), Some(ticket))
     }
 
-    /// Takes out the entry in a slot. The answer is its ticket.
+    /// Removes the entry in a slot, and returns its ticket.
     pub fn remove(&mut self, slot: usize) -> Ticket
         requires { IsSome (entry_in self.old.slots slot) }
         ensures step { IsInvalidation (state_of self.old) (entry_in self.old.slots slot) (Some result) (state_of self.new) }
+        ensures valid { IsValidShard (keys_by K.Hash S.BuildHasher S.Hasher.Hasher) (state_of self.new) }
     {
         let (_, ticket) = self.take_out(slot);
         ticket
     }
 
-    /// The same, and the answer has its value too.
+    /// Removes the entry in a slot, and returns its value and its ticket.
     fn take_out(&mut self, slot: usize) -> (Shared<V, A>, Ticket)
         requires { IsSome (entry_in self.old.slots slot) }
         ensures value { option_map (λ e. e.value) (entry_in self.old.slots slot) ≡ Some result.0 }
         ensures step { IsInvalidation (state_of self.old) (entry_in self.old.slots slot) (Some result.1) (state_of self.new) }
+        ensures valid { IsValidShard (keys_by K.Hash S.BuildHasher S.Hasher.Hasher) (state_of self.new) }
     {
         let entry = self.slots.remove(slot);
         let ticket = entry.ticket();
@@ -424,6 +437,7 @@ impl<K: Eq + Hash + Drop, V: Drop, S: BuildHasher + Drop, A: Allocator + Clone +
         ensures step { state_of self.new ≡ record (state_of self.old) {
           entries = after_change ticket (change_of (Touched moment)) (entries_in self.old.slots);
         } }
+        ensures valid { IsValidShard (keys_by K.Hash S.BuildHasher S.Hasher.Hasher) (state_of self.new) }
     {
         let slot = self.find_ticket_at(ticket, slot);
         let place = place_of(self.entry(slot));
@@ -436,6 +450,8 @@ impl<K: Eq + Hash + Drop, V: Drop, S: BuildHasher + Drop, A: Allocator + Clone +
         requires found { IfSome slot (λ s. IsSome (entry_in self.old.slots s)) }
         ensures step { (t : Ticket) → entry_found self.old.slots slot ≡ entry_of t (entries_in self.old.slots)
             → state_of self.new ≡ record (state_of self.old) { entries = after_change t (change_of change) (entries_in self.old.slots) } }
+        ensures valid { IsValidShard (keys_by K.Hash S.BuildHasher S.Hasher.Hasher) (state_of self.old)
+            → IsValidShard (keys_by K.Hash S.BuildHasher S.Hasher.Hasher) (state_of self.new) }
     {
         let Some(slot) = slot else {
             return;
@@ -450,7 +466,7 @@ impl<K: Eq + Hash + Drop, V: Drop, S: BuildHasher + Drop, A: Allocator + Clone +
         }
     }
 
-    /// Whether a pair counts at a moment.
+    /// Returns `true` if the shard has a live pair.
     pub fn has_pairs(&self, settings: &Settings<S, A>, valid_after: Instant, now: Instant) -> bool
         ensures some { IsTrue result → pairs_at settings.now valid_after now (state_of self.now) ≢ [] }
         ensures none { IsFalse result → pairs_at settings.now valid_after now (state_of self.now) ≡ [] }
@@ -471,6 +487,7 @@ impl<K: Eq + Hash + Drop, V: Drop, S: BuildHasher + Drop, A: Allocator + Clone +
         valid_after: Instant,
         now: Instant,
     ) -> Result<Vec<(Shared<K, A>, Shared<V, A>), A>, OutOfMemory>
+        ensures valid { IsValidShard (keys_by K.Hash S.BuildHasher S.Hasher.Hasher) (state_of self.now) }
         ensures value { IfOk result (λ pairs. pairs.items ≡ pairs_at settings.now valid_after now (state_of self.now)) }
 
         // Only where there are any can it be refused.

@@ -1,7 +1,7 @@
 -- Lemmas on the index of a store: what each change of the nodes leaves of it, and what it finds.
-use Rattle.std.proofs.Common.{◌≡◌, ◌⊎◌, ◌<◌, ◌∙◌, ◌++◌, ◌∷◌, ℕ, Bool, true, false, cond, nat_eq, List, [], All, Option, Some}
-use Rattle.std.proofs.Common.{None, is_some, IsSome, refl, sym, ap, inl, inr, subst}
-use Rattle.std.proofs.lemmas.Bool.{cases_Bool, cond_both, cond-true, cond-false, eqb-true, false≢true, or_cases, or_right}
+use Rattle.std.proofs.Common.{◌≡◌, ◌<◌, ◌∙◌, ◌++◌, ◌∷◌, ℕ, Bool, true, false, cond, nat_eq, List, [], All, Option, Some}
+use Rattle.std.proofs.Common.{None, is_some, IfSome, IsSome, ◌&&◌, refl, sym, ap, inl, inr, subst}
+use Rattle.std.proofs.lemmas.Bool.{and_from, and_parts, cases_Bool, cond_both, cond-true, cond-false, eq-eqb, eqb-true, false≢true}
 use Rattle.std.proofs.lemmas.Cmp.{nat_eq_equiv}
 use Rattle.std.proofs.lemmas.List.{append_assoc}
 use Rattle.std.proofs.lemmas.List.Elements.{recursion_from_All}
@@ -18,14 +18,6 @@ use Rattle.moka_store.specs.Store.{AreCandidates, Store}
 use Rattle.moka_list.proofs.ItemLemmas.{lookup-push}
 use Rattle.moka_list.proofs.IdLemmas.{each_found, lookup-removed, not_none, some_parts}
 use Rattle.moka_list.proofs.WalkLemmas.{from_first, from_node, from_next, from_none}
-
--- ---- ids among others
-
-among_behind : (id i : ℕ) (ids : List ℕ) → is_listed ids id ≡ true → is_listed (i ∷ ids) id ≡ true
-among_behind id i ids h = or_right (nat_eq id i) (is_listed ids id) h
-
-among_cases : (id i : ℕ) (ids : List ℕ) → is_listed (i ∷ ids) id ≡ true → (nat_eq id i ≡ true) ⊎ (is_listed ids id ≡ true)
-among_cases id i ids h = or_cases (nat_eq id i) (is_listed ids id) h
 
 -- ---- what each change leaves
 
@@ -103,11 +95,6 @@ module _ {K V : Type 0} {nodes : List (ℕ × Entry K V)} {index : HashIndex} (s
 -- ---- a search among candidates
 
 module _ {K V : Type 0} (eq : K → K → Bool) (key : K) (nodes : List (ℕ × Entry K V)) where
-  -- these ids are nodes, and if there is an entry of the key, it is among them
-  pub record IsAhead (ids : List ℕ) : Type 0 where
-    pub standing : (id : ℕ) → is_listed ids id ≡ true → IsSome (lookup (nat_eq id) nodes)
-    pub ahead : (id : ℕ) (e : Entry K V) → lookup (nat_eq id) nodes ≡ Some e → eq key e.key ≡ true → is_listed ids id ≡ true
-
   hash_is : (hash : ℕ) (es : List (ℕ × Entry K V)) → AllByRecursion (λ e. eq key e.key ≡ true → e.hash ≡ hash) (values_of es) → (id : ℕ)
       (e : Entry K V) → lookup (nat_eq id) es ≡ Some e → eq key e.key ≡ true → e.hash ≡ hash
   hash_is hash [] a id e h equal = not_none e (sym h)
@@ -124,44 +111,42 @@ module _ {K V : Type 0} (eq : K → K → Bool) (key : K) (nodes : List (ℕ × 
       → lookup (nat_eq id) nodes ≡ Some e → eq key e.key ≡ true → e.hash ≡ hash
   has_hash hash hashed = hash_is hash nodes (recursion_from_All (λ e. eq key e.key ≡ true → e.hash ≡ hash) (values_of nodes) hashed)
 
-  -- at first all candidates are ahead
-  pub all_ahead : (store : Store K V) (hash : ℕ) (ids : List ℕ) → store.nodes ≡ nodes → AreCandidates store hash ids
-      → All (λ e. eq key e.key ≡ true → e.hash ≡ hash) (values_of nodes) → IsAhead ids
-  all_ahead store hash ids is s hashed =
-      record {
-        standing = λ id h. subst (λ l. IsSome (lookup (nat_eq id) l)) is (s.standing id h);
-        ahead = λ id e stands equal.
-            s.ahead id e (ap (lookup (nat_eq id)) is ∙ stands) (has_hash hash hashed id e stands equal);
-      }
-
-  -- behind one of another key
-  pub ahead_behind : (id : ℕ) (ids : List ℕ) (e : Entry K V) → IsAhead (id ∷ ids) → lookup (nat_eq id) nodes ≡ Some e
-      → eq key e.key ≡ false → IsAhead ids
-  ahead_behind id ids e s stands differ =
-      record {
-        standing = λ i h. s.standing i (among_behind i id ids h);
-        ahead = λ i x there equal.
-            elim (among_cases i id ids (s.ahead i x there equal)) [
-              | inl same ↦
-                  let is : x ≡ e =
-                  some_parts x e (sym there ∙ (ap (λ j. lookup (nat_eq j) nodes) (eqb-true i id same) ∙ stands)) in
-                  absurd (false≢true (sym differ ∙ subst (λ y. eq key y.key ≡ true) is equal))
-              | inr later ↦ later
-            ];
-      }
-
-  -- where none is ahead, there is no entry of the key
-  pub none_ahead : IsDistinct nat_eq (keys_of nodes) → IsAhead [] → entry_at eq key (values_of nodes) ≡ None
-  none_ahead once s = by nodes (each_found nodes once)
+  -- if no node has the key, it has no entry
+  pub none_of_key : IsDistinct nat_eq (keys_of nodes)
+      → ((id : ℕ) (e : Entry K V) → lookup (nat_eq id) nodes ≡ Some e → eq key e.key ≡ false) → entry_at eq key (values_of nodes) ≡ None
+  none_of_key once differ = by nodes (each_found nodes once)
     where
       by : (es : List (ℕ × Entry K V)) → AllByRecursion (λ p. lookup (nat_eq p.0) nodes ≡ Some p.1) es
           → entry_at eq key (values_of es) ≡ None
       by [] a = refl
-      by (p ∷ es) a =
-          elim (cases_Bool (eq key p.1.key)) [
-            | inl equal ↦ absurd (false≢true (s.ahead p.0 p.1 a.0 equal))
-            | inr differ ↦ cond-false (eq key p.1.key) _ _ differ ∙ by es a.1
-          ]
+      by (p ∷ es) a = cond-false (eq key p.1.key) _ _ (differ p.0 p.1 a.0) ∙ by es a.1
+
+  -- a search tests this of a node: whether its entry has the hash and the key
+  abbrev pub IsTested : ℕ → ℕ → Bool → Type 0
+  IsTested hash id answer = IfSome (lookup (nat_eq id) nodes) (λ e. answer ≡ (nat_eq e.hash hash && eq key e.key))
+
+  -- one that passes has the key
+  pub passes : (hash id : ℕ) → IsSome (lookup (nat_eq id) nodes) → IsTested hash id true
+      → (e : Entry K V) × (lookup (nat_eq id) nodes ≡ Some e) × (eq key e.key ≡ true)
+  passes hash id stands s = by (lookup (nat_eq id) nodes) stands s
+    where
+      by : (o : Option (Entry K V)) → IsSome o → IfSome o (λ e. true ≡ (nat_eq e.hash hash && eq key e.key))
+          → (e : Entry K V) × (o ≡ Some e) × (eq key e.key ≡ true)
+      by None some t = absurd (false≢true some)
+      by (Some e) some t = (e, refl, (and_parts (nat_eq e.hash hash) (eq key e.key) (sym t)).1)
+
+  -- one that fails if it has the hash has another key
+  pub fails : (hash id : ℕ) (e : Entry K V) → lookup (nat_eq id) nodes ≡ Some e → (eq key e.key ≡ true → e.hash ≡ hash)
+      → (e.hash ≡ hash → IsTested hash id false) → eq key e.key ≡ false
+  fails hash id e stands hashed s =
+      elim (cases_Bool (eq key e.key)) [
+        | inl equal ↦
+            let own = hashed equal in
+            let tested : false ≡ (nat_eq e.hash hash && eq key e.key) =
+            subst (λ o. IfSome o (λ y. false ≡ (nat_eq y.hash hash && eq key y.key))) stands (s own) in
+            absurd (false≢true (tested ∙ and_from (nat_eq e.hash hash) (eq key e.key) (eq-eqb e.hash hash own) equal))
+        | inr differ ↦ differ
+      ]
 
 -- the candidates of a hash are those of a store
 pub are_candidates : {K V : Type 0} (store : Store K V) (index : HashIndex) (hash : ℕ) → IsIndexed store.nodes index

@@ -1,6 +1,6 @@
 //! The entries of a cache: one list in order of use with its three parts, one in order of writing, and an index by hash. Only this module finds, adds,
 //! changes and removes entries.
-ghost use Rattle.std.specs.Prelude.{◌≡◌, ◌≤◌, ◌<◌, ◌+◌, ◌-◌, ◌^◌, ◌++◌, ℕ, [], length, nat_eq};
+ghost use Rattle.std.specs.Prelude.{◌≡◌, ◌≤◌, ◌<◌, ◌+◌, ◌-◌, ◌^◌, ◌++◌, ◌==◌, ◌&&◌, ℕ, [], length, nat_eq};
 ghost use Rattle.std.specs.Prelude.{IfOk, IfSome, IsNone, IsOk, IsSome, None, OnOk, Some};
 ghost use Rattle.std.specs.List.{IsDistinct};
 ghost use Rattle.std.specs.Map.{keys_of, lookup};
@@ -38,7 +38,7 @@ pub struct Store<K: Eq + Drop, V: Drop, A: Allocator + Clone + Drop = Global> {
     writes: IdList<A>,
     keeps_writes: bool,
     index: HashIndex<A>,
-    // So many entries fit with no allocation.
+    // Entries that fit with no allocation.
     ready: usize,
 }
 
@@ -155,14 +155,17 @@ impl<K: Eq + Drop, V: Drop, A: Allocator + Clone + Drop> Store<K, V, A> {
         ensures absent { IsNone result → entry_at K.eq key.now (entries_of self.now) ≡ None }
         ensures unwritten { IsNone result → writes_without K.eq key.now self.now.written ≡ self.now.written }
     {
-        for number in candidates {
-            let id = NodeId::from_number(number);
-            let entry = self.entries.get(id);
-            if entry.hash == hash && *key == entry.key {
-                return Some(id);
-            }
-        }
-        None
+        let entries = &self.entries;
+        let is_sought = |number|
+            requires { IsSome (lookup (nat_eq number) entries.now.items) }
+            ensures { IfSome (lookup (nat_eq number) entries.entry.now.items)
+                (λ e. result ≡ ((e.hash == hash) && K.eq key.entry.now e.key)) }
+        {
+            let entry = entries.get(NodeId::from_number(number));
+            entry.hash == hash && *key == entry.key
+        };
+        let number = candidates.find(is_sought)?;
+        Some(NodeId::from_number(number))
     }
 
     /// Finds the node of the key. The hash is the key's.

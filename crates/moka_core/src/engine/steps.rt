@@ -23,7 +23,7 @@ impl<
     W: WeighShared<K, V>,
     A: Allocator + Clone + Drop,
 > Core<K, V, S, W, A> {
-    /// Whether the caller has anything pending.
+    /// Returns `true` if the caller has anything pending.
     pub fn has_pending(&self) -> bool
         ensures { result ≡ has_pending self.now.state }
     {
@@ -54,7 +54,7 @@ impl<
         self.machine.get(CALLER, key, now)
     }
 
-    /// Whether a key has an entry that counts.
+    /// Looks if a key has a live entry.
     pub fn step_contains_key(&self, key: &K, now: Instant) -> Reply<Shared<V, A>, Rows<K, V, A>>
         ensures { Happens (keys_by K.Hash S.BuildHasher S.Hasher.Hasher) (W.weighs self.now.weigher)
             self.now.state (Event.Contains key.now now) result self.now.state }
@@ -71,7 +71,7 @@ impl<
         self.machine.invalidate(CALLER, key, now)
     }
 
-    /// The same, and answers the value that counts.
+    /// Removes the entry of a key as `step_invalidate` does, and answers its value if it is live.
     pub fn step_take(&mut self, key: &K, now: Instant) -> Reply<Shared<V, A>, Rows<K, V, A>>
         ensures step { Happens (keys_by K.Hash S.BuildHasher S.Hasher.Hasher) (W.weighs self.old.weigher)
             self.old.state (Event.Take CALLER key.now now) result self.new.state }
@@ -131,7 +131,7 @@ impl<
         self.machine.turn()
     }
 
-    /// Whether a maintenance is due, as a get asks. Where it is, the next is due by time a while later.
+    /// Returns `true` if a maintenance is due, as a get asks. Where it is, the next is due by time a while later.
     pub fn decide_for_reads(&mut self, now: Instant) -> bool
         ensures decision { Decides self.old.state OfReads now result self.new.state }
         ensures weigher { self.new.weigher ≡ self.old.weigher }
@@ -139,7 +139,7 @@ impl<
         self.machine.decide_for_reads(now)
     }
 
-    /// The same, as an insert or an invalidation asks.
+    /// Returns `true` if a maintenance is due, as an insert or an invalidation asks.
     pub fn decide_for_writes(&mut self, now: Instant) -> bool
         ensures decision { Decides self.old.state OfWrites now result self.new.state }
         ensures weigher { self.new.weigher ≡ self.old.weigher }

@@ -126,7 +126,7 @@ impl<
         Reply::Found(found)
     }
 
-    /// What was published last.
+    /// Returns the counts that were published last.
     fn published(&self) -> Reply<Shared<V, A>, Rows<K, V, A>>
         ensures { IsCall (keys_by K.Hash S.BuildHasher S.Hasher.Hasher) (W.weighs self.now.weigher)
             self.now.state call.Counts result self.now.state }

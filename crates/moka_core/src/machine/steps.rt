@@ -18,14 +18,14 @@ impl<
     W: WeighShared<K, V>,
     A: Allocator + Clone + Drop,
 > Machine<K, V, S, W, A> {
-    /// Whether the caller of whole calls has anything pending.
+    /// Returns `true` if the caller of whole calls has anything pending.
     pub fn has_pending(&self) -> bool
         ensures { result ≡ has_pending self.now.state }
     {
         self.pending.of(CALLER).is_some()
     }
 
-    /// Whether a maintenance is due by the length of the read log or by time.
+    /// Returns `true` if a maintenance is due by the length of the read log or by time.
     pub fn decide_for_reads(&mut self, now: Instant) -> bool
         ensures decision { Decides self.old.state OfReads now result self.new.state }
         ensures weigher { self.new.weigher ≡ self.old.weigher }
@@ -34,7 +34,7 @@ impl<
         self.decide(reads, now)
     }
 
-    /// Whether one is due by the length of the write log or by time.
+    /// Returns `true` if a maintenance is due by the length of the write log or by time.
     pub fn decide_for_writes(&mut self, now: Instant) -> bool
         ensures decision { Decides self.old.state OfWrites now result self.new.state }
         ensures weigher { self.new.weigher ≡ self.old.weigher }
@@ -43,7 +43,7 @@ impl<
         self.decide(writes, now)
     }
 
-    /// Whether one is due where a log has this length. The next one is due by time a while after it.
+    /// Returns `true` if a maintenance is due with a log of this length. The next one is due by time a while after it.
     fn decide(&mut self, len: usize, now: Instant) -> bool
         ensures due { result ≡ is_due len FLUSH_POINT self.old.state.sync_after now }
         ensures state { self.new.state ≡ scheduled result now self.old.state }

@@ -46,7 +46,7 @@ impl<A: Allocator> LinkTable<A> {
         }
     }
 
-    /// For how many nodes there are links.
+    /// Returns the number of nodes that have links.
     pub(crate) fn len(&self) -> usize
         ensures { result ≡ length self.now.links.items }
     {

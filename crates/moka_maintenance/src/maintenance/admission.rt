@@ -71,8 +71,6 @@ impl<A: Allocator + Clone + Drop> State<A> {
             n.ticket (maintenance_of self.old) found) }
         ensures holds { IsAtHand self.new.orders self.new.stage }
     {
-        // There are fewer nodes than 2^64.
-        let _ = self.orders.len();
         let ticket = self.orders.get(id).ticket;
         let tally = self.with_found::<K, V>(scan.tally, ticket, weight);
         let next = self.orders.next(id);
@@ -88,7 +86,7 @@ impl<A: Allocator + Clone + Drop> State<A> {
         };
     }
 
-    /// What a scan has found once it has looked at one more entry, which weighs this, where it stands.
+    /// Returns a scan after it has looked at one more entry, which weighs this, if it stands.
     fn with_found<K: Drop, V: Drop>(
         &self,
         tally: Tally,
@@ -158,8 +156,6 @@ impl<A: Allocator + Clone + Drop> State<A> {
             (drop 1 (first_seen removal.left (drop removal.skipped self.old.orders.nodes)))) (maintenance_of self.old)) }
         ensures holds { IsAtHand self.new.orders self.new.stage }
     {
-        // There are fewer nodes than 2^64.
-        let _ = self.orders.len();
         self.stage = removing_or_enter(
             work,
             Removal {
@@ -185,7 +181,6 @@ impl<A: Allocator + Clone + Drop> State<A> {
             (drop 1 (first_seen removal.left (drop removal.skipped self.old.orders.nodes))))) }
         ensures holds { IsAtHand self.new.orders self.new.stage }
     {
-        let _ = self.orders.len();
         let next = self.orders.next(id);
         self.orders.remove(id);
         self.stage = removing_or_enter(
@@ -256,13 +251,11 @@ impl<A: Allocator + Clone + Drop> State<A> {
         EntryChange::UpsertDone
     }
 
-    /// What a scan needs: the entry of the next node, or that of a candidate that is rejected.
+    /// Returns what a scan needs: the entry of the next node, or that of a candidate that is rejected.
     pub(crate) fn need_of_scan<K: Drop, V: Drop>(&self, scan: Scan) -> Need
         requires { IsScanning self.now.orders scan }
         ensures { (work : Work) → need_named result ≡ need_of (scan_plan {K = K} {V = V} work scan self.now) }
     {
-        // No id stands twice.
-        let _ = self.orders.len();
         if let Some(id) = scan.next_seen() {
             return Need::Entry(self.orders.get(id).ticket);
         }
@@ -287,8 +280,6 @@ impl<A: Allocator + Clone + Drop> State<A> {
             → LooksAt (scan_plan work scan self.old) found result self.new }
         ensures holds { IsAtHand self.new.orders self.new.stage }
     {
-        // No id stands twice.
-        let _ = self.orders.len();
         let Some(id) = scan.next_seen() else {
             return self.reject::<K, V>(work, scan);
         };
@@ -296,14 +287,12 @@ impl<A: Allocator + Clone + Drop> State<A> {
         EntryChange::Stays
     }
 
-    /// What the removals need: the entry of the next node, where it was present.
+    /// Returns what the removals need: the entry of the next node, if it was present.
     pub(crate) fn need_of_removal<K: Drop, V: Drop>(&self, removal: Removal) -> Need
         requires left { 0 < removal.left }
         requires removing { IsRemoving self.now.orders removal }
         ensures { (work : Work) → need_named result ≡ need_of (removal_plan {K = K} {V = V} work removal self.now) }
     {
-        // No id stands twice.
-        let _ = self.orders.len();
         let Some(id) = removal.next else {
             return Need::Nothing;
         };
@@ -323,8 +312,6 @@ impl<A: Allocator + Clone + Drop> State<A> {
         ensures step { removal_plan {K = K} {V = V} work removal self.old ≡ Alone (maintenance_of self.new) }
         ensures holds { IsAtHand self.new.orders self.new.stage }
     {
-        // No id stands twice.
-        let _ = self.orders.len();
         if let Some(id) = removal.next {
             self.skip(work, removal, id);
         }
@@ -344,8 +331,6 @@ impl<A: Allocator + Clone + Drop> State<A> {
         ensures step { LooksAt (removal_plan work removal self.old) (option_copied found.entry) result self.new }
         ensures holds { IsAtHand self.new.orders self.new.stage }
     {
-        // No id stands twice.
-        let _ = self.orders.len();
         let Some(id) = removal.next else {
             return EntryChange::Stays;
         };

@@ -16,7 +16,7 @@ use moka_sync_model::settings::Settings;
 use moka_sync_model::ticket::Ticket;
 use std::alloc::Allocator;
 
-/// Whether the last write of an entry is too long ago.
+/// Returns `true` if the last write of an entry is too long ago.
 fn is_outlived<K: Drop, V: Drop, S: Drop, A: Allocator + Drop>(
     settings: &Settings<S, A>,
     valid_after: Instant,
@@ -28,7 +28,7 @@ fn is_outlived<K: Drop, V: Drop, S: Drop, A: Allocator + Drop>(
     settings.limits().has_lived(entry.modified(), now) || entry.modified() < valid_after
 }
 
-/// Whether the last use of an entry is too long ago.
+/// Returns `true` if the last use of an entry is too long ago.
 fn is_out_of_use<K: Drop, V: Drop, S: Drop, A: Allocator + Drop>(
     settings: &Settings<S, A>,
     valid_after: Instant,

@@ -8,7 +8,7 @@ use crate::maintenance::place::Stage;
 use crate::maintenance::state::State;
 use std::alloc::Allocator;
 
-/// What a maintenance has published last: how often one has, and the count and the weight that were charged then, as far as 64 bits tell.
+/// The counts that a maintenance has published last: the number of publications, and the charged count and weight then, each at most `u64::MAX`.
 #[derive(Clone, Copy, Debug, PartialEq, Eq)]
 pub struct Published {
     pub number: u64,

@@ -86,7 +86,7 @@ fn use_nodes<A: Allocator + Clone + Drop>(orders: &mut Orders<A>, reads: &[Logge
 }
 
 impl<A: Allocator + Clone + Drop> State<A> {
-    /// As many reads are applied in this round as the log has.
+    /// Begins a round that applies as many reads as the log has.
     pub(crate) fn count_reads(&mut self, round: usize, len: usize)
         requires { round ≤ MAX_ROUNDS }
         ensures step { maintenance_of self.new

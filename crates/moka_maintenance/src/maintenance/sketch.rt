@@ -43,14 +43,14 @@ impl<A: Allocator + Clone + Drop> State<A> {
         }
     }
 
-    /// Whether there is no table yet, and at least half of the limit is charged, rounded down.
+    /// Returns `true` if there is no table yet, and at least half of the limit is charged, rounded down.
     fn enables_sketch(&self, limit: u64) -> bool
         ensures { result ≡ enables_sketch (Some limit) self.now.sketch (charged_weight (orders_of self.now.orders)) }
     {
         self.sketch.table_len() == 0 && self.orders.charged_weight() >= u128::from(limit / 2)
     }
 
-    /// How many entries there is room for at the present mean weight, as far as 64 bits tell.
+    /// Returns the number of entries that fit at the present mean weight, as far as 64 bits tell.
     fn expected_entries<S: Drop>(&self, settings: &Settings<S, A>, limit: u64) -> u64
         ensures { result ≡ min (2 ^ 64 - 1) (expected_entries settings.now.is_weighed limit
             (length (access_of self.now.orders.nodes)) (charged_weight (orders_of self.now.orders))) }

@@ -38,7 +38,7 @@ impl<A: Allocator + Clone + Drop> Model for State<A> {
 }
 
 impl<A: Allocator + Clone + Drop> State<A> {
-    /// Whether it is as it is built.
+    /// Returns `true` if it is as it was built.
     pub(crate) fn is_new(&self) -> bool
         ensures { IsTrue result ↔ (maintenance_of self.now ≡ new_maintenance) }
     {

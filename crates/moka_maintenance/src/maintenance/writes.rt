@@ -46,7 +46,7 @@ fn after_more_writes(round: usize, len: usize) -> Stage
     Stage::ExpireWrite { turns: 0 }
 }
 
-/// Whether a weight is within the limit, where there is one.
+/// Returns `true` if a weight is within the limit, or there is none.
 pub(crate) fn is_within(limits: &Limits, weight: u128) -> bool
     ensures { result ≡ is_within limits.now.max_capacity weight }
 {
@@ -57,7 +57,7 @@ pub(crate) fn is_within(limits: &Limits, weight: u128) -> bool
 }
 
 impl<A: Allocator + Clone + Drop> State<A> {
-    /// As many writes are applied in this round as the log has.
+    /// Begins to apply as many writes in this round as the log has.
     pub(crate) fn count_writes(&mut self, round: usize, len: usize)
         requires { round ≤ MAX_ROUNDS }
         ensures step { maintenance_of self.new
@@ -196,6 +196,8 @@ impl<A: Allocator + Clone + Drop> State<A> {
             ≡ gone_to (scan_begun work ticket weight self.old.sketch) (maintenance_of self.old) }
         ensures holds { IsAtHand self.new.orders self.new.stage }
     {
+        // No id stands twice, and there are fewer nodes than 2^64.
+        let _ = self.orders.len();
         self.stage = Stage::Scanning {
             work,
             scan: Scan {

@@ -4,8 +4,8 @@ use Rattle.moka_shard.specs.Shard.{state_of}
 use Rattle.moka_shard.proofs.ShardTurnLemmas.{turns_on_shard}
 use Rattle.moka_core.proofs.map.scan_with_shard.Goals as goal
 
-pub returns : goal.returns
-returns g c =
+pub returns-clause-turn : goal.returns-clause-turn
+returns-clause-turn g c =
     let shard = state_of c.args.shard.now in
     let found = entry_of c.args.ticket shard.entries in
     let here = c.find_ticket-slot.ensures.value in

@@ -18,11 +18,11 @@ loop-number-preserved g c =
     let shard = c.in_ok-shard.shard in
     let state = c.args.hash_state.now in
     let number = c.loop-number.number in
-    let is = (c.in_ok-shard.ensures {u = tt})
+    let is = (c.in_ok-shard.ensures {u = tt}).state
     ∙ ap (λ s. record { number = number; next_number = 0; entries = []; hash_state = s }) (c.in_ok-try_clone.ensures {u = tt}) in
     rw (c.in_ok-push.ensures {u = tt}).items
     (subst (AreBuilt (keys g) state (number + 1)) (sym (map_push state_of items shard))
-    (AreBuilt-push (keys g) state number (states_of items) (state_of shard) c.loop-number.invariant is c.len.ensures.valid))
+    (AreBuilt-push (keys g) state number (states_of items) (state_of shard) c.loop-number.invariant is (c.in_ok-shard.ensures {u = tt}).valid))
 
 pub returns-clause-numbers : goal.returns-clause-numbers
 returns-clause-numbers g c =

@@ -17,14 +17,14 @@ use Rattle.moka_core.proofs.map.Map.insert.Goals as goal
 abbrev keys : (g : Over) → Keys g.row.K.Denot g.row.S.Denot
 keys g = keys_by (record { eq = g.K.PartialEq.eq; hash_input = g.K.Hash.hash_input }) g.S.BuildHasher g.S.Hasher.Hasher
 
-pub insert-ticket-requires-clause-hashed : goal.insert-ticket-requires-clause-hashed
-insert-ticket-requires-clause-hashed g c =
+pub insert-requires-clause-hashed : goal.insert-requires-clause-hashed
+insert-requires-clause-hashed g c =
     let hashed = rw (← c.self.view_is, c.get.ensures) at c.hash_of-hash.ensures in
     rw (here_own (keys g) _ c.self.inside.shards.items c.self.invariant c.hash_of-hash.result _
     c.index_mut-shard.ensures.value).shared hashed
 
-pub insert-ticket-requires-clause-here : goal.insert-ticket-requires-clause-here
-insert-ticket-requires-clause-here g c =
+pub insert-requires-clause-here : goal.insert-requires-clause-here
+insert-requires-clause-here g c =
     sym (here_own (keys g) _ c.self.inside.shards.items c.self.invariant c.hash_of-hash.result _ c.index_mut-shard.ensures.value).numbered
 
 pub invariant_of-self : goal.invariant_of-self
@@ -32,13 +32,13 @@ invariant_of-self g c =
     let items = c.self.inside.shards.items in
     let i = shard_of c.hash_of-hash.result in
     let was = here_own (keys g) _ items c.self.invariant c.hash_of-hash.result _ c.index_mut-shard.ensures.value in
-    let (weight, refused, weighed, step) = c.insert-ticket.ensures.step in
-    let new = c.insert-ticket.new.self in
+    let (weight, refused, weighed, step) = c.insert.ensures.step in
+    let new = c.insert.new.self in
     subst (AreOwn (keys g) c.self.inside.settings.hash_state) (sym (map-set state_of items i new))
     (AreOwn-set (keys g) _ (states_of items) i (state_of new) c.self.invariant
-    (own_inserted (keys g) _ i _ (state_of new) was c.len.ensures.valid c.hash_of-hash.result c.args.key c.args.value weight
+    (own_inserted (keys g) _ i _ (state_of new) was c.insert.ensures.valid c.hash_of-hash.result c.args.key c.args.value weight
     c.args.now refused
-    c.insert-ticket.result (entry_at g.K.PartialEq.eq c.args.key (entries_in c.index_mut-shard.result.now.slots)) step))
+    c.insert.result (entry_at g.K.PartialEq.eq c.args.key (entries_in c.index_mut-shard.result.now.slots)) step))
 
 pub returns : goal.returns
 returns g c =
@@ -51,8 +51,8 @@ returns g c =
     let i = shard_of hash in
     let there = c.index_mut-shard.ensures.value in
     let old = c.index_mut-shard.result.now in
-    let new = c.insert-ticket.new.self in
-    let answer = c.insert-ticket.result in
+    let new = c.insert.new.self in
+    let answer = c.insert.result in
     let was = here_own (keys g) _ items c.self.invariant hash old there in
     let at = here_state (keys g) _ items c.self.invariant hash old there in
     let below = here_below (keys g) _ items c.self.invariant hash old there in
@@ -60,7 +60,7 @@ returns g c =
     let same =
     entry_at-own (keys g) g.met.K.Eq.laws respects _ (states_of items) i (state_of old) c.args.key c.self.invariant
     (ap shard_of hashed) at in
-    let (weight, refused, weighed, step) = c.insert-ticket.ensures.step in
+    let (weight, refused, weighed, step) = c.insert.ensures.step in
     let map = map_in settings (states_of items) in
     let o = entry_at g.K.PartialEq.eq c.args.key (entries_in old.slots) in
     let done = inserted (keys g) settings (states_of items) c.self.invariant i (state_of old) below at was hash refl

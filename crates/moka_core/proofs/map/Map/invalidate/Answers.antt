@@ -16,8 +16,8 @@ use Rattle.moka_core.proofs.map.Map.invalidate.Goals as goal
 abbrev keys : (g : Over) → Keys g.row.K.Denot g.row.S.Denot
 keys g = keys_by (record { eq = g.K.PartialEq.eq; hash_input = g.K.Hash.hash_input }) g.S.BuildHasher g.S.Hasher.Hasher
 
-pub invalidate-ticket-requires : goal.invalidate-ticket-requires
-invalidate-ticket-requires g c =
+pub invalidate-requires : goal.invalidate-requires
+invalidate-requires g c =
     let hashed = rw (← c.self.view_is) at c.hash_of-hash.ensures in
     rw (here_own (keys g) _ c.self.inside.shards.items c.self.invariant c.hash_of-hash.result _
     c.index_mut-shard.ensures.value).shared hashed
@@ -27,10 +27,10 @@ invariant_of-self g c =
     let items = c.self.inside.shards.items in
     let i = shard_of c.hash_of-hash.result in
     let was = here_own (keys g) _ items c.self.invariant c.hash_of-hash.result _ c.index_mut-shard.ensures.value in
-    let new = c.invalidate-ticket.new.self in
+    let new = c.invalidate.new.self in
     subst (AreOwn (keys g) c.self.inside.settings.hash_state) (sym (map-set state_of items i new))
     (AreOwn-set (keys g) _ (states_of items) i (state_of new) c.self.invariant
-    (own_invalidated (keys g) _ i _ (state_of new) was c.len.ensures.valid _ _ c.invalidate-ticket.ensures.step))
+    (own_invalidated (keys g) _ i _ (state_of new) was c.invalidate.ensures.valid _ _ c.invalidate.ensures.step))
 
 pub returns : goal.returns
 returns g c =
@@ -43,8 +43,8 @@ returns g c =
     let i = shard_of hash in
     let there = c.index_mut-shard.ensures.value in
     let old = c.index_mut-shard.result.now in
-    let new = c.invalidate-ticket.new.self in
-    let answer = c.invalidate-ticket.result in
+    let new = c.invalidate.new.self in
+    let answer = c.invalidate.result in
     let was = here_own (keys g) _ items c.self.invariant hash old there in
     let at = here_state (keys g) _ items c.self.invariant hash old there in
     let below = here_below (keys g) _ items c.self.invariant hash old there in
@@ -57,7 +57,7 @@ returns g c =
     let done =
     invalidated (keys g) settings (states_of items) c.self.invariant i (state_of old) below at was hash refl
     (state_of new) c.args.key.now answer
-    o refl c.invalidate-ticket.ensures.step in
+    o refl c.invalidate.ensures.step in
     let whole = subst (λ m. IsInvalidated map o answer (map_in settings m)) (sym (map-set state_of items i new)) done in
     rw (← c.self.view_is)
     (record { step = subst (λ e. IsInvalidated map e answer (map_in settings (states_of (set items i new)))) same whole })

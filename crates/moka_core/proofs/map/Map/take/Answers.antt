@@ -17,8 +17,8 @@ use Rattle.moka_core.proofs.map.Map.take.Goals as goal
 abbrev keys : (g : Over) → Keys g.row.K.Denot g.row.S.Denot
 keys g = keys_by (record { eq = g.K.PartialEq.eq; hash_input = g.K.Hash.hash_input }) g.S.BuildHasher g.S.Hasher.Hasher
 
-pub take-taken-requires : goal.take-taken-requires
-take-taken-requires g c =
+pub take-requires : goal.take-requires
+take-requires g c =
     let hashed = rw (← c.self.view_is) at c.hash_of-hash.ensures in
     rw (here_own (keys g) _ c.self.inside.shards.items c.self.invariant c.hash_of-hash.result _
     c.index_mut-shard.ensures.value).shared hashed
@@ -28,10 +28,10 @@ invariant_of-self g c =
     let items = c.self.inside.shards.items in
     let i = shard_of c.hash_of-hash.result in
     let was = here_own (keys g) _ items c.self.invariant c.hash_of-hash.result _ c.index_mut-shard.ensures.value in
-    let new = c.take-taken.new.self in
+    let new = c.take.new.self in
     subst (AreOwn (keys g) c.self.inside.settings.hash_state) (sym (map-set state_of items i new))
     (AreOwn-set (keys g) _ (states_of items) i (state_of new) c.self.invariant
-    (own_invalidated (keys g) _ i _ (state_of new) was c.len.ensures.valid _ _ c.take-taken.ensures.step))
+    (own_invalidated (keys g) _ i _ (state_of new) was c.take.ensures.valid _ _ c.take.ensures.step))
 
 pub returns : goal.returns
 returns g c =
@@ -44,8 +44,8 @@ returns g c =
     let i = shard_of hash in
     let there = c.index_mut-shard.ensures.value in
     let old = c.index_mut-shard.result.now in
-    let new = c.take-taken.new.self in
-    let answer = c.take-taken.result.1 in
+    let new = c.take.new.self in
+    let answer = c.take.result.1 in
     let was = here_own (keys g) _ items c.self.invariant hash old there in
     let at = here_state (keys g) _ items c.self.invariant hash old there in
     let below = here_below (keys g) _ items c.self.invariant hash old there in
@@ -58,12 +58,12 @@ returns g c =
     let done =
     invalidated (keys g) settings (states_of items) c.self.invariant i (state_of old) below at was hash refl
     (state_of new) c.args.key.now answer
-    o refl c.take-taken.ensures.step in
+    o refl c.take.ensures.step in
     let whole = subst (λ m. IsInvalidated map o answer (map_in settings m)) (sym (map-set state_of items i new)) done in
     rw (← c.self.view_is)
     (record {
       value =
-          c.take-taken.ensures.value
+          c.take.ensures.value
           ∙ ap (λ e. option_map (λ x. x.value) (unexpired settings c.args.valid_after c.args.now e)) same;
       step = subst (λ e. IsInvalidated map e answer (map_in settings (states_of (set items i new)))) same whole;
     })

@@ -13,11 +13,11 @@ pub invariant_of-self : goal.invariant_of-self
 invariant_of-self g c =
     own_changed (keys g) c.self.inside.settings c.self.inside.shards.items c.self.invariant c.args.ticket
     (Becomes (touched c.args.moment)) _
-    c.touch-place.new.self c.index_mut-shard.ensures.value c.len.ensures.valid c.touch-place.ensures.step
+    c.touch.new.self c.index_mut-shard.ensures.value c.touch.ensures.valid c.touch.ensures.step
 
 pub returns : goal.returns
 returns g c =
     rw (← c.self.view_is) (
     changed_at (keys g) c.self.inside.settings c.self.inside.shards.items c.self.invariant c.args.ticket (Becomes (touched c.args.moment)) _
-    c.touch-place.new.self c.index_mut-shard.ensures.value c.len.ensures.valid c.touch-place.ensures.step
+    c.touch.new.self c.index_mut-shard.ensures.value c.touch.ensures.valid c.touch.ensures.step
     )

@@ -11,13 +11,13 @@ keys g = keys_by (record { eq = g.K.PartialEq.eq; hash_input = g.K.Hash.hash_inp
 pub invariant_of-self : goal.invariant_of-self
 invariant_of-self g c =
     still_own (keys g) c.self.inside.settings c.self.inside.shards.items c.self.invariant c.args.ticket _ c.scan_with_shard.new.shard
-    c.index_mut-shard.ensures.value c.len.ensures.valid c.args.valid_after false c.args.maintenance.now c.scan_with_shard.new.maintenance
-    c.scan_with_shard.ensures
+    c.index_mut-shard.ensures.value c.scan_with_shard.ensures.valid c.args.valid_after false c.args.maintenance.now c.scan_with_shard.new.maintenance
+    c.scan_with_shard.ensures.turn
 
 pub returns : goal.returns
 returns g c =
     rw (← c.self.view_is) (
     turned_at (keys g) c.self.inside.settings c.self.inside.shards.items c.self.invariant c.args.ticket _ c.scan_with_shard.new.shard
-    c.index_mut-shard.ensures.value c.len.ensures.valid c.args.valid_after false c.args.maintenance.now c.scan_with_shard.new.maintenance
-    c.scan_with_shard.ensures
+    c.index_mut-shard.ensures.value c.scan_with_shard.ensures.valid c.args.valid_after false c.args.maintenance.now c.scan_with_shard.new.maintenance
+    c.scan_with_shard.ensures.turn
     )

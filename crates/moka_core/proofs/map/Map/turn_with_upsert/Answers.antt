@@ -11,19 +11,19 @@ keys g = keys_by (record { eq = g.K.PartialEq.eq; hash_input = g.K.Hash.hash_inp
 
 pub invariant_of-self : goal.invariant_of-self
 invariant_of-self g c =
-    let (refused, step) = c.apply_upsert.ensures in
+    let (refused, step) = c.apply_upsert.ensures.turn in
     let taken = having_taken_write (Upsert c.args.ticket) c.args.maintenance.now in
     still_own (keys g) c.self.inside.settings c.self.inside.shards.items c.self.invariant c.args.ticket _ c.apply_upsert.new.shard
-    c.index_mut-shard.ensures.value c.len.ensures.valid c.args.valid_after refused taken
+    c.index_mut-shard.ensures.value c.apply_upsert.ensures.valid c.args.valid_after refused taken
     c.apply_upsert.new.maintenance step
 
 pub returns : goal.returns
 returns g c =
-    let (refused, step) = c.apply_upsert.ensures in
+    let (refused, step) = c.apply_upsert.ensures.turn in
     let taken = having_taken_write (Upsert c.args.ticket) c.args.maintenance.now in
     rw (← c.self.view_is) (
       refused,
       turned_at (keys g) c.self.inside.settings c.self.inside.shards.items c.self.invariant c.args.ticket _ c.apply_upsert.new.shard
-          c.index_mut-shard.ensures.value c.len.ensures.valid c.args.valid_after refused taken
+          c.index_mut-shard.ensures.value c.apply_upsert.ensures.valid c.args.valid_after refused taken
           c.apply_upsert.new.maintenance step,
     )

@@ -17,7 +17,7 @@ invariant_of-self g c =
     ≡ entry_at g.K.PartialEq.eq c.get.result.now (entries_in c.self.inside.shard.slots))) c.in-Some.is c.find.ensures.same) in
     insert_meet g.P.PairRule.holds g.K.PartialEq.eq g.met.P.PairRule.agrees (state_of c.self.inside.shard) 0 c.args.key c.args.value step.0
     c.args.now false (entry_in c.self.inside.shard.slots c.in-Some.slot) c.update.result (state_of c.update.new.self) step.2
-    (sym its) c.len.ensures.valid.tickets_apart c.requires.ruled c.self.invariant
+    (sym its) c.find.ensures.valid.tickets_apart c.requires.ruled c.self.invariant
 
 -- or there is one more
 pub invariant_of-self-2 : goal.invariant_of-self-2
@@ -31,4 +31,4 @@ invariant_of-self-2 g c =
     ∙ ap (λ key. (keys_by (record { eq = g.K.PartialEq.eq; hash_input = g.K.Hash.hash_input }) g.S.BuildHasher g.S.Hasher.Hasher).hash_of
     c.self.inside.shard.hash_state key) (c.get-2.ensures ∙ sym c.get.ensures))))
     ∙ ap (λ found. entry_found c.self.inside.shard.slots found) c.in_default.is))
-    c.len.ensures.valid.tickets_apart c.requires.ruled c.self.invariant
+    c.find.ensures.valid.tickets_apart c.requires.ruled c.self.invariant

@@ -15,7 +15,7 @@ returns-clause-once g c =
     ok_has (λ ps. IsDistinct g.K.PartialEq.eq (map {A = g.row.K.Denot × g.row.V.Denot} (λ p. p.0) ps))
     (λ pairs. pairs.items) _ c.pairs.result c.pairs.ensures.value
     (pairs_once g.K.PartialEq.eq c.args.settings.now c.args.valid_after c.args.now (state_of c.self.inside.shard)
-    c.len.ensures.valid.keys_apart)
+    c.pairs.ensures.valid.keys_apart)
 
 pub returns-clause-value : goal.returns-clause-value
 returns-clause-value g c = rw (← c.self.view_is) c.pairs.ensures.value

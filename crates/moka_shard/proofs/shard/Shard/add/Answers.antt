@@ -1,6 +1,6 @@
 use Rattle.std.proofs.Common.{◌∙◌, false, Some, ap, refl, subst, sym}
 use Rattle.moka_shard.specs.Shard.{entry_in}
-use Rattle.moka_shard.proofs.SlotLemmas.{absent_in_each, addition, AreSlots-add, IsIndexed-add}
+use Rattle.moka_shard.proofs.SlotLemmas.{absent_in_each, addition, AreSlots-add, IsIndexed-add, valid}
 use Rattle.moka_shard.proofs.shard.Shard.add.Goals as goal
 
 pub invariant_of-self-2 : goal.invariant_of-self-2
@@ -21,6 +21,7 @@ invariant_of-self-2 g c =
 pub returns : goal.returns
 returns g c =
     let new = c.insert_reserved-slot.new.self.slots in
+    let requires = rw (← c.self.view_is) at c.requires in
     let slot = c.insert_reserved-slot.result in
     let here = c.insert_reserved-slot.ensures.updates.changed ∙ ap Some c.new-entry.ensures in
     let others = c.insert_reserved-slot.ensures.updates.others in
@@ -39,4 +40,15 @@ returns g c =
             (sym (ap (λ slots. entry_in slots slot) c.make_room.ensures.unchanged) ∙ c.insert_reserved-slot.ensures.was_vacant) here
             (λ j other. others j other ∙ ap (λ slots. entry_in slots j) c.make_room.ensures.unchanged),
       );
+      valid =
+          valid _ (AreSlots-add _ c.self.inside.slots.slots new slot _ g.met.K.Eq.laws c.self.invariant.0 here
+          (λ j other. others j other ∙ ap (λ slots. entry_in slots j) c.make_room.ensures.unchanged) requires.here requires.hashed refl
+          (absent_in_each _ c.self.invariant.0 g.met.K.Eq.laws c.args.key requires.absent));
     })
+
+pub returns-then-self-clause-valid : goal.returns-then-self-clause-valid
+returns-then-self-clause-valid g c =
+    rw (← c.self.view_is) (valid _ c.self.invariant.0)
+
+pub returns-then-is_err-clause-valid : goal.returns-then-is_err-clause-valid
+returns-then-is_err-clause-valid g c = rw c.make_room.ensures.unchanged (valid _ c.self.invariant.0)

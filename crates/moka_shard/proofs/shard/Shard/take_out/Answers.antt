@@ -1,7 +1,7 @@
 use Rattle.moka_list.specs.HashIndex.{is_candidate}
 use Rattle.std.proofs.Common.{◌≡◌, subst, sym, true}
 use Rattle.moka_sync_model.specs.declared.ticket.Ticket.{Ticket}
-use Rattle.moka_shard.proofs.SlotLemmas.{invalidation_at, removed}
+use Rattle.moka_shard.proofs.SlotLemmas.{invalidation_at, removed, valid}
 use Rattle.moka_shard.proofs.shard.Shard.take_out.Goals as goal
 
 pub remove-requires : goal.remove-requires
@@ -19,3 +19,9 @@ returns-clause-step g c =
     rw (← c.self.view_is)
     (invalidation_at _ _ c.self.invariant.0 c.args.slot c.remove-entry.result c.remove-entry.ensures.value c.ticket-ticket.result
     c.remove-entry.new.self.slots c.ticket-ticket.ensures c.remove-entry.ensures.slots)
+
+pub returns-clause-valid : goal.returns-clause-valid
+returns-clause-valid g c =
+    rw c.remove-entry.ensures.slots
+    (valid _ (removed _ c.self.invariant c.args.slot c.remove-entry.result c.remove-entry.ensures.value c.remove.new.self
+    c.remove.ensures.step).0)

@@ -1,5 +1,5 @@
 use Rattle.std.proofs.Common.{◌∙◌, ap, Ok, refl, set, Some, subst}
-use Rattle.moka_shard.proofs.SlotLemmas.{rewritten, update_at}
+use Rattle.moka_shard.proofs.SlotLemmas.{rewritten, update_at, valid}
 use Rattle.moka_shard.proofs.shard.Shard.update.Goals as goal
 
 pub invariant_of-self-2 : goal.invariant_of-self-2
@@ -24,4 +24,11 @@ returns g c =
             (λ full. c.if-outstanding.false (c.outstanding.ensures ∙ full)) (ap Ok (c.ticket.ensures ∙ ap (λ e. e.ticket) c.update.ensures))
             (ap (λ e. set c.self.inside.slots.slots c.args.slot (Some e)) c.update.ensures),
       );
+      valid =
+          rw c.update.ensures
+          (valid _ (rewritten _ c.self.invariant c.args.slot c.index_mut-entry.result.now c.index_mut-entry.ensures.value _ refl refl).0);
     })
+
+pub returns-then-outstanding-clause-valid : goal.returns-then-outstanding-clause-valid
+returns-then-outstanding-clause-valid g c =
+    valid _ (rewritten _ c.self.invariant c.args.slot c.index_mut-entry.result.now c.index_mut-entry.ensures.value _ refl refl).0

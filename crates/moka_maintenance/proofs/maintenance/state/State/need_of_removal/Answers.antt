@@ -1,6 +1,5 @@
 use Rattle.std.proofs.Common.{◌≡◌, Some, ap, is_some, nat_eq, subst, sym}
-use Rattle.std.specs.List.{IsDistinct}
-use Rattle.std.specs.Map.{keys_of, lookup}
+use Rattle.std.specs.Map.{lookup}
 use Rattle.moka_list.specs.Nodes.{IsIn}
 use Rattle.moka_sync_model.specs.Parts.{need_of}
 use Rattle.moka_maintenance.specs.Held.{Held}
@@ -10,7 +9,7 @@ use Rattle.moka_maintenance.proofs.maintenance.state.State.need_of_removal.Goals
 pub get-node-requires : goal.get-node-requires
 get-node-requires g c =
     let work : Rattle.moka_sync_model.specs.declared.at_hand.Work.Work = record { round = 0; left = 0 } in
-    let once = subst (λ (v : Held). IsDistinct nat_eq (keys_of v.orders.nodes)) c.self.view_is c.len.ensures.distinct in
+    let once = c.requires.removing.counted.distinct in
     let held = c.args.self.now in
     subst (λ (v : Held). IsIn v.orders.nodes c.in-Some.id) (sym c.self.view_is)
     (ap is_some (removal_node g.row.K.Denot g.row.V.Denot work held c.args.removal once c.requires.removing c.requires.left
@@ -19,7 +18,7 @@ get-node-requires g c =
 pub returns-then-node : goal.returns-then-node
 returns-then-node g c =
     λ work.
-    let once = subst (λ (v : Held). IsDistinct nat_eq (keys_of v.orders.nodes)) c.self.view_is c.len.ensures.distinct in
+    let once = c.requires.removing.counted.distinct in
     let held = c.args.self.now in
     let node = c.get-node.result.now in
     let found = subst (λ (v : Held). lookup (nat_eq c.in-Some.id) v.orders.nodes ≡ Some node) c.self.view_is c.get-node.ensures.value in
@@ -29,7 +28,7 @@ returns-then-node g c =
 pub returns : goal.returns
 returns g c =
     λ work.
-    let once = subst (λ (v : Held). IsDistinct nat_eq (keys_of v.orders.nodes)) c.self.view_is c.len.ensures.distinct in
+    let once = c.requires.removing.counted.distinct in
     let held = c.args.self.now in
     let node = c.get-node.result.now in
     let found = subst (λ (v : Held). lookup (nat_eq c.in-Some.id) v.orders.nodes ≡ Some node) c.self.view_is c.get-node.ensures.value in
@@ -39,6 +38,6 @@ returns g c =
 pub returns-in_default : goal.returns-in_default
 returns-in_default g c =
     λ work.
-    let once = subst (λ (v : Held). IsDistinct nat_eq (keys_of v.orders.nodes)) c.self.view_is c.len.ensures.distinct in
+    let once = c.requires.removing.counted.distinct in
     let held = c.args.self.now in
     removal_goes_on g.row.K.Denot g.row.V.Denot work held c.args.removal once c.requires.removing c.requires.left c.in_default.is

@@ -1,6 +1,5 @@
 use Rattle.std.proofs.Common.{◌≡◌, ◌∙◌, Some, ap, false, is_some, nat_eq, subst, sym, true}
-use Rattle.std.specs.List.{IsDistinct}
-use Rattle.std.specs.Map.{keys_of, lookup}
+use Rattle.std.specs.Map.{lookup}
 use Rattle.moka_list.specs.Nodes.{IsIn}
 use Rattle.moka_sync_model.specs.Parts.{need_of}
 use Rattle.moka_maintenance.specs.Held.{Held}
@@ -10,7 +9,7 @@ use Rattle.moka_maintenance.proofs.maintenance.state.State.need_of_scan.Goals as
 pub get-requires : goal.get-requires
 get-requires g c =
     let work : Rattle.moka_sync_model.specs.declared.at_hand.Work.Work = record { round = 0; left = 0 } in
-    let once = subst (λ (v : Held). IsDistinct nat_eq (keys_of v.orders.nodes)) c.self.view_is c.len.ensures.distinct in
+    let once = c.requires.counted.distinct in
     let held = c.args.self.now in
     let is = sym c.next_seen.ensures ∙ c.in-Some.is in
     subst (λ (v : Held). IsIn v.orders.nodes c.in-Some.id) (sym c.self.view_is)
@@ -19,7 +18,7 @@ get-requires g c =
 pub returns-in-Some : goal.returns-in-Some
 returns-in-Some g c =
     λ work.
-    let once = subst (λ (v : Held). IsDistinct nat_eq (keys_of v.orders.nodes)) c.self.view_is c.len.ensures.distinct in
+    let once = c.requires.counted.distinct in
     let held = c.args.self.now in
     let is = sym c.next_seen.ensures ∙ c.in-Some.is in
     let node = c.get.result.now in

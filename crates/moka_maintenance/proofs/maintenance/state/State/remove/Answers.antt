@@ -1,13 +1,10 @@
-use Rattle.std.proofs.Common.{nat_eq, subst, sym}
-use Rattle.std.specs.List.{IsDistinct}
-use Rattle.std.specs.Map.{keys_of}
-use Rattle.moka_maintenance.specs.Held.{Held}
+use Rattle.std.proofs.Common.{sym}
 use Rattle.moka_maintenance.proofs.PlanLemmas.{removal_present, removal_needs_entry, removal_goes_on, removal_node}
 use Rattle.moka_maintenance.proofs.maintenance.state.State.remove.Goals as goal
 
 pub returns-clause-step : goal.returns-clause-step
 returns-clause-step g c =
-    let once = subst (λ (v : Held). IsDistinct nat_eq (keys_of v.orders.nodes)) c.self.view_is c.len.ensures.distinct in
+    let once = c.requires.removing.counted.distinct in
     let held = c.args.self.now in
     let node = removal_node g.row.K.Denot g.row.V.Denot c.args.work held c.args.removal once c.requires.removing c.requires.left
     c.in-Some.id c.in-Some.is in
@@ -24,6 +21,6 @@ returns-clause-step g c =
 
 pub returns-in_default-clause-step : goal.returns-in_default-clause-step
 returns-in_default-clause-step g c =
-    let once = subst (λ (v : Held). IsDistinct nat_eq (keys_of v.orders.nodes)) c.self.view_is c.len.ensures.distinct in
+    let once = c.requires.removing.counted.distinct in
     let held = c.args.self.now in
     removal_goes_on g.row.K.Denot g.row.V.Denot c.args.work held c.args.removal once c.requires.removing c.requires.left c.in_default.is

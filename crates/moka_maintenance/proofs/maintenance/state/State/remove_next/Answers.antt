@@ -6,13 +6,13 @@ use Rattle.moka_maintenance.proofs.maintenance.state.State.remove_next.Goals as 
 pub next-next-requires : goal.next-next-requires
 next-next-requires g c =
     let s = subst (λ (v : Held). IsRemoving v.orders c.args.removal) (sym c.self.view_is) c.requires.removing in
-    ap is_some (next_node c.self.inside.orders c.args.work c.args.removal c.len.ensures.distinct s c.requires.left c.args.id
+    ap is_some (next_node c.self.inside.orders c.args.work c.args.removal s.counted.distinct s c.requires.left c.args.id
     c.requires.next).found
 
 pub remove-requires : goal.remove-requires
 remove-requires g c =
     let s = subst (λ (v : Held). IsRemoving v.orders c.args.removal) (sym c.self.view_is) c.requires.removing in
-    ap is_some (next_node c.self.inside.orders c.args.work c.args.removal c.len.ensures.distinct s c.requires.left c.args.id
+    ap is_some (next_node c.self.inside.orders c.args.work c.args.removal s.counted.distinct s c.requires.left c.args.id
     c.requires.next).found
 
 pub returns-clause-step : goal.returns-clause-step
@@ -23,7 +23,7 @@ returns-clause-step g c =
       orders = c.remove.ensures.orders n found i;
       sketch = c.self.inside.sketch;
       place =
-          removed_place c.self.inside.orders c.args.work c.args.removal c.len.ensures.distinct s c.requires.left c.args.id c.requires.next
+          removed_place c.self.inside.orders c.args.work c.args.removal s.counted.distinct s c.requires.left c.args.id c.requires.next
           c.remove.new.self c.remove.ensures.nodes c.next-next.result i;
       moment = c.self.inside.moment;
       published = Rattle.moka_maintenance.specs.Published.published_of c.self.inside.published;
@@ -33,6 +33,6 @@ pub returns-clause-holds : goal.returns-clause-holds
 returns-clause-holds g c =
     let s = subst (λ (v : Held). IsRemoving v.orders c.args.removal) (sym c.self.view_is) c.requires.removing in
     subst (IsAtHand c.remove.new.self) (sym c.removing_or_enter-self-inside.ensures)
-    (removed_holds c.self.inside.orders c.args.work c.args.removal c.len.ensures.distinct s c.requires.left c.args.id c.requires.next
+    (removed_holds c.self.inside.orders c.args.work c.args.removal s.counted.distinct s c.requires.left c.args.id c.requires.next
     c.remove.new.self c.remove.ensures.nodes c.requires.round c.next-next.result c.next-next.ensures c.remove.ensures.room
     c.remove.ensures.orders)

@@ -1,7 +1,4 @@
-use Rattle.std.proofs.Common.{◌∙◌, nat_eq, subst, sym}
-use Rattle.std.specs.List.{IsDistinct}
-use Rattle.std.specs.Map.{keys_of}
-use Rattle.moka_maintenance.specs.Held.{Held}
+use Rattle.std.proofs.Common.{◌∙◌, sym}
 use Rattle.moka_maintenance.proofs.PlanLemmas.{scan_goes_on, scan_rejects, scan_node}
 use Rattle.moka_maintenance.proofs.maintenance.state.State.scan.Goals as goal
 
@@ -19,7 +16,7 @@ returns-in_default-clause-step g c =
 
 pub returns-clause-step : goal.returns-clause-step
 returns-clause-step g c =
-    let once = subst (λ (v : Held). IsDistinct nat_eq (keys_of v.orders.nodes)) c.self.view_is c.len.ensures.distinct in
+    let once = c.requires.scanning.counted.distinct in
     let held = c.args.self.now in
     let is = sym c.next_seen.ensures ∙ c.in-Some.is in
     let node = scan_node g.row.K.Denot g.row.V.Denot c.args.work held c.args.scan c.requires.scanning once c.in-Some.id is in

@@ -13,21 +13,21 @@ get-requires g c =
     let s = subst (λ (v : Held). IsScanning v.orders c.args.scan) (sym c.self.view_is) c.requires.scanning in
     let at = next_parts (is_decided c.args.scan.candidate c.args.scan.tally) c.args.scan.next c.args.id
     c.requires.next in
-    ap is_some (scanned_node c.self.inside.orders c.args.scan c.len.ensures.distinct s c.args.id at.1).found
+    ap is_some (scanned_node c.self.inside.orders c.args.scan s.counted.distinct s c.args.id at.1).found
 
 pub next-next-requires : goal.next-next-requires
 next-next-requires g c =
     let s = subst (λ (v : Held). IsScanning v.orders c.args.scan) (sym c.self.view_is) c.requires.scanning in
     let at = next_parts (is_decided c.args.scan.candidate c.args.scan.tally) c.args.scan.next c.args.id
     c.requires.next in
-    ap is_some (scanned_node c.self.inside.orders c.args.scan c.len.ensures.distinct s c.args.id at.1).found
+    ap is_some (scanned_node c.self.inside.orders c.args.scan s.counted.distinct s c.args.id at.1).found
 
 pub mark-requires : goal.mark-requires
 mark-requires g c =
     let s = subst (λ (v : Held). IsScanning v.orders c.args.scan) (sym c.self.view_is) c.requires.scanning in
     let at = next_parts (is_decided c.args.scan.candidate c.args.scan.tally) c.args.scan.next c.args.id
     c.requires.next in
-    ap is_some (scanned_node c.self.inside.orders c.args.scan c.len.ensures.distinct s c.args.id at.1).found
+    ap is_some (scanned_node c.self.inside.orders c.args.scan s.counted.distinct s c.args.id at.1).found
 
 pub returns-clause-step : goal.returns-clause-step
 returns-clause-step g c =
@@ -43,7 +43,7 @@ returns-clause-step g c =
     after_finding v.sketch c.get.result.now.ticket c.args.scan.tally entry) (sym c.self.view_is)
     ∙ ap (λ (m : Node). after_finding c.self.inside.sketch m.ticket c.args.scan.tally entry) same in
     let seen =
-    seen_more c.self.inside.orders c.args.scan c.len.ensures.distinct s c.args.id at.1 c.mark.new.self c.is_some.result
+    seen_more c.self.inside.orders c.args.scan s.counted.distinct s c.args.id at.1 c.mark.new.self c.is_some.result
     c.mark.ensures.step n found
     ∙ ap (λ b. first_seen c.args.scan.seen c.self.inside.orders.nodes ++ record { ticket = n.ticket; is_present = b } ∷ [])
     (c.is_some.ensures ∙ ap is_some (sym weighs) ∙ is_some_weighed entry) in
@@ -64,6 +64,6 @@ returns-clause-holds g c =
     let at = next_parts (is_decided c.args.scan.candidate c.args.scan.tally) c.args.scan.next c.args.id
     c.requires.next in (
       c.requires.round,
-      scanning_on c.self.inside.orders c.args.scan c.len.ensures.distinct s c.args.id at.1 c.mark.new.self c.is_some.result
+      scanning_on c.self.inside.orders c.args.scan s.counted.distinct s c.args.id at.1 c.mark.new.self c.is_some.result
           c.mark.ensures.step c.with_found-tally.result c.next-next.result c.next-next.ensures c.mark.ensures.orders,
     )

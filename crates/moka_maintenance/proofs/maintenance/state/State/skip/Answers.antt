@@ -7,7 +7,7 @@ use Rattle.moka_maintenance.proofs.maintenance.state.State.skip.Goals as goal
 pub next-requires : goal.next-requires
 next-requires g c =
     let s = subst (λ (v : Held). IsRemoving v.orders c.args.removal) (sym c.self.view_is) c.requires.removing in
-    ap is_some (next_node c.self.inside.orders c.args.work c.args.removal c.len.ensures.distinct s c.requires.left c.args.id
+    ap is_some (next_node c.self.inside.orders c.args.work c.args.removal s.counted.distinct s c.requires.left c.args.id
     c.requires.next).found
 
 pub returns-clause-step : goal.returns-clause-step
@@ -22,7 +22,7 @@ returns-clause-step g c =
       moment = c.self.inside.moment;
       published = Rattle.moka_maintenance.specs.Published.published_of c.self.inside.published;
     })))
-    (skipped_place c.self.inside.orders c.args.work c.args.removal c.len.ensures.distinct s c.requires.left c.args.id
+    (skipped_place c.self.inside.orders c.args.work c.args.removal s.counted.distinct s c.requires.left c.args.id
     c.requires.next n found
     c.next.result))
 
@@ -30,5 +30,5 @@ pub returns-clause-holds : goal.returns-clause-holds
 returns-clause-holds g c =
     let s = subst (λ (v : Held). IsRemoving v.orders c.args.removal) (sym c.self.view_is) c.requires.removing in
     subst (IsAtHand c.self.inside.orders) (sym c.removing_or_enter-self-inside.ensures)
-    (skipped_holds c.self.inside.orders c.args.work c.args.removal c.len.ensures.distinct s c.requires.left c.args.id c.requires.next
+    (skipped_holds c.self.inside.orders c.args.work c.args.removal s.counted.distinct s c.requires.left c.args.id c.requires.next
     c.requires.round c.next.result c.next.ensures)

@@ -1,14 +1,11 @@
-use Rattle.std.proofs.Common.{◌∙◌, ap, nat_eq, subst, sym}
-use Rattle.std.specs.List.{IsDistinct}
-use Rattle.std.specs.Map.{keys_of}
+use Rattle.std.proofs.Common.{◌∙◌, ap, sym}
 use Rattle.moka_sync_model.specs.Turn.Plan.{Alone}
-use Rattle.moka_maintenance.specs.Held.{Held}
 use Rattle.moka_maintenance.proofs.PlanLemmas.{removal_absent, removal_needs_nothing, removal_goes_on, removal_node}
 use Rattle.moka_maintenance.proofs.maintenance.state.State.skip_absent.Goals as goal
 
 pub returns-in-Some-clause-step : goal.returns-in-Some-clause-step
 returns-in-Some-clause-step g c =
-    let once = subst (λ (v : Held). IsDistinct nat_eq (keys_of v.orders.nodes)) c.self.view_is c.len.ensures.distinct in
+    let once = c.requires.removing.counted.distinct in
     let held = c.args.self.now in
     let node = removal_node g.row.K.Denot g.row.V.Denot c.args.work held c.args.removal once c.requires.removing c.requires.left
     c.in-Some.id c.in-Some.is in
@@ -20,6 +17,6 @@ returns-in-Some-clause-step g c =
 
 pub returns-in_default-clause-step : goal.returns-in_default-clause-step
 returns-in_default-clause-step g c =
-    let once = subst (λ (v : Held). IsDistinct nat_eq (keys_of v.orders.nodes)) c.self.view_is c.len.ensures.distinct in
+    let once = c.requires.removing.counted.distinct in
     let held = c.args.self.now in
     removal_goes_on g.row.K.Denot g.row.V.Denot c.args.work held c.args.removal once c.requires.removing c.requires.left c.in_default.is

@@ -1,6 +1,6 @@
 use Rattle.std.proofs.Common.{◌≡◌, ◌+◌, ◌^◌, ◌<◌, ◌≤◌, length}
 use Rattle.moka_list.specs.HashIndex.{rest_of}
-use Rattle.moka_list.proofs.hash_index.CandidatesIterator.next.Given as goal
+use Rattle.moka_list.proofs.hash_index.Candidates.next.Given as goal
 
 abbrev pub invariant-loop-group : goal.invariant-loop-group
 invariant-loop-group l =

@@ -6,8 +6,8 @@ use Rattle.moka_list.specs.declared.constants.TheConstants.{FAR}
 use Rattle.moka_list.specs.HashIndex.{after, ends_at, group_at, places_of, rest_of}
 use Rattle.moka_list.proofs.ChosenLemmas.{bit_small, lowest}
 use Rattle.moka_list.proofs.RestLemmas.{next_of, none_of, yields}
-use Rattle.moka_list.proofs.hash_index.CandidatesIterator.next.Goals as goal
-use Rattle.moka_list.proofs.hash_index.CandidatesIterator.next.Goals.{then-not-self, else-not-self, then-self-eq0-via-then-self-eq0, then-self-eq0-via-else-self-eq0+then-group-eq0}
+use Rattle.moka_list.proofs.hash_index.Candidates.next.Goals as goal
+use Rattle.moka_list.proofs.hash_index.Candidates.next.Goals.{then-not-self, else-not-self, then-self-eq0-via-then-self-eq0, then-self-eq0-via-else-self-eq0+then-group-eq0}
 
 pub bounds-group-place : goal.bounds-group-place
 bounds-group-place c =
@@ -20,26 +20,16 @@ overflow_sub-self c =
     let few : found < 2 ^ 64 = omega (arith, c.loop-group.invariant.2) in
     subst (λ p. p ≤ found) (sym (bit_small (2 ^ count_trailing_zeros 64 found) found least few)) least
 
-pub returns-then-self-ne0-clause-steps : goal.returns-then-self-ne0-clause-steps
-returns-then-self-ne0-clause-steps c =
+pub returns-then-self-ne0 : goal.returns-then-self-ne0
+returns-then-self-ne0 c =
     let it = c.loop-group.self-inside in
     let len : length c.in-Some.group.now.ids ≡ 10 = search rules in
     sym c.self.view_is ∙ sym c.loop-group.invariant.4
     ∙ yields it.groups.now it.tag it.far it.left it.distance it.at it.found c.in-Some.group.now c.in-Some.ensures.lookup.3.1
     len (omega (arith, c.if-self-ne0.true)) c.loop-group.invariant.2
 
-pub returns-then-self-ne0-clause-goes : goal.returns-then-self-ne0-clause-goes
-returns-then-self-ne0-clause-goes c =
-    let it = c.loop-group.self-inside in
-    let len : length c.in-Some.group.now.ids ≡ 10 = search rules in
-    let is =
-    sym c.self.view_is ∙ sym c.loop-group.invariant.4
-    ∙ yields it.groups.now it.tag it.far it.left it.distance it.at it.found c.in-Some.group.now c.in-Some.ensures.lookup.3.1
-    len (omega (arith, c.if-self-ne0.true)) c.loop-group.invariant.2 in
-    search rules
-
-pub returns-then-self-eq0-clause-steps : goal.returns-then-self-eq0-clause-steps
-returns-then-self-eq0-clause-steps c =
+pub returns-then-self-eq0 : goal.returns-then-self-eq0
+returns-then-self-eq0 c =
     let it = c.loop-group.self-inside in
     let is : c.in-Some.group.now ≡ group_at it.groups.now it.at = c.in-Some.ensures.lookup.3.1 _ in
     let none : rest_of it.groups.now it.tag it.far it.left it.distance it.at it.found ≡ [] =
