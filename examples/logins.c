@@ -25,16 +25,13 @@ static uint64_t now(void) {
 
 /* Opens a table of 100,000 logins at most. */
 static uint32_t logins_open(struct logins *logins) {
-    struct mini_moka_u64_settings settings = {
-        .capacity = 100000,
-        .time_to_live = 30 * 60 * SECOND,
-        .time_to_idle = MINI_MOKA_UNLIMITED,
-        .initial_capacity = 0,
-    };
+    struct mini_moka_u64_settings settings = MINI_MOKA_U64_SETTINGS_INIT;
+    settings.capacity = 100000;
+    settings.time_to_live = 30 * 60 * SECOND;
     return mini_moka_u64_open(&logins->users, &settings);
 }
 
-/* Answers a line: a token where a user logs in, and the user of a token. Real tokens are random; these are counted. */
+/* Answers a line: a token if a user logs in, and the user of a token. Real tokens are random; these are counted. */
 static void answer(struct logins *logins, const char *word, uint64_t number) {
     uint64_t user;
     if (strcmp(word, "login") == 0) {
@@ -60,8 +57,11 @@ static void answer(struct logins *logins, const char *word, uint64_t number) {
 
 int main(void) {
     struct logins logins = {0};
-    if (logins_open(&logins) != MINI_MOKA_DONE)
+    uint32_t status = logins_open(&logins);
+    if (status != MINI_MOKA_DONE) {
+        fprintf(stderr, "%s\n", mini_moka_status_text(status));
         return 1;
+    }
     char word[16];
     uint64_t number;
     while (scanf("%15s %" SCNu64, word, &number) == 2)

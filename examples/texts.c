@@ -4,18 +4,20 @@
 
 int main(void) {
     struct mini_moka cache = {0};
-    struct mini_moka_settings settings = {
-        .capacity = 10000,
-        .time_to_live = UINT64_C(1800) * 1000000000,
-        .time_to_idle = MINI_MOKA_UNLIMITED,
-        .seed = {1, 2},
-    };
-    uint8_t name[64];
+    struct mini_moka_settings settings = MINI_MOKA_SETTINGS_INIT;
+    char name[64];
     size_t length;
-    if (mini_moka_open(&cache, &settings) != MINI_MOKA_DONE)
-        return 1;
-    mini_moka_insert(&cache, (const uint8_t *)"token", 5, (const uint8_t *)"alice", 5, 0);
-    if (mini_moka_get(&cache, (const uint8_t *)"token", 5, 1, name, sizeof name, &length) == MINI_MOKA_DONE)
-        printf("%.*s\n", (int)length, (const char *)name);
-    return mini_moka_close(&cache) != MINI_MOKA_DONE;
+    settings.capacity = 10000;
+    settings.time_to_live = UINT64_C(1800) * 1000000000;
+    uint32_t status = mini_moka_open(&cache, &settings);
+    if (status == MINI_MOKA_DONE)
+        status = mini_moka_insert(&cache, "token", 5, "alice", 5, 0);
+    if (status == MINI_MOKA_DONE)
+        status = mini_moka_get(&cache, "token", 5, 1, name, sizeof name, &length);
+    if (status == MINI_MOKA_DONE)
+        printf("%.*s\n", (int)length, name);
+    else
+        fprintf(stderr, "%s\n", mini_moka_status_text(status));
+    mini_moka_close(&cache);
+    return mini_moka_is_error(status);
 }

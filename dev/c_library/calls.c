@@ -33,10 +33,10 @@ static uint64_t number_of(uint32_t (*call)(struct mini_moka *, uint64_t *), stru
 /* ---- bytes, as texts */
 
 static uint32_t insert(struct mini_moka *cache, const char *key, const char *value, uint64_t now) {
-    return mini_moka_insert(cache, (const uint8_t *)key, strlen(key), (const uint8_t *)value, strlen(value), now);
+    return mini_moka_insert(cache, key, strlen(key), value, strlen(value), now);
 }
 
-typedef uint32_t look_up(struct mini_moka *, const uint8_t *, size_t, uint64_t, uint8_t *, size_t, size_t *);
+typedef uint32_t look_up(struct mini_moka *, const void *, size_t, uint64_t, void *, size_t, size_t *);
 
 /* Whether a look-up answers this, and finds this text in a buffer of eight bytes, or leaves it where the text is null. */
 static bool finds(look_up *call, struct mini_moka *cache, const char *key, uint64_t now, uint32_t status, const char *text) {
@@ -44,7 +44,7 @@ static bool finds(look_up *call, struct mini_moka *cache, const char *key, uint6
     size_t length = BEFORE;
     memset(buffer, BEFORE, ROOM);
     memset(before, BEFORE, ROOM);
-    if (call(cache, (const uint8_t *)key, strlen(key), now, buffer, ROOM, &length) != status)
+    if (call(cache, key, strlen(key), now, buffer, ROOM, &length) != status)
         return false;
     if (text != NULL)
         memcpy(before, text, strlen(text));
@@ -52,11 +52,11 @@ static bool finds(look_up *call, struct mini_moka *cache, const char *key, uint6
 }
 
 static uint32_t contains(struct mini_moka *cache, const char *key, uint64_t now) {
-    return mini_moka_contains(cache, (const uint8_t *)key, strlen(key), now);
+    return mini_moka_contains(cache, key, strlen(key), now);
 }
 
 static uint32_t invalidate(struct mini_moka *cache, const char *key, uint64_t now) {
-    return mini_moka_invalidate(cache, (const uint8_t *)key, strlen(key), now);
+    return mini_moka_invalidate(cache, key, strlen(key), now);
 }
 
 static void bytes_come_and_go(void) {
@@ -90,11 +90,11 @@ static void long_values_stay(void) {
     size_t length = BEFORE;
     CHECK(mini_moka_open(&cache, &BYTES) == MINI_MOKA_DONE);
     CHECK(insert(&cache, "long", "123456789", 0) == MINI_MOKA_DONE);
-    CHECK(mini_moka_get(&cache, (const uint8_t *)"long", 4, 0, buffer, ROOM, &length) == MINI_MOKA_TOO_SHORT && length == 9 && buffer[0] == BEFORE);
+    CHECK(mini_moka_get(&cache, "long", 4, 0, buffer, ROOM, &length) == MINI_MOKA_TOO_SHORT && length == 9 && buffer[0] == BEFORE);
     length = BEFORE;
-    CHECK(mini_moka_peek(&cache, (const uint8_t *)"long", 4, 0, buffer, ROOM, &length) == MINI_MOKA_TOO_SHORT && length == 9 && buffer[0] == BEFORE);
+    CHECK(mini_moka_peek(&cache, "long", 4, 0, buffer, ROOM, &length) == MINI_MOKA_TOO_SHORT && length == 9 && buffer[0] == BEFORE);
     length = BEFORE;
-    CHECK(mini_moka_remove(&cache, (const uint8_t *)"long", 4, 0, buffer, ROOM, &length) == MINI_MOKA_TOO_SHORT && length == 9 && buffer[0] == BEFORE);
+    CHECK(mini_moka_remove(&cache, "long", 4, 0, buffer, ROOM, &length) == MINI_MOKA_TOO_SHORT && length == 9 && buffer[0] == BEFORE);
     CHECK(contains(&cache, "long", 0) == MINI_MOKA_DONE);
     CHECK(mini_moka_close(&cache) == MINI_MOKA_DONE);
 }
@@ -241,23 +241,104 @@ static void caches_are_bounded(void) {
     CHECK(mini_moka_close(&second) == MINI_MOKA_DONE);
 }
 
+/* A walk through numbers meets each that is unexpired, in order of use; a change ends it. */
+static void walks_meet_each_number(void) {
+    struct mini_moka cache = {0};
+    struct mini_moka_u64_settings settings = NUMBERS;
+    uint64_t key = BEFORE, value = BEFORE;
+    settings.time_to_live = 20;
+    CHECK(mini_moka_u64_open(&cache, &settings) == MINI_MOKA_DONE);
+    CHECK(mini_moka_u64_next(&cache, 0, &key, &value) == MINI_MOKA_CHANGED && key == BEFORE && value == BEFORE);
+    CHECK(mini_moka_u64_insert(&cache, 7, 49, 1) == MINI_MOKA_DONE && mini_moka_u64_insert(&cache, 8, 64, 0) == MINI_MOKA_DONE);
+    CHECK(mini_moka_u64_get(&cache, 7, 1, &value) == MINI_MOKA_DONE && mini_moka_walk(&cache) == MINI_MOKA_DONE);
+    CHECK(mini_moka_u64_next(&cache, 1, &key, &value) == MINI_MOKA_DONE && key == 8 && value == 64);
+    CHECK(mini_moka_u64_peek(&cache, 7, 1, &value) == MINI_MOKA_DONE && number_of(mini_moka_count, &cache) == 2);
+    CHECK(mini_moka_u64_next(&cache, 1, &key, &value) == MINI_MOKA_DONE && key == 7 && value == 49);
+    CHECK(mini_moka_u64_next(&cache, 1, &key, &value) == MINI_MOKA_ABSENT && key == 7 && value == 49);
+    CHECK(mini_moka_walk(&cache) == MINI_MOKA_DONE && mini_moka_u64_next(&cache, 20, &key, &value) == MINI_MOKA_DONE && key == 7);
+    CHECK(mini_moka_u64_contains(&cache, 7, 1) == MINI_MOKA_DONE && mini_moka_u64_next(&cache, 1, &key, &value) == MINI_MOKA_CHANGED);
+    CHECK(mini_moka_close(&cache) == MINI_MOKA_DONE);
+}
+
+/* A hit and two misses, of which one inserts, two inserts in all, and two entries that expire. */
+static void calls_of_numbers_are_counted(void) {
+    struct mini_moka cache = {0};
+    struct mini_moka_u64_settings settings = NUMBERS;
+    struct mini_moka_statistics met = {BEFORE, BEFORE, BEFORE, BEFORE};
+    uint64_t value = BEFORE;
+    settings.time_to_live = 20;
+    CHECK(mini_moka_u64_open(&cache, &settings) == MINI_MOKA_DONE && mini_moka_u64_insert(&cache, 7, 49, 0) == MINI_MOKA_DONE);
+    CHECK(mini_moka_u64_get(&cache, 7, 1, &value) == MINI_MOKA_DONE && mini_moka_u64_get(&cache, 8, 1, &value) == MINI_MOKA_ABSENT);
+    CHECK(mini_moka_u64_get_or_insert(&cache, 8, 64, 1, &value) == MINI_MOKA_DONE && value == 64);
+    CHECK(mini_moka_u64_contains(&cache, 8, 30) == MINI_MOKA_ABSENT);
+    CHECK(mini_moka_statistics(&cache, &met) == MINI_MOKA_DONE);
+    CHECK(met.hits == 1 && met.misses == 2 && met.inserts == 2 && met.evictions == 2);
+    CHECK(mini_moka_close(&cache) == MINI_MOKA_DONE);
+}
+
+/* ---- settings and statuses */
+
+/* Settings that begin as the header's limit nothing, and a forgotten duration of 0 is refused. */
+static void durations_of_zero_are_refused(void) {
+    struct mini_moka cache = {0};
+    struct mini_moka_settings bytes = MINI_MOKA_SETTINGS_INIT;
+    struct mini_moka_u64_settings numbers = MINI_MOKA_U64_SETTINGS_INIT;
+    CHECK(mini_moka_open(&cache, &bytes) == MINI_MOKA_DONE && mini_moka_close(&cache) == MINI_MOKA_DONE);
+    CHECK(mini_moka_u64_open(&cache, &numbers) == MINI_MOKA_DONE && mini_moka_close(&cache) == MINI_MOKA_DONE);
+    CHECK(mini_moka_open(&cache, &(struct mini_moka_settings){.capacity = 10, .time_to_idle = NONE}) == MINI_MOKA_ZERO_DURATION);
+    CHECK(mini_moka_open(&cache, &(struct mini_moka_settings){.capacity = 10, .time_to_live = NONE}) == MINI_MOKA_ZERO_DURATION);
+    CHECK(mini_moka_u64_open(&cache, &(struct mini_moka_u64_settings){.capacity = 10, .time_to_idle = NONE}) == MINI_MOKA_ZERO_DURATION);
+    CHECK(mini_moka_u64_open(&cache, &(struct mini_moka_u64_settings){.capacity = 10, .time_to_live = NONE}) == MINI_MOKA_ZERO_DURATION);
+    CHECK(mini_moka_close(&cache) == MINI_MOKA_CLOSED);
+    numbers.time_to_live = numbers.time_to_idle = 1;
+    CHECK(mini_moka_u64_open(&cache, &numbers) == MINI_MOKA_DONE && mini_moka_close(&cache) == MINI_MOKA_DONE);
+    numbers.capacity = 0;
+    CHECK(mini_moka_u64_open(&cache, &numbers) == MINI_MOKA_DONE && mini_moka_u64_insert(&cache, 7, 49, 0) == MINI_MOKA_DONE);
+    numbers.time_to_live = 0;
+    CHECK(mini_moka_u64_open(&cache, &numbers) == MINI_MOKA_ALREADY_OPEN);
+    CHECK(mini_moka_u64_contains(&cache, 7, 0) == MINI_MOKA_ABSENT && mini_moka_close(&cache) == MINI_MOKA_DONE);
+}
+
+/* Each status has words of its own, and only the first two are of calls that were made. */
+static void statuses_have_texts(void) {
+    for (uint32_t status = 0; status <= MINI_MOKA_ZERO_DURATION + 1; status++) {
+        CHECK(mini_moka_is_error(status) == (status != MINI_MOKA_DONE && status != MINI_MOKA_ABSENT));
+        for (uint32_t other = 0; other < status; other++)
+            CHECK(strcmp(mini_moka_status_text(status), mini_moka_status_text(other)) != 0);
+    }
+    CHECK(strcmp(mini_moka_status_text(MINI_MOKA_ZERO_DURATION), "a time to live or to idle is 0") == 0);
+    CHECK(strcmp(mini_moka_status_text(UINT32_MAX), "an unknown status") == 0);
+}
+
+/* An update with a longer value stays, above the capacity, until the next call that removes. */
+static void updates_may_exceed_the_capacity(void) {
+    struct mini_moka cache = {0};
+    struct mini_moka_settings weighed = MINI_MOKA_SETTINGS_INIT;
+    weighed.capacity = 20;
+    weighed.is_weighed = true;
+    CHECK(mini_moka_open(&cache, &weighed) == MINI_MOKA_DONE);
+    CHECK(insert(&cache, "1", "123456789", 0) == MINI_MOKA_DONE && insert(&cache, "2", "123456789", 0) == MINI_MOKA_DONE);
+    CHECK(insert(&cache, "2", "1234567890123456789", 0) == MINI_MOKA_DONE && number_of(mini_moka_weight, &cache) == 30);
+    CHECK(contains(&cache, "2", 0) == MINI_MOKA_DONE && number_of(mini_moka_weight, &cache) == 20);
+    CHECK(mini_moka_close(&cache) == MINI_MOKA_DONE);
+}
+
 /* ---- refusals */
 
 /* Each call of bytes on this handle has this status, and writes nothing. */
 static void bytes_answer(struct mini_moka *cache, uint32_t status) {
-    struct mini_moka_statistics met = {BEFORE, BEFORE, BEFORE, BEFORE};
     char text[1] = "";
     CHECK(insert(cache, "a", "apple", 0) == status);
     CHECK(finds(mini_moka_get, cache, "a", 0, status, NULL) && finds(mini_moka_peek, cache, "a", 0, status, NULL));
     CHECK(finds(mini_moka_remove, cache, "a", 0, status, NULL));
     CHECK(contains(cache, "a", 0) == status && invalidate(cache, "a", 0) == status);
-    CHECK(mini_moka_statistics(cache, &met) == status && met.hits == BEFORE && met.evictions == BEFORE);
-    CHECK(mini_moka_walk(cache) == status && walk_on(cache, 0, text) == status && text[0] == 0);
+    CHECK(walk_on(cache, 0, text) == status && text[0] == 0);
 }
 
 /* And each call of numbers. */
 static void numbers_answer(struct mini_moka *cache, uint32_t status) {
-    uint64_t value = BEFORE;
+    uint64_t key = BEFORE, value = BEFORE;
+    CHECK(mini_moka_u64_next(cache, 0, &key, &value) == status && key == BEFORE);
     CHECK(mini_moka_u64_insert(cache, 7, 49, 0) == status && mini_moka_u64_get(cache, 7, 0, &value) == status);
     CHECK(mini_moka_u64_peek(cache, 7, 0, &value) == status && mini_moka_u64_remove(cache, 7, 0, &value) == status);
     CHECK(mini_moka_u64_contains(cache, 7, 0) == status && mini_moka_u64_invalidate(cache, 7, 0) == status);
@@ -267,7 +348,10 @@ static void numbers_answer(struct mini_moka *cache, uint32_t status) {
 /* A closed handle answers that it is, one of the other kind too, and nothing is done. */
 static void calls_are_refused(void) {
     struct mini_moka cache = {0};
+    struct mini_moka_statistics met = {BEFORE, BEFORE, BEFORE, BEFORE};
     uint64_t number = BEFORE;
+    CHECK(mini_moka_statistics(&cache, &met) == MINI_MOKA_CLOSED && met.hits == BEFORE && met.evictions == BEFORE);
+    CHECK(mini_moka_walk(&cache) == MINI_MOKA_CLOSED);
     bytes_answer(&cache, MINI_MOKA_CLOSED);
     numbers_answer(&cache, MINI_MOKA_CLOSED);
     CHECK(mini_moka_close(&cache) == MINI_MOKA_CLOSED && mini_moka_invalidate_all(&cache) == MINI_MOKA_CLOSED);
@@ -300,7 +384,12 @@ int main(void) {
     walks_meet_each_entry();
     numbers_come_and_go();
     numbers_expire();
+    walks_meet_each_number();
+    calls_of_numbers_are_counted();
     caches_are_bounded();
+    durations_of_zero_are_refused();
+    statuses_have_texts();
+    updates_may_exceed_the_capacity();
     calls_are_refused();
     too_much_room_is_refused();
     return failures != 0;

@@ -145,7 +145,7 @@ static uint32_t insert(struct model *model, uint64_t key, uint64_t version) {
     return status;
 }
 
-typedef uint32_t bytes_call(struct mini_moka *, const uint8_t *, size_t, uint64_t, uint8_t *, size_t, size_t *);
+typedef uint32_t bytes_call(struct mini_moka *, const void *, size_t, uint64_t, void *, size_t, size_t *);
 typedef uint32_t numbers_call(struct mini_moka *, uint64_t, uint64_t, uint64_t *);
 
 /* A room for a value of this length: just that, more, or any, which may be too short. */
@@ -281,14 +281,18 @@ static void play_get_or_insert(struct model *model, uint64_t key) {
     struct known *known = &model->keys[key];
     uint32_t status = mini_moka_u64_get_or_insert(&model->cache, key, value_number(key, version), model->now, &value);
     if (is_refused(status)) {
+        model->misses++;
         meet(model, known, MINI_MOKA_ABSENT);
         return;
     }
     require(status == MINI_MOKA_DONE, "a get or insert was not made");
     if (is_alive(model, known) && value == value_number(key, known->version)) {
+        model->hits++;
         known->used = model->now;
         return;
     }
+    model->misses++;
+    model->inserts++;
     meet(model, known, MINI_MOKA_ABSENT);
     require(value == value_number(key, version), "another value was found or made");
     model->versions = version;
@@ -304,8 +308,6 @@ static void play_counts(struct model *model) {
     }
     require(model->capacity != MINI_MOKA_UNLIMITED || (alive <= count && count <= there), "another count");
     require(model->is_weighed || (weight == count && count <= model->capacity), "another weight, or more than the capacity");
-    if (!model->is_bytes)
-        return;
     struct mini_moka_statistics met;
     require(mini_moka_statistics(&model->cache, &met) == MINI_MOKA_DONE, "statistics are there");
     require(met.hits == model->hits && met.misses == model->misses && met.inserts == model->inserts, "other statistics");
@@ -367,6 +369,26 @@ static void play_walk(struct model *model) {
     require(mini_moka_next(&model->cache, model->now, key, LONGEST, value, LONGEST, &key_length, &value_length) == MINI_MOKA_CHANGED, "a walk went on");
 }
 
+/* Walks through all numbers. */
+static void play_number_walk(struct model *model) {
+    bool is_met[KEYS] = {false};
+    uint64_t key, value, met = 0, alive = 0;
+    uint32_t status;
+    require(mini_moka_walk(&model->cache) == MINI_MOKA_DONE, "a walk was not begun");
+    while ((status = mini_moka_u64_next(&model->cache, model->now, &key, &value)) == MINI_MOKA_DONE) {
+        require(key < KEYS && !is_met[key] && is_alive(model, &model->keys[key]), "an entry was met that isn't there, or twice");
+        require(value == value_number(key, model->keys[key].version), "another value was met");
+        is_met[key] = true;
+        met++;
+    }
+    require(status == MINI_MOKA_ABSENT, "a walk has no end");
+    for (size_t i = 0; i < KEYS; i++)
+        alive += is_alive(model, &model->keys[i]);
+    require(met == alive || model->capacity != MINI_MOKA_UNLIMITED, "an entry was not met");
+    meet(model, &model->keys[0], contains(model, 0));
+    require(mini_moka_u64_next(&model->cache, model->now, &key, &value) == MINI_MOKA_CHANGED, "a walk went on");
+}
+
 static void play_call(struct model *model) {
     uint64_t key = below(KEYS);
     unsigned dice = (unsigned)below(1000);
@@ -374,11 +396,9 @@ static void play_call(struct model *model) {
     static const unsigned below_it[] = {350, 700, 760, 820, 870, 900, 970, 971, 998, 1000};
     for (call = 0; dice >= below_it[call];)
         call++;
-    /* Bytes have no get or insert, and numbers no walk. */
+    /* Bytes have no get or insert. */
     if (call == 6 && model->is_bytes)
         call = 1;
-    if (call == 9 && !model->is_bytes)
-        call = 8;
     calls_made++;
     model->now += below(8) == 0 ? below(50) : 0;
     was_refused = false;
@@ -396,7 +416,7 @@ static void play_call(struct model *model) {
             model->keys[i].is_there = false;
         break;
     case 8: play_counts(model); break;
-    default: play_walk(model);
+    case 9: model->is_bytes ? play_walk(model) : play_number_walk(model); break;
     }
     allocations_left = -1;
 }

@@ -2,9 +2,10 @@
 //! builds from this repository.
 
 use std::env;
-use std::fs;
+use std::fs::{self, OpenOptions};
+use std::io::{BufRead, BufReader, Read, Write};
 use std::path::{Path, PathBuf};
-use std::process::{exit, Command};
+use std::process::{exit, Command, Stdio};
 
 const FOLDER: &str = "MINI_MOKA_LIB_DIR";
 const ARCHIVE: &str = "libmini_moka.a";
@@ -20,7 +21,7 @@ fn main() {
     println!("cargo:rustc-link-lib=static=mini_moka");
 }
 
-/// The folder that the variable names, which must have the archive.
+/// Returns the folder that the variable names, which must have the archive.
 fn named(folder: &Path) -> PathBuf {
     // The linker runs in another folder than this program, so the path is made absolute.
     let folder = match folder.canonicalize() {
@@ -57,36 +58,53 @@ fn built() -> PathBuf {
     folder
 }
 
-/// Whether a folder of the path has a file of this name.
+/// Returns `true` if a folder of the path has a file of this name.
 fn is_on_path(name: &str) -> bool {
     let path = env::var_os("PATH").unwrap_or_default();
     env::split_paths(&path).any(|folder| folder.join(name).is_file())
 }
 
-/// Has this program run again where a source of the library changes. What a build writes beside
-/// the sources of a crate is none.
+/// Makes cargo run this program again when a source of the library changes. What a build writes
+/// beside the sources of a crate is none.
 fn watch(root: &Path) {
     let crates = fs::read_dir(root.join("crates")).into_iter().flatten();
     let folders = crates
         .flatten()
         .flat_map(|entry| ["src", "specs", "proofs"].map(|folder| entry.path().join(folder)));
-    let files = ["build_library", "crates.txt", "HANDLES"].map(|file| root.join(file));
+    let files = ["build_library", "crates.txt", "HANDLES", "include"].map(|file| root.join(file));
     for path in folders.chain(files).filter(|path| path.exists()) {
         println!("cargo:rerun-if-changed={}", path.display());
     }
 }
 
-/// Runs the repository's command that proves and builds the library.
+/// Runs the repository's command that proves and builds the library, and shows how far it is.
 fn build(root: &Path) {
     let run = root.canonicalize().and_then(|root| {
-        Command::new(root.join("build_library"))
-            .current_dir(root)
-            .status()
+        let mut command = Command::new(root.join("build_library"));
+        let mut child = command.current_dir(root).stderr(Stdio::piped()).spawn()?;
+        if let Some(said) = child.stderr.take() {
+            show(said);
+        }
+        child.wait()
     });
     match run {
         Ok(status) if status.success() => {}
         Ok(status) => fail(&format!("./build_library failed: {status}")),
         Err(error) => fail(&format!("./build_library can't be run: {error}")),
+    }
+}
+
+/// Passes on the lines of the command, each as it comes.
+///
+/// Cargo keeps what this program writes until it fails, or shows it with `-vv`. A build takes
+/// minutes, so the lines go to the terminal too, if there is one.
+fn show(said: impl Read) {
+    let mut terminal = OpenOptions::new().write(true).open("/dev/tty").ok();
+    for line in BufReader::new(said).lines().map_while(Result::ok) {
+        eprintln!("{line}");
+        if let Some(terminal) = &mut terminal {
+            let _ = writeln!(terminal, "{line}");
+        }
     }
 }
 

@@ -120,7 +120,8 @@ struct PackageBytes {
 impl Side for PackageBytes {
     fn get(&mut self, key: u64) -> bool {
         self.bytes.set_key(key);
-        let is_found = self.cache.get_with(&self.bytes.key, &mut self.found);
+        let found = self.cache.get_into(&self.bytes.key, &mut self.found);
+        let is_found = found.unwrap_or(false);
         read(is_found.then_some(&self.found))
     }
 

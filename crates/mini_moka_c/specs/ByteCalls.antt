@@ -7,9 +7,9 @@ use Rattle.mini_moka_c.specs.declared.cache.ByteCache.{ByteCache}
 use Rattle.mini_moka_c.specs.Buffer.{IsTaken, copied_to}
 use Rattle.mini_moka_c.specs.ByteKeys.{byte_keys, byte_weighs}
 use Rattle.mini_moka_c.specs.declared.key.TheConstants.{SHORT_KEY}
-use Rattle.mini_moka_c.specs.declared.bytes_walk.Step.{Step}
-use Rattle.mini_moka_c.specs.declared.bytes_walk.Walk.TheVariants.{Ended}
-use Rattle.mini_moka_c.specs.declared.bytes_walk.Step.TheVariants as step
+use Rattle.mini_moka_c.specs.declared.steps.Step.{Step}
+use Rattle.mini_moka_c.specs.declared.steps.Walk.TheVariants.{Ended}
+use Rattle.mini_moka_c.specs.declared.steps.Step.TheVariants as step
 use Rattle.mini_moka_c.specs.Walk.{BytePair, IsLong, fitting, met_after, next_pair, step_of, walk_after}
 use Rattle.mini_moka_c.specs.Statistics.{with_calls, with_get, with_insert}
 use Rattle.mini_moka_c.specs.declared.constants.TheConstants.{ABSENT, CHANGED, DONE, OUT_OF_MEMORY, TOO_SHORT}

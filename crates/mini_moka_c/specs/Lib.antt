@@ -4,9 +4,11 @@ pub mod Buffer
 pub mod ByteKeys
 pub mod Walk
 pub mod NumberKeys
+pub mod NumberWalk
 pub mod Opening
 pub mod Calls
 pub mod ByteCalls
+pub mod NumberCalls
 -- inside
 pub mod Held
 pub mod HandleLends

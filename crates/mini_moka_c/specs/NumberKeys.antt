@@ -13,9 +13,9 @@ use Rattle.moka_unsync.specs.CacheState.{CacheState}
 abbrev pub FixedState : Type 0
 FixedState = BuildHasherDefault FoldHasher
 
--- the cache
-abbrev pub NumberCache : Type 0
-NumberCache = CacheState ℕ ℕ FixedState UnitWeight
+-- the state of the cache
+abbrev pub NumberCacheState : Type 0
+NumberCacheState = CacheState ℕ ℕ FixedState UnitWeight
 
 -- how the cache tells its keys apart and hashes them
 abbrev pub number_keys : Keys ℕ FixedState

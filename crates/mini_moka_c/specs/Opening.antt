@@ -1,19 +1,19 @@
 -- What opens a handle: settings, and a new cache of them.
-use Rattle.std.specs.Prelude.{◌≡◌, ◌≤◌, ◌==◌, ℕ, false, Option, Some, None, if◌then◌else◌}
+use Rattle.std.specs.Prelude.{◌≡◌, ◌≤◌, ◌==◌, ℕ, Bool, true, false, ◌||◌, Option, Some, None, if◌then◌else◌}
 use Rattle.moka_common.specs.Policy.{Policy}
 use Rattle.moka_common.specs.Settings.{live_nanos, idle_nanos}
 use Rattle.moka_unsync.specs.CacheState.{new_cache}
 use Rattle.moka_unsync.specs.Shares.{default_shares}
 use Rattle.mini_moka_c.specs.declared.cache.ByteCache.{ByteCache}
-use Rattle.mini_moka_c.specs.declared.bytes_walk.Walk.TheVariants.{Ended}
+use Rattle.mini_moka_c.specs.declared.steps.Walk.TheVariants.{Ended}
 use Rattle.mini_moka_c.specs.declared.weight.ByteWeight.TheVariants as weight
 use Rattle.mini_moka_c.specs.Statistics.{no_statistics}
-use Rattle.mini_moka_c.specs.declared.constants.TheConstants.{ALREADY_OPEN, DONE, OUT_OF_MEMORY, UNLIMITED}
+use Rattle.mini_moka_c.specs.declared.constants.TheConstants.{ALREADY_OPEN, DONE, OUT_OF_MEMORY, UNLIMITED, ZERO_DURATION}
 use Rattle.mini_moka_c.specs.declared.handle.Kept.{Kept}
 use Rattle.mini_moka_c.specs.declared.handle.Kept.TheVariants.{Bytes, Numbers}
 use Rattle.mini_moka_c.specs.declared.settings.ByteSettings.{ByteSettings}
 use Rattle.mini_moka_c.specs.declared.settings.NumberSettings.{NumberSettings}
-use Rattle.mini_moka_c.specs.NumberKeys.{NumberCache}
+use Rattle.mini_moka_c.specs.declared.number_cache.NumberCache.{NumberCache}
 
 -- a capacity or a duration, where it is set
 abbrev pub limit_of : ℕ → Option ℕ
@@ -25,12 +25,21 @@ pub record HasLimits (policy : Policy) (capacity live idle : ℕ) : Type 0 where
   pub time_to_live : live_nanos policy ≡ limit_of live
   pub time_to_idle : idle_nanos policy ≡ limit_of idle
 
--- the cache is a new one of the settings, with no entry and no weigher, and at least the room that was asked for
-pub record IsNumbersNew (settings : NumberSettings) (cache : NumberCache) : Type 0 where
-  pub limits : HasLimits cache.settings.policy settings.capacity settings.time_to_live settings.time_to_idle
-  pub new : cache ≡ new_cache (record { hash_state = cache.settings.hash_state; policy = cache.settings.policy; is_weighed = false })
-      default_shares cache.weigher cache.capacity
-  pub room : settings.initial_capacity ≤ cache.capacity
+-- a duration is 0, so that each entry would be expired at once
+abbrev pub has_zero_duration : ℕ → ℕ → Bool
+has_zero_duration live idle = live == 0 || idle == 0
+
+-- the cache is a new one of the settings, with no entry and no weigher, and at least the room that was asked for; nothing was counted, and no walk was begun
+pub record IsNumbersNew (settings : NumberSettings) (numbers : NumberCache) : Type 0 where
+  pub limits : HasLimits numbers.cache.settings.policy settings.capacity settings.time_to_live settings.time_to_idle
+  pub new : numbers.cache ≡ new_cache (record {
+    hash_state = numbers.cache.settings.hash_state;
+    policy = numbers.cache.settings.policy;
+    is_weighed = false;
+  }) default_shares numbers.cache.weigher numbers.cache.capacity
+  pub room : settings.initial_capacity ≤ numbers.cache.capacity
+  pub counts : numbers.statistics ≡ no_statistics
+  pub walk : numbers.walk ≡ Ended
 
 -- and of bytes, with the key of the hash and the weigher that are set; nothing was counted, and no walk was begun
 pub record IsBytesNew (settings : ByteSettings) (bytes : ByteCache) : Type 0 where
@@ -46,15 +55,21 @@ pub record IsBytesNew (settings : ByteSettings) (bytes : ByteCache) : Type 0 whe
 
 -- what is kept is such a cache
 abbrev pub IsNumbersKept : NumberSettings → Kept → Type 0
-IsNumbersKept settings (Numbers cache) = IsNumbersNew settings cache
+IsNumbersKept settings (Numbers numbers) = IsNumbersNew settings numbers
 IsNumbersKept settings (Bytes bytes) = ⊥
 
 abbrev pub IsBytesKept : ByteSettings → Kept → Type 0
-IsBytesKept settings (Numbers cache) = ⊥
+IsBytesKept settings (Numbers numbers) = ⊥
 IsBytesKept settings (Bytes bytes) = IsBytesNew settings bytes
 
--- a closed handle keeps such a cache then, or memory was refused; an open one keeps what it kept
-abbrev pub IsOpening : (Kept → Type 0) → Option Kept → ℕ → Option Kept → Type 0
-IsOpening IsNew (Some kept) status new = (status ≡ ALREADY_OPEN) × (new ≡ Some kept)
-IsOpening IsNew None status (Some kept) = (status ≡ DONE) × IsNew kept
-IsOpening IsNew None status None = status ≡ OUT_OF_MEMORY
+-- a closed handle keeps such a cache then, unless a duration is 0 or memory was refused; an open one keeps what it kept
+abbrev pub IsOpening : Bool → (Kept → Type 0) → Option Kept → ℕ → Option Kept → Type 0
+IsOpening is_zero IsNew (Some kept) status new = (status ≡ ALREADY_OPEN) × (new ≡ Some kept)
+IsOpening true IsNew None status new = (status ≡ ZERO_DURATION) × (new ≡ None)
+IsOpening false IsNew None status (Some kept) = (status ≡ DONE) × IsNew kept
+IsOpening false IsNew None status None = status ≡ OUT_OF_MEMORY
+
+-- no cache was made, and this status says why
+abbrev pub refusal_of : Bool → ℕ
+refusal_of true = ZERO_DURATION
+refusal_of false = OUT_OF_MEMORY

@@ -2,10 +2,10 @@
 use Rattle.std.specs.Prelude.{ℕ, ◌<◌, ◌&&◌, List, [], ◌∷◌, length, nat_le, Option, Some, None, if◌then◌else◌}
 use Rattle.moka_unsync.specs.Iterate.{pair_behind, pairs_at}
 use Rattle.mini_moka_c.specs.declared.key.TheConstants.{SHORT_KEY}
-use Rattle.mini_moka_c.specs.declared.bytes_walk.Step.{Step}
-use Rattle.mini_moka_c.specs.declared.bytes_walk.Step.TheVariants as step
-use Rattle.mini_moka_c.specs.declared.bytes_walk.Walk.{Walk}
-use Rattle.mini_moka_c.specs.declared.bytes_walk.Walk.TheVariants.{AtStart, Behind, Ended}
+use Rattle.mini_moka_c.specs.declared.steps.Step.{Step}
+use Rattle.mini_moka_c.specs.declared.steps.Step.TheVariants as step
+use Rattle.mini_moka_c.specs.declared.steps.Walk.{Walk}
+use Rattle.mini_moka_c.specs.declared.steps.Walk.TheVariants.{AtStart, Behind, Ended}
 use Rattle.mini_moka_c.specs.ByteKeys.{ByteCacheState, byte_keys}
 
 -- a key and its value

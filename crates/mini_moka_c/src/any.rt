@@ -1,10 +1,11 @@
 // The calls of a handle that are the same for bytes and for numbers.
 ghost use Rattle.std.specs.Prelude.{◌≡◌, ◌≢◌, None};
 ghost use Rattle.std.specs.Option.{MatchOption};
-ghost use Rattle.mini_moka_c.specs.Calls.{OnOpen, count_of, emptied, weight_of};
+ghost use Rattle.mini_moka_c.specs.Calls.{OnOpen, count_of, emptied, statistics_of, walking, weight_of};
 
 use crate::constants::{CLOSED, DONE};
 use crate::handle::Handle;
+use crate::statistics::Statistics;
 use std::alloc::Global;
 
 /// Closes the handle, and frees its cache. Closing a closed handle answers `CLOSED`.
@@ -59,6 +60,36 @@ pub extern "C" fn mini_moka_weight(handle: &mut Handle, weight: &mut u64) -> u32
     match handle.kept() {
         Some(kept) => {
             *weight = kept.weighted_size();
+            DONE
+        }
+        None => CLOSED,
+    }
+}
+
+/// Writes the counts of the calls since the handle was opened.
+#[unsafe(no_mangle)]
+pub extern "C" fn mini_moka_statistics(handle: &mut Handle, statistics: &mut Statistics) -> u32
+    ensures step { OnOpen handle.old.value result handle.new.value (λ old new.
+        (result ≡ DONE) × (statistics.new ≡ statistics_of old) × (new ≡ old)) }
+    ensures unchanged { result ≢ DONE → statistics.new ≡ statistics.old }
+{
+    match handle.kept() {
+        Some(kept) => {
+            *statistics = kept.statistics();
+            DONE
+        }
+        None => CLOSED,
+    }
+}
+
+/// Begins a walk over the unexpired entries, least recently used first and those of the window last. A call that may change the cache ends it.
+#[unsafe(no_mangle)]
+pub extern "C" fn mini_moka_walk(handle: &mut Handle) -> u32
+    ensures { OnOpen handle.old.value result handle.new.value (λ old new. (result ≡ DONE) × (new ≡ walking old)) }
+{
+    match handle.kept() {
+        Some(kept) => {
+            kept.begin_walk();
             DONE
         }
         None => CLOSED,

@@ -1,41 +1,48 @@
 // The calls of a cache of bytes. Each borrows the cache from its handle, and makes one call of it.
-ghost use Rattle.std.specs.Prelude.{◌≡◌, ◌≢◌, IfSome, MatchResult};
+ghost use Rattle.std.specs.Prelude.{◌≡◌, ◌≢◌, false, IfErr, IfOk, MatchResult};
 ghost use Rattle.mini_moka_c.specs.ByteCalls.{TellsBytesGet, TellsBytesInsert, TellsBytesLook, TellsBytesPeek, TellsBytesRemove};
 ghost use Rattle.mini_moka_c.specs.ByteCalls.{TellsInvalidate};
 ghost use Rattle.mini_moka_c.specs.Calls.{OnBytes, OnOpen, TellsLength};
-ghost use Rattle.mini_moka_c.specs.Opening.{IsBytesKept, IsOpening};
+ghost use Rattle.mini_moka_c.specs.Opening.{IsBytesKept, IsOpening, has_zero_duration, refusal_of};
 
-use crate::constants::{ABSENT, ALREADY_OPEN, DONE, OUT_OF_MEMORY, TOO_SHORT};
+use crate::constants::{ABSENT, ALREADY_OPEN, DONE, OUT_OF_MEMORY, TOO_SHORT, ZERO_DURATION};
 use crate::handle::{Handle, Kept};
 use crate::settings::{ByteSettings, build_bytes};
-use crate::statistics::Statistics;
 use moka_common::error::OutOfMemory;
 use moka_common::time::Instant;
 use std::alloc::Global;
 
-/// Opens a closed handle with a new cache of bytes. If memory is refused it stays closed, and an open handle stays as it is: `ALREADY_OPEN`.
+/// Opens a closed handle with a new cache of bytes. If a duration is 0 or memory is refused it stays closed, and an open handle stays as it is: `ALREADY_OPEN`.
 #[unsafe(no_mangle)]
 pub extern "C" fn mini_moka_open(alloc: Global, handle: &mut Handle, settings: &ByteSettings) -> u32
-    ensures { IsOpening (IsBytesKept settings.now) handle.old.value result handle.new.value }
+    ensures { IsOpening (has_zero_duration settings.now.time_to_live settings.now.time_to_idle) (IsBytesKept settings.now)
+        handle.old.value result handle.new.value }
 {
     match handle.kept() {
         Some(_) => ALREADY_OPEN,
         None => match kept_of(alloc, settings) {
-            Some(kept) => {
+            Ok(kept) => {
                 handle.put(kept);
                 DONE
             }
-            None => OUT_OF_MEMORY,
+            Err(status) => status,
         },
     }
 }
 
-/// Makes a new cache of the settings in a box, or `None` if memory is refused.
-fn kept_of(alloc: Global, settings: &ByteSettings) -> Option<Box<Kept>>
-    ensures { IfSome result (λ kept. IsBytesKept settings.now kept.value) }
+/// Makes a new cache of the settings in a box. The error is a status: a duration is 0, or memory is refused.
+fn kept_of(alloc: Global, settings: &ByteSettings) -> Result<Box<Kept>, u32>
+    ensures ok { IfOk result (λ kept. (has_zero_duration settings.now.time_to_live settings.now.time_to_idle ≡ false)
+        × IsBytesKept settings.now kept.value) }
+    ensures err { IfErr result (λ status. status ≡ refusal_of (has_zero_duration settings.now.time_to_live settings.now.time_to_idle)) }
 {
-    let cache = build_bytes(alloc, settings)?;
-    Box::new(alloc, Kept::Bytes(cache)).ok()
+    if settings.time_to_live == 0 || settings.time_to_idle == 0 {
+        return Err(ZERO_DURATION);
+    }
+    let Some(cache) = build_bytes(alloc, settings) else {
+        return Err(OUT_OF_MEMORY);
+    };
+    Box::new(alloc, Kept::Bytes(cache)).map_err(|_| OUT_OF_MEMORY)
 }
 
 /// Inserts a copy of the key and the value. The admission policy may reject a new entry that exceeds the capacity, which is `DONE` as well.
@@ -154,22 +161,6 @@ pub extern "C" fn mini_moka_invalidate(handle: &mut Handle, key: &[u8], now: u64
             Ok(()) => DONE,
             Err(_) => OUT_OF_MEMORY,
         },
-        Err(status) => status,
-    }
-}
-
-/// Writes the counts of the calls since the handle was opened.
-#[unsafe(no_mangle)]
-pub extern "C" fn mini_moka_statistics(handle: &mut Handle, statistics: &mut Statistics) -> u32
-    ensures step { OnOpen handle.old.value result handle.new.value (OnBytes result (λ old new.
-        (result ≡ DONE) × (statistics.new ≡ old.statistics) × (new ≡ old))) }
-    ensures unchanged { result ≢ DONE → statistics.new ≡ statistics.old }
-{
-    match handle.bytes() {
-        Ok(bytes) => {
-            *statistics = bytes.statistics;
-            DONE
-        }
         Err(status) => status,
     }
 }

@@ -8,13 +8,13 @@ ghost use Rattle.moka_unsync.specs.Lookup.{after_get, after_look, found_by_get, 
 ghost use Rattle.mini_moka_c.specs.Buffer.{IsTaken, copied_to};
 ghost use Rattle.mini_moka_c.specs.ByteKeys.{byte_keys, byte_weighs};
 ghost use Rattle.mini_moka_c.specs.Walk.{IsLong, fitting, met_after, next_pair, step_of, walk_after};
-ghost use Rattle.mini_moka_c.specs.declared.bytes_walk.Walk.TheVariants.{AtStart, Ended};
+ghost use Rattle.mini_moka_c.specs.declared.steps.Walk.TheVariants.{AtStart, Ended};
 ghost use Rattle.mini_moka_c.specs.Statistics.{no_statistics, with_calls, with_get, with_insert, with_left};
 
-use crate::bytes_walk::{Step, Walk};
 use crate::key::{Key, SHORT_KEY};
 use crate::seed::Seed;
 use crate::statistics::Statistics;
+use crate::steps::{Step, Walk};
 use crate::value::Value;
 use crate::weight::ByteWeight;
 use moka_common::error::{BuildError, InsertError, OutOfMemory};
@@ -84,7 +84,7 @@ impl ByteCache {
         Ok(())
     }
 
-    /// Looks the key up, as `Cache::get` does, and answers the length of its value, which is copied to the beginning of the buffer if that is long enough.
+    /// Looks the key up as `Cache::get` does. It copies the value to the beginning of the buffer, if it fits, and answers its length.
     pub fn get(
         &mut self,
         key: &[u8],
@@ -109,7 +109,7 @@ impl ByteCache {
         Ok(found)
     }
 
-    /// The same as `Cache::peek` does it.
+    /// Looks the key up as `Cache::peek` does.
     pub fn peek(
         &mut self,
         key: &[u8],
@@ -126,7 +126,7 @@ impl ByteCache {
         Ok(copied(self.cache.peek(&self.sought, now), buffer))
     }
 
-    /// Whether the key has an unexpired entry, as `Cache::contains_key` says it.
+    /// Returns `true` if the key has an unexpired entry, as `Cache::contains_key` does.
     pub fn contains(&mut self, key: &[u8], now: Instant) -> Result<bool, OutOfMemory>
         ensures value { IfOk result (λ there. there ≡ is_contained byte_keys self.old.cache key.now now) }
         ensures step { OnOk result (self.new.cache ≡ after_look byte_keys self.old.cache now) }
@@ -199,8 +199,8 @@ impl ByteCache {
         self.walk = Walk::AtStart;
     }
 
-    /// The next entry of the walk: the lengths of its key and its value, which are copied to the beginnings of the buffers if both are long enough. Else
-    /// the walk stays where it is, so that the step can be made again.
+    /// Goes on to the next entry of the walk. It copies key and value to the beginnings of the buffers, if both fit, and answers their lengths. Else the walk
+    /// stays where it is, so that the step can be made again.
     pub fn step(
         &mut self,
         now: Instant,
@@ -261,7 +261,7 @@ fn next_of<'a>(
     }
 }
 
-/// What a step of a walk gives where there is no next entry.
+/// Returns the answer of a step without a next entry.
 fn end_of(walk: Walk) -> Step
     ensures { result ≡ step_of walk None }
 {

@@ -16,6 +16,8 @@ pub const OTHER_KIND: u32 = 5;
 pub const TOO_SHORT: u32 = 6;
 /// No walk was begun, or a call that may change the cache was made since.
 pub const CHANGED: u32 = 7;
+/// A time to live or to idle is 0, so no entry would ever be found: nothing was done.
+pub const ZERO_DURATION: u32 = 8;
 
 /// The capacity or the duration of a cache that has none. No clock reaches it: as nanoseconds it is more than 584 years.
 pub const UNLIMITED: u64 = u64::MAX;

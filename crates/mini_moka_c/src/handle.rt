@@ -8,7 +8,7 @@
 // | `Handle`, open | the same, at `Kept` |
 // | `Handle`, closed | nothing, whatever its pointer is, so a handle of zeros is closed |
 //
-// Six functions are proved by hand. All others are ordinary code over them.
+// Six functions are proved by hand, and that a handle is `Send`. All others are ordinary code over them.
 //
 // | Function | Does |
 // |---|---|
@@ -32,29 +32,30 @@ mod loose;
 
 use crate::cache::ByteCache;
 use crate::constants::{CLOSED, OTHER_KIND};
+use crate::number_cache::NumberCache;
+use crate::statistics::Statistics;
 use loose::Loose;
-use moka_unsync::cache::Cache;
 use std::alloc::Global;
 use std::marker::Model;
 use std::mem::replace;
 use std::ptr::null_mut;
 
-/// What a handle keeps: a cache of numbers, or one of bytes.
+/// The cache of a handle: of numbers, or of bytes.
 #[derive(Drop)]
 pub enum Kept {
-    Numbers(Cache<u64, u64>),
+    Numbers(NumberCache),
     Bytes(ByteCache),
 }
 
 impl Kept {
-    ghost use Rattle.mini_moka_c.specs.Calls.{count_of, emptied, weight_of};
+    ghost use Rattle.mini_moka_c.specs.Calls.{count_of, emptied, statistics_of, walking, weight_of};
 
     /// Removes all entries.
     pub(crate) fn invalidate_all(&mut self)
         ensures { self.new ≡ emptied self.old }
     {
         match self {
-            Kept::Numbers(cache) => cache.invalidate_all(),
+            Kept::Numbers(numbers) => numbers.invalidate_all(),
             Kept::Bytes(bytes) => bytes.invalidate_all(),
         }
     }
@@ -64,7 +65,7 @@ impl Kept {
         ensures { result ≡ count_of self.now }
     {
         match self {
-            Kept::Numbers(cache) => cache.entry_count(),
+            Kept::Numbers(numbers) => numbers.cache.entry_count(),
             Kept::Bytes(bytes) => bytes.cache.entry_count(),
         }
     }
@@ -74,8 +75,28 @@ impl Kept {
         ensures { result ≡ weight_of self.now }
     {
         match self {
-            Kept::Numbers(cache) => cache.weighted_size(),
+            Kept::Numbers(numbers) => numbers.cache.weighted_size(),
             Kept::Bytes(bytes) => bytes.cache.weighted_size(),
+        }
+    }
+
+    /// Begins a walk through the unexpired entries.
+    pub(crate) fn begin_walk(&mut self)
+        ensures { self.new ≡ walking self.old }
+    {
+        match self {
+            Kept::Numbers(numbers) => numbers.begin_walk(),
+            Kept::Bytes(bytes) => bytes.begin_walk(),
+        }
+    }
+
+    /// Returns what the calls have met.
+    pub(crate) fn statistics(&self) -> Statistics
+        ensures { result ≡ statistics_of self.now }
+    {
+        match self {
+            Kept::Numbers(numbers) => numbers.statistics,
+            Kept::Bytes(bytes) => bytes.statistics,
         }
     }
 }
@@ -162,13 +183,13 @@ impl Handle {
     }
 
     /// Lends the cache of numbers. The error is the status of a call on a handle without one: `CLOSED` or `OTHER_KIND`.
-    pub(crate) fn numbers(&mut self) -> Result<&mut Cache<u64, u64>, u32>
+    pub(crate) fn numbers(&mut self) -> Result<&mut NumberCache, u32>
         ensures* writes_back { sem 𝓛 (lends_numbers self.entry result) }
-        ensures ok { IfOk result (λ cache. self.old.value ≡ Some (Kept.Numbers cache.now)) }
+        ensures ok { IfOk result (λ numbers. self.old.value ≡ Some (Kept.Numbers numbers.now)) }
         ensures err { IfErr result (KeepsNoNumbers self.old.value) }
     {
         match self.kept() {
-            Some(Kept::Numbers(cache)) => Ok(cache),
+            Some(Kept::Numbers(numbers)) => Ok(numbers),
             Some(Kept::Bytes(_)) => Err(OTHER_KIND),
             None => Err(CLOSED),
         }
@@ -195,9 +216,5 @@ impl Handle {
     }
 }
 
-/// Shows that what a handle keeps may go from thread to thread, one call at a time.
-pub(crate) fn keeps_what_may_be_sent() {
-    may_be_sent::<Kept>();
-}
-
-fn may_be_sent<T: Send>() {}
+/// A handle may go from thread to thread, one call at a time: what it keeps may, and any thread may free the box.
+unsafe impl Send for Handle {}

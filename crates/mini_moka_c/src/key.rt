@@ -61,10 +61,10 @@ impl Key {
             self.bytes.as_mut_slice().copy_from_slice(bytes);
             return Ok(());
         }
-        // There is always room for a short key.
-        let _ = self.bytes.capacity();
-        self.bytes
-            .reserve(bytes.len().saturating_sub(self.bytes.len()))?;
+        if bytes.len() > self.bytes.capacity() {
+            self.bytes
+                .reserve(bytes.len().saturating_sub(self.bytes.len()))?;
+        }
         self.bytes.clear();
         self.bytes.extend_from_slice(bytes)?;
         Ok(())

@@ -4,15 +4,16 @@
 
 mod any;
 mod bytes;
-pub mod bytes_walk;
 pub mod cache;
 pub mod constants;
 mod handle;
 pub mod key;
+pub mod number_cache;
 mod numbers;
 pub mod seed;
 mod settings;
 pub mod statistics;
+pub mod steps;
 pub mod value;
 mod walk;
 pub mod weight;

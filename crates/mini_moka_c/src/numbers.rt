@@ -1,53 +1,62 @@
 // The calls of a cache of numbers. Each borrows the cache from its handle, and makes one call of it.
-ghost use Rattle.std.specs.Prelude.{◌≡◌, ◌≢◌, IfSome};
-ghost use Rattle.moka_unsync.specs.Invalidate.{after_invalidate};
-ghost use Rattle.moka_unsync.specs.Lookup.{after_get, after_look, found_by_get, found_by_peek, is_contained};
-ghost use Rattle.mini_moka_c.specs.Calls.{OnNumbers, OnOpen, TellsFound, TellsGotOrInserted, TellsInsert, TellsTruth};
-ghost use Rattle.mini_moka_c.specs.NumberKeys.{number_keys};
-ghost use Rattle.mini_moka_c.specs.Opening.{IsNumbersKept, IsOpening};
+ghost use Rattle.std.specs.Prelude.{◌≡◌, ◌≢◌, false, IfErr, IfOk};
+ghost use Rattle.mini_moka_c.specs.Calls.{OnNumbers, OnOpen};
+ghost use Rattle.mini_moka_c.specs.NumberCalls.{TellsFound, TellsGet, TellsGotOrInserted, TellsInsert, TellsLook, TellsNumberWalk};
+ghost use Rattle.mini_moka_c.specs.NumberCalls.{TellsPeek, TellsRemove, TellsStep, without};
+ghost use Rattle.mini_moka_c.specs.Opening.{IsNumbersKept, IsOpening, has_zero_duration, refusal_of};
 
-use crate::constants::{ABSENT, ALREADY_OPEN, DONE, OUT_OF_MEMORY};
+use crate::constants::{ABSENT, ALREADY_OPEN, CHANGED, DONE, OUT_OF_MEMORY, ZERO_DURATION};
 use crate::handle::{Handle, Kept};
 use crate::settings::{NumberSettings, build_numbers};
+use crate::steps::NumberStep;
 use moka_common::time::Instant;
 use std::alloc::Global;
 
-/// Opens a closed handle with a new cache of numbers. If memory is refused it stays closed, and an open handle stays as it is: `ALREADY_OPEN`.
+/// Opens a closed handle with a new cache of numbers. If a duration is 0 or memory is refused it stays closed, and an open handle stays as it is:
+/// `ALREADY_OPEN`.
 #[unsafe(no_mangle)]
 pub extern "C" fn mini_moka_u64_open(
     alloc: Global,
     handle: &mut Handle,
     settings: &NumberSettings,
 ) -> u32
-    ensures { IsOpening (IsNumbersKept settings.now) handle.old.value result handle.new.value }
+    ensures { IsOpening (has_zero_duration settings.now.time_to_live settings.now.time_to_idle) (IsNumbersKept settings.now)
+        handle.old.value result handle.new.value }
 {
     match handle.kept() {
         Some(_) => ALREADY_OPEN,
         None => match kept_of(alloc, settings) {
-            Some(kept) => {
+            Ok(kept) => {
                 handle.put(kept);
                 DONE
             }
-            None => OUT_OF_MEMORY,
+            Err(status) => status,
         },
     }
 }
 
-/// Makes a new cache of the settings in a box, or `None` if memory is refused.
-fn kept_of(alloc: Global, settings: &NumberSettings) -> Option<Box<Kept>>
-    ensures { IfSome result (λ kept. IsNumbersKept settings.now kept.value) }
+/// Makes a new cache of the settings in a box. The error is a status: a duration is 0, or memory is refused.
+fn kept_of(alloc: Global, settings: &NumberSettings) -> Result<Box<Kept>, u32>
+    ensures ok { IfOk result (λ kept. (has_zero_duration settings.now.time_to_live settings.now.time_to_idle ≡ false)
+        × IsNumbersKept settings.now kept.value) }
+    ensures err { IfErr result (λ status. status ≡ refusal_of (has_zero_duration settings.now.time_to_live settings.now.time_to_idle)) }
 {
-    let cache = build_numbers(alloc, settings)?;
-    Box::new(alloc, Kept::Numbers(cache)).ok()
+    if settings.time_to_live == 0 || settings.time_to_idle == 0 {
+        return Err(ZERO_DURATION);
+    }
+    let Some(cache) = build_numbers(alloc, settings) else {
+        return Err(OUT_OF_MEMORY);
+    };
+    Box::new(alloc, Kept::Numbers(cache)).map_err(|_| OUT_OF_MEMORY)
 }
 
 /// Inserts the key and the value. The admission policy may reject a new entry that exceeds the capacity, which is `DONE` as well.
 #[unsafe(no_mangle)]
 pub extern "C" fn mini_moka_u64_insert(handle: &mut Handle, key: u64, value: u64, now: u64) -> u32
-    ensures { OnOpen handle.old.value result handle.new.value (OnNumbers result (λ old new. TellsInsert old key value now result new)) }
+    ensures { OnOpen handle.old.value result handle.new.value (OnNumbers result (TellsInsert key value now result)) }
 {
     match handle.numbers() {
-        Ok(cache) => match cache.insert(key, value, Instant::from_nanos(now)) {
+        Ok(numbers) => match numbers.insert(key, value, Instant::from_nanos(now)) {
             Ok(()) => DONE,
             Err(_) => OUT_OF_MEMORY,
         },
@@ -58,13 +67,12 @@ pub extern "C" fn mini_moka_u64_insert(handle: &mut Handle, key: u64, value: u64
 /// Looks the key up: its unexpired entry becomes the most recently used one. The key is counted, found or not.
 #[unsafe(no_mangle)]
 pub extern "C" fn mini_moka_u64_get(handle: &mut Handle, key: u64, now: u64, value: &mut u64) -> u32
-    ensures step { OnOpen handle.old.value result handle.new.value (OnNumbers result (λ old new.
-        TellsFound (found_by_get number_keys old key now) result value.new × (new ≡ after_get number_keys old key now))) }
+    ensures step { OnOpen handle.old.value result handle.new.value (OnNumbers result (TellsGet key now result value.new)) }
     ensures unchanged { result ≢ DONE → value.new ≡ value.old }
 {
     match handle.numbers() {
-        Ok(cache) => {
-            let found = cache.get(&key, Instant::from_nanos(now)).copied();
+        Ok(numbers) => {
+            let found = numbers.get(key, Instant::from_nanos(now));
             tell(found, value)
         }
         Err(status) => status,
@@ -79,13 +87,12 @@ pub extern "C" fn mini_moka_u64_peek(
     now: u64,
     value: &mut u64,
 ) -> u32
-    ensures step { OnOpen handle.old.value result handle.new.value (OnNumbers result (λ old new.
-        TellsFound (found_by_peek number_keys old key now) result value.new × (new ≡ old))) }
+    ensures step { OnOpen handle.old.value result handle.new.value (OnNumbers result (TellsPeek key now result value.new)) }
     ensures unchanged { result ≢ DONE → value.new ≡ value.old }
 {
     match handle.numbers() {
-        Ok(cache) => {
-            let found = cache.peek(&key, Instant::from_nanos(now)).copied();
+        Ok(numbers) => {
+            let found = numbers.peek(key, Instant::from_nanos(now));
             tell(found, value)
         }
         Err(status) => status,
@@ -107,13 +114,20 @@ pub extern "C" fn mini_moka_u64_get_or_insert(
     ensures unchanged { result ≢ DONE → value.new ≡ value.old }
 {
     match handle.numbers() {
-        Ok(cache) => match cache.get_or_insert_with(key, Instant::from_nanos(now), || otherwise) {
-            Ok(known) => {
+        Ok(numbers) => {
+            let now = Instant::from_nanos(now);
+            if let Some(known) = numbers.get(key, now) {
                 *value = known;
-                DONE
+                return DONE;
             }
-            Err(_) => OUT_OF_MEMORY,
-        },
+            match numbers.insert(key, otherwise, now) {
+                Ok(()) => {
+                    *value = otherwise;
+                    DONE
+                }
+                Err(_) => OUT_OF_MEMORY,
+            }
+        }
         Err(status) => status,
     }
 }
@@ -121,12 +135,11 @@ pub extern "C" fn mini_moka_u64_get_or_insert(
 /// Answers `DONE` if the key has an unexpired entry, else `ABSENT`. It doesn't count as an access.
 #[unsafe(no_mangle)]
 pub extern "C" fn mini_moka_u64_contains(handle: &mut Handle, key: u64, now: u64) -> u32
-    ensures { OnOpen handle.old.value result handle.new.value (OnNumbers result (λ old new.
-        TellsTruth (is_contained number_keys old key now) result × (new ≡ after_look number_keys old now))) }
+    ensures { OnOpen handle.old.value result handle.new.value (OnNumbers result (TellsLook key now result)) }
 {
     match handle.numbers() {
-        Ok(cache) => {
-            let is_there = cache.contains_key(&key, Instant::from_nanos(now));
+        Ok(numbers) => {
+            let is_there = numbers.contains(key, Instant::from_nanos(now));
             if is_there { DONE } else { ABSENT }
         }
         Err(status) => status,
@@ -141,13 +154,12 @@ pub extern "C" fn mini_moka_u64_remove(
     now: u64,
     value: &mut u64,
 ) -> u32
-    ensures step { OnOpen handle.old.value result handle.new.value (OnNumbers result (λ old new.
-        TellsFound (found_by_get number_keys old key now) result value.new × (new ≡ after_invalidate number_keys old key now))) }
+    ensures step { OnOpen handle.old.value result handle.new.value (OnNumbers result (TellsRemove key now result value.new)) }
     ensures unchanged { result ≢ DONE → value.new ≡ value.old }
 {
     match handle.numbers() {
-        Ok(cache) => {
-            let found = cache.remove(&key, Instant::from_nanos(now));
+        Ok(numbers) => {
+            let found = numbers.remove(key, Instant::from_nanos(now));
             tell(found, value)
         }
         Err(status) => status,
@@ -158,14 +170,56 @@ pub extern "C" fn mini_moka_u64_remove(
 #[unsafe(no_mangle)]
 pub extern "C" fn mini_moka_u64_invalidate(handle: &mut Handle, key: u64, now: u64) -> u32
     ensures { OnOpen handle.old.value result handle.new.value (OnNumbers result (λ old new.
-        (result ≡ DONE) × (new ≡ after_invalidate number_keys old key now))) }
+        (result ≡ DONE) × (new ≡ without key now old))) }
 {
     match handle.numbers() {
-        Ok(cache) => {
-            cache.invalidate(&key, Instant::from_nanos(now));
+        Ok(numbers) => {
+            numbers.invalidate(key, Instant::from_nanos(now));
             DONE
         }
         Err(status) => status,
+    }
+}
+
+/// Writes the key and the value of the walk's next entry. The answer is `ABSENT` after the last entry, and `CHANGED` if there is no walk any more.
+#[unsafe(no_mangle)]
+pub extern "C" fn mini_moka_u64_next(
+    handle: &mut Handle,
+    now: u64,
+    key: &mut u64,
+    value: &mut u64,
+) -> u32
+    ensures step { OnOpen handle.old.value result handle.new.value
+        (OnNumbers result (TellsNumberWalk now result key.new value.new)) }
+    ensures key { result ≢ DONE → key.new ≡ key.old }
+    ensures value { result ≢ DONE → value.new ≡ value.old }
+{
+    match handle.numbers() {
+        Ok(numbers) => {
+            let step = numbers.step(Instant::from_nanos(now));
+            tell_step(step, key, value)
+        }
+        Err(status) => status,
+    }
+}
+
+/// Writes the key and the value of a step, if it came to an entry.
+fn tell_step(step: NumberStep, key: &mut u64, value: &mut u64) -> u32
+    ensures step { TellsStep step result key.new value.new }
+    ensures key { result ≢ DONE → key.new ≡ key.old }
+    ensures value { result ≢ DONE → value.new ≡ value.old }
+{
+    match step {
+        NumberStep::Ended => CHANGED,
+        NumberStep::Done => ABSENT,
+        NumberStep::Pair {
+            key: known,
+            value: found,
+        } => {
+            *key = known;
+            *value = found;
+            DONE
+        }
     }
 }
 

@@ -5,15 +5,15 @@ ghost use Rattle.mini_moka_c.specs.Opening.{HasLimits, IsBytesNew, IsNumbersNew,
 use crate::cache::ByteCache;
 use crate::constants::UNLIMITED;
 use crate::key::Key;
+use crate::number_cache::NumberCache;
 use crate::seed::Seed;
 use crate::value::Value;
 use crate::weight::ByteWeight;
 use moka_unsync::builder::CacheBuilder;
-use moka_unsync::cache::Cache;
 use std::alloc::Global;
 use std::time::Duration;
 
-/// What a cache of numbers is built of. A capacity or a duration, in nanoseconds, that is `UNLIMITED` isn't set.
+/// The settings of a cache of numbers. A capacity or a duration, in nanoseconds, that is `UNLIMITED` isn't set. No duration may be 0.
 #[repr(C)]
 #[derive(Clone, Copy)]
 pub struct NumberSettings {
@@ -23,11 +23,11 @@ pub struct NumberSettings {
     pub time_to_live: u64,
     /// How long an entry lives after it was last read or written.
     pub time_to_idle: u64,
-    /// For how many entries there is room from the start.
+    /// Number of entries that fit from the start.
     pub initial_capacity: usize,
 }
 
-/// What a cache of bytes is built of.
+/// The settings of a cache of bytes.
 #[repr(C)]
 #[derive(Clone, Copy)]
 pub struct ByteSettings {
@@ -40,12 +40,12 @@ pub struct ByteSettings {
     /// The key of the hash.
     pub seed_low: u64,
     pub seed_high: u64,
-    /// Whether an entry weighs its bytes in place of 1.
+    /// True if an entry weighs its bytes and not 1.
     pub is_weighed: bool,
 }
 
 /// A new cache of numbers, where memory serves. No duration of 64 bits of nanoseconds is too long.
-pub(crate) fn build_numbers(alloc: Global, settings: &NumberSettings) -> Option<Cache<u64, u64>>
+pub(crate) fn build_numbers(alloc: Global, settings: &NumberSettings) -> Option<NumberCache>
     ensures { IfSome result (IsNumbersNew settings.now) }
 {
     let builder = CacheBuilder::default(alloc).initial_capacity(settings.initial_capacity);
@@ -55,7 +55,7 @@ pub(crate) fn build_numbers(alloc: Global, settings: &NumberSettings) -> Option<
         settings.time_to_live,
         settings.time_to_idle,
     );
-    builder.build().ok()
+    NumberCache::build(builder).ok()
 }
 
 /// A new cache of bytes, where memory serves.

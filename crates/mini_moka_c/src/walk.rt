@@ -1,28 +1,12 @@
-// A walk through a cache of bytes, a step a call. A handle has one at a time.
+// A step of a walk through a cache of bytes. A handle has one walk at a time.
 ghost use Rattle.std.specs.Prelude.{◌≡◌, ◌≢◌};
 ghost use Rattle.mini_moka_c.specs.ByteCalls.{TellsStep, TellsWalk};
 ghost use Rattle.mini_moka_c.specs.Calls.{OnBytes, OnOpen};
-ghost use Rattle.mini_moka_c.specs.declared.bytes_walk.Walk.TheVariants.{AtStart};
 
-use crate::bytes_walk::Step;
 use crate::constants::{ABSENT, CHANGED, DONE, OUT_OF_MEMORY, TOO_SHORT};
 use crate::handle::Handle;
+use crate::steps::Step;
 use moka_common::time::Instant;
-
-/// Begins a walk over the unexpired entries, least recently used first and those of the window last. A call that may change the cache ends it.
-#[unsafe(no_mangle)]
-pub extern "C" fn mini_moka_walk(handle: &mut Handle) -> u32
-    ensures { OnOpen handle.old.value result handle.new.value (OnBytes result (λ old new.
-        (result ≡ DONE) × (new ≡ record old { walk = AtStart }))) }
-{
-    match handle.bytes() {
-        Ok(bytes) => {
-            bytes.begin_walk();
-            DONE
-        }
-        Err(status) => status,
-    }
-}
 
 /// Copies the key and the value of the walk's next entry to the beginnings of the buffers. If one doesn't fit, the answer is `TOO_SHORT`, and the walk stays
 /// where it is. Their lengths are written in both cases. The answer is `ABSENT` after the last entry, and `CHANGED` if there is no walk any more.

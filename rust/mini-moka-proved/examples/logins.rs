@@ -29,18 +29,18 @@ impl Logins {
     fn log_in(&mut self, name: &str) -> Result<String, OutOfMemory> {
         self.last_token += 1;
         let token = self.last_token.to_string();
-        self.names.insert(token.as_bytes(), name.as_bytes())?;
+        self.names.insert(&token, name)?;
         Ok(token)
     }
 
     /// The name of the user who has the token.
     fn who(&mut self, token: &str) -> Option<String> {
-        self.names.get(token.as_bytes()).map(text)
+        self.names.get(token).map(text)
     }
 
     /// Logs a user out, and returns the name.
     fn log_out(&mut self, token: &str) -> Result<Option<String>, OutOfMemory> {
-        Ok(self.names.remove(token.as_bytes())?.map(text))
+        Ok(self.names.remove(token)?.map(text))
     }
 
     /// Answers a line.

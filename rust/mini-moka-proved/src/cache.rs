@@ -5,38 +5,41 @@ use crate::clock::{nanoseconds, Clock};
 use crate::error::OutOfMemory;
 use crate::handle::{Bytes, Handle, Look, Settings, Statistics, Step};
 use std::fmt;
+use std::iter::FusedIterator;
 use std::time::Duration;
 
-/// How long a value may be, in bytes, for [`Cache::get`] to look it up once.
+/// The longest value, in bytes, that [`Cache::get`] looks up once.
 const SHORT: usize = 256;
 
 /// A cache for one thread whose keys and values are bytes of any length.
 ///
-/// It copies in what it is given, and copies out what it finds.
+/// It takes anything that is read as bytes, as `&str`, `String`, `Vec<u8>` and arrays. It keeps
+/// copies, and returns copies.
 ///
 /// ```
 /// use mini_moka_proved::Cache;
 ///
-/// let mut cache = Cache::builder().max_capacity(100).build()?;
-/// cache.insert(b"alice", b"admin")?;
-/// assert_eq!(cache.get(b"alice"), Some(b"admin".to_vec()));
-/// assert_eq!(cache.remove(b"alice")?, Some(b"admin".to_vec()));
-/// assert!(!cache.contains_key(b"alice"));
-/// # Ok::<(), Box<dyn std::error::Error>>(())
+/// let mut cache = Cache::new(100)?;
+/// cache.insert("alice", "admin")?;
+/// assert_eq!(cache.get("alice"), Some(b"admin".to_vec()));
+/// assert_eq!(cache.remove("alice")?, Some(b"admin".to_vec()));
+/// assert!(cache.is_empty());
+/// # Ok::<(), mini_moka_proved::OutOfMemory>(())
 /// ```
 ///
 /// # Size
 ///
-/// A new key may be rejected where the cache is full: it is admitted only if its estimated
-/// frequency exceeds the sum of its victims', which are the least recently used entries. From a
-/// capacity of 100 on, a hundredth of it is a window, in which new entries stay at first.
+/// A full cache may reject a new key: it is admitted only if its estimated frequency exceeds the
+/// sum of its victims', which are the least recently used entries. From a capacity of 100 on, a
+/// hundredth of it is a window, in which new entries stay at first.
 ///
 /// # Moments
 ///
 /// A call reads the cache's clock, which starts when the cache is built; without durations it
-/// always says zero, and isn't read. Each call that needs a moment has a second form, whose name
-/// ends in `_at`, that takes it as a duration since that start. A moment may be before an earlier
-/// call's. One of 2^64 nanoseconds or more counts as 2^64 - 1.
+/// always says zero, and isn't read. [`Builder::coarse_clock`] makes reading it cheap. Each call
+/// that needs a moment has a second form, whose name ends in `_at`, that takes it as a duration
+/// since that start. A moment may be before an earlier call's. One of 2^64 nanoseconds or more
+/// counts as 2^64 - 1.
 ///
 /// ```
 /// use mini_moka_proved::Cache;
@@ -44,28 +47,32 @@ const SHORT: usize = 256;
 ///
 /// let second = Duration::from_secs(1);
 /// let mut cache = Cache::builder().time_to_live(10 * second).build()?;
-/// cache.insert_at(b"alice", b"admin", 5 * second)?;
-/// assert!(cache.contains_key_at(b"alice", 14 * second));
-/// assert!(!cache.contains_key_at(b"alice", 15 * second));
+/// cache.insert_at("alice", "admin", 5 * second)?;
+/// assert!(cache.contains_key_at("alice", 14 * second));
+/// assert!(!cache.contains_key_at("alice", 15 * second));
 /// # Ok::<(), Box<dyn std::error::Error>>(())
 /// ```
 ///
 /// # Memory
 ///
-/// No call aborts or panics where memory is refused. `get`, `get_with`, `peek` and `contains_key`
-/// answer then as if the key had no entry; other calls that need memory answer [`OutOfMemory`].
+/// No call aborts or panics if memory is refused. `get`, `peek` and `contains_key` answer then as if
+/// the key had no entry; [`try_get`](Self::try_get) tells the two apart. Other calls that need
+/// memory return [`OutOfMemory`].
 ///
 /// # Cost
 ///
 /// A call takes constant time on average, and the time of copying the key and the value. All but
 /// [`peek`](Self::peek) first remove expired entries, a few hundred at most. A key of up to 24
 /// bytes lies in its entry, and looking it up asks for no memory but that of the value's copy. A
-/// look-up copies a longer key into memory that the cache keeps, which grows where it is shorter
-/// than the key. To drop a cache takes time linear in the number of its entries.
+/// look-up copies a longer key into memory that the cache keeps, which grows if it is shorter than
+/// the key. An insert into a cache whose memory is full takes time linear in the number of entries,
+/// unless [`Builder::initial_capacity`] reserved enough. So does dropping a cache.
 ///
 /// # Threads
 ///
-/// A cache may go to another thread, and threads share one in a `Mutex`. It is not `Sync`:
+/// A cache may go to another thread. It is not `Sync`: threads share a [`sync::Cache`].
+///
+/// [`sync::Cache`]: crate::sync::Cache
 ///
 /// ```
 /// fn may_go_to_another_thread<T: Send>() {}
@@ -79,12 +86,23 @@ const SHORT: usize = 256;
 pub struct Cache {
     handle: Handle<Bytes>,
     clock: Clock,
-    // Room for `SHORT` bytes.
+    // Its capacity is `SHORT` bytes.
     short: Vec<u8>,
 }
 
 impl Cache {
-    /// A builder of caches.
+    /// Creates a cache of at most `max_capacity` entries, which don't expire.
+    ///
+    /// # Errors
+    ///
+    /// [`OutOfMemory`] if memory is refused.
+    pub fn new(max_capacity: u64) -> Result<Cache, OutOfMemory> {
+        let built = Cache::builder().max_capacity(max_capacity).build();
+        // Without a duration nothing else is refused.
+        built.map_err(|_| OutOfMemory)
+    }
+
+    /// Returns a builder of caches.
     pub fn builder() -> Builder {
         Builder::default()
     }
@@ -97,7 +115,7 @@ impl Cache {
         })
     }
 
-    /// The moment of the cache's clock. It is always zero where the cache has no duration.
+    /// Returns the moment of the cache's clock. It is always zero if the cache has no duration.
     pub fn now(&self) -> Duration {
         self.clock.elapsed()
     }
@@ -106,90 +124,143 @@ impl Cache {
     ///
     /// The key is counted, found or not, and its entry becomes the most recently used one. A value
     /// of more than 256 bytes is looked up twice, which is counted once.
-    pub fn get(&mut self, key: &[u8]) -> Option<Vec<u8>> {
+    pub fn get(&mut self, key: impl AsRef<[u8]>) -> Option<Vec<u8>> {
         self.get_at(key, self.now())
     }
 
-    /// [`get`](Self::get) at a moment.
-    pub fn get_at(&mut self, key: &[u8], now: Duration) -> Option<Vec<u8>> {
-        self.found(key, nanoseconds(now)).ok().flatten()
+    /// Looks the key up as [`get`](Self::get) does, at a moment.
+    pub fn get_at(&mut self, key: impl AsRef<[u8]>, now: Duration) -> Option<Vec<u8>> {
+        self.try_get_at(key, now).ok().flatten()
+    }
+
+    /// Looks the key up as [`get`](Self::get) does, and tells a key without an entry from one for
+    /// which memory was refused.
+    ///
+    /// ```
+    /// use mini_moka_proved::{Cache, OutOfMemory};
+    ///
+    /// let mut cache = Cache::new(100)?;
+    /// match cache.try_get("alice") {
+    ///     Ok(Some(role)) => println!("{role:?}"),
+    ///     Ok(None) => println!("nobody"),
+    ///     Err(OutOfMemory) => println!("ask again later"),
+    /// }
+    /// # Ok::<(), OutOfMemory>(())
+    /// ```
+    ///
+    /// # Errors
+    ///
+    /// [`OutOfMemory`] if memory is refused for the value's copy, or for a key of more than 24
+    /// bytes.
+    pub fn try_get(&mut self, key: impl AsRef<[u8]>) -> Result<Option<Vec<u8>>, OutOfMemory> {
+        self.try_get_at(key, self.now())
+    }
+
+    /// Looks the key up as [`try_get`](Self::try_get) does, at a moment.
+    ///
+    /// # Errors
+    ///
+    /// Those of [`try_get`](Self::try_get).
+    pub fn try_get_at(
+        &mut self,
+        key: impl AsRef<[u8]>,
+        now: Duration,
+    ) -> Result<Option<Vec<u8>>, OutOfMemory> {
+        self.found(key.as_ref(), nanoseconds(now))
     }
 
     /// Looks the key up as [`get`](Self::get) does, writes its value to `buffer`, and returns
-    /// whether there is one.
+    /// `true` if there is one.
     ///
-    /// What the buffer had before is gone; where no value is found, it is empty. It allocates only
-    /// if its capacity is less than the value's length, and the value is looked up twice then,
+    /// It replaces what the buffer had; if no value is found, the buffer is empty. It allocates
+    /// only if its capacity is less than the value's length, and the value is looked up twice then,
     /// which is counted once.
     ///
     /// ```
     /// use mini_moka_proved::Cache;
     ///
-    /// let mut cache = Cache::builder().build()?;
-    /// cache.insert(b"alice", b"admin")?;
+    /// let mut cache = Cache::new(100)?;
+    /// cache.insert("alice", "admin")?;
     /// let mut role = Vec::with_capacity(64);
-    /// assert!(cache.get_with(b"alice", &mut role));
+    /// assert!(cache.get_into("alice", &mut role)?);
     /// assert_eq!(role, b"admin");
-    /// # Ok::<(), Box<dyn std::error::Error>>(())
+    /// # Ok::<(), mini_moka_proved::OutOfMemory>(())
     /// ```
-    pub fn get_with(&mut self, key: &[u8], buffer: &mut Vec<u8>) -> bool {
-        self.get_with_at(key, buffer, self.now())
+    ///
+    /// # Errors
+    ///
+    /// [`OutOfMemory`] if memory is refused for the buffer, or for a key of more than 24 bytes.
+    pub fn get_into(
+        &mut self,
+        key: impl AsRef<[u8]>,
+        buffer: &mut Vec<u8>,
+    ) -> Result<bool, OutOfMemory> {
+        self.get_into_at(key, buffer, self.now())
     }
 
-    /// [`get_with`](Self::get_with) at a moment.
-    pub fn get_with_at(&mut self, key: &[u8], buffer: &mut Vec<u8>, now: Duration) -> bool {
-        self.found_in(key, buffer, nanoseconds(now))
-            .unwrap_or(false)
+    /// Looks the key up as [`get_into`](Self::get_into) does, at a moment.
+    ///
+    /// # Errors
+    ///
+    /// Those of [`get_into`](Self::get_into).
+    pub fn get_into_at(
+        &mut self,
+        key: impl AsRef<[u8]>,
+        buffer: &mut Vec<u8>,
+        now: Duration,
+    ) -> Result<bool, OutOfMemory> {
+        self.found_into(key.as_ref(), buffer, nanoseconds(now))
     }
 
-    /// Looks the key up and returns a copy of its value, which is no use of its entry: nothing is
+    /// Looks the key up and returns a copy of its value. It doesn't count as an access: nothing is
     /// counted, moved or removed. A value that isn't empty is looked up twice.
-    pub fn peek(&self, key: &[u8]) -> Option<Vec<u8>> {
+    pub fn peek(&self, key: impl AsRef<[u8]>) -> Option<Vec<u8>> {
         self.peek_at(key, self.now())
     }
 
-    /// [`peek`](Self::peek) at a moment.
-    pub fn peek_at(&self, key: &[u8], now: Duration) -> Option<Vec<u8>> {
-        let moment = nanoseconds(now);
+    /// Looks the key up as [`peek`](Self::peek) does, at a moment.
+    pub fn peek_at(&self, key: impl AsRef<[u8]>, now: Duration) -> Option<Vec<u8>> {
+        let (key, moment) = (key.as_ref(), nanoseconds(now));
         filled(Vec::new(), |value| self.handle.peek(key, moment, value))
             .ok()
             .flatten()
     }
 
-    /// Whether the key has an unexpired entry. It is no use of it, and the key isn't counted.
-    pub fn contains_key(&mut self, key: &[u8]) -> bool {
+    /// Returns `true` if the key has an unexpired entry. It doesn't count as an access.
+    pub fn contains_key(&mut self, key: impl AsRef<[u8]>) -> bool {
         self.contains_key_at(key, self.now())
     }
 
-    /// [`contains_key`](Self::contains_key) at a moment.
-    pub fn contains_key_at(&mut self, key: &[u8], now: Duration) -> bool {
-        self.handle.contains(key, nanoseconds(now)).unwrap_or(false)
+    /// Looks the key up as [`contains_key`](Self::contains_key) does, at a moment.
+    pub fn contains_key_at(&mut self, key: impl AsRef<[u8]>, now: Duration) -> bool {
+        let found = self.handle.contains(key.as_ref(), nanoseconds(now));
+        found.unwrap_or(false)
     }
 
-    /// Looks the key up as [`get`](Self::get) does, and where it finds nothing inserts what `make`
-    /// returns. It returns the value that the key had, or that of `make`, also where that was
-    /// rejected.
+    /// Looks the key up as [`get`](Self::get) does, and inserts what `make` returns if there is
+    /// nothing. It returns the value that the key had, or that of `make`, even if that was rejected.
     ///
     /// The new entry's time to live begins when `make` has returned.
     ///
     /// ```
     /// use mini_moka_proved::Cache;
     ///
-    /// let mut cache = Cache::builder().max_capacity(100).build()?;
-    /// assert_eq!(cache.get_or_insert_with(b"page", || b"made".to_vec())?, b"made");
-    /// assert_eq!(cache.get_or_insert_with(b"page", || unreachable!())?, b"made");
-    /// # Ok::<(), Box<dyn std::error::Error>>(())
+    /// let mut cache = Cache::new(100)?;
+    /// assert_eq!(cache.get_or_insert_with("page", || b"made".to_vec())?, b"made");
+    /// assert_eq!(cache.get_or_insert_with("page", || unreachable!())?, b"made");
+    /// # Ok::<(), mini_moka_proved::OutOfMemory>(())
     /// ```
     ///
     /// # Errors
     ///
-    /// [`OutOfMemory`] where the look-up was refused memory, and `make` isn't called; or where the
-    /// insert was, and the value is dropped.
+    /// [`OutOfMemory`] if the look-up is refused memory, and `make` isn't called; or if the insert
+    /// is, and the value is dropped.
     pub fn get_or_insert_with(
         &mut self,
-        key: &[u8],
+        key: impl AsRef<[u8]>,
         make: impl FnOnce() -> Vec<u8>,
     ) -> Result<Vec<u8>, OutOfMemory> {
+        let key = key.as_ref();
         if let Some(value) = self.found(key, nanoseconds(self.now()))? {
             return Ok(value);
         }
@@ -198,18 +269,19 @@ impl Cache {
         Ok(value)
     }
 
-    /// [`get_or_insert_with`](Self::get_or_insert_with) at a moment, which is that of the insert
-    /// too.
+    /// Looks the key up as [`get_or_insert_with`](Self::get_or_insert_with) does, at a moment, which
+    /// is that of the insert too.
     ///
     /// # Errors
     ///
-    /// The same.
+    /// Those of [`get_or_insert_with`](Self::get_or_insert_with).
     pub fn get_or_insert_with_at(
         &mut self,
-        key: &[u8],
+        key: impl AsRef<[u8]>,
         make: impl FnOnce() -> Vec<u8>,
         now: Duration,
     ) -> Result<Vec<u8>, OutOfMemory> {
+        let key = key.as_ref();
         if let Some(value) = self.found(key, nanoseconds(now))? {
             return Ok(value);
         }
@@ -218,29 +290,34 @@ impl Cache {
         Ok(value)
     }
 
-    /// Puts a copy of the value at a copy of the key. Where the cache is full, a new key may be
-    /// rejected for one that is used more, which is `Ok` too.
+    /// Puts a copy of the value at a copy of the key. A full cache may reject a new key for one that
+    /// is used more, which is `Ok` too.
     ///
     /// # Errors
     ///
-    /// [`OutOfMemory`] where memory for the copies or for an entry is refused. Then no entry was
+    /// [`OutOfMemory`] if memory for the copies or for an entry is refused. Then no entry was
     /// written.
-    pub fn insert(&mut self, key: &[u8], value: &[u8]) -> Result<(), OutOfMemory> {
+    pub fn insert(
+        &mut self,
+        key: impl AsRef<[u8]>,
+        value: impl AsRef<[u8]>,
+    ) -> Result<(), OutOfMemory> {
         self.insert_at(key, value, self.now())
     }
 
-    /// [`insert`](Self::insert) at a moment.
+    /// Puts a copy of the value at a copy of the key as [`insert`](Self::insert) does, at a moment.
     ///
     /// # Errors
     ///
-    /// The same.
+    /// Those of [`insert`](Self::insert).
     pub fn insert_at(
         &mut self,
-        key: &[u8],
-        value: &[u8],
+        key: impl AsRef<[u8]>,
+        value: impl AsRef<[u8]>,
         now: Duration,
     ) -> Result<(), OutOfMemory> {
-        self.handle.insert(key, value, nanoseconds(now))
+        self.handle
+            .insert(key.as_ref(), value.as_ref(), nanoseconds(now))
     }
 
     /// Removes the entry of the key, and returns its value, unless it is expired. A value that
@@ -248,48 +325,57 @@ impl Cache {
     ///
     /// # Errors
     ///
-    /// [`OutOfMemory`] where memory for the key or for the value is refused. Then the entry stays.
-    pub fn remove(&mut self, key: &[u8]) -> Result<Option<Vec<u8>>, OutOfMemory> {
+    /// [`OutOfMemory`] if memory for the key or for the value is refused. Then the entry stays.
+    pub fn remove(&mut self, key: impl AsRef<[u8]>) -> Result<Option<Vec<u8>>, OutOfMemory> {
         self.remove_at(key, self.now())
     }
 
-    /// [`remove`](Self::remove) at a moment.
+    /// Removes the entry of the key as [`remove`](Self::remove) does, at a moment.
     ///
     /// # Errors
     ///
-    /// The same.
-    pub fn remove_at(&mut self, key: &[u8], now: Duration) -> Result<Option<Vec<u8>>, OutOfMemory> {
-        let moment = nanoseconds(now);
-        // A first call without room leaves the entry, so a value for which memory is refused is
+    /// Those of [`remove`](Self::remove).
+    pub fn remove_at(
+        &mut self,
+        key: impl AsRef<[u8]>,
+        now: Duration,
+    ) -> Result<Option<Vec<u8>>, OutOfMemory> {
+        let (key, moment) = (key.as_ref(), nanoseconds(now));
+        // A first call without a buffer leaves the entry, so a value for which memory is refused is
         // not lost.
         filled(Vec::new(), |value| self.handle.remove(key, moment, value))
     }
 
-    /// Removes the entry of the key, if there is one.
+    /// Removes the entry of the key, if there is one, and returns nothing.
     ///
     /// # Errors
     ///
-    /// [`OutOfMemory`] where memory for the key is refused. Then the entry stays.
-    pub fn invalidate(&mut self, key: &[u8]) -> Result<(), OutOfMemory> {
+    /// [`OutOfMemory`] if memory for the key is refused. Then the entry stays.
+    pub fn invalidate(&mut self, key: impl AsRef<[u8]>) -> Result<(), OutOfMemory> {
         self.invalidate_at(key, self.now())
     }
 
-    /// [`invalidate`](Self::invalidate) at a moment.
+    /// Removes the entry of the key as [`invalidate`](Self::invalidate) does, at a moment.
     ///
     /// # Errors
     ///
-    /// The same.
-    pub fn invalidate_at(&mut self, key: &[u8], now: Duration) -> Result<(), OutOfMemory> {
-        self.handle.invalidate(key, nanoseconds(now))
+    /// Those of [`invalidate`](Self::invalidate).
+    pub fn invalidate_at(
+        &mut self,
+        key: impl AsRef<[u8]>,
+        now: Duration,
+    ) -> Result<(), OutOfMemory> {
+        self.handle.invalidate(key.as_ref(), nanoseconds(now))
     }
 
     /// Removes all entries. It takes time linear in their number.
-    pub fn invalidate_all(&mut self) {
-        self.handle.invalidate_all();
+    pub fn clear(&mut self) {
+        self.handle.clear();
     }
 
-    /// Copies of the unexpired entries, as pairs of key and value: the least recently used one
-    /// first, and those of the window last. It is no use of them, and removes none.
+    /// Returns an iterator over copies of the unexpired entries, as pairs of key and value: the
+    /// least recently used one first, and those of the window last. It doesn't count as an access,
+    /// and removes none.
     ///
     /// A pair can be refused memory; then the next one is that pair again.
     ///
@@ -297,10 +383,10 @@ impl Cache {
     /// use mini_moka_proved::Cache;
     ///
     /// let mut cache = Cache::builder().build()?;
-    /// cache.insert(b"alice", b"admin")?;
-    /// cache.insert(b"bob", b"guest")?;
-    /// let _ = cache.get(b"alice");
-    /// for pair in cache.iter() {
+    /// cache.insert("alice", "admin")?;
+    /// cache.insert("bob", "guest")?;
+    /// let _ = cache.get("alice");
+    /// for pair in &mut cache {
     ///     let (name, role) = pair?;
     ///     println!("{name:?} {role:?}");
     /// }
@@ -312,7 +398,7 @@ impl Cache {
         self.iter_at(self.now())
     }
 
-    /// [`iter`](Self::iter) at a moment.
+    /// Returns an iterator as [`iter`](Self::iter) does, at a moment.
     pub fn iter_at(&mut self, now: Duration) -> Iter<'_> {
         self.handle.begin_walk();
         Iter {
@@ -321,37 +407,43 @@ impl Cache {
         }
     }
 
-    /// Counts the entries, expired ones among them that no call has removed yet. It takes constant
-    /// time.
-    pub fn entry_count(&self) -> u64 {
-        self.handle.entry_count()
+    /// Returns the number of entries, including expired ones that no call has removed yet. It takes
+    /// constant time.
+    pub fn len(&self) -> usize {
+        // A cache has at most 2^31 entries.
+        self.handle.len() as usize
     }
 
-    /// What the entries weigh together, at most `u64::MAX`: their number, or where the cache
-    /// weighs bytes those of their keys and values. It takes constant time.
+    /// Returns `true` if the cache has no entry, not even an expired one.
+    pub fn is_empty(&self) -> bool {
+        self.len() == 0
+    }
+
+    /// Returns the weight of the entries, at most `u64::MAX`: their number, or the bytes of their
+    /// keys and values if the cache weighs bytes. It takes constant time.
     pub fn weighted_size(&self) -> u64 {
         self.handle.weighted_size()
     }
 
-    /// What the calls have met since the cache was built.
+    /// Returns the counts of the calls since the cache was built.
     pub fn statistics(&self) -> Statistics {
         self.handle.statistics()
     }
 
-    /// A get that returns the value in memory of its own.
+    /// Makes a get, and returns the value in memory of its own.
     fn found(&mut self, key: &[u8], moment: u64) -> Result<Option<Vec<u8>>, OutOfMemory> {
         match self.handle.get(key, moment, &mut self.short)? {
             Look::Copied => Ok(Some(copy_of(&self.short)?)),
             Look::Absent => Ok(None),
-            // The get is made and counted, so the value is fetched by a look-up that isn't.
+            // The get is made and counted, so a look-up that isn't counted fetches the value.
             Look::TooLong(length) => filled(with_room(length)?, |value| {
                 self.handle.peek(key, moment, value)
             }),
         }
     }
 
-    /// A get that writes the value to the caller's buffer.
-    fn found_in(
+    /// Makes a get, and writes the value to the caller's buffer.
+    fn found_into(
         &mut self,
         key: &[u8],
         buffer: &mut Vec<u8>,
@@ -374,7 +466,7 @@ impl Cache {
 /// A step takes constant time on average for each entry that it passes, and the time of copying.
 #[derive(Debug)]
 pub struct Iter<'a> {
-    // Lent as a whole, so that no call ends the walk.
+    // Borrowed as a whole, so that no call ends the walk.
     cache: &'a mut Cache,
     moment: u64,
 }
@@ -390,7 +482,14 @@ impl Iterator for Iter<'_> {
             Err(error) => Some(Err(error)),
         }
     }
+
+    fn size_hint(&self) -> (usize, Option<usize>) {
+        // A refused pair comes again, so there is no upper bound.
+        (0, None)
+    }
 }
+
+impl FusedIterator for Iter<'_> {}
 
 impl Iter<'_> {
     /// Copies the next pair, if there is one, to vectors that grow as it needs.
@@ -411,16 +510,25 @@ impl Iter<'_> {
     }
 }
 
+impl<'a> IntoIterator for &'a mut Cache {
+    type Item = Result<(Vec<u8>, Vec<u8>), OutOfMemory>;
+    type IntoIter = Iter<'a>;
+
+    fn into_iter(self) -> Iter<'a> {
+        self.iter()
+    }
+}
+
 impl fmt::Debug for Cache {
     fn fmt(&self, f: &mut fmt::Formatter<'_>) -> fmt::Result {
         f.debug_struct("Cache")
-            .field("entry_count", &self.entry_count())
+            .field("len", &self.len())
             .field("weighted_size", &self.weighted_size())
             .finish_non_exhaustive()
     }
 }
 
-/// An empty vector with room for so many bytes.
+/// Creates an empty vector with a capacity of so many bytes.
 fn with_room(bytes: usize) -> Result<Vec<u8>, OutOfMemory> {
     let mut room = Vec::new();
     room.try_reserve_exact(bytes)?;
@@ -433,7 +541,7 @@ fn copy_of(bytes: &[u8]) -> Result<Vec<u8>, OutOfMemory> {
     Ok(copy)
 }
 
-/// What a look-up finds, which is made again where the vector has no room for it.
+/// Makes a look-up, again if the vector is too short for what it finds.
 fn filled(
     mut value: Vec<u8>,
     look: impl Fn(&mut Vec<u8>) -> Result<Look, OutOfMemory>,
@@ -441,7 +549,7 @@ fn filled(
     Ok(fill(&mut value, look)?.then_some(value))
 }
 
-/// The same in a buffer. Returns whether anything is found.
+/// Makes a look-up as `filled` does, in a buffer. Returns `true` if it finds something.
 fn fill(
     buffer: &mut Vec<u8>,
     look: impl Fn(&mut Vec<u8>) -> Result<Look, OutOfMemory>,

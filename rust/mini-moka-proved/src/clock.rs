@@ -4,30 +4,93 @@ use std::time::{Duration, Instant};
 
 /// A clock that counts from its start, or one that stands at zero.
 #[derive(Clone, Copy)]
-pub(crate) struct Clock {
-    start: Option<Instant>,
+pub(crate) enum Clock {
+    Standing,
+    Running(Instant),
+    // Since the start of the system's coarse clock.
+    Coarse(Duration),
 }
 
 impl Clock {
     /// A clock that starts now.
     pub(crate) fn running() -> Clock {
-        Clock {
-            start: Some(Instant::now()),
-        }
+        Clock::Running(Instant::now())
     }
 
-    /// A clock that always says 0, for a cache without durations. To ask it costs nothing.
+    /// A clock that starts now, costs less to read, and stays behind by some milliseconds. It is a
+    /// precise one if the system has no other.
+    pub(crate) fn coarse() -> Clock {
+        coarse::now().map_or_else(Clock::running, Clock::Coarse)
+    }
+
+    /// A clock that always says 0, for a cache without durations. Reading it costs nothing.
     pub(crate) fn standing() -> Clock {
-        Clock { start: None }
+        Clock::Standing
     }
 
-    /// How long it has run.
+    /// Returns how long it has run.
     pub(crate) fn elapsed(self) -> Duration {
-        self.start.map_or(Duration::ZERO, |start| start.elapsed())
+        match self {
+            Clock::Standing => Duration::ZERO,
+            Clock::Running(start) => start.elapsed(),
+            Clock::Coarse(start) => coarse::now().unwrap_or(start).saturating_sub(start),
+        }
     }
 }
 
-/// The nanoseconds of a moment that is this long after the start, at most `u64::MAX`.
+/// Returns the nanoseconds of a moment that is this long after the start, at most `u64::MAX`.
 pub(crate) fn nanoseconds(moment: Duration) -> u64 {
     u64::try_from(moment.as_nanos()).unwrap_or(u64::MAX)
+}
+
+#[cfg(all(target_os = "linux", target_pointer_width = "64"))]
+#[allow(unsafe_code)]
+mod coarse {
+    //! The system's coarse clock.
+
+    use std::os::raw::{c_int, c_long};
+    use std::time::Duration;
+
+    /// `CLOCK_MONOTONIC_COARSE` of Linux.
+    const MONOTONIC_COARSE: c_int = 6;
+
+    /// The `struct timespec` of 64-bit Linux.
+    #[repr(C)]
+    struct TimeSpec {
+        seconds: c_long,
+        nanoseconds: c_long,
+    }
+
+    extern "C" {
+        fn clock_gettime(clock: c_int, time: *mut TimeSpec) -> c_int;
+    }
+
+    /// Reads the clock, if there is one.
+    pub(super) fn now() -> Option<Duration> {
+        let mut time = TimeSpec {
+            seconds: 0,
+            nanoseconds: 0,
+        };
+        // SAFETY: `time` is a variable of this function, laid out as the C library's struct.
+        let status = unsafe { clock_gettime(MONOTONIC_COARSE, &mut time) };
+        if status != 0 {
+            return None;
+        }
+        let seconds = u64::try_from(time.seconds).ok()?;
+        Some(Duration::new(
+            seconds,
+            u32::try_from(time.nanoseconds).ok()?,
+        ))
+    }
+}
+
+#[cfg(not(all(target_os = "linux", target_pointer_width = "64")))]
+mod coarse {
+    //! No coarse clock.
+
+    use std::time::Duration;
+
+    pub(super) fn now() -> Option<Duration> {
+        None
+    }
 }

@@ -22,9 +22,12 @@ impl From<TryReserveError> for OutOfMemory {
     }
 }
 
-/// Why a cache could not be built.
+/// The reason why a cache could not be built.
 #[derive(Clone, Copy, Debug, PartialEq, Eq)]
+#[non_exhaustive]
 pub enum BuildError {
+    /// A duration is 0, so no entry would be found.
+    ZeroDuration,
     /// A duration has 2^64 - 1 nanoseconds or more, which are 584 years.
     DurationTooLong,
     /// Memory was refused.
@@ -34,6 +37,7 @@ pub enum BuildError {
 impl fmt::Display for BuildError {
     fn fmt(&self, f: &mut fmt::Formatter<'_>) -> fmt::Result {
         match self {
+            BuildError::ZeroDuration => f.write_str("a duration is 0"),
             BuildError::DurationTooLong => {
                 f.write_str("a duration has 2^64 - 1 nanoseconds or more")
             }

@@ -1,4 +1,4 @@
-//! The library's calls, and handles on its caches. This is the one module with `unsafe`.
+//! The library's calls, and handles on its caches.
 //!
 //! What is declared here repeats `include/mini_moka.h`, whose rules the comments cite:
 //!
@@ -16,8 +16,9 @@ use std::ptr::null_mut;
 /// The capacity or the duration of a cache that has none.
 pub(crate) const UNLIMITED: u64 = u64::MAX;
 
-// What calls answer. The header's other answers are those of a closed handle, of an open one that
-// is opened, and of one that keeps the other kind, and no handle of this module meets them.
+// The statuses of calls. The header's others are those of a closed handle, of an open one that is
+// opened, of one that keeps the other kind, and of a duration of 0. No handle of this module meets
+// them.
 const DONE: u32 = 0;
 const ABSENT: u32 = 1;
 const OUT_OF_MEMORY: u32 = 4;
@@ -51,8 +52,8 @@ pub(crate) struct NumberSettings {
 }
 
 // The header's `struct mini_moka_statistics`.
-/// What the calls of a cache have met since it was built. Each count stays at `u64::MAX` once it
-/// has reached that.
+/// Counts of the calls of a cache since it was built. Each stays at `u64::MAX` once it has reached
+/// that.
 #[repr(C)]
 #[derive(Clone, Copy, Debug, Default, PartialEq, Eq)]
 pub struct Statistics {
@@ -62,18 +63,18 @@ pub struct Statistics {
     pub misses: u64,
     /// Inserts that were taken, at a new key or at one that was there.
     pub inserts: u64,
-    /// By how many the entries became fewer in gets, in `contains_key` and in inserts. An entry
-    /// that gives way to the one that its call inserts makes them no fewer.
+    /// Net decrease of the entries in gets, in `contains_key` and in inserts. An entry that an
+    /// insert replaces by its own is no decrease.
     pub evictions: u64,
 }
 
 /// A look-up of bytes: `mini_moka_get`, `mini_moka_peek` or `mini_moka_remove`.
 type LookUp = unsafe extern "C" fn(
     handle: *mut RawHandle,
-    key: *const u8,
+    key: *const c_void,
     key_length: usize,
     now: u64,
-    buffer: *mut u8,
+    buffer: *mut c_void,
     buffer_length: usize,
     length: *mut usize,
 ) -> u32;
@@ -89,63 +90,61 @@ extern "C" {
     fn mini_moka_open(handle: *mut RawHandle, settings: *const Settings) -> u32;
     fn mini_moka_insert(
         handle: *mut RawHandle,
-        key: *const u8,
+        key: *const c_void,
         key_length: usize,
-        value: *const u8,
+        value: *const c_void,
         value_length: usize,
         now: u64,
     ) -> u32;
     fn mini_moka_get(
         handle: *mut RawHandle,
-        key: *const u8,
+        key: *const c_void,
         key_length: usize,
         now: u64,
-        buffer: *mut u8,
+        buffer: *mut c_void,
         buffer_length: usize,
         length: *mut usize,
     ) -> u32;
     fn mini_moka_peek(
         handle: *mut RawHandle,
-        key: *const u8,
+        key: *const c_void,
         key_length: usize,
         now: u64,
-        buffer: *mut u8,
+        buffer: *mut c_void,
         buffer_length: usize,
         length: *mut usize,
     ) -> u32;
     fn mini_moka_remove(
         handle: *mut RawHandle,
-        key: *const u8,
+        key: *const c_void,
         key_length: usize,
         now: u64,
-        buffer: *mut u8,
+        buffer: *mut c_void,
         buffer_length: usize,
         length: *mut usize,
     ) -> u32;
     fn mini_moka_contains(
         handle: *mut RawHandle,
-        key: *const u8,
+        key: *const c_void,
         key_length: usize,
         now: u64,
     ) -> u32;
     fn mini_moka_invalidate(
         handle: *mut RawHandle,
-        key: *const u8,
+        key: *const c_void,
         key_length: usize,
         now: u64,
     ) -> u32;
-    fn mini_moka_walk(handle: *mut RawHandle) -> u32;
     fn mini_moka_next(
         handle: *mut RawHandle,
         now: u64,
-        key: *mut u8,
+        key: *mut c_void,
         key_room: usize,
-        value: *mut u8,
+        value: *mut c_void,
         value_room: usize,
         key_length: *mut usize,
         value_length: *mut usize,
     ) -> u32;
-    fn mini_moka_statistics(handle: *mut RawHandle, statistics: *mut Statistics) -> u32;
 
     fn mini_moka_u64_open(handle: *mut RawHandle, settings: *const NumberSettings) -> u32;
     fn mini_moka_u64_insert(handle: *mut RawHandle, key: u64, value: u64, now: u64) -> u32;
@@ -154,6 +153,7 @@ extern "C" {
     fn mini_moka_u64_remove(handle: *mut RawHandle, key: u64, now: u64, value: *mut u64) -> u32;
     fn mini_moka_u64_contains(handle: *mut RawHandle, key: u64, now: u64) -> u32;
     fn mini_moka_u64_invalidate(handle: *mut RawHandle, key: u64, now: u64) -> u32;
+    fn mini_moka_u64_next(handle: *mut RawHandle, now: u64, key: *mut u64, value: *mut u64) -> u32;
     fn mini_moka_u64_get_or_insert(
         handle: *mut RawHandle,
         key: u64,
@@ -166,6 +166,8 @@ extern "C" {
     fn mini_moka_invalidate_all(handle: *mut RawHandle) -> u32;
     fn mini_moka_count(handle: *mut RawHandle, count: *mut u64) -> u32;
     fn mini_moka_weight(handle: *mut RawHandle, weight: *mut u64) -> u32;
+    fn mini_moka_statistics(handle: *mut RawHandle, statistics: *mut Statistics) -> u32;
+    fn mini_moka_walk(handle: *mut RawHandle) -> u32;
 }
 
 /// The kind of a handle that keeps a cache of bytes.
@@ -176,7 +178,7 @@ pub(crate) enum Numbers {}
 
 /// A handle of the library, which is open from the moment it is answered until it is dropped.
 ///
-/// The library's handle stays at one address, in a vector of one: a `Box` would abort where memory
+/// The library's handle stays at one address, in a vector of one: a `Box` would abort if memory
 /// is refused. The cell lets the library change it in calls that take `&self`, and keeps a `Handle`
 /// from being shared by threads; so there is one call of it at a time.
 pub(crate) struct Handle<Kind> {
@@ -184,8 +186,8 @@ pub(crate) struct Handle<Kind> {
     kind: PhantomData<Kind>,
 }
 
-// SAFETY: the cache belongs to its handle alone, and the library keeps nothing by thread. The
-// header allows calls by several threads where there is one at a time.
+// SAFETY: the cache belongs to its handle alone, and the library keeps nothing by thread: its handle
+// is proved to be `Send`. The header allows calls by several threads if there is one at a time.
 unsafe impl<Kind> Send for Handle<Kind> {}
 
 impl<Kind> Handle<Kind> {
@@ -201,17 +203,17 @@ impl<Kind> Handle<Kind> {
         Ok(Handle { place, kind })
     }
 
-    /// Where the library's handle is, for one call of the library.
+    /// Returns the address of the library's handle, for one call of the library.
     fn at(&self) -> *mut RawHandle {
         self.place[0].get()
     }
 
-    /// Counts the entries, expired ones among them that no call has removed yet.
-    pub(crate) fn entry_count(&self) -> u64 {
+    /// Counts the entries, including expired ones that no call has removed yet.
+    pub(crate) fn len(&self) -> u64 {
         self.count(mini_moka_count)
     }
 
-    /// What the entries weigh together, at most `u64::MAX`.
+    /// Sums the weights of the entries, at most `u64::MAX`.
     pub(crate) fn weighted_size(&self) -> u64 {
         self.count(mini_moka_weight)
     }
@@ -226,10 +228,30 @@ impl<Kind> Handle<Kind> {
     }
 
     /// Removes all entries.
-    pub(crate) fn invalidate_all(&self) {
+    pub(crate) fn clear(&self) {
         // SAFETY: `at` leads to a handle as the rule wants it, and there is no other pointer.
         let status = unsafe { mini_moka_invalidate_all(self.at()) };
         expect_done(status);
+    }
+}
+
+impl<Kind> Handle<Kind> {
+    /// Begins a walk through the unexpired entries. Each call that may change the cache ends it,
+    /// unless it is refused memory.
+    pub(crate) fn begin_walk(&self) {
+        // SAFETY: `at` leads to a handle as the rule wants it, and there is no other pointer.
+        let status = unsafe { mini_moka_walk(self.at()) };
+        expect_done(status);
+    }
+
+    /// Returns the counts of the calls.
+    pub(crate) fn statistics(&self) -> Statistics {
+        let mut statistics = Statistics::default();
+        // SAFETY: `at` leads to a handle as the rule wants it, and `statistics` is a variable of
+        // this function, laid out as the header's struct.
+        let status = unsafe { mini_moka_statistics(self.at(), &mut statistics) };
+        expect_done(status);
+        statistics
     }
 }
 
@@ -280,9 +302,9 @@ impl Handle<Bytes> {
         let status = unsafe {
             mini_moka_insert(
                 self.at(),
-                key.as_ptr(),
+                key.as_ptr().cast(),
                 key.len(),
-                value.as_ptr(),
+                value.as_ptr().cast(),
                 value.len(),
                 now,
             )
@@ -290,7 +312,7 @@ impl Handle<Bytes> {
         written(status)
     }
 
-    /// Looks the key up, which is counted and a use of its entry.
+    /// Looks the key up, which counts as an access.
     pub(crate) fn get(
         &self,
         key: &[u8],
@@ -300,7 +322,7 @@ impl Handle<Bytes> {
         self.look_up(mini_moka_get, key, now, buffer)
     }
 
-    /// Looks the key up, which is no use of its entry.
+    /// Looks the key up, which doesn't count as an access.
     pub(crate) fn peek(
         &self,
         key: &[u8],
@@ -310,7 +332,7 @@ impl Handle<Bytes> {
         self.look_up(mini_moka_peek, key, now, buffer)
     }
 
-    /// Removes the entry of the key. It stays where its value is too long for the buffer.
+    /// Removes the entry of the key. It stays if its value is too long for the buffer.
     pub(crate) fn remove(
         &self,
         key: &[u8],
@@ -336,10 +358,10 @@ impl Handle<Bytes> {
         let status = unsafe {
             call(
                 self.at(),
-                key.as_ptr(),
+                key.as_ptr().cast(),
                 key.len(),
                 now,
-                buffer.as_mut_ptr(),
+                buffer.as_mut_ptr().cast(),
                 buffer.capacity(),
                 &mut length,
             )
@@ -347,7 +369,7 @@ impl Handle<Bytes> {
         match status {
             DONE => {
                 // SAFETY: the library has written the first `length` bytes of the vector's room,
-                // and answers `DONE` only where the room has that many.
+                // and answers `DONE` only if the room has that many.
                 unsafe { buffer.set_len(length) };
                 Ok(Look::Copied)
             }
@@ -358,11 +380,11 @@ impl Handle<Bytes> {
         }
     }
 
-    /// Whether the key has an unexpired entry.
+    /// Returns `true` if the key has an unexpired entry.
     pub(crate) fn contains(&self, key: &[u8], now: u64) -> Result<bool, OutOfMemory> {
         // SAFETY: `at` leads to a handle as the rule wants it. The slice has as many bytes as are
         // passed on, its pointer is never null, and the library only reads it.
-        let status = unsafe { mini_moka_contains(self.at(), key.as_ptr(), key.len(), now) };
+        let status = unsafe { mini_moka_contains(self.at(), key.as_ptr().cast(), key.len(), now) };
         match status {
             DONE => Ok(true),
             ABSENT => Ok(false),
@@ -374,15 +396,9 @@ impl Handle<Bytes> {
     /// Removes the entry of the key, if there is one.
     pub(crate) fn invalidate(&self, key: &[u8], now: u64) -> Result<(), OutOfMemory> {
         // SAFETY: as in `contains`.
-        let status = unsafe { mini_moka_invalidate(self.at(), key.as_ptr(), key.len(), now) };
+        let status =
+            unsafe { mini_moka_invalidate(self.at(), key.as_ptr().cast(), key.len(), now) };
         written(status)
-    }
-
-    /// Begins a walk through the unexpired entries, which each call ends that may change the cache; an insert that is refused doesn't.
-    pub(crate) fn begin_walk(&self) {
-        // SAFETY: `at` leads to a handle as the rule wants it, and there is no other pointer.
-        let status = unsafe { mini_moka_walk(self.at()) };
-        expect_done(status);
     }
 
     /// Makes a step of the walk, and lets it write to all that both vectors have room for.
@@ -402,9 +418,9 @@ impl Handle<Bytes> {
             mini_moka_next(
                 self.at(),
                 now,
-                key.as_mut_ptr(),
+                key.as_mut_ptr().cast(),
                 key.capacity(),
-                value.as_mut_ptr(),
+                value.as_mut_ptr().cast(),
                 value.capacity(),
                 &mut key_length,
                 &mut value_length,
@@ -413,7 +429,7 @@ impl Handle<Bytes> {
         match status {
             DONE => {
                 // SAFETY: the library has written the first bytes of each vector's room, as many
-                // as it tells, and answers `DONE` only where both rooms have that many.
+                // as it tells, and answers `DONE` only if both rooms have that many.
                 unsafe {
                     key.set_len(key_length);
                     value.set_len(value_length);
@@ -428,16 +444,6 @@ impl Handle<Bytes> {
             OUT_OF_MEMORY => Err(OutOfMemory),
             other => unexpected(other),
         }
-    }
-
-    /// What the calls have met.
-    pub(crate) fn statistics(&self) -> Statistics {
-        let mut statistics = Statistics::default();
-        // SAFETY: `at` leads to a handle as the rule wants it, and `statistics` is a variable of
-        // this function, laid out as the header's struct.
-        let status = unsafe { mini_moka_statistics(self.at(), &mut statistics) };
-        expect_done(status);
-        statistics
     }
 }
 
@@ -459,12 +465,12 @@ impl Handle<Numbers> {
         written(status)
     }
 
-    /// Looks the key up, which is counted and a use of its entry.
+    /// Looks the key up, which counts as an access.
     pub(crate) fn get(&self, key: u64, now: u64) -> Option<u64> {
         self.look_up(mini_moka_u64_get, key, now)
     }
 
-    /// Looks the key up, which is no use of its entry.
+    /// Looks the key up, which doesn't count as an access.
     pub(crate) fn peek(&self, key: u64, now: u64) -> Option<u64> {
         self.look_up(mini_moka_u64_peek, key, now)
     }
@@ -482,7 +488,7 @@ impl Handle<Numbers> {
         is_there(status).then_some(value)
     }
 
-    /// Whether the key has an unexpired entry.
+    /// Returns `true` if the key has an unexpired entry.
     pub(crate) fn contains(&self, key: u64, now: u64) -> bool {
         // SAFETY: `at` leads to a handle as the rule wants it, and there is no other pointer.
         let status = unsafe { mini_moka_u64_contains(self.at(), key, now) };
@@ -496,7 +502,16 @@ impl Handle<Numbers> {
         expect_done(status);
     }
 
-    /// Looks the key up, and where that finds nothing inserts `otherwise`.
+    /// Makes a step of the walk, and returns the next entry.
+    pub(crate) fn step(&self, now: u64) -> Option<(u64, u64)> {
+        let (mut key, mut value) = (0, 0);
+        // SAFETY: `at` leads to a handle as the rule wants it, and `key` and `value` are variables
+        // of this function.
+        let status = unsafe { mini_moka_u64_next(self.at(), now, &mut key, &mut value) };
+        is_there(status).then_some((key, value))
+    }
+
+    /// Looks the key up, and inserts `otherwise` if that finds nothing.
     pub(crate) fn get_or_insert(
         &self,
         key: u64,
@@ -513,7 +528,7 @@ impl Handle<Numbers> {
     }
 }
 
-/// What a call answers that may be refused memory.
+/// Reads the status of a call that may be refused memory.
 fn written(status: u32) -> Result<(), OutOfMemory> {
     match status {
         DONE => Ok(()),
@@ -522,7 +537,7 @@ fn written(status: u32) -> Result<(), OutOfMemory> {
     }
 }
 
-/// What a look-up answers that takes no memory.
+/// Reads the status of a look-up that takes no memory.
 fn is_there(status: u32) -> bool {
     match status {
         DONE => true,
@@ -531,7 +546,7 @@ fn is_there(status: u32) -> bool {
     }
 }
 
-/// A call that is always made has been.
+/// Reads the status of a call that is always made.
 fn expect_done(status: u32) {
     if status != DONE {
         unexpected(status);

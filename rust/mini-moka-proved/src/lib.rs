@@ -1,7 +1,8 @@
-//! mini-moka's cache for one thread, proved, by its static library.
+//! mini-moka's cache, proved, by its static library.
 //!
-//! A [`Cache`] keeps bytes, and a [`NumberCache`] numbers. A cache is bounded by a number of
-//! entries or of bytes, and its entries expire by a time to live, by a time to idle, or not at all.
+//! A [`Cache`] keeps bytes, and a [`NumberCache`] numbers, for one thread; threads share a
+//! [`sync::Cache`]. A cache is bounded by a number of entries or of bytes, and its entries expire by
+//! a time to live, by a time to idle, or not at all.
 //!
 //! ```
 //! use mini_moka_proved::Cache;
@@ -11,33 +12,16 @@
 //!     .max_capacity(10_000)
 //!     .time_to_live(Duration::from_secs(30 * 60))
 //!     .build()?;
-//! cache.insert(b"token", b"alice")?;
-//! assert_eq!(cache.get(b"token"), Some(b"alice".to_vec()));
-//! cache.invalidate(b"token")?;
-//! assert_eq!(cache.get(b"token"), None);
+//! cache.insert("token", "alice")?;
+//! assert_eq!(cache.get("token"), Some(b"alice".to_vec()));
+//! cache.remove("token")?;
+//! assert_eq!(cache.get("token"), None);
 //! # Ok::<(), Box<dyn std::error::Error>>(())
 //! ```
 //!
-//! Threads share a cache behind a lock:
-//!
-//! ```
-//! use mini_moka_proved::Cache;
-//! use std::sync::Mutex;
-//! use std::thread;
-//!
-//! let cache = Mutex::new(Cache::builder().build()?);
-//! thread::scope(|scope| {
-//!     for key in 0..4u8 {
-//!         let cache = &cache;
-//!         scope.spawn(move || cache.lock().unwrap().insert(&[key], b"seen"));
-//!     }
-//! });
-//! assert_eq!(cache.lock().unwrap().entry_count(), 4);
-//! # Ok::<(), mini_moka_proved::BuildError>(())
-//! ```
-//!
-//! The calls of the library are proved; this package, which makes them, is not. All of its `unsafe`
-//! is in one module, `handle`.
+//! The calls of the library are proved; this package, which makes them, is tested. That threads may
+//! hand a cache of the library to each other is tested too, under ThreadSanitizer, by a program in
+//! C. The `unsafe` of this package is in two modules: `handle`, and the coarse clock in `clock`.
 
 #![deny(missing_docs, unsafe_code)]
 
@@ -48,14 +32,15 @@ mod error;
 #[allow(unsafe_code)]
 mod handle;
 mod numbers;
+pub mod sync;
 
 pub use builder::{Builder, NumberBuilder};
 pub use cache::{Cache, Iter};
 pub use error::{BuildError, OutOfMemory};
 pub use handle::Statistics;
-pub use numbers::NumberCache;
+pub use numbers::{NumberCache, NumberIter};
 
-/// Has the examples of the README run as tests.
+/// Runs the examples of the README as tests.
 #[cfg(doctest)]
 #[doc = include_str!("../README.md")]
 struct Readme;

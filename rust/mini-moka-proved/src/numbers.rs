@@ -3,8 +3,9 @@
 use crate::builder::NumberBuilder;
 use crate::clock::{nanoseconds, Clock};
 use crate::error::OutOfMemory;
-use crate::handle::{Handle, NumberSettings, Numbers};
+use crate::handle::{Handle, NumberSettings, Numbers, Statistics};
 use std::fmt;
+use std::iter::FusedIterator;
 use std::time::Duration;
 
 /// A cache for one thread whose keys and values are numbers of 64 bits.
@@ -13,18 +14,19 @@ use std::time::Duration;
 /// Sizes, moments, threads and cost are as there, but nothing is copied. No look-up takes memory,
 /// so only inserts can be refused it.
 ///
-/// The keys' hash has a fixed key. Where strangers choose the keys, they can choose ones of one
-/// hash, which makes the cache slow: a `Cache` with a random seed is the right one then.
+/// The keys' hash has a fixed key. If strangers choose the keys, they can choose ones of one hash,
+/// which makes the cache slow: use a `Cache` with a random seed then.
 ///
 /// ```
 /// use mini_moka_proved::NumberCache;
 ///
-/// let mut squares = NumberCache::builder().max_capacity(100).build()?;
+/// let mut squares = NumberCache::new(100)?;
 /// squares.insert(7, 49)?;
 /// assert_eq!(squares.get(7), Some(49));
 /// assert_eq!(squares.get_or_insert_with(8, || 64)?, 64);
-/// assert_eq!(squares.remove(7), Some(49));
-/// # Ok::<(), Box<dyn std::error::Error>>(())
+/// assert_eq!(squares.remove(7)?, Some(49));
+/// assert_eq!(squares.len(), 1);
+/// # Ok::<(), mini_moka_proved::OutOfMemory>(())
 /// ```
 pub struct NumberCache {
     handle: Handle<Numbers>,
@@ -32,7 +34,18 @@ pub struct NumberCache {
 }
 
 impl NumberCache {
-    /// A builder of caches.
+    /// Creates a cache of at most `max_capacity` entries, which don't expire.
+    ///
+    /// # Errors
+    ///
+    /// [`OutOfMemory`] if memory is refused.
+    pub fn new(max_capacity: u64) -> Result<NumberCache, OutOfMemory> {
+        let built = NumberCache::builder().max_capacity(max_capacity).build();
+        // Without a duration nothing else is refused.
+        built.map_err(|_| OutOfMemory)
+    }
+
+    /// Returns a builder of caches.
     pub fn builder() -> NumberBuilder {
         NumberBuilder::default()
     }
@@ -45,7 +58,7 @@ impl NumberCache {
         Ok(NumberCache { handle, clock })
     }
 
-    /// The moment of the cache's clock. It is always zero where the cache has no duration.
+    /// Returns the moment of the cache's clock. It is always zero if the cache has no duration.
     pub fn now(&self) -> Duration {
         self.clock.elapsed()
     }
@@ -56,46 +69,46 @@ impl NumberCache {
         self.get_at(key, self.now())
     }
 
-    /// [`get`](Self::get) at a moment.
+    /// Looks the key up as [`get`](Self::get) does, at a moment.
     pub fn get_at(&mut self, key: u64, now: Duration) -> Option<u64> {
         self.handle.get(key, nanoseconds(now))
     }
 
-    /// Looks the key up, which is no use of its entry: nothing is counted, moved or removed.
+    /// Looks the key up. It doesn't count as an access: nothing is counted, moved or removed.
     pub fn peek(&self, key: u64) -> Option<u64> {
         self.peek_at(key, self.now())
     }
 
-    /// [`peek`](Self::peek) at a moment.
+    /// Looks the key up as [`peek`](Self::peek) does, at a moment.
     pub fn peek_at(&self, key: u64, now: Duration) -> Option<u64> {
         self.handle.peek(key, nanoseconds(now))
     }
 
-    /// Whether the key has an unexpired entry. It is no use of it, and the key isn't counted.
+    /// Returns `true` if the key has an unexpired entry. It doesn't count as an access.
     pub fn contains_key(&mut self, key: u64) -> bool {
         self.contains_key_at(key, self.now())
     }
 
-    /// [`contains_key`](Self::contains_key) at a moment.
+    /// Looks the key up as [`contains_key`](Self::contains_key) does, at a moment.
     pub fn contains_key_at(&mut self, key: u64, now: Duration) -> bool {
         self.handle.contains(key, nanoseconds(now))
     }
 
-    /// Looks the key up as [`get`](Self::get) does, and where it finds nothing inserts `otherwise`.
-    /// It returns the value that the key had, or `otherwise`, also where that was rejected.
+    /// Looks the key up as [`get`](Self::get) does, and inserts `otherwise` if there is nothing. It
+    /// returns the value that the key had, or `otherwise`, even if that was rejected.
     ///
     /// # Errors
     ///
-    /// [`OutOfMemory`] where the insert was refused memory.
+    /// [`OutOfMemory`] if the insert is refused memory.
     pub fn get_or_insert(&mut self, key: u64, otherwise: u64) -> Result<u64, OutOfMemory> {
         self.get_or_insert_at(key, otherwise, self.now())
     }
 
-    /// [`get_or_insert`](Self::get_or_insert) at a moment.
+    /// Looks the key up as [`get_or_insert`](Self::get_or_insert) does, at a moment.
     ///
     /// # Errors
     ///
-    /// The same.
+    /// Those of [`get_or_insert`](Self::get_or_insert).
     pub fn get_or_insert_at(
         &mut self,
         key: u64,
@@ -105,15 +118,14 @@ impl NumberCache {
         self.handle.get_or_insert(key, otherwise, nanoseconds(now))
     }
 
-    /// Looks the key up as [`get`](Self::get) does, and where it finds nothing inserts what `make`
-    /// returns. It returns the value that the key had, or that of `make`, also where that was
-    /// rejected.
+    /// Looks the key up as [`get`](Self::get) does, and inserts what `make` returns if there is
+    /// nothing. It returns the value that the key had, or that of `make`, even if that was rejected.
     ///
     /// The new entry's time to live begins when `make` has returned.
     ///
     /// # Errors
     ///
-    /// [`OutOfMemory`] where the insert was refused memory. Then no entry was written.
+    /// [`OutOfMemory`] if the insert is refused memory. Then no entry was written.
     pub fn get_or_insert_with(
         &mut self,
         key: u64,
@@ -127,12 +139,12 @@ impl NumberCache {
         Ok(value)
     }
 
-    /// [`get_or_insert_with`](Self::get_or_insert_with) at a moment, which is that of the insert
-    /// too.
+    /// Looks the key up as [`get_or_insert_with`](Self::get_or_insert_with) does, at a moment, which
+    /// is that of the insert too.
     ///
     /// # Errors
     ///
-    /// The same.
+    /// Those of [`get_or_insert_with`](Self::get_or_insert_with).
     pub fn get_or_insert_with_at(
         &mut self,
         key: u64,
@@ -147,66 +159,168 @@ impl NumberCache {
         Ok(value)
     }
 
-    /// Puts the value at the key. Where the cache is full, a new key may be rejected for one that
-    /// is used more, which is `Ok` too.
+    /// Puts the value at the key. A full cache may reject a new key for one that is used more, which
+    /// is `Ok` too.
     ///
     /// # Errors
     ///
-    /// [`OutOfMemory`] where memory is refused. Then no entry was written.
+    /// [`OutOfMemory`] if memory is refused. Then no entry was written.
     pub fn insert(&mut self, key: u64, value: u64) -> Result<(), OutOfMemory> {
         self.insert_at(key, value, self.now())
     }
 
-    /// [`insert`](Self::insert) at a moment.
+    /// Puts the value at the key as [`insert`](Self::insert) does, at a moment.
     ///
     /// # Errors
     ///
-    /// The same.
+    /// Those of [`insert`](Self::insert).
     pub fn insert_at(&mut self, key: u64, value: u64, now: Duration) -> Result<(), OutOfMemory> {
         self.handle.insert(key, value, nanoseconds(now))
     }
 
     /// Removes the entry of the key, and returns its value, unless it is expired.
-    pub fn remove(&mut self, key: u64) -> Option<u64> {
+    ///
+    /// # Errors
+    ///
+    /// None: a removal takes no memory. It returns a `Result` as
+    /// [`Cache::remove`](crate::Cache::remove) does.
+    pub fn remove(&mut self, key: u64) -> Result<Option<u64>, OutOfMemory> {
         self.remove_at(key, self.now())
     }
 
-    /// [`remove`](Self::remove) at a moment.
-    pub fn remove_at(&mut self, key: u64, now: Duration) -> Option<u64> {
-        self.handle.remove(key, nanoseconds(now))
+    /// Removes the entry of the key as [`remove`](Self::remove) does, at a moment.
+    ///
+    /// # Errors
+    ///
+    /// None, as there.
+    pub fn remove_at(&mut self, key: u64, now: Duration) -> Result<Option<u64>, OutOfMemory> {
+        Ok(self.handle.remove(key, nanoseconds(now)))
     }
 
-    /// Removes the entry of the key, if there is one.
-    pub fn invalidate(&mut self, key: u64) {
-        self.invalidate_at(key, self.now());
+    /// Removes the entry of the key, if there is one, and returns nothing.
+    ///
+    /// # Errors
+    ///
+    /// None: a removal takes no memory. It returns a `Result` as
+    /// [`Cache::invalidate`](crate::Cache::invalidate) does.
+    pub fn invalidate(&mut self, key: u64) -> Result<(), OutOfMemory> {
+        self.invalidate_at(key, self.now())
     }
 
-    /// [`invalidate`](Self::invalidate) at a moment.
-    pub fn invalidate_at(&mut self, key: u64, now: Duration) {
+    /// Removes the entry of the key as [`invalidate`](Self::invalidate) does, at a moment.
+    ///
+    /// # Errors
+    ///
+    /// None, as there.
+    pub fn invalidate_at(&mut self, key: u64, now: Duration) -> Result<(), OutOfMemory> {
         self.handle.invalidate(key, nanoseconds(now));
+        Ok(())
     }
 
     /// Removes all entries. It takes time linear in their number.
-    pub fn invalidate_all(&mut self) {
-        self.handle.invalidate_all();
+    pub fn clear(&mut self) {
+        self.handle.clear();
     }
 
-    /// Counts the entries, expired ones among them that no call has removed yet. It takes constant
-    /// time.
-    pub fn entry_count(&self) -> u64 {
-        self.handle.entry_count()
+    /// Returns an iterator over the unexpired entries, as pairs of key and value: the least recently
+    /// used one first, and those of the window last. It doesn't count as an access, and removes
+    /// none.
+    ///
+    /// ```
+    /// use mini_moka_proved::NumberCache;
+    ///
+    /// let mut squares = NumberCache::new(100)?;
+    /// for key in 1..4 {
+    ///     squares.insert(key, key * key)?;
+    /// }
+    /// let sum: u64 = squares.iter().map(|(_, square)| square).sum();
+    /// assert_eq!(sum, 14);
+    /// # Ok::<(), mini_moka_proved::OutOfMemory>(())
+    /// ```
+    pub fn iter(&mut self) -> NumberIter<'_> {
+        self.iter_at(self.now())
     }
 
-    /// What the entries weigh together, which is 1 each. It takes constant time.
+    /// Returns an iterator as [`iter`](Self::iter) does, at a moment.
+    pub fn iter_at(&mut self, now: Duration) -> NumberIter<'_> {
+        self.handle.begin_walk();
+        NumberIter {
+            cache: self,
+            moment: nanoseconds(now),
+        }
+    }
+
+    /// Returns the number of entries, including expired ones that no call has removed yet. It takes
+    /// constant time.
+    pub fn len(&self) -> usize {
+        // A cache has at most 2^31 entries.
+        self.handle.len() as usize
+    }
+
+    /// Returns `true` if the cache has no entry, not even an expired one.
+    pub fn is_empty(&self) -> bool {
+        self.len() == 0
+    }
+
+    /// Returns the weight of the entries, which is 1 each. It takes constant time.
     pub fn weighted_size(&self) -> u64 {
         self.handle.weighted_size()
+    }
+
+    /// Returns the counts of the calls since the cache was built.
+    ///
+    /// ```
+    /// use mini_moka_proved::NumberCache;
+    ///
+    /// let mut squares = NumberCache::new(100)?;
+    /// squares.get_or_insert(7, 49)?;
+    /// squares.get_or_insert(7, 49)?;
+    /// let counts = squares.statistics();
+    /// assert_eq!((counts.hits, counts.misses, counts.inserts), (1, 1, 1));
+    /// # Ok::<(), mini_moka_proved::OutOfMemory>(())
+    /// ```
+    pub fn statistics(&self) -> Statistics {
+        self.handle.statistics()
+    }
+}
+
+/// An iterator over a cache's unexpired entries, by [`NumberCache::iter`].
+///
+/// A step takes constant time on average for each entry that it passes.
+#[derive(Debug)]
+pub struct NumberIter<'a> {
+    // Borrowed as a whole, so that no call ends the walk.
+    cache: &'a mut NumberCache,
+    moment: u64,
+}
+
+impl Iterator for NumberIter<'_> {
+    type Item = (u64, u64);
+
+    fn next(&mut self) -> Option<(u64, u64)> {
+        self.cache.handle.step(self.moment)
+    }
+
+    fn size_hint(&self) -> (usize, Option<usize>) {
+        (0, Some(self.cache.len()))
+    }
+}
+
+impl FusedIterator for NumberIter<'_> {}
+
+impl<'a> IntoIterator for &'a mut NumberCache {
+    type Item = (u64, u64);
+    type IntoIter = NumberIter<'a>;
+
+    fn into_iter(self) -> NumberIter<'a> {
+        self.iter()
     }
 }
 
 impl fmt::Debug for NumberCache {
     fn fmt(&self, f: &mut fmt::Formatter<'_>) -> fmt::Result {
         f.debug_struct("NumberCache")
-            .field("entry_count", &self.entry_count())
+            .field("len", &self.len())
             .finish_non_exhaustive()
     }
 }

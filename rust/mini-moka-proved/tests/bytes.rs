@@ -25,7 +25,7 @@ fn the_value_last_inserted_is_found() {
     cache.insert(b"key", b"second").unwrap();
     assert_eq!(cache.get(b"key"), Some(b"second".to_vec()));
     assert_eq!(cache.get(b"other"), None);
-    assert_eq!(cache.entry_count(), 1);
+    assert_eq!(cache.len(), 1);
 }
 
 #[test]
@@ -38,7 +38,7 @@ fn an_empty_key_and_an_empty_value_are_kept() {
     assert_eq!(cache.peek(b"key"), Some(Vec::new()));
     assert_eq!(cache.remove(b"key").unwrap(), Some(Vec::new()));
     assert_eq!(cache.remove(b"").unwrap(), Some(b"of nothing".to_vec()));
-    assert_eq!(cache.entry_count(), 0);
+    assert_eq!(cache.len(), 0);
 }
 
 #[test]
@@ -74,7 +74,7 @@ fn a_short_buffer_grows_and_the_get_is_counted_once() {
     let value = bytes(1000);
     cache.insert(b"key", &value).unwrap();
     let mut buffer = bytes(10);
-    assert!(cache.get_with(b"key", &mut buffer));
+    assert!(cache.get_into(b"key", &mut buffer).unwrap());
     assert_eq!(buffer, value);
     assert_eq!(cache.statistics().hits, 1);
 }
@@ -85,7 +85,7 @@ fn a_long_buffer_stays_where_it_is() {
     cache.insert(b"key", b"value").unwrap();
     let mut buffer = Vec::with_capacity(5);
     let (place, capacity) = (buffer.as_ptr(), buffer.capacity());
-    assert!(cache.get_with(b"key", &mut buffer));
+    assert!(cache.get_into(b"key", &mut buffer).unwrap());
     assert_eq!(buffer, b"value");
     assert_eq!((buffer.as_ptr(), buffer.capacity()), (place, capacity));
 }
@@ -94,7 +94,7 @@ fn a_long_buffer_stays_where_it_is() {
 fn a_miss_leaves_the_buffer_empty() {
     let mut cache = unlimited();
     let mut buffer = b"of another user".to_vec();
-    assert!(!cache.get_with(b"key", &mut buffer));
+    assert!(!cache.get_into(b"key", &mut buffer).unwrap());
     assert_eq!(buffer, b"");
     assert_eq!(cache.statistics().misses, 1);
 }
@@ -107,13 +107,13 @@ fn an_entry_expires_at_the_end_of_its_time_to_live() {
     let last = 11 * SECOND - NANOSECOND;
     assert!(cache.contains_key_at(b"key", last));
     assert_eq!(cache.get_at(b"key", last), Some(b"value".to_vec()));
-    assert!(cache.get_with_at(b"key", &mut buffer, last));
+    assert!(cache.get_into_at(b"key", &mut buffer, last).unwrap());
     assert_eq!(cache.peek_at(b"key", last), Some(b"value".to_vec()));
 
     let end = 11 * SECOND;
     assert_eq!(cache.peek_at(b"key", end), None);
     assert_eq!(cache.remove_at(b"key", end).unwrap(), None);
-    assert!(!cache.get_with_at(b"key", &mut buffer, end));
+    assert!(!cache.get_into_at(b"key", &mut buffer, end).unwrap());
     assert_eq!(cache.get_at(b"key", end), None);
     assert!(!cache.contains_key_at(b"key", end));
 }
@@ -161,11 +161,11 @@ fn a_moment_after_the_last_one_is_the_last_one() {
 fn there_are_never_more_entries_than_the_capacity() {
     let mut cache = Cache::builder().max_capacity(150).build().unwrap();
     for key in 0..1000u32 {
-        cache.insert(&key.to_le_bytes(), b"value").unwrap();
-        assert!(cache.entry_count() <= 150);
-        assert_eq!(cache.weighted_size(), cache.entry_count());
+        cache.insert(key.to_le_bytes(), b"value").unwrap();
+        assert!(cache.len() <= 150);
+        assert_eq!(cache.weighted_size(), cache.len() as u64);
     }
-    assert_eq!(cache.entry_count(), 150);
+    assert_eq!(cache.len(), 150);
 }
 
 #[test]
@@ -176,11 +176,11 @@ fn weighed_entries_stay_within_the_capacity() {
         .build()
         .unwrap();
     for key in 0..1000u32 {
-        cache.insert(&key.to_le_bytes(), &bytes(96)).unwrap();
+        cache.insert(key.to_le_bytes(), bytes(96)).unwrap();
         assert!(cache.weighted_size() <= 10_000);
-        assert_eq!(cache.weighted_size(), 100 * cache.entry_count());
+        assert_eq!(cache.weighted_size(), 100 * cache.len() as u64);
     }
-    assert_eq!(cache.entry_count(), 100);
+    assert_eq!(cache.len(), 100);
 }
 
 #[test]
@@ -202,21 +202,21 @@ fn a_removed_value_is_returned_once() {
     cache.insert(b"key", b"value").unwrap();
     assert_eq!(cache.remove(b"key").unwrap(), Some(b"value".to_vec()));
     assert_eq!(cache.remove(b"key").unwrap(), None);
-    assert_eq!(cache.entry_count(), 0);
+    assert_eq!(cache.len(), 0);
 }
 
 #[test]
 fn invalidated_entries_are_gone() {
     let mut cache = unlimited();
     for key in 0..10u8 {
-        cache.insert(&[key], b"value").unwrap();
+        cache.insert([key], b"value").unwrap();
     }
-    cache.invalidate(&[3]).unwrap();
-    cache.invalidate(&[3]).unwrap();
-    assert!(!cache.contains_key(&[3]));
-    assert_eq!(cache.entry_count(), 9);
-    cache.invalidate_all();
-    assert_eq!(cache.entry_count(), 0);
+    cache.invalidate([3]).unwrap();
+    cache.invalidate([3]).unwrap();
+    assert!(!cache.contains_key([3]));
+    assert_eq!(cache.len(), 9);
+    cache.clear();
+    assert_eq!(cache.len(), 0);
     assert_eq!(cache.weighted_size(), 0);
 }
 
@@ -225,16 +225,16 @@ fn statistics_count_gets_and_inserts_and_what_leaves() {
     let mut cache = Cache::builder().time_to_live(10 * SECOND).build().unwrap();
     assert_eq!(cache.statistics(), Statistics::default());
     for key in 0..3u8 {
-        cache.insert_at(&[key], b"value", START).unwrap();
+        cache.insert_at([key], b"value", START).unwrap();
     }
-    cache.insert_at(&[0], b"value", START).unwrap();
-    assert!(cache.get_at(&[0], SECOND).is_some());
-    assert!(cache.get_at(&[1], SECOND).is_some());
-    assert!(cache.get_at(&[9], SECOND).is_none());
-    assert!(cache.peek_at(&[1], SECOND).is_some());
-    assert!(cache.remove_at(&[1], SECOND).unwrap().is_some());
+    cache.insert_at([0], b"value", START).unwrap();
+    assert!(cache.get_at([0], SECOND).is_some());
+    assert!(cache.get_at([1], SECOND).is_some());
+    assert!(cache.get_at([9], SECOND).is_none());
+    assert!(cache.peek_at([1], SECOND).is_some());
+    assert!(cache.remove_at([1], SECOND).unwrap().is_some());
     // Two are left, and expire.
-    assert!(!cache.contains_key_at(&[0], 10 * SECOND));
+    assert!(!cache.contains_key_at([0], 10 * SECOND));
     let expected = Statistics {
         hits: 2,
         misses: 1,
@@ -266,7 +266,7 @@ fn a_made_value_is_returned_also_where_it_is_rejected() {
     let mut cache = Cache::builder().max_capacity(0).build().unwrap();
     let value = cache.get_or_insert_with_at(b"key", || b"value".to_vec(), START);
     assert_eq!(value.unwrap(), b"value");
-    assert_eq!(cache.entry_count(), 0);
+    assert_eq!(cache.len(), 0);
 }
 
 #[test]
@@ -329,7 +329,7 @@ fn a_cache_shows_its_counts() {
     let mut cache = unlimited();
     cache.insert(b"key", b"value").unwrap();
     let shown = format!("{cache:?}");
-    assert_eq!(shown, "Cache { entry_count: 1, weighted_size: 1, .. }");
+    assert_eq!(shown, "Cache { len: 1, weighted_size: 1, .. }");
 }
 
 /// The pairs of an iterator at a moment, as texts.
@@ -357,22 +357,108 @@ fn an_iterator_gives_unexpired_pairs_in_order_of_use() {
     let _ = cache.get_at(b"a", SECOND);
     assert_eq!(pairs(&mut cache, SECOND), ["b=", "=nothing", "a=apple"]);
     assert_eq!(pairs(&mut cache, 10 * SECOND), ["=nothing", "a=apple"]);
-    assert_eq!(cache.entry_count(), 3);
+    assert_eq!(cache.len(), 3);
 }
 
 #[test]
 fn an_iterator_can_be_left_and_begun_again() {
     let mut cache = unlimited();
     for length in [0, 10, 1000, 1 << 20] {
-        cache.insert(&bytes(length), &bytes(length / 2)).unwrap();
+        cache.insert(bytes(length), bytes(length / 2)).unwrap();
     }
     let second = cache.iter().nth(1).unwrap().unwrap();
     assert_eq!(second, (bytes(10), bytes(5)));
-    let _ = cache.remove(&bytes(10)).unwrap();
+    let _ = cache.remove(bytes(10)).unwrap();
     let left: Vec<usize> = cache.iter().map(|pair| pair.unwrap().0.len()).collect();
     assert_eq!(left, [0, 1000, 1 << 20]);
     assert!(cache.iter().all(|pair| {
         let (key, value) = pair.unwrap();
         value == bytes(key.len() / 2)
     }));
+}
+
+#[test]
+fn texts_vectors_and_arrays_are_bytes() {
+    let mut cache = Cache::new(100).unwrap();
+    cache.insert("key", String::from("value")).unwrap();
+    cache.insert([7u8], vec![49u8]).unwrap();
+    assert_eq!(cache.get(b"key"), Some(b"value".to_vec()));
+    assert_eq!(cache.get(String::from("key")), cache.peek("key"));
+    assert_eq!(cache.get(vec![7u8]), Some(vec![49]));
+    assert_eq!(cache.len(), 2);
+    assert!(!cache.is_empty());
+    cache.clear();
+    assert!(cache.is_empty());
+}
+
+#[test]
+fn a_new_cache_has_its_capacity_and_no_duration() {
+    let mut cache = Cache::new(150).unwrap();
+    for key in 0..1000u32 {
+        cache.insert(key.to_le_bytes(), b"value").unwrap();
+        assert!(cache.len() <= 150);
+    }
+    assert_eq!(cache.len(), 150);
+    assert_eq!(cache.now(), START);
+}
+
+#[test]
+fn a_get_tells_absent_from_found() {
+    let mut cache = Cache::builder().time_to_live(10 * SECOND).build().unwrap();
+    assert_eq!(cache.try_get("key"), Ok(None));
+    cache.insert_at("key", "value", START).unwrap();
+    let last = 10 * SECOND - NANOSECOND;
+    assert_eq!(cache.try_get_at("key", last), Ok(Some(b"value".to_vec())));
+    assert_eq!(cache.try_get_at("key", 10 * SECOND), Ok(None));
+}
+
+#[test]
+fn a_duration_of_zero_is_refused() {
+    let live = Cache::builder().time_to_live(Duration::ZERO).build();
+    assert_eq!(live.unwrap_err(), BuildError::ZeroDuration);
+    let idle = Cache::builder().time_to_idle(Duration::ZERO).build();
+    assert_eq!(idle.unwrap_err(), BuildError::ZeroDuration);
+    assert!(Cache::builder().time_to_live(NANOSECOND).build().is_ok());
+}
+
+#[test]
+fn a_builder_shows_its_limits_and_no_seed() {
+    let builder = Cache::builder()
+        .max_capacity(10)
+        .time_to_live(SECOND)
+        .seed(*b"0123456789abcdef");
+    assert_eq!(
+        format!("{builder:?}"),
+        "Builder { max_capacity: Some(10), time_to_live: Some(1s), time_to_idle: None, \
+         initial_capacity: 0, coarse_clock: false, weigh_bytes: false, .. }"
+    );
+}
+
+#[test]
+fn an_iterator_stays_at_its_end_and_a_loop_takes_the_cache() {
+    let mut cache = unlimited();
+    cache.insert("a", "apple").unwrap();
+    let mut pairs = cache.iter();
+    assert!(pairs.next().is_some());
+    for _ in 0..3 {
+        assert!(pairs.next().is_none());
+    }
+    let mut met = 0;
+    for pair in &mut cache {
+        assert_eq!(pair.unwrap(), (b"a".to_vec(), b"apple".to_vec()));
+        met += 1;
+    }
+    assert_eq!(met, 1);
+}
+
+#[test]
+fn an_entry_expires_by_the_coarse_clock() {
+    let live = Duration::from_millis(100);
+    let builder = Cache::builder().time_to_live(live).coarse_clock();
+    let mut cache = builder.build().unwrap();
+    cache.insert("key", "value").unwrap();
+    assert!(cache.contains_key("key"));
+    sleep(live + Duration::from_millis(50));
+    assert!(!cache.contains_key("key"));
+    assert!(cache.now() >= live && cache.now() < 100 * SECOND);
 }

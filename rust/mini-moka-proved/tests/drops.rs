@@ -18,9 +18,9 @@ fn resident() -> usize {
 /// A cache with a value of 1 MiB, and more than 1 MiB of small entries.
 fn fill() {
     let mut bytes = Cache::builder().build().unwrap();
-    bytes.insert(b"key", &vec![1; MIB]).unwrap();
+    bytes.insert(b"key", vec![1; MIB]).unwrap();
     for key in 0..1000u32 {
-        bytes.insert(&key.to_le_bytes(), &[0; 1000]).unwrap();
+        bytes.insert(key.to_le_bytes(), [0; 1000]).unwrap();
     }
     let mut numbers = NumberCache::builder()
         .initial_capacity(10_000)

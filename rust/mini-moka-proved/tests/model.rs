@@ -101,7 +101,7 @@ fn compare_a_call(random: &mut Random, cache: &mut Cache, model: &mut Model, nan
         3 | 4 => assert_eq!(cache.get_at(&key, now), model.get(&key, nanoseconds)),
         5 => {
             let mut buffer = random.value();
-            let found = cache.get_with_at(&key, &mut buffer, now);
+            let found = cache.get_into_at(&key, &mut buffer, now).unwrap();
             assert_eq!(found.then_some(buffer), model.get(&key, nanoseconds));
         }
         6 => assert_eq!(cache.peek_at(&key, now), model.peek(&key, nanoseconds)),
@@ -136,9 +136,9 @@ fn a_cache_without_limits_is_a_map() {
     let mut model = Model::default();
     for _ in 0..CALLS {
         compare_a_call(&mut random, &mut cache, &mut model, 0);
-        assert_eq!(cache.entry_count(), model.entries.len() as u64);
+        assert_eq!(cache.len(), model.entries.len());
         if random.below(5000) == 0 {
-            cache.invalidate_all();
+            cache.clear();
             model.entries.clear();
         }
     }
@@ -171,17 +171,17 @@ fn a_full_cache_finds_nothing_but_what_was_last_written() {
         let mut found = 0;
         for _ in 0..CALLS / 4 {
             let (key, value) = (random.below(KEYS).to_le_bytes(), random.value());
-            if let Some(known) = cache.get(&key) {
+            if let Some(known) = cache.get(key) {
                 assert_eq!(map.get(&key), Some(&known));
                 found += 1;
             }
             if random.below(2) == 0 {
-                cache.insert(&key, &value).unwrap();
+                cache.insert(key, &value).unwrap();
                 map.insert(key, value);
             }
-            assert!(cache.entry_count() <= capacity);
+            assert!(cache.len() as u64 <= capacity);
         }
-        assert_eq!(cache.entry_count(), capacity);
+        assert_eq!(cache.len() as u64, capacity);
         assert_eq!(cache.statistics().hits, found);
         assert!(found > 1000);
     }
@@ -205,8 +205,8 @@ fn a_cache_of_numbers_without_limits_is_a_map() {
                 let known = *map.entry(key).or_insert(value);
                 assert_eq!(cache.get_or_insert(key, value), Ok(known));
             }
-            _ => assert_eq!(cache.remove(key), map.remove(&key)),
+            _ => assert_eq!(cache.remove(key).unwrap(), map.remove(&key)),
         }
-        assert_eq!(cache.entry_count(), map.len() as u64);
+        assert_eq!(cache.len(), map.len());
     }
 }

@@ -1,6 +1,6 @@
 //! The cache of numbers, call by call.
 
-use mini_moka_proved::{BuildError, NumberCache};
+use mini_moka_proved::{BuildError, NumberCache, Statistics};
 use std::time::Duration;
 
 const SECOND: Duration = Duration::from_secs(1);
@@ -21,7 +21,7 @@ fn the_value_last_inserted_is_found() {
     assert_eq!(cache.get(7), Some(49));
     assert_eq!(cache.peek(7), Some(49));
     assert_eq!(cache.get(8), None);
-    assert_eq!(cache.entry_count(), 3);
+    assert_eq!(cache.len(), 3);
     assert_eq!(cache.weighted_size(), 3);
 }
 
@@ -36,7 +36,7 @@ fn an_entry_expires_at_the_end_of_its_time_to_live() {
     assert_eq!(cache.peek_at(7, last), Some(49));
     let end = 11 * SECOND;
     assert_eq!(cache.peek_at(7, end), None);
-    assert_eq!(cache.remove_at(7, end), None);
+    assert_eq!(cache.remove_at(7, end), Ok(None));
     assert_eq!(cache.get_at(7, end), None);
     assert!(!cache.contains_key_at(7, end));
 }
@@ -57,9 +57,9 @@ fn there_are_never_more_entries_than_the_capacity() {
     let mut cache = NumberCache::builder().max_capacity(150).build().unwrap();
     for key in 0..1000 {
         cache.insert(key, key).unwrap();
-        assert!(cache.entry_count() <= 150);
+        assert!(cache.len() <= 150);
     }
-    assert_eq!(cache.entry_count(), 150);
+    assert_eq!(cache.len(), 150);
 }
 
 #[test]
@@ -68,14 +68,14 @@ fn removed_and_invalidated_entries_are_gone() {
     for key in 0..10 {
         cache.insert(key, key * key).unwrap();
     }
-    assert_eq!(cache.remove(3), Some(9));
-    assert_eq!(cache.remove(3), None);
-    cache.invalidate(4);
-    cache.invalidate_at(4, SECOND);
+    assert_eq!(cache.remove(3), Ok(Some(9)));
+    assert_eq!(cache.remove(3), Ok(None));
+    cache.invalidate(4).unwrap();
+    cache.invalidate_at(4, SECOND).unwrap();
     assert!(!cache.contains_key(4));
-    assert_eq!(cache.entry_count(), 8);
-    cache.invalidate_all();
-    assert_eq!(cache.entry_count(), 0);
+    assert_eq!(cache.len(), 8);
+    cache.clear();
+    assert_eq!(cache.len(), 0);
 }
 
 #[test]
@@ -93,7 +93,7 @@ fn a_made_value_is_returned_also_where_it_is_rejected() {
     let mut cache = NumberCache::builder().max_capacity(0).build().unwrap();
     assert_eq!(cache.get_or_insert_at(7, 49, SECOND), Ok(49));
     assert_eq!(cache.get_or_insert_with_at(7, || 50, SECOND), Ok(50));
-    assert_eq!(cache.entry_count(), 0);
+    assert_eq!(cache.len(), 0);
 }
 
 #[test]
@@ -102,4 +102,88 @@ fn what_cannot_be_built_is_refused() {
     assert_eq!(built.unwrap_err(), BuildError::DurationTooLong);
     let built = NumberCache::builder().initial_capacity(usize::MAX).build();
     assert_eq!(built.unwrap_err(), BuildError::OutOfMemory);
+}
+
+#[test]
+fn a_new_cache_has_its_capacity_and_shows_its_count() {
+    let mut cache = NumberCache::new(150).unwrap();
+    assert!(cache.is_empty());
+    for key in 0..1000 {
+        cache.insert(key, key).unwrap();
+    }
+    assert_eq!(cache.len(), 150);
+    assert_eq!(format!("{cache:?}"), "NumberCache { len: 150, .. }");
+    cache.clear();
+    assert!(cache.is_empty());
+}
+
+#[test]
+fn an_iterator_gives_unexpired_pairs_in_order_of_use() {
+    let builder = NumberCache::builder().time_to_live(10 * SECOND);
+    let mut cache = builder.build().unwrap();
+    assert_eq!(cache.iter().next(), None);
+    cache.insert_at(7, 49, SECOND).unwrap();
+    cache.insert_at(8, 64, Duration::ZERO).unwrap();
+    cache.insert_at(9, 81, SECOND).unwrap();
+    assert_eq!(cache.get_at(7, SECOND), Some(49));
+    let pairs: Vec<_> = cache.iter_at(SECOND).collect();
+    assert_eq!(pairs, [(8, 64), (9, 81), (7, 49)]);
+    let pairs: Vec<_> = cache.iter_at(10 * SECOND).collect();
+    assert_eq!(pairs, [(9, 81), (7, 49)]);
+    assert_eq!(cache.len(), 3);
+    let mut pairs = cache.iter_at(11 * SECOND);
+    assert_eq!((pairs.next(), pairs.next()), (None, None));
+    let mut sum = 0;
+    for (key, value) in &mut unlimited_squares() {
+        sum += key + value;
+    }
+    assert_eq!(sum, 3 + 1 + 4);
+}
+
+/// The squares of 1 and 2.
+fn unlimited_squares() -> NumberCache {
+    let mut cache = unlimited();
+    cache.insert(1, 1).unwrap();
+    cache.insert(2, 4).unwrap();
+    cache
+}
+
+#[test]
+fn statistics_count_gets_and_inserts_and_what_leaves() {
+    let builder = NumberCache::builder().time_to_live(10 * SECOND);
+    let mut cache = builder.build().unwrap();
+    assert_eq!(cache.statistics(), Statistics::default());
+    cache.insert_at(7, 49, Duration::ZERO).unwrap();
+    assert_eq!(cache.get_at(7, SECOND), Some(49));
+    assert_eq!(cache.get_at(8, SECOND), None);
+    assert_eq!(cache.get_or_insert_at(8, 64, SECOND), Ok(64));
+    assert_eq!(cache.get_or_insert_at(8, 65, SECOND), Ok(64));
+    assert_eq!(cache.peek_at(8, SECOND), Some(64));
+    assert_eq!(cache.remove_at(8, SECOND), Ok(Some(64)));
+    assert!(!cache.contains_key_at(7, 10 * SECOND));
+    let expected = Statistics {
+        hits: 2,
+        misses: 2,
+        inserts: 2,
+        evictions: 1,
+    };
+    assert_eq!(cache.statistics(), expected);
+}
+
+#[test]
+fn a_duration_of_zero_is_refused() {
+    let live = NumberCache::builder().time_to_live(Duration::ZERO).build();
+    assert_eq!(live.unwrap_err(), BuildError::ZeroDuration);
+    let idle = NumberCache::builder().time_to_idle(Duration::ZERO).build();
+    assert_eq!(idle.unwrap_err(), BuildError::ZeroDuration);
+}
+
+#[test]
+fn a_builder_shows_its_limits() {
+    let builder = NumberCache::builder().max_capacity(10).coarse_clock();
+    assert_eq!(
+        format!("{builder:?}"),
+        "NumberBuilder { max_capacity: Some(10), time_to_live: None, time_to_idle: None, \
+         initial_capacity: 0, coarse_clock: true }"
+    );
 }

@@ -1,6 +1,6 @@
 //! What calls do where Rust's allocator refuses them memory.
 
-use mini_moka_proved::{BuildError, Cache, OutOfMemory};
+use mini_moka_proved::{sync, BuildError, Cache, OutOfMemory};
 use std::alloc::{GlobalAlloc, Layout, System};
 use std::cell::Cell;
 use std::ptr::null_mut;
@@ -47,8 +47,8 @@ fn limited<T>(limit: usize, call: impl FnOnce() -> T) -> T {
 /// A cache with a value of 1000 bytes, and one of 10.
 fn filled() -> Cache {
     let mut cache = Cache::builder().build().unwrap();
-    cache.insert(b"long", &[1; 1000]).unwrap();
-    cache.insert(b"short", &[1; 10]).unwrap();
+    cache.insert(b"long", [1; 1000]).unwrap();
+    cache.insert(b"short", [1; 10]).unwrap();
     cache
 }
 
@@ -66,6 +66,8 @@ fn a_look_up_finds_nothing() {
     assert_eq!(limited(999, || cache.get(b"long")), None);
     assert_eq!(limited(999, || cache.peek(b"long")), None);
     assert_eq!(limited(9, || cache.get(b"short")), None);
+    assert_eq!(limited(999, || cache.try_get(b"long")), Err(OutOfMemory));
+    assert_eq!(limited(999, || cache.try_get(b"none")), Ok(None));
     assert_eq!(cache.get(b"long"), Some(vec![1; 1000]));
     assert_eq!(cache.get(b"short"), Some(vec![1; 10]));
 }
@@ -74,9 +76,11 @@ fn a_look_up_finds_nothing() {
 fn a_buffer_that_cannot_grow_is_left_empty() {
     let mut cache = filled();
     let mut buffer = vec![2; 20];
-    assert!(!limited(999, || cache.get_with(b"long", &mut buffer)));
+    let refused = limited(999, || cache.get_into(b"long", &mut buffer));
+    assert_eq!(refused, Err(OutOfMemory));
     assert_eq!(buffer, b"");
-    assert!(limited(0, || cache.get_with(b"short", &mut buffer)));
+    let found = limited(0, || cache.get_into(b"short", &mut buffer));
+    assert_eq!(found, Ok(true));
     assert_eq!(buffer, [1; 10]);
 }
 
@@ -98,4 +102,25 @@ fn no_value_is_made() {
     let found = limited(999, || cache.get_or_insert_with(b"long", make));
     assert_eq!(found, Err(OutOfMemory));
     assert!(!is_made);
+}
+
+#[test]
+fn an_iterator_gives_a_refused_pair_again() {
+    let mut cache = filled();
+    let mut pairs = cache.iter();
+    let refused = limited(999, || pairs.next());
+    assert_eq!(refused, Some(Err(OutOfMemory)));
+    let (key, value) = pairs.next().unwrap().unwrap();
+    assert_eq!((key, value.len()), (b"long".to_vec(), 1000));
+    assert!(pairs.next().is_some());
+    assert!(pairs.next().is_none());
+    assert!(pairs.next().is_none());
+}
+
+#[test]
+fn a_shared_cache_is_not_built() {
+    for limit in [0, 16, 255] {
+        let built = limited(limit, || sync::Cache::new(100));
+        assert_eq!(built.unwrap_err(), OutOfMemory);
+    }
 }

@@ -1,8 +1,10 @@
-//! A cache that threads share behind a lock, and one that goes from thread to thread.
+//! Caches that threads share, by segments or behind one lock, and one that goes from thread to
+//! thread.
 
-use mini_moka_proved::{Cache, NumberCache};
+use mini_moka_proved::{sync, BuildError, Cache, NumberCache};
 use std::sync::{Arc, Mutex};
-use std::thread;
+use std::thread::{self, sleep};
+use std::time::Duration;
 
 const THREADS: u64 = 4;
 const KEYS: u64 = 1000;
@@ -16,6 +18,7 @@ fn caches_are_send_and_locked_ones_are_sync() {
     may_go_to_another_thread::<NumberCache>();
     may_be_shared::<Mutex<Cache>>();
     may_be_shared::<Mutex<NumberCache>>();
+    may_be_shared::<sync::Cache>();
 }
 
 #[test]
@@ -26,8 +29,8 @@ fn each_thread_sees_what_all_have_inserted() {
         thread::spawn(move || {
             for key in 0..KEYS {
                 let key = (number * KEYS + key).to_le_bytes();
-                cache.lock().unwrap().insert(&key, &key).unwrap();
-                assert_eq!(cache.lock().unwrap().get(&key), Some(key.to_vec()));
+                cache.lock().unwrap().insert(key, key).unwrap();
+                assert_eq!(cache.lock().unwrap().get(key), Some(key.to_vec()));
             }
         })
     };
@@ -37,9 +40,9 @@ fn each_thread_sees_what_all_have_inserted() {
     }
     let mut cache = cache.lock().unwrap();
     for key in 0..THREADS * KEYS {
-        assert!(cache.contains_key(&key.to_le_bytes()));
+        assert!(cache.contains_key(key.to_le_bytes()));
     }
-    assert_eq!(cache.entry_count(), THREADS * KEYS);
+    assert_eq!(cache.len() as u64, THREADS * KEYS);
     assert_eq!(cache.statistics().hits, THREADS * KEYS);
 }
 
@@ -49,4 +52,125 @@ fn a_cache_is_used_and_dropped_by_another_thread() {
     cache.insert(7, 49).unwrap();
     let found = thread::spawn(move || cache.get(7)).join().unwrap();
     assert_eq!(found, Some(49));
+}
+
+/// A shared cache of so many segments.
+fn segments(builder: sync::Builder) -> usize {
+    builder.build().unwrap().segments()
+}
+
+#[test]
+fn a_shared_cache_answers_as_one() {
+    let cache = sync::Cache::new(1000).unwrap();
+    let other = cache.clone();
+    assert!(other.is_empty());
+    cache.insert("alice", "admin").unwrap();
+    assert_eq!(other.get("alice"), Some(b"admin".to_vec()));
+    assert_eq!(other.try_get("bob"), Ok(None));
+    assert_eq!(other.peek("alice"), Some(b"admin".to_vec()));
+    assert!(other.contains_key("alice"));
+    let mut buffer = b"of another user".to_vec();
+    assert_eq!(cache.get_into("bob", &mut buffer), Ok(false));
+    assert_eq!(buffer, b"");
+    assert_eq!(cache.get_into("alice", &mut buffer), Ok(true));
+    assert_eq!(buffer, b"admin");
+    assert_eq!(
+        cache
+            .get_or_insert_with("carol", || b"guest".to_vec())
+            .unwrap(),
+        b"guest"
+    );
+    assert_eq!(cache.len(), 2);
+    assert_eq!(cache.weighted_size(), 2);
+    let counts = cache.statistics();
+    assert_eq!((counts.hits, counts.misses, counts.inserts), (2, 3, 2));
+    assert_eq!(other.remove("alice"), Ok(Some(b"admin".to_vec())));
+    assert_eq!(other.remove("alice"), Ok(None));
+    cache.invalidate("carol").unwrap();
+    assert!(cache.is_empty());
+    cache.insert("alice", "admin").unwrap();
+    cache.clear();
+    assert_eq!(cache.len(), 0);
+    let shown = format!("{cache:?}");
+    assert_eq!(
+        shown,
+        "Cache { len: 0, weighted_size: 0, segments: 10, .. }"
+    );
+}
+
+#[test]
+fn each_segment_has_a_hundred_entries_and_the_parts_are_the_whole() {
+    let of = |capacity| segments(sync::Cache::builder().max_capacity(capacity));
+    assert_eq!(
+        [0, 99, 199, 200, 1599, 1600, u64::MAX - 1].map(of),
+        [1, 1, 1, 2, 15, 16, 16]
+    );
+    assert_eq!(segments(sync::Cache::builder()), 16);
+    let weighed = sync::Cache::builder().weigh_bytes();
+    assert_eq!(segments(weighed.clone().max_capacity((1 << 21) - 1)), 1);
+    assert_eq!(segments(weighed.max_capacity(1 << 21)), 2);
+    assert_eq!(segments(sync::Cache::builder().segments(0)), 1);
+    assert_eq!(segments(sync::Cache::builder().segments(3)), 3);
+
+    let builder = sync::Cache::builder().max_capacity(1003).segments(4);
+    let cache = builder.initial_capacity(1003).build().unwrap();
+    for key in 0..20_000u64 {
+        cache.insert(key.to_le_bytes(), b"").unwrap();
+    }
+    assert_eq!(cache.len(), 1003);
+}
+
+#[test]
+fn a_shared_cache_has_one_clock() {
+    let live = Duration::from_millis(100);
+    let builder = sync::Cache::builder().time_to_live(live);
+    let cache = builder.build().unwrap();
+    for key in 0..100u8 {
+        cache.insert([key], b"value").unwrap();
+    }
+    assert!(cache.get([99]).is_some());
+    sleep(live);
+    assert!((0..100u8).all(|key| cache.get([key]).is_none()));
+    let zero = sync::Cache::builder().time_to_live(Duration::ZERO).build();
+    assert_eq!(zero.unwrap_err(), BuildError::ZeroDuration);
+}
+
+#[test]
+fn each_thread_finds_its_keys_in_a_shared_cache() {
+    let cache = sync::Cache::builder().build().unwrap();
+    let fill = |number: u64| {
+        let cache = cache.clone();
+        thread::spawn(move || {
+            for key in 0..KEYS {
+                let key = (number * KEYS + key).to_le_bytes();
+                cache.insert(key, key).unwrap();
+                assert_eq!(cache.get(key), Some(key.to_vec()));
+                let common = cache.get_or_insert_with("common", || b"made".to_vec());
+                assert_eq!(common.unwrap(), b"made");
+            }
+        })
+    };
+    let threads: Vec<_> = (0..THREADS).map(fill).collect();
+    for thread in threads {
+        thread.join().unwrap();
+    }
+    assert!((0..THREADS * KEYS).all(|key| cache.contains_key(key.to_le_bytes())));
+    assert_eq!(cache.len() as u64, THREADS * KEYS + 1);
+}
+
+#[test]
+fn a_value_that_panics_harms_no_segment() {
+    let cache = sync::Cache::new(100).unwrap();
+    cache.insert("other", "value").unwrap();
+    let other = cache.clone();
+    let panicked =
+        thread::spawn(move || other.get_or_insert_with("key", || panic!("as it should")));
+    assert!(panicked.join().is_err());
+    assert_eq!(cache.get("other"), Some(b"value".to_vec()));
+    assert_eq!(
+        cache
+            .get_or_insert_with("key", || b"made".to_vec())
+            .unwrap(),
+        b"made"
+    );
 }

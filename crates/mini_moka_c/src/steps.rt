@@ -1,6 +1,6 @@
-//! Walks through a cache of bytes.
+//! Walks: their place, and what a step of one comes to.
 
-/// Where a walk stands.
+/// The place of a walk.
 #[derive(Clone, Copy, Drop)]
 pub enum Walk {
     /// None was begun, or a call has ended it.
@@ -11,7 +11,7 @@ pub enum Walk {
     Behind,
 }
 
-/// What a step of a walk gives.
+/// The answer of a step of a walk through a cache of bytes.
 #[derive(Clone, Copy, Drop)]
 pub enum Step {
     /// None was begun, or a call has ended it.
@@ -20,4 +20,15 @@ pub enum Step {
     Done,
     /// The lengths of the next entry's key and value.
     Pair { key: usize, value: usize },
+}
+
+/// The answer of a step of a walk through a cache of numbers.
+#[derive(Clone, Copy, Drop)]
+pub enum NumberStep {
+    /// None was begun, or a call has ended it.
+    Ended,
+    /// Each entry was met.
+    Done,
+    /// The next entry's key and value.
+    Pair { key: u64, value: u64 },
 }

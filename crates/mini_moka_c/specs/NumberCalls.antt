@@ -1,0 +1,93 @@
+-- How a call on a handle of numbers tells what the call of its cache answers.
+use Rattle.std.specs.Prelude.{◌≡◌, ◌⊎◌, ℕ, is_some, Option, Some, None}
+use Rattle.moka_common.specs.Weight.{unit_weighs}
+use Rattle.moka_unsync.specs.Insert.{IsInserted, IsRefused}
+use Rattle.moka_unsync.specs.Invalidate.{after_invalidate}
+use Rattle.moka_unsync.specs.Lookup.{after_get, after_look, found_by_get, found_by_peek, is_contained}
+use Rattle.mini_moka_c.specs.declared.number_cache.NumberCache.{NumberCache}
+use Rattle.mini_moka_c.specs.declared.steps.NumberStep.{NumberStep}
+use Rattle.mini_moka_c.specs.declared.steps.NumberStep.TheVariants as step
+use Rattle.mini_moka_c.specs.declared.steps.Walk.TheVariants.{Ended}
+use Rattle.mini_moka_c.specs.declared.constants.TheConstants.{ABSENT, CHANGED, DONE, OUT_OF_MEMORY}
+use Rattle.mini_moka_c.specs.Calls.{TellsTruth}
+use Rattle.mini_moka_c.specs.NumberKeys.{number_keys}
+use Rattle.mini_moka_c.specs.NumberWalk.{met_after, next_pair, step_of, walk_after}
+use Rattle.mini_moka_c.specs.Statistics.{with_calls, with_get, with_insert}
+
+-- what a weigher of numbers answers
+abbrev pub weighs_one : {W : Type 0} → W → ℕ → ℕ → ℕ → W → Type 0
+weighs_one before key value weight after = unit_weighs key value weight × (after ≡ before)
+
+-- the pair goes into the cache at a moment, each entry weighing the same, and is counted
+pub record IsNumberInsert (key value now : ℕ) (old new : NumberCache) : Type 0 where
+  pub step : IsInserted number_keys weighs_one old.cache key value now new.cache
+  pub counts : new.statistics ≡ with_calls with_insert old.cache new.cache old.statistics
+  pub walk : new.walk ≡ Ended
+
+-- there was no room for one more entry: all are as they were, nothing is counted, and a walk stands where it stood
+pub record IsNumberRefusal (old new : NumberCache) : Type 0 where
+  pub refused : IsRefused old.cache new.cache
+  pub same : new ≡ record old { cache = new.cache }
+
+-- a get finds this value, or none, and is counted
+pub record IsNumberGet (key now : ℕ) (found : Option ℕ) (old new : NumberCache) : Type 0 where
+  pub value : found ≡ found_by_get number_keys old.cache key now
+  pub step : new.cache ≡ after_get number_keys old.cache key now
+  pub counts : new.statistics ≡ with_calls (with_get (is_some found)) old.cache new.cache old.statistics
+  pub walk : new.walk ≡ Ended
+
+-- a value was found and is written, or none was
+abbrev pub TellsFound : Option ℕ → ℕ → ℕ → Type 0
+TellsFound (Some value) status written = (status ≡ DONE) × (written ≡ value)
+TellsFound None status written = status ≡ ABSENT
+
+-- the pair went in, or memory was refused
+abbrev pub TellsInsert : ℕ → ℕ → ℕ → ℕ → NumberCache → NumberCache → Type 0
+TellsInsert key value now status old new =
+    ((status ≡ DONE) × IsNumberInsert key value now old new) ⊎ ((status ≡ OUT_OF_MEMORY) × IsNumberRefusal old new)
+
+-- what a get finds
+abbrev pub TellsGet : ℕ → ℕ → ℕ → ℕ → NumberCache → NumberCache → Type 0
+TellsGet key now status written old new =
+    TellsFound (found_by_get number_keys old.cache key now) status written × IsNumberGet key now (found_by_get number_keys old.cache key now) old new
+
+-- what a peek finds
+abbrev pub TellsPeek : ℕ → ℕ → ℕ → ℕ → NumberCache → NumberCache → Type 0
+TellsPeek key now status written old new = TellsFound (found_by_peek number_keys old.cache key now) status written × (new ≡ old)
+
+-- yes or no
+abbrev pub TellsLook : ℕ → ℕ → ℕ → NumberCache → NumberCache → Type 0
+TellsLook key now status old new =
+    TellsTruth (is_contained number_keys old.cache key now) status × (new.cache ≡ after_look number_keys old.cache now)
+    × (new.statistics ≡ with_calls (λ counts. counts) old.cache new.cache old.statistics) × (new.walk ≡ Ended)
+
+-- the entry of the key left
+abbrev pub without : ℕ → ℕ → NumberCache → NumberCache
+without key now old = record old { cache = after_invalidate number_keys old.cache key now; walk = Ended }
+
+-- what a removal finds
+abbrev pub TellsRemove : ℕ → ℕ → ℕ → ℕ → NumberCache → NumberCache → Type 0
+TellsRemove key now status written old new =
+    TellsFound (found_by_get number_keys old.cache key now) status written × (new ≡ without key now old)
+
+-- a get found the value that is written; or it found none, and this one was inserted behind it, or was refused memory
+abbrev pub TellsGotOrInserted : ℕ → ℕ → ℕ → ℕ → ℕ → NumberCache → NumberCache → Type 0
+TellsGotOrInserted key otherwise now status written old new =
+    ((status ≡ DONE) × IsNumberGet key now (Some written) old new)
+    ⊎ ((missed : NumberCache) × IsNumberGet key now None old missed × TellsInsert key otherwise now status missed new
+    × (status ≡ DONE → written ≡ otherwise))
+
+-- a walk has ended, each entry was met, or the next one is written
+abbrev pub TellsStep : NumberStep → ℕ → ℕ → ℕ → Type 0
+TellsStep step.Ended status key value = status ≡ CHANGED
+TellsStep step.Done status key value = status ≡ ABSENT
+TellsStep (step.Pair k v) status key value = (status ≡ DONE) × (key ≡ k) × (value ≡ v)
+
+-- a step of a walk at a moment
+abbrev pub TellsNumberWalk : ℕ → ℕ → ℕ → ℕ → NumberCache → NumberCache → Type 0
+TellsNumberWalk now status key value old new =
+    TellsStep (step_of old.walk (next_pair old.walk old.cache old.met now)) status key value
+    × (new ≡ record old {
+      walk = walk_after old.walk (next_pair old.walk old.cache old.met now);
+      met = met_after old.met (next_pair old.walk old.cache old.met now);
+    })

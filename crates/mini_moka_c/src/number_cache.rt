@@ -1,0 +1,172 @@
+//! A cache of numbers.
+ghost use Rattle.std.specs.Prelude.{◌≡◌, IfErr, IfOk, None, OnErr, OnOk, option_map};
+ghost use Rattle.std.specs.Map.Iter.{deref_pair};
+ghost use Rattle.moka_unsync.specs.Builder.{IsBuilt, refusal_of};
+ghost use Rattle.moka_unsync.specs.Invalidate.{after_invalidate, after_invalidate_all};
+ghost use Rattle.moka_unsync.specs.Lookup.{after_look, found_by_get, found_by_peek, is_contained};
+ghost use Rattle.mini_moka_c.specs.declared.steps.Walk.TheVariants.{AtStart, Ended};
+ghost use Rattle.mini_moka_c.specs.NumberCalls.{IsNumberGet, IsNumberInsert, IsNumberRefusal};
+ghost use Rattle.mini_moka_c.specs.NumberKeys.{number_keys};
+ghost use Rattle.mini_moka_c.specs.NumberWalk.{met_after, next_pair, step_of, walk_after};
+ghost use Rattle.mini_moka_c.specs.Statistics.{no_statistics, with_calls};
+
+use crate::statistics::Statistics;
+use crate::steps::{NumberStep, Walk};
+use moka_common::error::{BuildError, InsertError};
+use moka_common::time::Instant;
+use moka_unsync::builder::CacheBuilder;
+use moka_unsync::cache::Cache;
+
+/// A cache for one thread whose keys and values are numbers. No look-up asks for memory.
+#[derive(Drop)]
+pub struct NumberCache {
+    pub cache: Cache<u64, u64>,
+    pub statistics: Statistics,
+    walk: Walk,
+    // The key that the walk met last.
+    met: u64,
+}
+
+impl NumberCache {
+    /// A cache with what is set. It is refused as `CacheBuilder::build` is.
+    pub fn build(builder: CacheBuilder<u64, u64>) -> Result<NumberCache, BuildError>
+        ensures ok { IfOk result (λ made. IsBuilt builder made.cache.settings.hash_state made.cache) }
+        ensures counts { IfOk result (λ made. made.statistics ≡ no_statistics) }
+        ensures walk { IfOk result (λ made. made.walk ≡ Ended) }
+        ensures err { IfErr result (λ error. error ≡ refusal_of builder) }
+    {
+        Ok(NumberCache {
+            cache: builder.build()?,
+            statistics: Statistics::none(),
+            walk: Walk::Ended,
+            met: 0,
+        })
+    }
+
+    /// Puts the value at the key, as `Cache::insert` does. If memory is refused, no entry changes and a walk goes on.
+    pub fn insert(&mut self, key: u64, value: u64, now: Instant) -> Result<(), InsertError>
+        ensures step { OnOk result (IsNumberInsert key value now self.old self.new) }
+        ensures refused { OnErr result (IsNumberRefusal self.old self.new) }
+        ensures error { IfErr result (λ error. error ≡ InsertError.OutOfMemory) }
+    {
+        let before = self.cache.entry_count();
+        self.cache.insert(key, value, now)?;
+        self.walk = Walk::Ended;
+        self.statistics.count_insert();
+        self.statistics.count_left(before, self.cache.entry_count());
+        Ok(())
+    }
+
+    /// Looks the key up as `Cache::get` does.
+    pub fn get(&mut self, key: u64, now: Instant) -> Option<u64>
+        ensures { IsNumberGet key now result self.old self.new }
+    {
+        self.walk = Walk::Ended;
+        let before = self.cache.entry_count();
+        let found = self.cache.get(&key, now).copied();
+        self.statistics.count_get(found.is_some());
+        self.statistics.count_left(before, self.cache.entry_count());
+        found
+    }
+
+    /// Looks the key up as `Cache::peek` does.
+    pub fn peek(&self, key: u64, now: Instant) -> Option<u64>
+        ensures { result ≡ found_by_peek number_keys self.now.cache key now }
+    {
+        self.cache.peek(&key, now).copied()
+    }
+
+    /// Returns `true` if the key has an unexpired entry, as `Cache::contains_key` does.
+    pub fn contains(&mut self, key: u64, now: Instant) -> bool
+        ensures value { result ≡ is_contained number_keys self.old.cache key now }
+        ensures step { self.new.cache ≡ after_look number_keys self.old.cache now }
+        ensures counts { self.new.statistics ≡ with_calls (λ counts. counts) self.old.cache self.new.cache self.old.statistics }
+        ensures walk { self.new.walk ≡ Ended }
+    {
+        self.walk = Walk::Ended;
+        let before = self.cache.entry_count();
+        let is_there = self.cache.contains_key(&key, now);
+        self.statistics.count_left(before, self.cache.entry_count());
+        is_there
+    }
+
+    /// Removes the entry of the key, as `Cache::remove` does, and returns its value.
+    pub fn remove(&mut self, key: u64, now: Instant) -> Option<u64>
+        ensures value { result ≡ found_by_get number_keys self.old.cache key now }
+        ensures step { self.new ≡ record self.old { cache = after_invalidate number_keys self.old.cache key now; walk = Ended } }
+    {
+        self.walk = Walk::Ended;
+        self.cache.remove(&key, now)
+    }
+
+    /// Removes the entry of the key, if there is one.
+    pub fn invalidate(&mut self, key: u64, now: Instant)
+        ensures { self.new ≡ record self.old { cache = after_invalidate number_keys self.old.cache key now; walk = Ended } }
+    {
+        self.walk = Walk::Ended;
+        self.cache.invalidate(&key, now);
+    }
+
+    /// Removes all entries.
+    pub fn invalidate_all(&mut self)
+        ensures { self.new ≡ record self.old { cache = after_invalidate_all self.old.cache; walk = Ended } }
+    {
+        self.walk = Walk::Ended;
+        self.cache.invalidate_all();
+    }
+
+    /// Begins a walk through the unexpired entries, in the order of `Cache::iter`. Each call that may change the cache ends it, unless it is refused memory: all
+    /// but `peek` and the looks at counts.
+    pub fn begin_walk(&mut self)
+        ensures { self.new ≡ record self.old { walk = AtStart } }
+    {
+        self.walk = Walk::AtStart;
+    }
+
+    /// Goes on to the next entry of the walk.
+    pub fn step(&mut self, now: Instant) -> NumberStep
+        ensures told { result ≡ step_of self.old.walk (next_pair self.old.walk self.old.cache self.old.met now) }
+        ensures rest { self.new ≡ record self.old {
+          walk = walk_after self.old.walk (next_pair self.old.walk self.old.cache self.old.met now);
+          met = met_after self.old.met (next_pair self.old.walk self.old.cache self.old.met now);
+        } }
+    {
+        match next_of(&self.cache, self.walk, self.met, now) {
+            Some((key, value)) => {
+                self.walk = Walk::Behind;
+                self.met = key;
+                NumberStep::Pair { key, value }
+            }
+            None => end_of(self.walk),
+        }
+    }
+}
+
+/// The entry that a walk comes to next.
+fn next_of(cache: &Cache<u64, u64>, walk: Walk, met: u64, now: Instant) -> Option<(u64, u64)>
+    ensures { result ≡ next_pair walk cache.now met now }
+{
+    match walk {
+        Walk::Ended => None,
+        Walk::AtStart => copied(cache.iter(now).next()),
+        Walk::Behind => copied(cache.next_after(&met, now)),
+    }
+}
+
+/// A copy of a key and its value.
+fn copied(pair: Option<(&u64, &u64)>) -> Option<(u64, u64)>
+    ensures { result ≡ option_map deref_pair pair.entry }
+{
+    let (key, value) = pair?;
+    Some((*key, *value))
+}
+
+/// Returns the answer of a step without a next entry.
+fn end_of(walk: Walk) -> NumberStep
+    ensures { result ≡ step_of walk None }
+{
+    match walk {
+        Walk::Ended => NumberStep::Ended,
+        _ => NumberStep::Done,
+    }
+}

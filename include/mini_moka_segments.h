@@ -1,0 +1,251 @@
+/*
+ * A cache of bytes that threads share: N segments, each a handle of mini_moka.h behind a mutex of pthreads. This header is all of it; a program links
+ * libmini_moka.a, and pthreads. The caches inside are proved. The hand-over between threads is tested: dev/c_library/run runs threads under ThreadSanitizer.
+ *
+ * A key belongs to one segment, which has its part of the capacity and an admission policy of its own. A call waits only for calls in the same segment. Each
+ * call is the one of mini_moka.h, and has its status. An entry that weighs more than its segment's part of the capacity is rejected. Keys that strangers choose
+ * may all belong to one segment, which makes that one busy, and no slower.
+ *
+ * A program keeps these rules:
+ *
+ * - A struct mini_moka_segments is all zeros at first. It is opened and closed by one thread, while no other is in a call. It may not be copied.
+ * - The rules of mini_moka.h on pointers, memory, signal handlers and fork hold here too.
+ */
+#ifndef MINI_MOKA_SEGMENTS_H
+#define MINI_MOKA_SEGMENTS_H
+
+#include "mini_moka.h"
+#include <pthread.h>
+#include <stdlib.h>
+#include <string.h>
+
+#ifdef __cplusplus
+extern "C" {
+#endif
+
+/* The most segments that mini_moka_segments_open chooses, and the least capacity that it gives one, in entries and in bytes: a smaller cache has no window. */
+#define MINI_MOKA_SEGMENTS_MOST 16
+#define MINI_MOKA_SEGMENT_LEAST 100
+#define MINI_MOKA_SEGMENT_LEAST_BYTES (UINT64_C(1) << 20)
+
+/* Two cache lines of most processors, which fetch lines in pairs. */
+#define MINI_MOKA_SEGMENT_SIZE 128
+
+/* A segment fills its cache lines, so that threads in different segments don't share one. */
+union mini_moka_segment {
+    struct {
+        pthread_mutex_t lock;
+        struct mini_moka cache;
+    } in;
+    char lines[MINI_MOKA_SEGMENT_SIZE];
+};
+
+/* Its fields are this header's. */
+struct mini_moka_segments {
+    union mini_moka_segment *segments;
+    void *block; /* the memory of the segments, which begin at its first cache line */
+    size_t count;
+    uint64_t seed;
+};
+
+/* Mixes a word into a hash: both halves of the product of 64 by 64 bits. */
+static inline uint64_t mini_moka_segments_mix(uint64_t hash, uint64_t word) {
+    const uint64_t odd = UINT64_C(0x9E3779B97F4A7C15);
+    uint64_t a = hash ^ word, low = (a & UINT32_MAX) * (odd & UINT32_MAX), middle = (a >> 32) * (odd & UINT32_MAX) + (low >> 32);
+    uint64_t other = (a & UINT32_MAX) * (odd >> 32) + (middle & UINT32_MAX);
+    return (a * odd) ^ ((a >> 32) * (odd >> 32) + (middle >> 32) + (other >> 32));
+}
+
+/* Returns the number of the segment of a key. */
+static inline size_t mini_moka_segments_at(const struct mini_moka_segments *all, const void *key, size_t length) {
+    const unsigned char *bytes = (const unsigned char *)key;
+    uint64_t hash = all->seed ^ length, word;
+    for (; length >= sizeof word; bytes += sizeof word, length -= sizeof word) {
+        memcpy(&word, bytes, sizeof word);
+        hash = mini_moka_segments_mix(hash, word);
+    }
+    if (length > 0) {
+        word = 0;
+        memcpy(&word, bytes, length);
+        hash = mini_moka_segments_mix(hash, word);
+    }
+    return (size_t)((hash >> 32) * all->count >> 32);
+}
+
+/* Locks the segment of a key, and returns it. */
+static inline union mini_moka_segment *mini_moka_segments_lock(struct mini_moka_segments *all, const void *key, size_t length) {
+    union mini_moka_segment *segment = &all->segments[mini_moka_segments_at(all, key, length)];
+    pthread_mutex_lock(&segment->in.lock);
+    return segment;
+}
+
+static inline uint32_t mini_moka_segments_unlock(union mini_moka_segment *segment, uint32_t status) {
+    pthread_mutex_unlock(&segment->in.lock);
+    return status;
+}
+
+/* Closes what was opened. No other thread may be in a call. */
+static inline uint32_t mini_moka_segments_close(struct mini_moka_segments *all) {
+    if (all->segments == NULL)
+        return MINI_MOKA_CLOSED;
+    for (size_t i = 0; i < all->count; i++) {
+        mini_moka_close(&all->segments[i].in.cache);
+        pthread_mutex_destroy(&all->segments[i].in.lock);
+    }
+    free(all->block);
+    all->block = NULL;
+    all->segments = NULL;
+    all->count = 0;
+    return MINI_MOKA_DONE;
+}
+
+/* Returns the part of a segment: the parts of all are the whole, and no two differ by more than 1. */
+static inline uint64_t mini_moka_segments_part(uint64_t whole, size_t count, size_t at) {
+    return whole == MINI_MOKA_UNLIMITED ? whole : whole / count + (at < whole % count);
+}
+
+/*
+ * Opens a cache of `count` segments. If that is 0 there are 16, or as many as leave each a capacity of 100 entries, or of 1 MiB if bytes are weighed. Each has
+ * its part of the capacity and of initial_capacity. If a segment is refused, nothing stays open.
+ */
+static inline uint32_t mini_moka_segments_open(struct mini_moka_segments *all, const struct mini_moka_settings *settings, size_t count) {
+    if (all->segments != NULL)
+        return MINI_MOKA_ALREADY_OPEN;
+    if (count == 0) {
+        uint64_t most = settings->capacity / (settings->is_weighed ? MINI_MOKA_SEGMENT_LEAST_BYTES : MINI_MOKA_SEGMENT_LEAST);
+        count = most < MINI_MOKA_SEGMENTS_MOST ? (size_t)most + (most == 0) : MINI_MOKA_SEGMENTS_MOST;
+    }
+    if (count > UINT32_MAX || count >= SIZE_MAX / sizeof *all->segments)
+        return MINI_MOKA_OUT_OF_MEMORY;
+    all->block = calloc(count + 1, sizeof *all->segments);
+    if (all->block == NULL)
+        return MINI_MOKA_OUT_OF_MEMORY;
+    size_t over = (uintptr_t)all->block % MINI_MOKA_SEGMENT_SIZE;
+    all->segments = (union mini_moka_segment *)(void *)((char *)all->block + (over == 0 ? 0 : MINI_MOKA_SEGMENT_SIZE - over));
+    all->seed = mini_moka_segments_mix(settings->seed[0], settings->seed[1]);
+    for (all->count = 0; all->count < count;) {
+        union mini_moka_segment *segment = &all->segments[all->count];
+        struct mini_moka_settings part = *settings;
+        part.capacity = mini_moka_segments_part(settings->capacity, count, all->count);
+        part.initial_capacity = (size_t)mini_moka_segments_part(settings->initial_capacity, count, all->count);
+        uint32_t status = pthread_mutex_init(&segment->in.lock, NULL) == 0 ? MINI_MOKA_DONE : MINI_MOKA_OUT_OF_MEMORY;
+        if (status == MINI_MOKA_DONE) {
+            all->count++;
+            status = mini_moka_open(&segment->in.cache, &part);
+        }
+        if (status != MINI_MOKA_DONE) {
+            mini_moka_segments_close(all);
+            return status;
+        }
+    }
+    return MINI_MOKA_DONE;
+}
+
+/* The calls at a key. Each is MINI_MOKA_CLOSED before the cache is opened. */
+static inline uint32_t mini_moka_segments_insert(struct mini_moka_segments *all, const void *key, size_t key_length, const void *value, size_t value_length,
+                                                 uint64_t now) {
+    if (all->segments == NULL)
+        return MINI_MOKA_CLOSED;
+    union mini_moka_segment *segment = mini_moka_segments_lock(all, key, key_length);
+    return mini_moka_segments_unlock(segment, mini_moka_insert(&segment->in.cache, key, key_length, value, value_length, now));
+}
+
+static inline uint32_t mini_moka_segments_get(struct mini_moka_segments *all, const void *key, size_t key_length, uint64_t now, void *buffer,
+                                              size_t buffer_length, size_t *length) {
+    if (all->segments == NULL)
+        return MINI_MOKA_CLOSED;
+    union mini_moka_segment *segment = mini_moka_segments_lock(all, key, key_length);
+    return mini_moka_segments_unlock(segment, mini_moka_get(&segment->in.cache, key, key_length, now, buffer, buffer_length, length));
+}
+
+static inline uint32_t mini_moka_segments_peek(struct mini_moka_segments *all, const void *key, size_t key_length, uint64_t now, void *buffer,
+                                               size_t buffer_length, size_t *length) {
+    if (all->segments == NULL)
+        return MINI_MOKA_CLOSED;
+    union mini_moka_segment *segment = mini_moka_segments_lock(all, key, key_length);
+    return mini_moka_segments_unlock(segment, mini_moka_peek(&segment->in.cache, key, key_length, now, buffer, buffer_length, length));
+}
+
+static inline uint32_t mini_moka_segments_remove(struct mini_moka_segments *all, const void *key, size_t key_length, uint64_t now, void *buffer,
+                                                 size_t buffer_length, size_t *length) {
+    if (all->segments == NULL)
+        return MINI_MOKA_CLOSED;
+    union mini_moka_segment *segment = mini_moka_segments_lock(all, key, key_length);
+    return mini_moka_segments_unlock(segment, mini_moka_remove(&segment->in.cache, key, key_length, now, buffer, buffer_length, length));
+}
+
+static inline uint32_t mini_moka_segments_contains(struct mini_moka_segments *all, const void *key, size_t key_length, uint64_t now) {
+    if (all->segments == NULL)
+        return MINI_MOKA_CLOSED;
+    union mini_moka_segment *segment = mini_moka_segments_lock(all, key, key_length);
+    return mini_moka_segments_unlock(segment, mini_moka_contains(&segment->in.cache, key, key_length, now));
+}
+
+static inline uint32_t mini_moka_segments_invalidate(struct mini_moka_segments *all, const void *key, size_t key_length, uint64_t now) {
+    if (all->segments == NULL)
+        return MINI_MOKA_CLOSED;
+    union mini_moka_segment *segment = mini_moka_segments_lock(all, key, key_length);
+    return mini_moka_segments_unlock(segment, mini_moka_invalidate(&segment->in.cache, key, key_length, now));
+}
+
+/* The calls on all segments, one after another: another thread may change a segment before the call comes to it or after. */
+static inline uint32_t mini_moka_segments_invalidate_all(struct mini_moka_segments *all) {
+    if (all->segments == NULL)
+        return MINI_MOKA_CLOSED;
+    for (size_t i = 0; i < all->count; i++) {
+        pthread_mutex_lock(&all->segments[i].in.lock);
+        mini_moka_segments_unlock(&all->segments[i], mini_moka_invalidate_all(&all->segments[i].in.cache));
+    }
+    return MINI_MOKA_DONE;
+}
+
+/* Adds two counts, at most to UINT64_MAX. */
+static inline uint64_t mini_moka_segments_add(uint64_t count, uint64_t other) {
+    return other > UINT64_MAX - count ? UINT64_MAX : count + other;
+}
+
+/* Adds up what a call writes for each segment. */
+static inline uint32_t mini_moka_segments_sum(struct mini_moka_segments *all, uint32_t (*call)(struct mini_moka *, uint64_t *), uint64_t *sum) {
+    uint64_t whole = 0;
+    if (all->segments == NULL)
+        return MINI_MOKA_CLOSED;
+    for (size_t i = 0; i < all->count; i++) {
+        uint64_t part = 0;
+        pthread_mutex_lock(&all->segments[i].in.lock);
+        mini_moka_segments_unlock(&all->segments[i], call(&all->segments[i].in.cache, &part));
+        whole = mini_moka_segments_add(whole, part);
+    }
+    *sum = whole;
+    return MINI_MOKA_DONE;
+}
+
+static inline uint32_t mini_moka_segments_count(struct mini_moka_segments *all, uint64_t *count) {
+    return mini_moka_segments_sum(all, mini_moka_count, count);
+}
+
+static inline uint32_t mini_moka_segments_weight(struct mini_moka_segments *all, uint64_t *weight) {
+    return mini_moka_segments_sum(all, mini_moka_weight, weight);
+}
+
+static inline uint32_t mini_moka_segments_statistics(struct mini_moka_segments *all, struct mini_moka_statistics *statistics) {
+    struct mini_moka_statistics whole = {0, 0, 0, 0};
+    if (all->segments == NULL)
+        return MINI_MOKA_CLOSED;
+    for (size_t i = 0; i < all->count; i++) {
+        struct mini_moka_statistics part = {0, 0, 0, 0};
+        pthread_mutex_lock(&all->segments[i].in.lock);
+        mini_moka_segments_unlock(&all->segments[i], mini_moka_statistics(&all->segments[i].in.cache, &part));
+        whole.hits = mini_moka_segments_add(whole.hits, part.hits);
+        whole.misses = mini_moka_segments_add(whole.misses, part.misses);
+        whole.inserts = mini_moka_segments_add(whole.inserts, part.inserts);
+        whole.evictions = mini_moka_segments_add(whole.evictions, part.evictions);
+    }
+    *statistics = whole;
+    return MINI_MOKA_DONE;
+}
+
+#ifdef __cplusplus
+}
+#endif
+
+#endif

@@ -1,0 +1,430 @@
+//! A cache that threads share: segments, each a [`crate::Cache`] behind a lock of its own.
+//!
+//! The caches inside are proved. The hand-over between threads is tested: by this package's tests,
+//! and under ThreadSanitizer by a program in C over the same library.
+
+use crate::builder;
+use crate::clock::Clock;
+use crate::error::{BuildError, OutOfMemory};
+use crate::handle::Statistics;
+use std::fmt;
+use std::sync::{Arc, Mutex, MutexGuard, PoisonError};
+use std::time::Duration;
+
+/// The most segments of a cache for which no number is set.
+const MOST_SEGMENTS: u64 = 16;
+
+/// A cache that threads share, whose keys and values are bytes of any length.
+///
+/// A clone is another handle on the same cache. It keeps copies, and returns copies.
+///
+/// ```
+/// use mini_moka_proved::sync::Cache;
+/// use std::thread;
+///
+/// let cache = Cache::new(10_000)?;
+/// let threads: Vec<_> = (0..4u8)
+///     .map(|number| {
+///         let cache = cache.clone();
+///         thread::spawn(move || cache.insert([number], "seen"))
+///     })
+///     .collect();
+/// for thread in threads {
+///     thread.join().unwrap()?;
+/// }
+/// assert_eq!(cache.len(), 4);
+/// # Ok::<(), mini_moka_proved::OutOfMemory>(())
+/// ```
+///
+/// # Segments
+///
+/// A key belongs to one segment, which has its part of the capacity and an admission policy of its
+/// own. A call waits only for calls in the same segment. If keys are unevenly spread, one segment
+/// rejects entries while another has capacity left.
+///
+/// # Calls
+///
+/// Calls are those of [`crate::Cache`], by `&self`. A call at a key is one step: another thread sees
+/// the cache before it or after it. Calls on all segments, as [`len`](Self::len), take one segment
+/// after another. All segments read one clock.
+///
+/// # Memory
+///
+/// Only building a cache can abort if memory is refused, for the block that its clones share.
+pub struct Cache {
+    shared: Arc<Shared>,
+}
+
+struct Shared {
+    segments: Vec<Segment>,
+    seed: u64,
+    clock: Clock,
+}
+
+/// A segment fills its cache lines, so that threads in different segments don't share one.
+#[repr(align(128))]
+struct Segment {
+    cache: Mutex<crate::Cache>,
+}
+
+impl Cache {
+    /// Creates a cache of at most `max_capacity` entries, which don't expire.
+    ///
+    /// # Errors
+    ///
+    /// [`OutOfMemory`] if memory is refused.
+    pub fn new(max_capacity: u64) -> Result<Cache, OutOfMemory> {
+        let built = Cache::builder().max_capacity(max_capacity).build();
+        // Without a duration nothing else is refused.
+        built.map_err(|_| OutOfMemory)
+    }
+
+    /// Returns a builder of caches.
+    pub fn builder() -> Builder {
+        Builder::default()
+    }
+
+    /// Looks the key up, and returns a copy of its value.
+    ///
+    /// The key is counted, found or not, and its entry becomes the most recently used one of its
+    /// segment. If memory is refused, it answers as if the key had no entry.
+    pub fn get(&self, key: impl AsRef<[u8]>) -> Option<Vec<u8>> {
+        self.try_get(key).ok().flatten()
+    }
+
+    /// Looks the key up as [`get`](Self::get) does, and tells a key without an entry from one for
+    /// which memory was refused.
+    ///
+    /// # Errors
+    ///
+    /// Those of [`crate::Cache::try_get`].
+    pub fn try_get(&self, key: impl AsRef<[u8]>) -> Result<Option<Vec<u8>>, OutOfMemory> {
+        let (key, now) = (key.as_ref(), self.now());
+        self.segment(key).try_get_at(key, now)
+    }
+
+    /// Looks the key up as [`get`](Self::get) does, writes its value to `buffer`, and returns
+    /// `true` if there is one. If no value is found, the buffer is empty.
+    ///
+    /// ```
+    /// use mini_moka_proved::sync::Cache;
+    ///
+    /// let cache = Cache::new(10_000)?;
+    /// cache.insert("alice", "admin")?;
+    /// let mut role = Vec::new();
+    /// assert!(cache.get_into("alice", &mut role)?);
+    /// assert_eq!(role, b"admin");
+    /// # Ok::<(), mini_moka_proved::OutOfMemory>(())
+    /// ```
+    ///
+    /// # Errors
+    ///
+    /// Those of [`crate::Cache::get_into`].
+    pub fn get_into(
+        &self,
+        key: impl AsRef<[u8]>,
+        buffer: &mut Vec<u8>,
+    ) -> Result<bool, OutOfMemory> {
+        let (key, now) = (key.as_ref(), self.now());
+        self.segment(key).get_into_at(key, buffer, now)
+    }
+
+    /// Looks the key up and returns a copy of its value. It doesn't count as an access.
+    pub fn peek(&self, key: impl AsRef<[u8]>) -> Option<Vec<u8>> {
+        let (key, now) = (key.as_ref(), self.now());
+        self.segment(key).peek_at(key, now)
+    }
+
+    /// Returns `true` if the key has an unexpired entry. It doesn't count as an access.
+    pub fn contains_key(&self, key: impl AsRef<[u8]>) -> bool {
+        let (key, now) = (key.as_ref(), self.now());
+        self.segment(key).contains_key_at(key, now)
+    }
+
+    /// Looks the key up as [`get`](Self::get) does, and inserts what `make` returns if there is
+    /// nothing. It returns the value that the key had, or that of `make`, even if that was rejected.
+    ///
+    /// No lock is held while `make` runs. So it may call the cache, and two threads may both make a
+    /// value for one key; the later insert stays.
+    ///
+    /// ```
+    /// use mini_moka_proved::sync::Cache;
+    ///
+    /// let cache = Cache::new(10_000)?;
+    /// assert_eq!(cache.get_or_insert_with("page", || b"made".to_vec())?, b"made");
+    /// assert_eq!(cache.get_or_insert_with("page", || unreachable!())?, b"made");
+    /// # Ok::<(), mini_moka_proved::OutOfMemory>(())
+    /// ```
+    ///
+    /// # Errors
+    ///
+    /// Those of [`crate::Cache::get_or_insert_with`].
+    pub fn get_or_insert_with(
+        &self,
+        key: impl AsRef<[u8]>,
+        make: impl FnOnce() -> Vec<u8>,
+    ) -> Result<Vec<u8>, OutOfMemory> {
+        let key = key.as_ref();
+        if let Some(value) = self.try_get(key)? {
+            return Ok(value);
+        }
+        let value = make();
+        self.insert(key, &value)?;
+        Ok(value)
+    }
+
+    /// Puts a copy of the value at a copy of the key. A full segment may reject a new key for one
+    /// that is used more, which is `Ok` too.
+    ///
+    /// # Errors
+    ///
+    /// Those of [`crate::Cache::insert`].
+    pub fn insert(
+        &self,
+        key: impl AsRef<[u8]>,
+        value: impl AsRef<[u8]>,
+    ) -> Result<(), OutOfMemory> {
+        let (key, value, now) = (key.as_ref(), value.as_ref(), self.now());
+        self.segment(key).insert_at(key, value, now)
+    }
+
+    /// Removes the entry of the key, and returns its value, unless it is expired.
+    ///
+    /// # Errors
+    ///
+    /// Those of [`crate::Cache::remove`]. Then the entry stays.
+    pub fn remove(&self, key: impl AsRef<[u8]>) -> Result<Option<Vec<u8>>, OutOfMemory> {
+        let (key, now) = (key.as_ref(), self.now());
+        self.segment(key).remove_at(key, now)
+    }
+
+    /// Removes the entry of the key, if there is one, and returns nothing.
+    ///
+    /// # Errors
+    ///
+    /// Those of [`crate::Cache::invalidate`]. Then the entry stays.
+    pub fn invalidate(&self, key: impl AsRef<[u8]>) -> Result<(), OutOfMemory> {
+        let (key, now) = (key.as_ref(), self.now());
+        self.segment(key).invalidate_at(key, now)
+    }
+
+    /// Removes all entries, of one segment after another.
+    pub fn clear(&self) {
+        for segment in &self.shared.segments {
+            segment.lock().clear();
+        }
+    }
+
+    /// Returns the number of entries, including expired ones that no call has removed yet.
+    pub fn len(&self) -> usize {
+        let segments = self.shared.segments.iter();
+        segments.map(|segment| segment.lock().len()).sum()
+    }
+
+    /// Returns `true` if no segment has an entry, not even an expired one.
+    pub fn is_empty(&self) -> bool {
+        let mut segments = self.shared.segments.iter();
+        segments.all(|segment| segment.lock().is_empty())
+    }
+
+    /// Returns the weight of the entries, at most `u64::MAX`.
+    pub fn weighted_size(&self) -> u64 {
+        let segments = self.shared.segments.iter();
+        segments
+            .map(|segment| segment.lock().weighted_size())
+            .fold(0, u64::saturating_add)
+    }
+
+    /// Returns the counts of the calls since the cache was built.
+    pub fn statistics(&self) -> Statistics {
+        let segments = self.shared.segments.iter();
+        segments.map(|segment| segment.lock().statistics()).fold(
+            Statistics::default(),
+            |sum, one| Statistics {
+                hits: sum.hits.saturating_add(one.hits),
+                misses: sum.misses.saturating_add(one.misses),
+                inserts: sum.inserts.saturating_add(one.inserts),
+                evictions: sum.evictions.saturating_add(one.evictions),
+            },
+        )
+    }
+
+    /// Returns the number of segments.
+    pub fn segments(&self) -> usize {
+        self.shared.segments.len()
+    }
+
+    /// Returns the moment of the cache's clock.
+    fn now(&self) -> Duration {
+        self.shared.clock.elapsed()
+    }
+
+    /// Locks the segment of a key.
+    fn segment(&self, key: &[u8]) -> MutexGuard<'_, crate::Cache> {
+        let segments = &self.shared.segments;
+        let high = hash(self.shared.seed, key) >> 32;
+        segments[((high * segments.len() as u64) >> 32) as usize].lock()
+    }
+}
+
+impl Segment {
+    /// Locks the cache. A call that panicked in another thread left it whole.
+    fn lock(&self) -> MutexGuard<'_, crate::Cache> {
+        self.cache.lock().unwrap_or_else(PoisonError::into_inner)
+    }
+}
+
+impl Clone for Cache {
+    /// Returns another handle on the same cache.
+    fn clone(&self) -> Cache {
+        Cache {
+            shared: Arc::clone(&self.shared),
+        }
+    }
+}
+
+impl fmt::Debug for Cache {
+    fn fmt(&self, f: &mut fmt::Formatter<'_>) -> fmt::Result {
+        f.debug_struct("Cache")
+            .field("len", &self.len())
+            .field("weighted_size", &self.weighted_size())
+            .field("segments", &self.segments())
+            .finish_non_exhaustive()
+    }
+}
+
+/// Hashes a key by products of its words, to pick a segment. Keys that strangers choose may all
+/// belong to one segment, which makes that one busy, and no slower.
+fn hash(seed: u64, key: &[u8]) -> u64 {
+    let mut hash = seed ^ key.len() as u64;
+    for word in key.chunks(8) {
+        let mut bytes = [0; 8];
+        bytes[..word.len()].copy_from_slice(word);
+        let product = u128::from(hash ^ u64::from_le_bytes(bytes)) * 0x9E37_79B9_7F4A_7C15;
+        hash = product as u64 ^ (product >> 64) as u64;
+    }
+    hash
+}
+
+/// Builds a [`Cache`] that threads share. A cache has no limit that isn't set.
+///
+/// ```
+/// use mini_moka_proved::sync::Cache;
+/// use std::time::Duration;
+///
+/// let cache = Cache::builder()
+///     .max_capacity(10_000)
+///     .time_to_live(Duration::from_secs(30 * 60))
+///     .segments(4)
+///     .build()?;
+/// assert_eq!(cache.segments(), 4);
+/// # Ok::<(), mini_moka_proved::BuildError>(())
+/// ```
+#[derive(Clone, Default)]
+#[must_use]
+pub struct Builder {
+    whole: builder::Builder,
+    segments: Option<usize>,
+}
+
+impl Builder {
+    /// Sets the most entries, or with [`weigh_bytes`](Self::weigh_bytes) the most bytes. The parts
+    /// of the segments are the whole.
+    pub fn max_capacity(mut self, max_capacity: u64) -> Builder {
+        self.whole = self.whole.max_capacity(max_capacity);
+        self
+    }
+
+    /// Makes the capacity count the bytes of keys and values, and not entries.
+    ///
+    /// An entry that weighs more than its segment's part of the capacity is rejected.
+    pub fn weigh_bytes(mut self) -> Builder {
+        self.whole = self.whole.weigh_bytes();
+        self
+    }
+
+    /// Sets how long an entry lives after it was last written. It is expired from the end of that
+    /// time on.
+    pub fn time_to_live(mut self, duration: Duration) -> Builder {
+        self.whole = self.whole.time_to_live(duration);
+        self
+    }
+
+    /// Sets how long an entry lives after it was last read or written.
+    pub fn time_to_idle(mut self, duration: Duration) -> Builder {
+        self.whole = self.whole.time_to_idle(duration);
+        self
+    }
+
+    /// Reserves memory for so many entries from the start, as
+    /// [`crate::Builder::initial_capacity`] does.
+    pub fn initial_capacity(mut self, entries: usize) -> Builder {
+        self.whole = self.whole.initial_capacity(entries);
+        self
+    }
+
+    /// Sets the key of the hash of the cache's keys, as [`crate::Builder::seed`] does.
+    pub fn seed(mut self, seed: [u8; 16]) -> Builder {
+        self.whole = self.whole.seed(seed);
+        self
+    }
+
+    /// Makes the cache read a coarse clock, as [`crate::Builder::coarse_clock`] does.
+    pub fn coarse_clock(mut self) -> Builder {
+        self.whole = self.whole.coarse_clock();
+        self
+    }
+
+    /// Sets the number of segments, at least 1 and at most 65,536.
+    ///
+    /// Without one, a cache has 16, or as many as leave each a capacity of 100 entries, or of 1 MiB
+    /// if bytes are weighed. A smaller segment has no window, so it rejects more new entries.
+    pub fn segments(mut self, segments: usize) -> Builder {
+        self.segments = Some(segments.clamp(1, 1 << 16));
+        self
+    }
+
+    /// Builds the cache, and starts its clock.
+    ///
+    /// # Errors
+    ///
+    /// Those of [`crate::Builder::build`].
+    pub fn build(self) -> Result<Cache, BuildError> {
+        let count = self.count();
+        let mut segments = Vec::new();
+        segments
+            .try_reserve_exact(count)
+            .map_err(OutOfMemory::from)?;
+        for at in 0..count {
+            let part = self.whole.part(count as u64, at as u64);
+            // A segment is passed the moment of the clock that all share.
+            segments.push(Segment {
+                cache: Mutex::new(part.build_with(Clock::standing())?),
+            });
+        }
+        let shared = Shared {
+            segments,
+            seed: self.whole.segment_seed(),
+            clock: self.whole.clock(),
+        };
+        Ok(Cache {
+            shared: Arc::new(shared),
+        })
+    }
+
+    /// Returns the number of segments.
+    fn count(&self) -> usize {
+        let least = self.whole.least_segments().unwrap_or(MOST_SEGMENTS);
+        self.segments
+            .unwrap_or(least.clamp(1, MOST_SEGMENTS) as usize)
+    }
+}
+
+impl fmt::Debug for Builder {
+    fn fmt(&self, f: &mut fmt::Formatter<'_>) -> fmt::Result {
+        f.debug_struct("Builder")
+            .field("whole", &self.whole)
+            .field("segments", &self.segments)
+            .finish()
+    }
+}
