@@ -34,12 +34,12 @@ struct Asked {
     kind: Kind,
     calls: u64,
     seed: u64,
-    /// Whether its verdict is enough where it was served.
+    /// True if the line asks only for a verdict, which a soak gives that was served.
     is_short: bool,
 }
 
 impl Asked {
-    /// The soak of a line `soak CALLS SEED` or `soak_segments CALLS SEED`, or in short of one with `check` for `soak`, if the line is one.
+    /// Parses a line `soak CALLS SEED` or `soak_segments CALLS SEED`, or one with `check` for `soak`, if it is one.
     fn parse(line: &str) -> Option<Asked> {
         let (word, numbers) = line.split_once(' ')?;
         let (kind, is_short) = match word {

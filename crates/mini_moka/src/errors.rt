@@ -13,7 +13,7 @@ use moka_segments::error::BuildError as SegmentsError;
 use std::alloc::{AllocError, AllocFailed};
 use std::io;
 
-/// Any error of the library, for callers who only pass errors up: each becomes this one by `?`, and so do the allocator's and the system's.
+/// Any error of the library, for callers who only pass errors up. Each error, the allocator's and the system's among them, becomes this one by `?`.
 #[derive(Clone, Copy, Debug, PartialEq, Eq, thiserror::Error)]
 pub enum Error {
     #[error("out of memory")]

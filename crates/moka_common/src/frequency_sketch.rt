@@ -54,8 +54,8 @@ impl<A: Allocator + Clone + Drop> FrequencySketch<A> {
         }
     }
 
-    /// Sees to a table for `cap` entries: one word of 8 bytes an entry, up to the next power of two, and at most 8 GiB. A longer table is made
-    /// anew, with all counts lost, in time linear in its length.
+    /// Makes a table for `cap` entries, if there is no table as long. It has one word of 8 bytes an entry, rounded up to a power of two, and at most 8 GiB. A
+    /// longer table is made anew, with all counts lost, in time linear in its length.
     pub fn ensure_capacity(&mut self, cap: u32) -> Result<(), OutOfMemory>
         ensures ok { OnOk result (self.new ≡ after_ensure_capacity self.old cap) }
         ensures err { OnErr result (self.new ≡ self.old) }
@@ -100,7 +100,7 @@ impl<A: Allocator + Clone + Drop> FrequencySketch<A> {
         }
     }
 
-    /// How many words the table has: 0 without a table. It also says what holds of every sketch.
+    /// Returns the number of words of the table, or 0 without a table. It also says what holds of every sketch.
     pub fn table_len(&self) -> usize
         ensures value { result ≡ table_len self.now }
         ensures sketch { IsSketch self.now }
@@ -126,7 +126,7 @@ fn wanted_len(cap: u32) -> usize
     (cap.min(MAX_TABLE_LEN) as usize).next_power_of_two()
 }
 
-/// How many counts make a sample, for a cache of this capacity.
+/// Returns the number of counts in a sample of a cache of this capacity.
 fn wanted_sample_size(cap: u32) -> u32
     ensures { result ≡ sample_size_for cap }
 {

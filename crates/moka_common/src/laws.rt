@@ -10,12 +10,12 @@ pub fn estimates_are_bounded()
     ensures { BoundsEstimates }
 {}
 
-/// A count keeps what holds of every sketch, so a table's size is below its sample in any state that calls reach.
+/// Counting keeps what holds of every sketch, so a table's size is below its sample in any state that calls reach.
 pub fn counting_keeps_sketches()
     ensures { CountingKeepsSketches }
 {}
 
-/// The same where a table is asked for.
+/// Asking for a table keeps what holds of every sketch.
 pub fn growing_keeps_sketches()
     ensures { GrowingKeepsSketches }
 {}
@@ -25,7 +25,7 @@ pub fn counting_keeps_true_counts()
     ensures { CountingKeepsTrueCounts }
 {}
 
-/// The same where a table is asked for: in a new one nothing is counted yet.
+/// Asking for a table keeps true counts: in a new one nothing is counted yet.
 pub fn growing_keeps_true_counts()
     ensures { GrowingKeepsTrueCounts }
 {}
@@ -58,7 +58,7 @@ pub fn durations_are_of_1000_years_at_most()
     ensures { LONGEST_DURATION_SECS ≡ 31536000000 }
 {}
 
-/// What an entry weighs without a weigher.
+/// The weight of an entry without a weigher.
 pub fn the_unit_weight_is_one()
     ensures { UNIT_WEIGHT ≡ 1 }
 {}

@@ -55,7 +55,7 @@ impl Limits {
         self.policy.max_capacity()
     }
 
-    /// Whether entries live a limited time from their last write.
+    /// Returns `true` if entries have a time to live.
     #[inline]
     pub fn has_time_to_live(&self) -> bool
         ensures { result ≡ is_some self.now.time_to_live }
@@ -63,7 +63,7 @@ impl Limits {
         self.live.is_some()
     }
 
-    /// Whether entries live a limited time from their last use.
+    /// Returns `true` if entries have a time to idle.
     #[inline]
     pub fn has_time_to_idle(&self) -> bool
         ensures { result ≡ is_some self.now.time_to_idle }
@@ -71,7 +71,7 @@ impl Limits {
         self.idle.is_some()
     }
 
-    /// Whether an entry that was last written at a moment is expired: it is so from the moment on at which its time to live has passed.
+    /// Returns `true` if the time to live has passed since an entry's last write. It has passed from its last moment on.
     #[inline]
     pub fn has_lived(&self, modified: Instant, now: Instant) -> bool
         ensures { result ≡ live_expired (live_nanos self.now) modified now }
@@ -82,7 +82,7 @@ impl Limits {
         }
     }
 
-    /// Whether an entry that was last accessed at a moment is expired: it is so from the moment on at which its time to idle has passed.
+    /// Returns `true` if the time to idle has passed since an entry's last access. It has passed from its last moment on.
     #[inline]
     pub fn is_idle(&self, accessed: Instant, now: Instant) -> bool
         ensures { result ≡ idle_expired (idle_nanos self.now) accessed now }

@@ -38,7 +38,7 @@ impl Policy {
         }
     }
 
-    /// The same with this limit on what all entries weigh together.
+    /// Returns the same policy with this weight limit of all entries.
     pub fn with_max_capacity(self, max_capacity: u64) -> Policy
         ensures { result ≡ record self { max_capacity = Some max_capacity } }
     {
@@ -48,7 +48,7 @@ impl Policy {
         }
     }
 
-    /// The same with this time to live.
+    /// Returns the same policy with this time to live.
     pub fn with_time_to_live(self, time_to_live: Duration) -> Policy
         ensures { result ≡ record self { time_to_live = Some time_to_live } }
     {
@@ -58,7 +58,7 @@ impl Policy {
         }
     }
 
-    /// The same with this time to idle.
+    /// Returns the same policy with this time to idle.
     pub fn with_time_to_idle(self, time_to_idle: Duration) -> Policy
         ensures { result ≡ record self { time_to_idle = Some time_to_idle } }
     {

@@ -73,7 +73,7 @@ impl Instant {
         }
     }
 
-    /// How many nanoseconds after the start it is.
+    /// Returns the number of nanoseconds since the start.
     pub fn nanos(self) -> u64
         ensures { result ≡ self }
     {
@@ -81,7 +81,7 @@ impl Instant {
     }
 }
 
-/// Whether an entry that was last accessed at a moment is expired: it is so from the moment on at which its time to idle has passed.
+/// Returns `true` if the time to idle has passed since an entry's last access. It has passed from its last moment on.
 pub fn idle_expired(time_to_idle: Option<Duration>, accessed: Instant, now: Instant) -> bool
     ensures { result ≡ idle_expired (option_map as_nanos time_to_idle) accessed now }
 {
@@ -91,7 +91,7 @@ pub fn idle_expired(time_to_idle: Option<Duration>, accessed: Instant, now: Inst
     }
 }
 
-/// Whether an entry that was last written at a moment is expired: it is so from the moment on at which its time to live has passed.
+/// Returns `true` if the time to live has passed since an entry's last write. It has passed from its last moment on.
 pub fn live_expired(time_to_live: Option<Duration>, modified: Instant, now: Instant) -> bool
     ensures { result ≡ live_expired (option_map as_nanos time_to_live) modified now }
 {

@@ -4,8 +4,7 @@ ghost use Rattle.moka_common.specs.Weight.{unit_weighs};
 
 use crate::constants::UNIT_WEIGHT;
 
-/// What weighs entries. Any closure of the form `|key: &K, value: &V| -> u32` does, as it stands; so does a type with an impl of its own,
-/// which can promise more of its answers.
+/// A weigher of entries. Any closure of the form `|key: &K, value: &V| -> u32` is one. A type with an impl of its own can promise more of its answers.
 pub trait Weigh<K, V>: Drop {
     // Whether the weigher may be asked.
     ghost ready: { Self → Type 0 };

@@ -46,7 +46,7 @@ impl CacheRegion {
         }
     }
 
-    /// Whether the region has this number.
+    /// Returns `true` if the region has this number.
     pub fn is_number(self, number: usize) -> bool
         ensures { result ≡ (number_of self == number) }
     {
@@ -115,7 +115,7 @@ impl<T, A: Allocator> Deque<T, A> {
         self.list.len()
     }
 
-    /// Whether the list has no element.
+    /// Returns `true` if the list has no element.
     pub fn is_empty(&self) -> bool
         ensures { result ≡ (length self.now.items == 0) }
     {
@@ -138,7 +138,7 @@ impl<T, A: Allocator> Deque<T, A> {
         }
     }
 
-    /// Makes room for `additional` more elements and no more than that, where `reserve` may make the table of the nodes' slots larger, so that it seldom grows.
+    /// Reserves capacity for `additional` more elements and no more, where `reserve` may make the table of slots larger so that it seldom grows.
     pub fn reserve_exact(&mut self, additional: usize) -> Result<(), OutOfMemory>
     where
         A: Clone,
@@ -154,7 +154,7 @@ impl<T, A: Allocator> Deque<T, A> {
         }
     }
 
-    /// How many elements fit with no allocation, with those that are there. All ids are below it.
+    /// Returns the number of elements that fit with no allocation, those in the list among them. All ids are below it.
     pub fn capacity(&self) -> usize
         ensures value { result ≡ length self.now.items + self.now.room }
         ensures bound { (id : ℕ) → IsIn self.now.items id → id < result }
@@ -200,7 +200,7 @@ impl<T, A: Allocator> Deque<T, A> {
         NodeId::from_number(number)
     }
 
-    /// Whether the node is in the list.
+    /// Returns `true` if the node is in the list.
     pub fn contains(&self, id: NodeId) -> bool
         ensures { IsTrue result ↔ IsIn self.now.items id }
     {

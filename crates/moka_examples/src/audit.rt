@@ -67,7 +67,7 @@ pub fn record_of_threads<R: Wait + Threads + Copy + Send + 'static>(
     Ok(cache.close(passes)?)
 }
 
-/// Whether two calls were answered the same.
+/// Returns `true` if two calls had the same answer.
 fn is_same(one: &Answer<u64, u64>, other: &Answer<u64, u64>) -> bool {
     match (one, other) {
         (Reply::Done, Reply::Done) | (Reply::Found(None), Reply::Found(None)) => true,
@@ -95,7 +95,7 @@ fn answers_alike(again: &mut Record<u64, u64>, record: &Record<u64, u64>) -> Res
     Ok(true)
 }
 
-/// Whether a core with which nothing has been done answers each call of a record as it was answered then.
+/// Returns `true` if a new core answers each call of a record as it was answered then.
 pub fn is_replayed(
     alloc: Global,
     core: Core<u64, u64>,

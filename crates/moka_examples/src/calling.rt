@@ -223,8 +223,8 @@ pub fn late_upserts_are_dropped<K: Eq + Hash, V, S: BuildHasher>()
     upserts_of_left_entries_are_dropped::<K, V, S>();
 }
 
-/// Runs what empties a log of this length, where it has ten operations or half a second has passed since that was last done, unless another caller's is
-/// running. The answer is whether it was run.
+/// Empties a log of this length, if it has ten operations or half a second has passed since the last time, unless another caller does. The answer is whether it
+/// was run.
 pub fn empty_if_due<F: FnOnce()>(keeper: &Housekeeper, len: usize, now: Instant, empty: F) -> bool
     requires { F.pre empty }
     ensures { IsTrue result → F.post empty tt }

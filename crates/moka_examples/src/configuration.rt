@@ -28,7 +28,7 @@ impl<K: Eq, V> Rule<K, V> for OneWriter {
 /// A session of a configuration of numbers.
 type Seat = Session<u64, u64, FixedState, UnitWeight, OneWriter>;
 
-/// What a session of it has seen.
+/// A note of what a session of it has seen.
 type Seen = Note<u64, u64, FixedState, UnitWeight>;
 
 /// Writes two versions of a setting, and returns a note of that for the readers. The prover refuses a session that may not write.

@@ -28,14 +28,14 @@ impl Model for Metrics {
 }
 
 impl Metrics {
-    /// How many entries were charged when a maintenance ended, and their weight. It is never an older maintenance than at the last look.
+    /// Returns the number of charged entries when a maintenance ended, and their weight. It is never an older maintenance than at the last look.
     pub fn look<R: Wait>(&mut self, rt: &R) -> Published {
         self.cache.published(rt, &mut self.pass)
     }
 }
 
-/// The most entries that were counted at these looks, unless a look had the count of one maintenance and the weight of another, which would differ since
-/// each entry weighs 1, or was older than the one before.
+/// Returns the largest entry count of these looks. It returns `None` if a look had the count of one maintenance and the weight of another, or was older than
+/// the one before.
 fn watch<R: Wait>(rt: &R, metrics: &mut Metrics, looks: u64) -> Option<u64> {
     let mut number = 0u64;
     let mut most = 0u64;
@@ -60,7 +60,7 @@ fn insert_all<R: Wait>(rt: &R, cache: &Cache<u64, u64>, keys: u64) -> Result<(),
     Ok(())
 }
 
-/// The most that a thread has seen counted of a cache of a hundred entries while another one filled it, and what is counted in the end.
+/// Returns the largest count that a thread has seen while another one filled a cache of a hundred entries, and the count in the end.
 pub fn watched_while_filled<R: Wait + Threads + Copy + Send + 'static>(
     rt: R,
     alloc: Global,

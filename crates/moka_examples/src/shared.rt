@@ -41,7 +41,7 @@ pub fn square_by_threads<R: Wait + Threads + Copy + Send + 'static>(
     Ok((sum, cache.entry_count()))
 }
 
-/// How many entries a cache and its clone count, which are the same cache, once one of them has run a maintenance.
+/// Returns the entry counts of a cache and its clone, which are the same cache, after a maintenance.
 pub fn counted_twice<R: Wait>(rt: &R, alloc: Global) -> Result<(u64, u64), Error> {
     let now = Instant::from_secs(0);
     let cache: Cache<u64, u64> = Cache::new(alloc, 100)?;
@@ -52,7 +52,7 @@ pub fn counted_twice<R: Wait>(rt: &R, alloc: Global) -> Result<(u64, u64), Error
     Ok((cache.entry_count(), again.entry_count()))
 }
 
-/// Whether a text is there five seconds after it was inserted, and ten.
+/// Returns if a text is there five seconds after it was inserted, and ten.
 pub fn there_within_ten_seconds<R: Wait>(rt: &R, alloc: Global) -> Result<(bool, bool), Error> {
     let cache: Cache<u64, String> = Cache::builder(alloc)
         .max_capacity(100)
@@ -65,7 +65,7 @@ pub fn there_within_ten_seconds<R: Wait>(rt: &R, alloc: Global) -> Result<(bool,
     Ok((early, late))
 }
 
-/// What the text weighs in a cache that counts the bytes of its texts, once a maintenance has charged it.
+/// Returns the weight of a text in a cache that counts bytes, after a maintenance has charged it.
 pub fn charged_in_bytes<R: Wait>(rt: &R, alloc: Global, text: String) -> Result<u64, Error> {
     let now = Instant::from_secs(0);
     let cache = Cache::builder(alloc)

@@ -28,7 +28,7 @@ pub fn remember(alloc: Global, key: u64, value: u32) -> Result<Option<u32>, Erro
     }
 }
 
-/// Whether a text is found five seconds after it was inserted, and ten.
+/// Returns if a text is found five seconds after it was inserted, and ten.
 pub fn found_within_ten_seconds(alloc: Global) -> Result<(bool, bool), Error> {
     let mut cache: Cache<u64, String> = Cache::builder(alloc)
         .max_capacity(100)
@@ -41,14 +41,14 @@ pub fn found_within_ten_seconds(alloc: Global) -> Result<(bool, bool), Error> {
     Ok((early, late))
 }
 
-/// How many milliseconds after midnight a second and a half after noon is.
+/// Returns the milliseconds from midnight to a second and a half after noon.
 pub fn millis_after_noon() -> u64 {
     let noon = Instant::from_secs(12 * 60 * 60);
     let later = noon.after(Duration::from_millis(1_500));
     later.nanos() / 1_000_000
 }
 
-/// What the text weighs in a cache that counts the bytes of its texts.
+/// Returns the weight of a text in a cache that counts bytes.
 pub fn weight_in_bytes(alloc: Global, text: String) -> Result<u64, Error> {
     let mut cache = Cache::builder(alloc)
         .max_capacity(1_000_000)
@@ -58,7 +58,7 @@ pub fn weight_in_bytes(alloc: Global, text: String) -> Result<u64, Error> {
     Ok(cache.weighted_size())
 }
 
-/// What is found of a key that stays and of one that is invalidated, and how many keys are left of those below 32.
+/// Returns if a key that stays is found, and one that is invalidated, and how many keys below 32 are left.
 pub fn left_of_64(alloc: Global) -> Result<(bool, bool, usize), Error> {
     let now = Instant::from_secs(0);
     let mut cache: Cache<u64, u32> = Cache::new(alloc, 10_000)?;
@@ -95,7 +95,7 @@ pub fn square_of_seven(alloc: Global) -> Result<[u64; 2], Error> {
     Ok([square, found])
 }
 
-/// How many entries there are after a list of calls, which is what its last call asks.
+/// Returns the number of entries after a list of calls, which its last call asks for.
 pub fn count_after_calls(alloc: Global) -> Result<Option<u64>, Error> {
     let now = Instant::from_secs(0);
     let value = Rc::new(alloc, 10)?;

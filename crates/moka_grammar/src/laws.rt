@@ -9,7 +9,7 @@ pub fn a_script_has_no_bad_line()
         IsScript bytes script → IsBadAt bytes number → ⊥ }
 {}
 
-/// What is no script has a first bad line.
+/// Every text that is no script has a first bad line.
 pub fn what_is_no_script_has_a_bad_line()
     ensures { (bytes : List ℕ) →
         ((script : Script) × IsScript bytes script) ⊎ ((number : ℕ) × IsBadAt bytes number) }
@@ -25,7 +25,7 @@ pub fn bytes_spell_one_script()
     ensures { (bytes : List ℕ) (a b : Script) → IsScript bytes a → IsScript bytes b → a ≡ b }
 {}
 
-/// How many bytes a text has at most, by its digits: definitions name the constant.
+/// The largest number of bytes of a text, by its digits: definitions name the constant.
 pub fn texts_have_64_bytes_at_most()
     ensures { LONGEST_TEXT ≡ 64 }
 {}

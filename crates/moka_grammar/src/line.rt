@@ -8,7 +8,7 @@ use crate::text::Text;
 use std::alloc::{Allocator, Global};
 use std::time::Duration;
 
-/// What a whole script is for: its first line.
+/// The mode of a whole script, by its first line.
 #[derive(Clone, Copy, Debug, PartialEq, Eq)]
 pub enum Header {
     /// Calls to a cache.
@@ -38,7 +38,7 @@ pub enum Mode {
 }
 
 impl Mode {
-    /// Whether the request is one of a script of this mode.
+    /// Returns `true` if a script of this mode can have the request.
     pub fn allows<T>(self, request: &Request<T>) -> bool
         ensures { result ≡ allows self request.now }
     {
@@ -51,7 +51,7 @@ impl Mode {
         }
     }
 
-    /// Whether a script of this mode can begin with the settings: only the cache of a record has its first tickets set.
+    /// Returns `true` if a script of this mode can begin with the settings: only a record's cache and a core have their first tickets set.
     pub fn can_have(self, options: CacheOptions) -> bool
         ensures { result ≡ can_have self options }
     {
@@ -70,7 +70,7 @@ pub enum Span {
 }
 
 impl Span {
-    /// The same length of time as a `Duration`.
+    /// Returns the same length of time as a `Duration`.
     pub fn to_duration(self) -> Duration
         ensures { as_nanos result ≡ span_nanos self }
     {
@@ -90,13 +90,13 @@ pub struct CacheOptions {
     pub live: Option<Span>,
     /// The time to idle.
     pub idle: Option<Span>,
-    /// Whether each insert is given the weight of its value.
+    /// True if each insert has a weight.
     pub weighed: bool,
     /// The number of each shard's first ticket.
     pub tickets: Option<u64>,
 }
 
-/// What is asked of a cache. `T` is how texts are held, so that a contract sees a request without an allocator.
+/// A request to a cache. `T` is how texts are held, so that a contract sees a request without an allocator.
 #[derive(Drop)]
 pub enum Request<T = Text> {
     /// Stores the text. The weight is there exactly where the script is weighed.
@@ -129,9 +129,9 @@ pub enum Request<T = Text> {
     Sync,
     /// The unexpired entries.
     Iter,
-    /// How many entries there are.
+    /// The number of entries.
     EntryCount,
-    /// How much they weigh.
+    /// Their weight.
     WeightedSize,
     /// The settings that the cache was built with.
     Policy,
@@ -144,7 +144,7 @@ pub struct Line<T = Text> {
     pub request: Request<T>,
 }
 
-/// What is asked of a core: mostly one atomic step, of a caller or of the maintenance. `T` is how texts are held, as in `Request`.
+/// A request to a core: mostly one atomic step, of a caller or of the maintenance. `T` is how texts are held, as in `Request`.
 #[derive(Drop)]
 pub enum CoreRequest<T = Text> {
     /// Puts the text into the map. The weight is there exactly where the script is weighed.
@@ -191,27 +191,27 @@ pub enum CoreRequest<T = Text> {
     Sync,
     /// The unexpired entries.
     Iter,
-    /// How many entries are charged.
+    /// The number of charged entries.
     EntryCount,
-    /// What weight is charged.
+    /// The charged weight.
     WeightedSize,
 }
 
-/// What is asked of a core, and its moment, in nanoseconds.
+/// A request to a core with its moment, in nanoseconds.
 #[derive(Drop)]
 pub struct CoreLine<T = Text> {
     pub now: u64,
     pub request: CoreRequest<T>,
 }
 
-/// What is asked of the sketch.
+/// A request to the sketch.
 #[derive(Clone, Copy, Debug, PartialEq, Eq)]
 pub enum SketchLine {
     /// Counts the hash `times` times.
     Inc { hash: u64, times: u16 },
     /// Estimates how often the hash was counted recently.
     Freq { hash: u64 },
-    /// Where the hash's counter lies at a depth.
+    /// The place of the hash's counter at a depth.
     Index { hash: u64, depth: u8 },
     /// How long the table is.
     Len,

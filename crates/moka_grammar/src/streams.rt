@@ -15,7 +15,7 @@ mod from_write;
 pub use from_read::FromRead;
 pub use from_write::FromWrite;
 
-/// How many bytes one read asks for: a page, so that a script takes few calls and the buffer little of the stack.
+/// Bytes that one read asks for: a page, so that a script takes few calls and the buffer little of the stack.
 const READ_SIZE: usize = 4096;
 
 /// A stream refused to be read or written.
@@ -48,7 +48,7 @@ impl From<AllocError> for ReadError {
     }
 }
 
-/// Where bytes come from.
+/// A source of bytes.
 pub trait Source {
     // What is left, where that is known.
     ghost remaining: { Self → Option (List ℕ) };
@@ -62,7 +62,7 @@ pub trait Source {
         ensures failed { failed self.new ≡ (failed self.old || is_err result) };
 }
 
-/// Where bytes go.
+/// A sink of bytes.
 pub trait Sink {
     // What was written, where that is known.
     ghost contents: { Self → Option (List ℕ) };

@@ -6,7 +6,7 @@ ghost use Rattle.moka_grammar.specs.Text.{IsText, is_text_byte};
 use std::alloc::{AllocError, Allocator, Global};
 use std::marker::Model;
 
-/// How many bytes a text has at most: enough to tell values apart, and a line stays short.
+/// The largest number of bytes of a text: enough to tell values apart, and a line stays short.
 pub const LONGEST_TEXT: usize = 64;
 
 /// A value of a script: letters, digits and dashes, at least one. A contract sees its bytes.
@@ -48,7 +48,7 @@ fn are_text_bytes(bytes: &[u8]) -> bool
     bytes.iter().all(|byte| is_text_byte(*byte))
 }
 
-/// Whether the bytes can stand as a text.
+/// Returns `true` if the bytes are a text.
 pub fn is_text(bytes: &[u8]) -> bool
     ensures { IsTrue result ↔ IsText bytes.now }
 {

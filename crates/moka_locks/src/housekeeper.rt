@@ -23,7 +23,7 @@ use std::sync::atomic::{AtomicBool, AtomicU64, Ordering};
 #[derive(Drop)]
 pub struct Housekeeper {
     is_running: AtomicBool,
-    /// Whether there is a due moment yet. Each number is a moment, so none can stand for that.
+    /// True if there is a due moment. Each number is a moment, so none can stand for that.
     is_scheduled: AtomicBool,
     sync_after: AtomicU64,
 }
@@ -39,22 +39,21 @@ impl Default for Housekeeper {
 }
 
 impl Housekeeper {
-    /// Whether a maintenance is due in a call that finds `len` operations in the read log.
+    /// Returns `true` if a maintenance is due in a call that finds `len` operations in the read log.
     pub fn should_apply_reads(&self, len: usize, now: Instant) -> bool
         ensures { (due : Option ℕ) × (result ≡ is_due len FLUSH_POINT due now) }
     {
         self.should_apply(len, FLUSH_POINT, now)
     }
 
-    /// The same for the write log.
+    /// Returns `true` if a maintenance is due in a call that finds `len` operations in the write log.
     pub fn should_apply_writes(&self, len: usize, now: Instant) -> bool
         ensures { (due : Option ℕ) × (result ≡ is_due len FLUSH_POINT due now) }
     {
         self.should_apply(len, FLUSH_POINT, now)
     }
 
-    /// Whether a maintenance is due in a call that finds `len` operations in its log: the flush point or more, or the due moment, if
-    /// there is one, has come.
+    /// Returns `true` if a maintenance is due in a call that finds `len` operations in its log. It is due from the flush point on, and from the due moment on.
     pub fn should_apply(&self, len: usize, flush_point: usize, now: Instant) -> bool
         ensures { (due : Option ℕ) × (result ≡ is_due len flush_point due now) }
     {

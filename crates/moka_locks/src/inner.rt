@@ -69,11 +69,11 @@ pub struct Inner<
     maintenance: CachePadded<Mutex<Option<Resting<A>>>>,
     housekeeper: CachePadded<Housekeeper>,
     valid_after: AtomicU64,
-    /// How many entries were charged when a maintenance last ended.
+    /// Number of charged entries when a maintenance last ended.
     entry_count: AtomicU64,
-    /// What they weighed, at most `u64::MAX`.
+    /// Their weight, at most `u64::MAX`.
     weighted_size: AtomicU64,
-    /// The same, one pair after another, where somebody loads them so.
+    /// The cell with both, if somebody loads them together.
     counts: Option<Counts<A>>,
 }
 
@@ -141,14 +141,14 @@ impl<
         })
     }
 
-    /// What it was built with.
+    /// Returns the settings.
     pub fn settings(&self) -> &Settings<S, A>
         ensures { result.now ≡ self.now.settings }
     {
         &self.settings
     }
 
-    /// Where it takes its memory from.
+    /// Returns the allocator.
     pub fn alloc(&self) -> &A {
         &self.alloc
     }
@@ -171,14 +171,14 @@ impl<
         Instant::from_nanos(self.valid_after.load(Ordering::Acquire))
     }
 
-    /// The same, and no earlier than when it was asked before.
+    /// Returns the moment of the last invalidation of all, and no earlier one than before.
     fn valid_after_since(&self, before: Instant) -> Instant
         ensures { before ≤ result }
     {
         self.valid_after().max(before)
     }
 
-    /// The value at a key, shared once more, and the ticket of its entry, if that counts at a moment; and the slot in which it may be found again.
+    /// Returns the value of a key's live entry, shared, its ticket, and the slot in which it may be found again.
     #[inline(always)]
     pub(crate) fn get<R: Wait>(
         &self,
@@ -194,7 +194,7 @@ impl<
         shard.get(key, hash, &self.settings, self.valid_after(), now)
     }
 
-    /// Whether a key has an entry that counts at a moment.
+    /// Returns `true` if a key has a live entry.
     pub(crate) fn contains_key<R: Wait>(&self, rt: &R, key: &K, now: Instant) -> bool
         ensures { ContainsIn (keys_by K.Hash S.BuildHasher S.Hasher.Hasher) P.holds self.now.settings key.now now result }
     {
@@ -275,12 +275,12 @@ impl<
         self.valid_after.fetch_max(now.nanos(), Ordering::AcqRel);
     }
 
-    /// How many entries were charged when a maintenance last ended.
+    /// Returns the number of charged entries when a maintenance last ended.
     pub fn entry_count(&self) -> u64 {
         self.entry_count.load(Ordering::Acquire)
     }
 
-    /// What they weighed together, at most `u64::MAX`.
+    /// Returns their weight, at most `u64::MAX`.
     pub fn weighted_size(&self) -> u64 {
         self.weighted_size.load(Ordering::Acquire)
     }
@@ -320,13 +320,13 @@ impl<
         self.logs.push_write(rt, write)
     }
 
-    /// Whether a maintenance is due, as a get asks, and nobody else runs one. Then nobody does until `end_maintenance`.
+    /// Returns `true` if a maintenance is due, as a get asks, and nobody else runs one. Then nobody does until `end_maintenance`.
     pub(crate) fn win_for_reads(&self, now: Instant) -> bool {
         self.housekeeper.should_apply_reads(self.logs.reads(), now)
             && self.housekeeper.try_begin(now)
     }
 
-    /// The same, as an insert or an invalidation asks.
+    /// Returns `true` if a maintenance is due, as an insert or an invalidation asks, and nobody else runs one.
     pub(crate) fn win_for_writes(&self, now: Instant) -> bool {
         self.housekeeper
             .should_apply_writes(self.logs.writes(), now)
@@ -393,8 +393,7 @@ impl<
     W: Drop,
     A: Allocator + Clone + Drop,
 > Inner<K, V, S, P, W, A> {
-    /// Takes out the entry of a key. The answer is a clone of its value, if it counts at a moment, and its ticket. Where the clone is refused, the entry
-    /// stays.
+    /// Removes the entry of a key, and returns a clone of its value, if it is live, and its ticket. If the clone is refused, the entry stays.
     pub(crate) fn take<R: Wait>(
         &self,
         rt: &R,

@@ -21,7 +21,7 @@ use std::hash::{BuildHasher, Hash};
 use std::marker::Model;
 use std::sync::Wait;
 
-/// What the caller has left and not pushed to a log yet.
+/// The operation of a caller that isn't in a log yet.
 #[derive(Clone, Copy)]
 enum Pending {
     Nothing,
@@ -43,7 +43,7 @@ pub struct Locked<
     pending: Pending,
     /// The maintenance that the caller runs.
     running: Option<Running<'a, A>>,
-    /// Whether the caller has been told to run it, and nobody else is until it has ended.
+    /// True if the caller has been told to run it, and nobody else is until it has ended.
     has_won: bool,
 }
 
@@ -109,7 +109,7 @@ impl<
         }
     }
 
-    /// Where a time to live is set, the maintenance that the caller runs has the same tickets in both orders. A law: the call does nothing.
+    /// With a time to live, the maintenance that the caller runs has the same tickets in both orders. A law: the call does nothing.
     pub fn has_both_orders(&self)
         ensures { IfSome self.now.working (λ w. HasBothOrders (keeps_writes self.now.cache.settings.policy) w.maintenance.orders) }
     {

@@ -59,7 +59,7 @@ impl<A: Allocator + Clone + Drop> Resting<A> {
         Resting::new(working, Some(publisher))
     }
 
-    /// Whether a time to live is set.
+    /// Returns `true` if a time to live is set.
     pub(crate) fn keeps_writes(&self) -> bool
         ensures { result ≡ self.now.keeps_writes }
     {

@@ -17,13 +17,13 @@ use std::hash::{BuildHasher, Hash};
 use std::marker::Model;
 use std::sync::Wait;
 
-/// A maintenance, and the writes that have left their log and are not taken yet: no more than its round is still to apply, so none where it rests. Where
-/// a time to live is set, both of its orders have the same tickets.
+/// A maintenance, with the writes that have left their log and aren't applied yet. They are no more than its round is still to apply, and none at rest. With a
+/// time to live, both of its orders have the same tickets.
 #[derive(Drop)]
 pub(crate) struct Working<A: Allocator + Clone + Drop> {
     maintenance: Maintenance<A>,
     taken: TakenWrites,
-    /// Whether a time to live is set, so that each entry has a place in the order of writing too.
+    /// True if a time to live is set, so that each entry has a place in the order of writing too.
     keeps_writes: bool,
 }
 
@@ -52,7 +52,7 @@ impl<A: Allocator + Clone + Drop> Working<A> {
         }
     }
 
-    /// Whether a time to live is set.
+    /// Returns `true` if a time to live is set.
     pub(crate) fn keeps_writes(&self) -> bool
         ensures { result ≡ self.now.keeps_writes }
     {

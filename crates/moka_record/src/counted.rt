@@ -137,7 +137,7 @@ impl<
         None
     }
 
-    /// Whether each pass has made as many calls here as it says.
+    /// Returns `true` if each pass has made as many calls here as it says.
     fn are_own(&self, passes: &[CallPass]) -> bool {
         for pass in passes {
             if !self.is_own(pass) {
@@ -147,7 +147,7 @@ impl<
         true
     }
 
-    /// Whether a pass has made as many calls here as it says.
+    /// Returns `true` if a pass has made as many calls here as it says.
     fn is_own(&self, pass: &CallPass) -> bool
         ensures { IsTrue result → (pass.now.place < length self.now.made) × (slice_index self.now.made pass.now.place ≡ pass.now.made) }
     {

@@ -14,7 +14,7 @@ pub struct CallPass {
 }
 
 impl CallPass {
-    /// How many calls it has made.
+    /// Returns the number of its calls.
     pub fn made(&self) -> u64
         ensures { result ≡ self.now.made }
     {
@@ -47,7 +47,7 @@ pub(crate) fn new_passes<A: Allocator>(
     Ok(passes)
 }
 
-/// Whether the passes of all places below this one are there.
+/// Returns `true` if the passes of all places below this one are there.
 pub(crate) fn have_all_places(passes: &[CallPass], places: usize) -> bool {
     for place in 0..places {
         if !has_place(passes, place) {
@@ -57,7 +57,7 @@ pub(crate) fn have_all_places(passes: &[CallPass], places: usize) -> bool {
     true
 }
 
-/// Whether the pass of a place is there.
+/// Returns `true` if the pass of a place is there.
 fn has_place(passes: &[CallPass], place: usize) -> bool {
     for pass in passes {
         if pass.place == place {
@@ -67,7 +67,7 @@ fn has_place(passes: &[CallPass], place: usize) -> bool {
     false
 }
 
-/// How many calls they have made together, if a number of 64 bits holds it.
+/// Returns the number of calls that they have made together, if 64 bits hold it.
 pub(crate) fn made_by(passes: &[CallPass]) -> Option<u64>
     ensures { IfSome result (λ made. made ≡ made_by passes.now) }
 {

@@ -24,7 +24,7 @@ pub struct NotRecorded;
 /// A call whose key and value are shared, so that it can be kept beside the entry that it makes.
 pub type SharedCall<K, V, A = Global> = Call<Shared<K, A>, Shared<V, A>>;
 
-/// What a call is answered, with the value that was found shared.
+/// The answer to a call, with the value that was found shared.
 pub type Answer<K, V, A = Global> = Reply<Shared<V, A>, Rows<K, V, A>>;
 
 /// A call that was made, and the reply that it had.

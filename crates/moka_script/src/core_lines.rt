@@ -27,10 +27,10 @@ use std::alloc::{AllocError, Allocator};
 /// A step of a line.
 type ScriptEvent<A> = Event<Shared<u64, A>, Shared<Stored<Text<A>>, A>>;
 
-/// What it is answered.
+/// The reply to a step.
 type ScriptReply<A> = Reply<Shared<Stored<Text<A>>, A>, Rows<u64, Stored<Text<A>>, A>>;
 
-/// What a line does. `E` is how a step is held.
+/// The action of a line. `E` is how a step is held.
 #[derive(Drop)]
 enum Action<E: Drop> {
     /// One step.
@@ -41,9 +41,9 @@ enum Action<E: Drop> {
     Sync(Instant),
     /// A copy of each shard.
     Iterate(Instant),
-    /// How many entries are charged.
+    /// The number of charged entries.
     Count,
-    /// What weight is charged.
+    /// The charged weight.
     Weigh,
 }
 
@@ -123,7 +123,7 @@ fn reply_to<A: Allocator + Clone + Drop, W: WeighShared<u64, Stored<Text<A>>>>(
     Ok(())
 }
 
-/// What a line asks for.
+/// Returns the action of a line.
 fn action_of<A: Allocator + Clone + Drop>(
     alloc: A,
     line: CoreLine<Text<A>>,
@@ -267,7 +267,7 @@ fn copies<A: Allocator + Clone + Drop>(
     Ok(events)
 }
 
-/// Whether a copy was refused.
+/// Returns `true` if a copy was refused.
 fn are_refused<A: Allocator + Clone + Drop>(replies: &[ScriptReply<A>]) -> bool
     ensures { result ≡ list_any is_refused replies.now }
 {
@@ -302,7 +302,7 @@ fn rows_of<A: Allocator + Clone + Drop>(
     }
 }
 
-/// What a line writes for the answer to a step. No step of a line is answered by pairs or counts: `list` writes copies, and `charged` counts.
+/// Returns what a line writes for the reply to a step. No step of a line is answered by pairs or counts: `list` writes copies, and `charged` counts.
 fn told<A: Allocator + Clone + Drop>(reply: &ScriptReply<A>) -> ReplyValue<'_>
     ensures { reply_of result ≡ told reply.now }
 {
@@ -327,7 +327,7 @@ fn told_weight(weight: u128) -> u128
     if largest < weight { largest } else { weight }
 }
 
-/// What a line writes for whether there was something to do.
+/// Returns what a line writes if there was something to do, or not.
 fn told_if(done: bool) -> ReplyValue<'static>
     ensures { reply_of result ≡ told_if done }
 {

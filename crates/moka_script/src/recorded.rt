@@ -30,7 +30,7 @@ type ScriptRecord<W, A> = Record<u64, Stored<Text<A>>, KeyState, W, A>;
 /// A call of a line.
 type ScriptCall<A> = SharedCall<u64, Stored<Text<A>>, A>;
 
-/// What it is answered.
+/// The answer to a call.
 type ScriptAnswer<A> = Answer<u64, Stored<Text<A>>, A>;
 
 /// Which of the numbers that were published last a line asks for.
@@ -131,7 +131,7 @@ fn asked_of<T>(request: &Request<T>) -> Asked
     }
 }
 
-/// What a line writes for the answer of a record.
+/// Returns what a line writes for the answer of a record.
 fn told<A: Allocator + Clone + Drop>(
     asked: Asked,
     answer: &Result<ScriptAnswer<A>, NotRecorded>,

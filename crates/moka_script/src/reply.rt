@@ -33,12 +33,12 @@ pub enum ReplyValue<'a> {
     TicketsUsedUp,
     /// A read for which there was no room in its log.
     Discarded,
-    /// Where a maintenance is.
+    /// The place of a maintenance.
     At(Place),
     NotPossible,
 }
 
-/// What a get finds, as a reply.
+/// Returns the reply to a get that found this.
 pub(crate) fn found<A: Allocator + Clone + Drop>(stored: Option<&Stored<Text<A>>>) -> ReplyValue<'_>
     ensures { reply_of result ≡ Found (option_map (λ s. s.text) (option_copied stored.entry)) }
 {

@@ -14,7 +14,7 @@ pub struct Stored<T = Text> {
     pub weight: u32,
 }
 
-/// What an insert stores: its text, and the weight that its line says. Without one a text weighs `UNIT_WEIGHT`.
+/// Returns what an insert stores: its text, and the weight that its line has. Without one a text weighs `UNIT_WEIGHT`.
 pub fn stored_text<T>(text: T, weight: Option<u32>) -> Stored<T>
     ensures { result ≡ stored_text text weight }
 {

@@ -15,7 +15,7 @@ use std::sync::Wait;
 /// The words of two locks lie 128 bytes apart, so that they share no cache line.
 pub const STRIDE: usize = 16;
 
-/// A word that no step changes, 64 bytes from each lock: a visitor that comes loads it, and so takes no line from who has a lock.
+/// A word that no step changes, 64 bytes from each lock: a new visitor loads it, and takes no line from a lock's holder.
 pub const QUIET: usize = 8;
 
 /// Number of pauses, each longer than the one before, that a thread makes at once when it finds a lock held.

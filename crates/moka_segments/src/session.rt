@@ -281,7 +281,8 @@ impl<K: Eq + Hash + Drop, V: Drop, S: BuildHasher + Drop, W: Weighing<K, V>, P: 
         }
     }
 
-    /// Takes in a note of another session of the same cache: what that had seen then, this one has seen too from now on, and its next calls stand behind it.
+    /// Takes in a note of another session of the same cache. What that session had seen then, this one has seen from now on, and its next calls stand behind
+    /// it.
     pub fn learn(&mut self, note: Note<K, V, S, W>)
         requires { note.id ≡ self.old.cache.id }
         ensures same { self.new.cache ≡ self.old.cache }

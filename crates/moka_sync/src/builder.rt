@@ -111,8 +111,8 @@ impl<K, V, W: Drop, A: Allocator + Clone + Drop, P> CacheBuilder<K, V, W, A, P> 
         }
     }
 
-    /// For how many entries the cache has room from the start, with as many more as a log holds, in equal parts for its shards. More are found room for
-    /// as they come.
+    /// Sets the number of entries that fit from the start, in equal parts for the shards, with as many more as a log holds. More are found room for as they
+    /// come.
     pub fn initial_capacity(self, initial_capacity: usize) -> Self
         ensures { result ≡ record self { initial_capacity = initial_capacity } }
     {
@@ -142,8 +142,7 @@ impl<K, V, W: Drop, A: Allocator + Clone + Drop, P> CacheBuilder<K, V, W, A, P> 
         }
     }
 
-    /// What says how much an entry weighs: a closure, or a type with an impl of `WeighShared`. It is asked behind the lock of the
-    /// key's shard.
+    /// Sets the weigher: a closure, or a type with an impl of `WeighShared`. It is asked behind the lock of the key's shard.
     pub fn weigher<N: WeighShared<K, V>>(self, weigher: N) -> CacheBuilder<K, V, N, A, P>
         ensures { result ≡ record {
           policy = self.policy;

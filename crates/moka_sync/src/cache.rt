@@ -35,8 +35,7 @@ use std::hash::{BuildHasher, Hash};
 use std::marker::Model;
 use std::sync::Wait;
 
-/// A cache that threads share: a map that forgets, bounded by a number of entries or by their weight, with expiry by time to live and by time to
-/// idle. Its clones are the same cache.
+/// A cache that threads share, bounded by a number of entries or by their weight, with time to live and time to idle. Its clones are the same cache.
 ///
 /// ```
 /// let now = Instant::from_secs(0);
@@ -131,7 +130,7 @@ impl<
 > Clone for Cache<K, V, S, P, W, A> {
     ghost is_clone = { λ cache copy. copy ≡ cache };
 
-    /// The same cache once more. It takes no memory: only where there are too many clones to count is it refused.
+    /// Returns the same cache. It takes no memory: only where there are too many clones to count is it refused.
     fn clone(&self) -> Result<Self, AllocError> {
         Ok(Cache {
             inner: self.inner.try_clone()?,
@@ -187,19 +186,20 @@ impl<
         })
     }
 
-    /// What it was built with.
+    /// Returns the limits that the cache was built with.
     pub fn policy(&self) -> Policy
         ensures { result ≡ self.now.settings.policy }
     {
         self.inner.get().settings().limits().policy()
     }
 
-    /// How many entries it had when a maintenance last ended, 0 before the first one. It is one load: no contract says of which maintenance.
+    /// Returns the number of entries when a maintenance last ended, or 0 before the first one. It is one load: no contract says of which maintenance.
     pub fn entry_count(&self) -> u64 {
         self.inner.get().entry_count()
     }
 
-    /// What they weighed together, at most `u64::MAX`. It is another load, so it may be of another maintenance than the count.
+    /// Returns the weight of the entries when a maintenance last ended, at most `u64::MAX`. It is another load, so it may be of another maintenance than the
+    /// count.
     pub fn weighted_size(&self) -> u64 {
         self.inner.get().weighted_size()
     }
@@ -227,8 +227,8 @@ impl<
         self.inner.get().split(pass)
     }
 
-    /// A snapshot of the unexpired pairs, shard by shard: the pairs of a shard are those of one moment, and no lock is held when they come out. It
-    /// counts as no read. It is refused for want of memory.
+    /// Returns a snapshot of the unexpired pairs, shard by shard. The pairs of a shard are those of one moment, and the snapshot holds no lock. It counts as no
+    /// read. It is refused for want of memory.
     pub fn iter<R: Wait>(&self, rt: &R, now: Instant) -> Result<Iter<K, V, A>, OutOfMemory>
         ensures ruled { IfOk result (λ pairs. PairsMeet P.holds pairs) }
         ensures once { IfOk result (λ pairs. IsDistinct K.eq (map (λ p. p.0) pairs)) }
@@ -250,7 +250,7 @@ impl<
     W: WeighShared<K, V>,
     A: Allocator + Clone + Drop,
 > Cache<K, V, S, P, W, A> {
-    /// Whether a key has an unexpired value. That counts as no read.
+    /// Returns `true` if a key has an unexpired value. That counts as no read.
     pub fn contains_key<R: Wait>(&self, rt: &R, key: &K, now: Instant) -> bool
         ensures call { CallsContains (locked_allows (keys_by K.Hash S.BuildHasher S.Hasher.Hasher) P.holds W.weighs) locked_decides
             (pends_by locked_caller) CALLER key.now now (reply.Bool result) (resting_at self.now) (resting_at self.now) }
@@ -309,7 +309,7 @@ impl<
         steps::get(rt, &mut Locked::new(self.inner.get()), key, now)
     }
 
-    /// The same.
+    /// Calls `get`.
     pub fn get_if_present<R: Wait>(
         &self,
         rt: &R,
@@ -354,7 +354,7 @@ pub trait ConcurrentCacheExt {
     // What a whole maintenance is, at a moment.
     ghost synced: { Self → ℕ → Type 0 };
 
-    /// Runs a whole maintenance, once nobody else does: it applies what is in the logs, takes out what is expired or too much, and publishes the counts.
+    /// Runs a whole maintenance, after any other has ended: it applies the logs, removes what is expired or above the limit, and publishes the counts.
     fn sync<R: Wait>(&self, rt: &R, now: Instant)
         ensures { synced self.now now };
 }

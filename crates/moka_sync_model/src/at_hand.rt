@@ -13,7 +13,7 @@ pub struct Work {
 }
 
 impl Work {
-    /// What is left once an operation is taken.
+    /// Returns what is left of the work after one operation.
     pub fn less_one(self) -> Work
         ensures round { result.round ≡ self.round }
         ensures left { result.left ≡ self.left - 1 }
@@ -21,7 +21,7 @@ impl Work {
         self.less(1)
     }
 
-    /// What is left once `count` more are taken.
+    /// Returns what is left of the work after `count` more operations.
     pub fn less(self, count: usize) -> Work
         ensures round { result.round ≡ self.round }
         ensures left { result.left ≡ self.left - count }
@@ -41,7 +41,7 @@ pub struct Candidate {
     pub estimate: u8,
 }
 
-/// What a scan has found: the weights and the estimates of the present ones together, and how many absent ones came last in a row.
+/// The sums of a scan: weight and estimate of the present entries, and the number of absent ones that came last in a row.
 #[derive(Clone, Copy)]
 pub struct Tally {
     pub weight: u64,
@@ -50,7 +50,7 @@ pub struct Tally {
 }
 
 impl Tally {
-    /// Whether what was found decides: the present ones weigh enough, or are used more, or too many in a row were absent.
+    /// Returns `true` if the scan is decided: the present entries weigh enough, or are used more, or too many in a row were absent.
     #[inline]
     pub fn decides(&self, candidate: &Candidate) -> bool
         ensures { result ≡ is_decided candidate.now self.now }
@@ -60,7 +60,7 @@ impl Tally {
             || MAX_ABSENT <= self.absent
     }
 
-    /// Whether the candidate is admitted: the present ones weigh enough, and it is used more than all of them together.
+    /// Returns `true` if the candidate is admitted: the present entries weigh enough, and it is used more than all of them together.
     #[inline]
     pub fn admits(&self, candidate: &Candidate) -> bool
         ensures { result ≡ is_admitted candidate.now self.now }

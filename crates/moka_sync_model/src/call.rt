@@ -22,7 +22,7 @@ pub enum Call<K: Drop, V: Drop> {
 impl<K: Drop, V: Drop, A: Allocator + Drop> Call<Shared<K, A>, Shared<V, A>> {
     ghost use Rattle.std.specs.Prelude.{◌≡◌, IfOk};
 
-    /// The same call once more, with its key and its value shared.
+    /// Returns the same call, with its key and its value shared.
     pub fn try_clone(&self) -> Result<Self, AllocError>
         ensures { IfOk result (λ call. call ≡ self.now) }
     {

@@ -1,37 +1,37 @@
 //! The limits of the cache that threads share.
 
-/// How many shards the map has. A key's shard is its hash modulo this number, so that callers of different keys seldom meet at one lock.
+/// Shards of the map. A key's shard is its hash modulo this number, so that callers of different keys seldom meet at one lock.
 pub const SHARDS: usize = 16;
 
 /// The ticket number that is never given out. A shard that has come to it takes no new entry, so that no number comes twice.
 pub const NO_TICKET: u64 = u64::MAX;
 
-/// How many upserts of an entry can be outstanding. An insert that would be one more is refused, so that none is forgotten.
+/// Upserts of an entry that can be outstanding. An insert that would be one more is refused, so that none is forgotten.
 pub const MAX_OUTSTANDING: u64 = u64::MAX;
 
-/// No place of a charge: the hint of an entry that the maintenance has not charged yet, or at a place that 32 bits don't tell.
+/// No place of a charge: the hint of an entry that isn't charged yet, or whose place 32 bits don't tell.
 pub const NO_PLACE: u32 = u32::MAX;
 
-/// How many operations in a log make a maintenance due, or another round of it: enough of them that its locks are worth their while.
+/// Operations in a log that make a maintenance due, or another round of it: enough of them to be worth its locks.
 pub const FLUSH_POINT: usize = 64;
 
-/// How many rounds a maintenance makes at most, so that it ends while callers go on to push.
+/// Rounds of a maintenance at most, so that it ends while callers go on to push.
 pub const MAX_ROUNDS: usize = 5;
 
-/// How many operations the read log holds: a flush point for each round, and one more to be filled meanwhile. A read beyond is dropped.
+/// Operations that the read log holds: a flush point for each round, and one more to be filled meanwhile. A read beyond is dropped.
 pub const READ_LOG_SIZE: usize = FLUSH_POINT * (MAX_ROUNDS + 1);
 
-/// How many operations the write log holds, by the same count. A write beyond waits.
+/// Operations that the write log holds, by the same count. A write beyond waits.
 pub const WRITE_LOG_SIZE: usize = FLUSH_POINT * (MAX_ROUNDS + 1);
 
-/// How many turns the expiry of an order, or the eviction, takes at most, so that no call takes long because of entries that it doesn't ask
-/// for. More at once than the cache for one thread, since fewer calls do it.
+/// Most turns of the expiry of an order, or of the eviction, in one maintenance. It bounds the time that a call spends on entries that it doesn't ask for. It
+/// is larger than that of the cache for one thread, since fewer calls do it.
 pub const SYNC_BATCH_SIZE: usize = 500;
 
-/// How many absent entries in a row end a scan, so that it ends while many invalidations are on their way.
+/// Absent entries in a row that end a scan, so that it ends while many invalidations are on their way.
 pub const MAX_ABSENT: usize = 6;
 
-/// How many nanoseconds lie at least between a maintenance that a call has run and the next that is due by time alone: half a second.
+/// Nanoseconds from a maintenance to the next that is due by time alone: half a second.
 pub const SYNC_INTERVAL: u64 = 500_000_000;
 
 /// The caller of whole calls on a core that has no locks.

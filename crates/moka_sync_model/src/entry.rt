@@ -18,7 +18,7 @@ pub struct Entry<K: Drop, V: Drop, A: Allocator + Drop = Global> {
     key: Shared<K, A>,
     value: Shared<V, A>,
     weight: u32,
-    /// Where the maintenance has put what it charges for it, as far as is known.
+    /// The place of its charge in the maintenance, as far as is known.
     place: Cell<u32>,
     accessed: Instant,
     modified: Instant,
@@ -42,7 +42,7 @@ impl<K: Drop, V: Drop, A: Allocator + Drop> Model for Entry<K, V, A> {
     } };
 }
 
-/// What a turn makes of the entry that it has looked at.
+/// The change that a turn makes of the entry that it has looked at.
 #[derive(Clone, Copy, Debug)]
 pub enum EntryChange {
     /// Nothing, or there is no entry.
@@ -137,7 +137,7 @@ impl<K: Drop, V: Drop, A: Allocator + Drop> Entry<K, V, A> {
         self.ticket
     }
 
-    /// Where the maintenance may find what it charges for the entry. It is no more than a hint, of which no contract speaks.
+    /// Returns the place at which the maintenance may find its charge. It is no more than a hint, of which no contract speaks.
     #[inline]
     pub fn place(&self) -> usize {
         self.place.get() as usize
@@ -149,7 +149,7 @@ impl<K: Drop, V: Drop, A: Allocator + Drop> Entry<K, V, A> {
         self.place.set(u32::try_from(place).unwrap_or(NO_PLACE));
     }
 
-    /// How many upserts of it the maintenance has not done.
+    /// Returns the number of its upserts that the maintenance has not done.
     #[inline]
     pub fn outstanding(&self) -> u64
         ensures { result ≡ self.now.outstanding }
@@ -157,7 +157,7 @@ impl<K: Drop, V: Drop, A: Allocator + Drop> Entry<K, V, A> {
         self.outstanding
     }
 
-    /// Whether it counts no more at a moment: it was idle too long, has lived too long, or is from before the last invalidation of all.
+    /// Returns `true` if it isn't live: it was idle too long, has lived too long, or is from before the last invalidation of all.
     pub fn is_expired<S: Drop>(
         &self,
         settings: &Settings<S, A>,
@@ -203,7 +203,7 @@ impl<K: Drop, V: Drop, A: Allocator + Drop> Entry<K, V, A> {
     }
 }
 
-/// Where the maintenance may find what it charges for an entry: nowhere where there is none.
+/// Returns the place at which the maintenance may find the charge of an entry, or `NO_PLACE`.
 pub fn place_of<K: Drop, V: Drop, A: Allocator + Drop>(found: Option<&Entry<K, V, A>>) -> usize {
     match found {
         Some(entry) => entry.place(),

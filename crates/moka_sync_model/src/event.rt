@@ -29,7 +29,7 @@ pub enum Event<K: Drop, V: Drop> {
         key: K,
         now: Instant,
     },
-    /// The same, and answers the entry's value where it is unexpired.
+    /// An invalidation that answers the entry's value if it is live.
     Take {
         caller: u32,
         key: K,
@@ -62,7 +62,7 @@ pub enum Event<K: Drop, V: Drop> {
     Counts,
 }
 
-/// What a step replies. `R` is what holds the pairs of a copy.
+/// The reply to a step. `R` is what holds the pairs of a copy.
 #[derive(Drop)]
 pub enum Reply<V: Drop, R: Drop> {
     Done,
@@ -71,7 +71,7 @@ pub enum Reply<V: Drop, R: Drop> {
     /// The read log was full, and the pending read is dropped.
     Discarded,
     Rows(R),
-    /// Where the maintenance is then.
+    /// The place of the maintenance then.
     At(Place),
     Counts { count: usize, weight: u128 },
     /// The step can't happen now, and nothing has changed.

@@ -35,7 +35,7 @@ pub fn entries_stand_until_causes<K: Eq + Hash, V, S: BuildHasher>()
     ensures { StandsUntilCause V (keys_by K.Hash S.BuildHasher S.Hasher.Hasher) }
 {}
 
-/// Where an insert is accepted, its value stands at its key.
+/// An accepted insert's value stands at its key.
 pub fn accepted_inserts_stand<K: Eq + Hash, V, S: BuildHasher>()
     ensures { StandsOnceInserted V (keys_by K.Hash S.BuildHasher S.Hasher.Hasher) }
 {}
@@ -90,7 +90,7 @@ pub fn unlimited_cores_are_maps<K: Eq + Hash, V, S: BuildHasher>()
     ensures { IsPlainMap V (keys_by K.Hash S.BuildHasher S.Hasher.Hasher) }
 {}
 
-/// What is published is within the limit, or the eviction has used all its turns.
+/// Published weights are within the limit, or the eviction has used all its turns.
 pub fn published_weights_are_trimmed<K: Eq + Hash, V, S: BuildHasher>()
     ensures { PublishesTrimmed V (keys_by K.Hash S.BuildHasher S.Hasher.Hasher) }
 {}
@@ -105,7 +105,7 @@ pub fn maintenances_come_to_rest<K: Eq + Hash, V, S: BuildHasher>()
     ensures { ComesToRest V (keys_by K.Hash S.BuildHasher S.Hasher.Hasher) }
 {}
 
-/// Where an insert is accepted, its entry has a weight that the weigher answered.
+/// An accepted insert's entry has a weight that the weigher answered.
 pub fn accepted_inserts_are_weighed<K: Eq + Hash, V, S: BuildHasher, W: WeighShared<K, V>>()
     ensures { (weigher : _) → AcceptsWeighed {V = V} (keys_by K.Hash S.BuildHasher S.Hasher.Hasher) (W.weighs weigher) }
 {}
@@ -140,7 +140,7 @@ pub fn whole_calls_return<K: Eq + Hash, V, S: BuildHasher, W: WeighShared<K, V>>
     ensures { (weigher : _) → CallsReturn {V = V} (keys_by K.Hash S.BuildHasher S.Hasher.Hasher) (W.weighs weigher) }
 {}
 
-/// A sync of one caller empties both logs, and leaves no more charged than the limit, or has evicted as many entries as a maintenance evicts at most.
+/// A sync of one caller empties both logs. It leaves the charged weight within the limit unless it has evicted as many entries as it may.
 pub fn syncs_empty_the_logs<K: Eq + Hash, V, S: BuildHasher, W: WeighShared<K, V>>()
     ensures { (weigher : _) → SyncsEmpty {V = V} (keys_by K.Hash S.BuildHasher S.Hasher.Hasher) (W.weighs weigher) }
 {}
@@ -175,21 +175,21 @@ pub fn records_replay_to_rest<K: Eq + Hash, V, S: BuildHasher, W: WeighShared<K,
     ensures { (weigher : _) → ReplaysRest {V = V} (keys_by K.Hash S.BuildHasher S.Hasher.Hasher) (W.weighs weigher) }
 {}
 
-/// How many shards the map has, and the ticket number that no shard gives out.
+/// The number of shards, and the ticket number that no shard gives out.
 pub fn shards_are_sixteen()
     ensures shards { SHARDS ≡ 16 }
     ensures kept { NO_TICKET ≡ 18446744073709551615 }
     ensures outstanding { MAX_OUTSTANDING ≡ 18446744073709551615 }
 {}
 
-/// How much a log holds, and how much of that makes a maintenance due.
+/// The capacity of a log, and the length that makes a maintenance due.
 pub fn logs_hold_384_operations()
     ensures reads { READ_LOG_SIZE ≡ 384 }
     ensures writes { WRITE_LOG_SIZE ≡ 384 }
     ensures point { FLUSH_POINT ≡ 64 }
 {}
 
-/// How much a maintenance does at most, and how long after one the next is due by time alone.
+/// The most that a maintenance does, and the time from one to the next that is due by time alone.
 pub fn maintenances_have_five_rounds()
     ensures rounds { MAX_ROUNDS ≡ 5 }
     ensures batch { SYNC_BATCH_SIZE ≡ 500 }

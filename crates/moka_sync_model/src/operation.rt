@@ -2,21 +2,21 @@
 use crate::ticket::Ticket;
 use moka_common::time::Instant;
 
-/// What a get leaves: it has found the ticket's entry at a moment, or nothing of this hash.
+/// The operation of a get: it has found the ticket's entry at a moment, or nothing of this hash.
 #[derive(Clone, Copy, Debug)]
 pub enum Read {
     Hit { ticket: Ticket, moment: Instant },
     Miss { hash: u64 },
 }
 
-/// What a change of the map leaves: an insert has written the ticket's entry, or an invalidation has taken it out.
+/// The operation of a change of the map: an insert has written the ticket's entry, or an invalidation has removed it.
 #[derive(Clone, Copy, Debug)]
 pub enum Write {
     Upsert { ticket: Ticket },
     Remove { ticket: Ticket },
 }
 
-/// What a caller has pending: it is not in its log yet.
+/// The operation that a caller has pending: it isn't in its log yet.
 #[derive(Clone, Copy, Debug)]
 pub enum Operation {
     Reading(Read),

@@ -57,7 +57,7 @@ impl<S: Drop, A: Allocator + Drop> Settings<S, A> {
     }
 }
 
-/// What a core is built of, with room for `capacity` entries in each shard.
+/// The parts of a new core, with capacity for `capacity` entries in each shard.
 #[derive(Drop)]
 pub struct CoreParts<S: Drop, W: Drop> {
     pub hash_state: S,

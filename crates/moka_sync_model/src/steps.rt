@@ -24,7 +24,7 @@ pub enum WhichLog {
     Writes,
 }
 
-/// What became of a pending read.
+/// The end of a pending read.
 #[derive(Clone, Copy, Debug, PartialEq, Eq)]
 pub enum ReadPush {
     Pushed,
@@ -32,7 +32,7 @@ pub enum ReadPush {
     Discarded,
 }
 
-/// What became of a pending write.
+/// The end of a pending write.
 #[derive(Clone, Copy, Debug, PartialEq, Eq)]
 pub enum WritePush {
     Pushed,
@@ -58,10 +58,10 @@ pub trait Steps<K: Drop, V: Drop, A: Allocator + Drop> {
     // The pair may be inserted.
     ghost accepts: { Self → K → V → Type 0 };
 
-    /// What it stores of a key: as a rule a shared pointer, so that a step takes it whole and makes none under a lock.
+    /// The key as it stores it: as a rule a shared pointer, so that a step takes it whole and makes none under a lock.
     type Key: Drop;
 
-    /// What it stores of a value.
+    /// The value as it stores it.
     type Value: Drop;
 
     // The key that is stored so.
@@ -94,7 +94,7 @@ pub trait Steps<K: Drop, V: Drop, A: Allocator + Drop> {
         ensures step { allowed self.old (Event.Get CALLER key.now now) (get_reply result) self.new }
         ensures caller { caller self.new ≡ pends (left_by_get result) };
 
-    /// Whether a key has an unexpired value.
+    /// Looks if a key has an unexpired value.
     fn contains_key<R: Wait>(&self, rt: &R, key: &K, now: Instant) -> bool
         ensures { allowed self.now (Event.Contains key.now now) (Reply.Bool result) self.now };
 
@@ -127,8 +127,8 @@ pub trait Steps<K: Drop, V: Drop, A: Allocator + Drop> {
         ensures step { allowed self.old (Event.Forget CALLER) Reply.Done self.new }
         ensures caller { caller self.new ≡ at_rest };
 
-    /// Whether the caller is to run a maintenance at once: one is due by the length of this log or by the time, and nobody else runs one. Where it
-    /// is, the cache may keep others from being told the same until the caller's maintenance has ended.
+    /// Returns `true` if the caller is to run a maintenance at once. One is due by this log's length or by time then, and nobody else runs one. The cache may
+    /// answer `false` to others until the caller's maintenance has ended.
     fn decide(&mut self, log: WhichLog, now: Instant) -> bool
         requires { (caller self.old).is_maintaining ≡ false }
         ensures decision { decides self.old (log_of log) now result self.new }
@@ -151,7 +151,7 @@ pub trait Steps<K: Drop, V: Drop, A: Allocator + Drop> {
 /// The steps of a cache that can also take an entry out and hand its value back. What it hands back is the implementer's to say: what it has stored of
 /// the value, or a clone that is made before the entry leaves.
 pub trait TakingSteps<K: Drop, V: Drop, A: Allocator + Drop>: Steps<K, V, A> {
-    /// What it hands back of a value.
+    /// The value as it is handed back.
     type Taken: Drop;
 
     // That is handed back for this value.
@@ -219,7 +219,7 @@ pub fn get<K: Drop, V: Clone, A: Allocator + Drop, T: Steps<K, V, A>, R: Wait>(
     Ok(found)
 }
 
-/// Whether a key has an unexpired value. It leaves nothing behind.
+/// Looks if a key has an unexpired value. It leaves nothing behind.
 pub fn contains_key<K: Drop, V: Drop, A: Allocator + Drop, T: Steps<K, V, A>, R: Wait>(
     rt: &R,
     steps: &T,

@@ -5,8 +5,8 @@ ghost use Rattle.moka_common.specs.Weight.{unit_weighs};
 use moka_common::constants::UNIT_WEIGHT;
 use moka_common::weigh::UnitWeight;
 
-/// What weighs the entries of a cache that threads share: it is asked behind a shard's lock, and is not changed by that. Any closure of the
-/// form `|key: &K, value: &V| -> u32` that changes nothing does, as it stands; so does a type with an impl of its own.
+/// A weigher of the entries of a cache that threads share. It is called under a shard's lock, and isn't changed by that. Any closure of the form `|key: &K,
+/// value: &V| -> u32` that changes nothing does, as it stands; so does a type with an impl of its own.
 pub trait WeighShared<K, V>: Drop {
     // Whether the weigher may be asked.
     ghost ready: { Self → Type 0 };

@@ -75,7 +75,7 @@ fn main_weight<K: Eq + Drop, V: Drop, A: Allocator + Clone + Drop>(store: &Store
     store.weight() - store.window_weight()
 }
 
-/// Number of LRU entries of main that together weigh as much as `new`, or `None` if it isn't used more often than all of them together.
+/// Returns the number of LRU entries of main to evict for `new`, or `None` if it isn't used more often than all of them together.
 fn outvoted_count<K: Eq + Drop, V: Drop, A: Allocator + Clone + Drop>(
     store: &Store<K, V, A>,
     sketch: &FrequencySketch<A>,

@@ -97,8 +97,8 @@ impl<K, V, W: Drop, A: Allocator + Clone + Drop> CacheBuilder<K, V, W, A> {
         }
     }
 
-    /// For how many entries the cache has room from the start: while it has fewer, no insert is refused. More are found room for as they come. Without
-    /// a weigher room for one more than the limit lasts for ever.
+    /// Sets the number of entries that fit from the start. With fewer, no insert is refused. More are found room for as they come. Without a weigher room for
+    /// one more than the limit lasts for ever.
     pub fn initial_capacity(self, initial_capacity: usize) -> Self
         ensures { result ≡ record self { initial_capacity = initial_capacity } }
     {
@@ -157,7 +157,7 @@ impl<K, V, W: Drop, A: Allocator + Clone + Drop> CacheBuilder<K, V, W, A> {
         }
     }
 
-    /// What says how much an entry weighs: a closure, or a type with an impl of `Weigh`. It is asked once for each insert that has its room.
+    /// Sets the weigher: a closure, or a type with an impl of `Weigh`. It is asked once for each insert that has its room.
     pub fn weigher<N: Weigh<K, V> + Drop>(self, weigher: N) -> CacheBuilder<K, V, N, A>
         ensures { result ≡ record {
           policy = self.policy;

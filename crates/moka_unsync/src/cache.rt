@@ -39,7 +39,7 @@ use std::alloc::{Allocator, Global};
 use std::hash::{BuildHasher, Hash};
 use std::marker::Model;
 
-/// What a cache is built of.
+/// The settings of a cache.
 #[derive(Drop)]
 pub(crate) struct Parts<S: Drop, W: Drop> {
     pub(crate) hash_state: S,
@@ -50,7 +50,7 @@ pub(crate) struct Parts<S: Drop, W: Drop> {
     pub(crate) initial_capacity: usize,
 }
 
-/// A cache for one thread: a map that forgets, bounded by a number of entries or by their weight, with expiry by time to live and by time to idle.
+/// A single-thread cache, bounded by a number of entries or by their weight, with expiry by time to live and by time to idle.
 ///
 /// A look-up, an insert, an invalidation or a removal of a key first removes expired entries, and the least recently used ones while the weight is
 /// above the limit, each time a batch of `EVICTION_BATCH_SIZE` entries at most; by time to idle a batch of the window and of each segment of the main
@@ -99,7 +99,7 @@ pub(crate) struct Parts<S: Drop, W: Drop> {
 /// # Expiry
 ///
 /// With a time to live an entry expires that long after its last insert, with a time to idle that long after its last `get` or insert, from the very
-/// end of that time on. No call reads a clock: the moment is handed in, and it may go back. `contains_key` and `iter` are no use of an entry.
+/// end of that time on. No call reads a clock: the moment is handed in, and it may go back. `contains_key` and `iter` don't count as an access.
 ///
 /// # Hashing
 ///
@@ -264,21 +264,21 @@ impl<
         self.shares
     }
 
-    /// How many entries the cache has, expired ones among them that no call has removed yet. It takes constant time.
+    /// Returns the number of entries, expired ones among them that no call has removed yet. It takes constant time.
     pub fn entry_count(&self) -> u64
         ensures { result ≡ length self.now.contents.entries }
     {
         self.store.len() as u64
     }
 
-    /// What the entries weigh together, at most `u64::MAX`. Without a weigher each weighs 1. It takes constant time.
+    /// Returns the weight of the entries, at most `u64::MAX`. Without a weigher each weighs 1. It takes constant time.
     pub fn weighted_size(&self) -> u64
         ensures { result ≡ weighted_size self.now.contents.entries }
     {
         self.store.weight()
     }
 
-    /// Whether the key has an unexpired entry. It is no use of it: neither its moments nor its place nor the popularity of the key change.
+    /// Returns `true` if the key has an unexpired entry. It doesn't count as an access: no moment, place or popularity changes.
     pub fn contains_key(&mut self, key: &K, now: Instant) -> bool
         ensures value { result
             ≡ is_contained (keys_by K.Hash S.BuildHasher S.Hasher.Hasher) self.old key.now now }
@@ -304,7 +304,7 @@ impl<
         }
     }
 
-    /// The value of the key, if it has an unexpired entry, which becomes the most recently used one. The key is counted, found or not.
+    /// Returns the value of the key's unexpired entry, if there is one. The key is counted, found or not.
     pub fn get(&mut self, key: &K, now: Instant) -> Option<&V>
         ensures* step { sem 𝓛 (ends_as K.row V.row S.row W.row A.row S.Hasher.row
             K.Hash S.BuildHasher S.Hasher.Hasher A.Allocator A.Clone self.entry
@@ -337,8 +337,8 @@ impl<
         Some(&self.store.get(id).value)
     }
 
-    /// The value of the key, if it has an unexpired entry. It is no use of it, the key is not counted, and nothing is removed: so what a `get` would first
-    /// remove for the limit is still found. It takes constant time on average.
+    /// Returns the value of the key's unexpired entry, if there is one. It doesn't count as an access, and removes nothing, so it still finds an entry that a
+    /// `get` would first remove for the limit. It takes constant time on average.
     pub fn peek(&self, key: &K, now: Instant) -> Option<&V>
         ensures { option_copied result
             ≡ found_by_peek (keys_by K.Hash S.BuildHasher S.Hasher.Hasher) self.now key.now now }
@@ -429,8 +429,7 @@ impl<
         remove_where(&mut self.store, predicate);
     }
 
-    /// The unexpired entries as pairs of key and value, in order of use, least recently used first and those of the window last. It is no use of them, and
-    /// removes none.
+    /// Returns an iterator over the unexpired pairs, in order of use, LRU first and the window last. It doesn't count as an access, and removes none.
     pub fn iter(&self, now: Instant) -> Iter<'_, K, V, A>
         ensures value { result ≡ pairs_at self.now now }
         ensures fits { length result < 2 ^ 64 }
@@ -438,8 +437,8 @@ impl<
         Iter::new(self.store.iter(), &self.bounds, now)
     }
 
-    /// The unexpired entry behind that of a key, in the order of `iter`: so a walk can be broken off, and go on from the last key that it met. The answer is
-    /// `None` where none is behind it, and where the key has no entry. It is no use of an entry, and takes constant time on average for each that it passes.
+    /// Returns the unexpired entry after that of a key, in the order of `iter`. It is `None` if there is none or the key has no entry. An interrupted walk can
+    /// go on from its last key. It doesn't count as an access. It takes constant time on average per entry passed.
     pub fn next_after(&self, key: &K, now: Instant) -> Option<(&K, &V)>
         ensures { option_map deref_pair result
             ≡ pair_behind (keys_by K.Hash S.BuildHasher S.Hasher.Hasher) self.now key.now now }
@@ -474,7 +473,7 @@ impl<
         }
     }
 
-    /// How many entries there is room for at the present mean weight, as far as 64 bits tell.
+    /// Returns the number of entries that fit at the present mean weight, as far as 64 bits tell.
     fn expected_entries(&self, limit: u64) -> u64
         ensures { result ≡ min (2 ^ 64 - 1) (expected_entries self.now.settings.is_weighed limit
             (length self.now.contents.entries) (total_weight self.now.contents.entries)) }
@@ -502,8 +501,8 @@ impl<
     /// A new entry for which there is no room may be rejected by the admission policy, which is `Ok` as well. Where there is a window, older entries of it may
     /// leave too.
     ///
-    /// Room is made first, for an update too, which may need none in the end: where memory is refused for it, nothing was expired, evicted, weighed
-    /// or stored, an entry at the key keeps its value, and the key and value that were handed in are dropped. The weigher is asked once otherwise.
+    /// Memory is reserved first, for an update too, which may need none in the end. If it is refused, nothing was expired, evicted, weighed or stored, an entry
+    /// at the key keeps its value, and the key and value that were handed in are dropped. Otherwise the weigher is asked once.
     pub fn insert(&mut self, key: K, value: V, now: Instant) -> Result<(), InsertError>
         requires ready { W.ready self.old.weigher }
         ensures step { OnOk result (IsInserted (keys_by K.Hash S.BuildHasher S.Hasher.Hasher)

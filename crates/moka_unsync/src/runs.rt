@@ -52,15 +52,15 @@ pub enum Call<K: Drop, V: Drop, A: Allocator + Drop = Global> {
     WeightedSize,
 }
 
-/// What a call replies to `run`.
+/// The reply to a call of `run`.
 #[derive(Debug, Drop)]
 pub enum Reply<V: Drop, A: Allocator + Drop = Global> {
     Found(Option<Rc<V, A>>),
     Bool(bool),
     Done,
     Number(u64),
-    /// Memory was refused: for the room of an insert, which was not made then, or for one more owner of a value that was found, or of the call's own
-    /// value where none was: the `get` or `peek` is done then, and nothing is inserted.
+    /// Memory was refused, for an insert or for one more owner of a value. A refused insert changes nothing. If a `get` or `peek` can't share its value, the
+    /// look-up is done and nothing is inserted.
     OutOfMemory,
 }
 

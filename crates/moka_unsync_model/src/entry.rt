@@ -1,7 +1,7 @@
 //! What a cache for one thread keeps of a key.
 use moka_common::time::Instant;
 
-/// Where an entry is: in the window, or in one of main's two parts, protected for those that were used in main and probation for the others.
+/// The part of an entry: the window, or main's protected segment or probation.
 #[repr(u8)]
 #[derive(Clone, Copy)]
 pub enum Part {

@@ -8,8 +8,8 @@ ghost use Rattle.moka_unsync_model.specs.Removal.{EntriesLeaveForACause, Inserts
 use moka_common::weigh::Weigh;
 use std::hash::{BuildHasher, Hash};
 
-/// A hit is the last written value, and fresh: no invalidation or removal has ended it, and neither of its durations has passed at the call's
-/// moment. A value that a removal answers is one too, by `remove_as_get`.
+/// A hit is the last written value and fresh: no invalidation or removal has ended it, and neither of its durations has passed. A value that a removal answers
+/// is one too, by `remove_as_get`.
 pub fn hits_are_current<K: Eq + Hash, V, S: BuildHasher, W: Weigh<K, V>>()
     ensures { HitsAreCurrent (keys_by K.Hash S.BuildHasher S.Hasher.Hasher) W.weighs }
 {}
@@ -24,8 +24,8 @@ pub fn pairs_are_current<K: Eq + Hash, V, S: BuildHasher, W: Weigh<K, V>>()
     ensures { PairsAreCurrent (keys_by K.Hash S.BuildHasher S.Hasher.Hasher) W.weighs }
 {}
 
-/// A get finds nothing exactly where the key was never written, its entry left for a cause since, its insert was rejected for want of room, or
-/// its last write is over. So does a removal, by `remove_as_get`.
+/// A get finds nothing exactly if its key was never written, its insert was rejected, its entry has left, or its last write is over. So does a removal, by
+/// `remove_as_get`.
 pub fn misses_have_a_reason<K: Eq + Hash, V, S: BuildHasher, W: Weigh<K, V>>()
     ensures { MissesHaveAReason (keys_by K.Hash S.BuildHasher S.Hasher.Hasher) W.weighs }
 {}
@@ -45,8 +45,7 @@ pub fn contains_as_get<K: Eq + Hash, V, S: BuildHasher, W: Weigh<K, V>>()
     ensures { ContainsAsGet (keys_by K.Hash S.BuildHasher S.Hasher.Hasher) W.weighs }
 {}
 
-/// `remove` answers what a `get` in its place would, which is a step of the same cache with the same answer: so the laws of hits and misses speak of
-/// it too.
+/// `remove` answers what a `get` in its place would, so the laws of hits and misses speak of it too.
 pub fn remove_as_get<K: Eq + Hash, V, S: BuildHasher, W: Weigh<K, V>>()
     ensures { RemoveAsGet (keys_by K.Hash S.BuildHasher S.Hasher.Hasher) W.weighs }
 {}
@@ -66,7 +65,7 @@ pub fn inserts_enter_or_are_rejected<K: Eq + Hash, V, S: BuildHasher, W: Weigh<K
     ensures { InsertsEnterOrAreRejected (keys_by K.Hash S.BuildHasher S.Hasher.Hasher) W.weighs }
 {}
 
-/// What the law of hits excludes: that an update keeps the old value. A value that another has replaced is not current.
+/// The law of hits excludes that an update keeps the old value. A value that another has replaced is not current.
 pub fn replaced_values_are_not_current<K: Eq + Hash, V, S: BuildHasher>()
     ensures { ReplacedValuesAreNotCurrent (keys_by K.Hash S.BuildHasher S.Hasher.Hasher) V }
 {}

@@ -17,8 +17,7 @@ pub fn entry_count_stays_within_the_limit<K: Eq + Hash, V, S: BuildHasher, W: We
     ensures { StaysWithinLimit (keys_by K.Hash S.BuildHasher S.Hasher.Hasher) W.weighs }
 {}
 
-/// A cache without a weigher that was built with room for more entries than its limit refuses no call, whatever calls are made: it takes no memory
-/// for entries after it is built.
+/// A cache without a weigher whose initial capacity is above its limit refuses no call. It takes no memory for entries after it is built.
 pub fn no_insert_is_refused_with_room_above_the_limit<
     K: Eq + Hash,
     V,
@@ -38,7 +37,7 @@ pub fn each_key_stands_once<K: Eq + Hash, V, S: BuildHasher, W: Weigh<K, V>>()
     ensures { KeysStandOnce (keys_by K.Hash S.BuildHasher S.Hasher.Hasher) W.weighs }
 {}
 
-/// With a time to live the order of writing has exactly the entries' keys, each with the moment of its last insert; without one it is empty.
+/// With a time to live the order of writing has exactly the entries' keys, each with the moment of its last insert. Without one it is empty.
 pub fn writes_follow_entries<K: Eq + Hash, V, S: BuildHasher, W: Weigh<K, V>>()
     ensures { WritesFollowEntries (keys_by K.Hash S.BuildHasher S.Hasher.Hasher) W.weighs }
 {}
@@ -58,7 +57,7 @@ pub fn protected_stays_within_its_share<K: Eq + Hash, V, S: BuildHasher, W: Weig
     ensures { ProtectedStaysWithinShare (keys_by K.Hash S.BuildHasher S.Hasher.Hasher) W.weighs }
 {}
 
-/// Where that is nothing, no entry is ever in it, not even one that weighs nothing.
+/// If protected's share is nothing, no entry is ever in it, not even one that weighs nothing.
 pub fn protected_stays_empty<K: Eq + Hash, V, S: BuildHasher, W: Weigh<K, V>>()
     ensures { ProtectedStaysEmpty (keys_by K.Hash S.BuildHasher S.Hasher.Hasher) W.weighs }
 {}
@@ -73,8 +72,7 @@ pub fn protected_gives_way_last<K: Eq + Hash, V, S: BuildHasher, W: Weigh<K, V>>
     ensures { ProtectedGivesWayLast (keys_by K.Hash S.BuildHasher S.Hasher.Hasher) W.weighs }
 {}
 
-/// With the shares that are set where nothing else is, a cache does what one with main as one list and a window of a hundredth does, to the letter: so
-/// protected is opt-in.
+/// With the default shares a cache does what one with main as one list and a window of a hundredth does, to the letter.
 pub fn a_cache_without_protected_is_one_of_one_list<
     K: Eq + Hash,
     V,
@@ -89,7 +87,7 @@ pub fn the_window_stays_empty<K: Eq + Hash, V, S: BuildHasher, W: Weigh<K, V>>()
     ensures { WindowStaysEmpty (keys_by K.Hash S.BuildHasher S.Hasher.Hasher) W.weighs }
 {}
 
-/// Where nothing else is set the window has a hundredth of a limit, by its digits: definitions name the constant.
+/// The window has a hundredth of a limit by default, by its digits: definitions name the constant.
 pub fn the_window_has_a_hundredth()
     ensures { (limit : ℕ) → (limits_of default_shares limit).window ≡ limit / 100 }
 {}
@@ -104,7 +102,7 @@ pub fn entries_are_own<K: Eq + Hash, V, S: BuildHasher, W: Weigh<K, V>>()
     ensures { EntriesAreOwn (keys_by K.Hash S.BuildHasher S.Hasher.Hasher) W.weighs }
 {}
 
-/// How many entries a call removes at most for a reason that isn't its own, by its digits: definitions name the constant.
+/// The largest number of entries that a call removes for a reason that isn't its own, by its digits: definitions name the constant.
 pub fn batches_are_of_a_hundred()
     ensures { EVICTION_BATCH_SIZE ≡ 100 }
 {}

@@ -7,7 +7,7 @@ pub struct Shares {
     pub protected: u8,
 }
 
-/// How much all entries may weigh, those of the window, and those of protected.
+/// The weight limits of all entries, of the window, and of protected.
 #[derive(Clone, Copy)]
 pub struct PartLimits {
     pub all: u64,

@@ -22,8 +22,8 @@ fn order_after(chain: &mut Chain<char>, id: NodeId, next: NodeId) -> [Option<cha
     order(chain)
 }
 
-/// The orders of four elements: once the third has moved before the first, the last before one in the middle, one before that which is behind it already, and
-/// one before that which is before it.
+/// Returns the orders of four elements after four moves. The third moves before the first, the last before one in the middle, and twice an element past its
+/// neighbour.
 fn orders(elements: Global, links: Global) -> Result<[[Option<char>; 4]; 4], Fail> {
     let mut chain = Chain::new(elements, links);
     chain.reserve_exact(4)?;

@@ -13,8 +13,8 @@ fn steps(list: &mut Deque<char>) -> [Option<char>; 4] {
     steps
 }
 
-/// The steps in a list: while it is empty, once it has three elements, once the second has moved to the back when the cursor had passed the first, and once
-/// that at the cursor has left.
+/// Returns the steps in a list. It is empty first, then has three elements; then the second moves behind the cursor to the back, and the one at the cursor
+/// leaves.
 fn walks(list: &mut Deque<char>) -> Result<[[Option<char>; 4]; 4], char> {
     let empty = steps(list);
     list.push_back('a')?;
@@ -76,7 +76,7 @@ impl Drop for Noted<'_> {
     }
 }
 
-/// Adds elements with these numbers to a list, of which the fifth takes the place of the first, moves the next one to the back, and drops the list.
+/// Adds elements with these numbers to a list, unlinks and moves some, and drops the list. The fifth takes the place of the first.
 fn fill_and_drop(alloc: Global, notes: &RefCell<Vec<u32>>, numbers: &[u32]) {
     let mut list = Deque::new(alloc, CacheRegion::Window);
     for number in numbers {

@@ -18,7 +18,7 @@ fn errors_have_their_texts(rt: HostRuntime) -> Result<(), Fail> {
     Ok(())
 }
 
-/// How many misses a log takes, of as many and one more, and how many are taken from it again, with room for all but three.
+/// Returns how many misses a log takes if offered one more than it holds, and how many are then taken into all but three places.
 fn filled(reads: &mut ReadLog) -> (u64, usize) {
     let mut count = 0u64;
     for hash in 0..385u64 {
@@ -30,7 +30,7 @@ fn filled(reads: &mut ReadLog) -> (u64, usize) {
     (count, reads.take_first(400, &mut taken))
 }
 
-/// The hints of the first six reads of a log that has three without one, once three with the hints 1, 2 and 3 were pushed.
+/// Returns the hints of the first six reads of a log. Three without a hint were pushed, and then three with the hints 1, 2 and 3.
 fn hints(reads: &mut ReadLog) -> [usize; 6] {
     for hint in 1..4 {
         let read = Read::Miss { hash: 9 };

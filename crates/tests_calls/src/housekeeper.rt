@@ -7,7 +7,7 @@ fn at(nanos: u64) -> Instant {
     Instant::from_nanos(nanos)
 }
 
-/// Whether one is due while none was run: by reads, by writes, and by a log of five with a flush point of five.
+/// Returns if a maintenance is due before any was run: by reads, by writes, and by five operations with a flush point of five.
 fn dues(keeper: &Housekeeper) -> [bool; 4] {
     [
         keeper.should_apply_reads(63, at(9)),
@@ -17,7 +17,7 @@ fn dues(keeper: &Housekeeper) -> [bool; 4] {
     ]
 }
 
-/// Whether one is run at this moment, and whether another is due by time a nanosecond before its moment, and then.
+/// Returns if one is run at this moment, and if another is due by time a nanosecond before its moment, and then.
 fn run_and_dues(keeper: &Housekeeper, run: u64, due: u64) -> [bool; 5] {
     let (early, due) = (at(due.saturating_sub(1)), at(due));
     [

@@ -11,7 +11,7 @@ type Heap = RefusingHeap<Global>;
 
 type List<'a> = Deque<u64, &'a Heap>;
 
-/// What a list does.
+/// A call of a list.
 #[derive(Clone, Copy)]
 enum Ask {
     Push(u64),
@@ -20,7 +20,7 @@ enum Ask {
     Pop,
 }
 
-/// Whether it is done. A push that is not done hands its element back.
+/// Makes the call, and returns `true` if it is done. A push that is not done hands its element back.
 fn is_done(list: &mut List, ask: Ask) -> bool {
     match ask {
         Ask::Push(number) => match list.push_back(number) {

@@ -12,7 +12,7 @@ mod threads;
 use std::sync::Wait;
 use std::thread::{JoinHandle, Threads};
 
-/// Whether each of these threads answers that all was well. All are waited for.
+/// Returns `true` if each of these threads answers that all was well. All are waited for.
 fn all_are_well<R: Wait + Threads>(rt: &R, threads: Vec<JoinHandle<bool>>) -> bool {
     let mut is_well = true;
     for thread in threads {

@@ -52,7 +52,7 @@ fn four_keys(alloc: Global) -> Result<Cache<u64, u64>, Fail> {
     Ok(cache)
 }
 
-/// What a cache shows, and an iterator over it. Debug is no call with a moment, so it shows what is expired by now as well.
+/// A cache and an iterator over it show their entries. Debug is no call with a moment, so it shows what is expired by now as well.
 #[test]
 fn the_debug_text_has_every_stored_entry(rt: HostRuntime) -> Result<(), Fail> {
     let cache = four_keys(rt.alloc())?;
@@ -111,7 +111,7 @@ fn calls_of(alloc: Global, number: u64) -> Result<Vec<Call<u64, u64>>, OutOfMemo
     Ok(calls)
 }
 
-/// Whether a reply is that of the call at this place.
+/// Returns `true` if a reply is that of the call at this place.
 fn is_of_place(place: usize, reply: &Reply<u64>) -> bool {
     match reply {
         Reply::Done => place % 3 == 0,
@@ -134,7 +134,7 @@ fn a_run_makes_two_thousand_calls(rt: HostRuntime) -> Result<(), Fail> {
     Ok(())
 }
 
-/// A get or insert of 5 at key 1, of 6 there, and of 7 at key 2, which is then looked at; and a count.
+/// Returns five calls. They get or insert 5 at key 1, 6 there, and 7 at key 2, then look at key 2 and count.
 fn gets_or_inserts(alloc: Global) -> Result<Vec<Call<u64, u64>>, OutOfMemory> {
     let now = start();
     let mut calls = Vec::new(alloc);

@@ -67,7 +67,7 @@ fn digits_of(cache: &Counted) -> u64 {
     digits
 }
 
-/// What is seen of a play: how many inserts were taken, how often the weigher was asked, and the digits of the keys.
+/// The picture of a play: inserts that were taken, calls of the weigher, and the digits of the keys.
 type Picture = (u64, u64, u64);
 
 /// Makes calls on a cache with this limit and this room from the start, or none where it is not built.
@@ -153,7 +153,7 @@ fn a_refused_table_is_asked_for_at_the_next_new_entry(rt: HostRuntime) -> Result
     Ok(())
 }
 
-/// How many keys are taken, of a thousand of which every second is invalidated, where a cache that was built with this room gets no memory any more.
+/// Returns how many of a thousand keys a cache with this capacity takes without memory. Every second one is invalidated.
 fn taken_without_memory(heap: &Heap, limit: u64, room: usize) -> Option<u64> {
     let mut cache: Cache<u64, u64, FixedState, UnitWeight, _> = CacheBuilder::new(heap, limit)
         .initial_capacity(room)

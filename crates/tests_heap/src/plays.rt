@@ -45,7 +45,7 @@ pub fn for_each_refusal<B: Allocator, E: Drop, F: FnMut(&RefusingHeap<B>) -> Res
     Ok(once.saturating_add(from))
 }
 
-/// How many plays met a refusal before one met none.
+/// Plays until a play meets no refusal, and returns the number of those before it.
 fn round<B, E, F, R>(
     heap: &RefusingHeap<B>,
     bound: u64,
@@ -70,7 +70,7 @@ where
     })
 }
 
-/// Whether a play meets a refusal.
+/// Plays once, and returns `true` if the play meets a refusal.
 fn play<B, E, F>(
     heap: &RefusingHeap<B>,
     refusals: Refusals,

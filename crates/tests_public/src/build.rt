@@ -21,7 +21,7 @@ enum Way {
     CoreNew,
 }
 
-/// Why it is not built, with this room from the start where the way has a builder, and how many bytes it holds if it is.
+/// The reason why it isn't built, and the bytes that it holds if it is.
 type Outcome = (Option<BuildError>, u64);
 
 fn unsync_built(heap: &Heap, way: Way, room: usize) -> Outcome {
@@ -96,7 +96,7 @@ const WAYS: [Way; 9] = [
     Way::CoreNew,
 ];
 
-/// How many plays of each way meet a refusal: two for each request.
+/// Plays of each way that meet a refusal: two for each request.
 const REFUSALS: [u64; 9] = [0, 6, 6, 76, 76, 76, 84, 74, 10];
 
 #[test]

@@ -8,7 +8,7 @@ use tests_heap::{PlayError, Refusals, RefusingHeap, for_each_refusal};
 /// More plays than any work here has requests.
 const BOUND: u64 = 50;
 
-/// Whether a list gets a block for its first item, and one for all three.
+/// Returns `true` if a list gets a block for its first item, and one for all three.
 fn is_listed(heap: &Heap) -> bool {
     let Ok(mut items) = Vec::with_capacity(heap, 1) else {
         return false;
@@ -41,7 +41,7 @@ fn each_request_of_the_owners_is_refused(rt: HostRuntime) -> Result<(), Fail> {
     Ok(())
 }
 
-/// What is refused, and of six requests a digit each that says which are.
+/// Refusals, and a digit for each of six requests that says which are refused.
 const CASES: [(Refusals, u64); 6] = [
     (Refusals::Never, 0b000000),
     (Refusals::Once(1), 0b100000),

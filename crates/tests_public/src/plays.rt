@@ -7,7 +7,7 @@ use tests_heap::RefusingHeap;
 /// The heap of a play.
 pub type Heap = RefusingHeap<Global>;
 
-/// Whether all was as it should be, or what was not.
+/// `Ok` if all was as it should be, or what was not.
 pub type Play = Result<(), &'static str>;
 
 /// More plays than any work here has requests.
@@ -17,7 +17,7 @@ pub fn at(nanos: u64) -> Instant {
     Instant::from_nanos(nanos)
 }
 
-/// What is wrong, where something is.
+/// Returns what is wrong, if something is.
 pub fn check(holds: bool, wrong: &'static str) -> Play {
     if holds { Ok(()) } else { Err(wrong) }
 }

@@ -29,7 +29,7 @@ fn call_list(heap: &Heap) -> Option<Vec<unsync::Call<u64, u64, &Heap>, &Heap>> {
     calls.ok()
 }
 
-/// What a reply is, in a letter: done, found with its value 7, absent, a number or refused.
+/// Returns a letter for a reply: done, found with its value 7, absent, a number or refused.
 fn letter(reply: &unsync::Reply<u64, &Heap>) -> char {
     match reply {
         unsync::Reply::Done => 'd',
@@ -117,7 +117,7 @@ type HeapRecord<'a> = Record<u64, u64, FixedState, UnitWeight, &'a Heap>;
 
 type HeapReply<'a> = Reply<HeapShared<'a>, Rows<u64, u64, &'a Heap>>;
 
-/// What a reply is, in a letter: done, found with its value 7, absent or refused.
+/// Returns a letter for a reply: done, found with its value 7, absent or refused.
 fn core_letter(reply: &HeapReply) -> char {
     match reply {
         Reply::Done => 'd',
@@ -128,7 +128,7 @@ fn core_letter(reply: &HeapReply) -> char {
     }
 }
 
-/// What a call is answered, in a letter, or a dash where it is not recorded.
+/// Returns a letter for the answer to a call, or a dash if it isn't recorded.
 fn answer_of<'a>(kept: &mut HeapRecord<'a>, call: Call<HeapShared<'a>, HeapShared<'a>>) -> char {
     match kept.apply(call) {
         Ok(answer) => core_letter(&answer),
@@ -136,7 +136,7 @@ fn answer_of<'a>(kept: &mut HeapRecord<'a>, call: Call<HeapShared<'a>, HeapShare
     }
 }
 
-/// What an insert and a get of a key are answered, with dashes where memory for key and value is refused.
+/// Returns the letters for an insert and a get of a key, with dashes if memory for key and value is refused.
 fn insert_and_get<'a>(heap: &'a Heap, kept: &mut HeapRecord<'a>, key: u64) -> [char; 2] {
     let now = at(0);
     let (Some((key, value)), Some((again, _))) = (pair(heap, key, 7), pair(heap, key, 7)) else {
@@ -155,7 +155,7 @@ fn written(kept: &HeapRecord) -> [char; 6] {
     letters
 }
 
-/// What an insert and a get may be answered: a call that is not recorded is not made, and what is refused is not there.
+/// The allowed answers to an insert and a get: a call that isn't recorded isn't made, and what is refused isn't there.
 const ANSWERS: [[char; 2]; 6] = [
     ['d', 'f'],
     ['d', '-'],
@@ -196,7 +196,7 @@ fn record_all(heap: &Heap) -> Play {
     check(are_whole && are_allowed(&all), "the answers")
 }
 
-/// Whether each key is answered as it may be.
+/// Returns `true` if each key is answered as allowed.
 fn are_allowed(all: &[[char; 2]; 3]) -> bool {
     all.iter().all(|answers| ANSWERS.contains(answers))
 }

@@ -13,7 +13,7 @@ type HeapEvent<'a> = Event<HeapShared<'a>, HeapShared<'a>>;
 
 type HeapReply<'a> = Reply<HeapShared<'a>, Rows<u64, u64, &'a Heap>>;
 
-/// The insert of key 1 by a caller and a get by another, which push and forget what they have pending, or nothing where memory for these is refused.
+/// Returns the steps of an insert by one caller and a get by another, who push and forget their pending operations. It is `None` if memory is refused.
 fn events(heap: &Heap) -> Option<Vec<HeapEvent<'_>, &Heap>> {
     let now = at(0);
     let (key, value) = pair(heap, 1, 7)?;
@@ -36,7 +36,7 @@ fn events(heap: &Heap) -> Option<Vec<HeapEvent<'_>, &Heap>> {
     events.ok()
 }
 
-/// What a reply is, in a letter: done, found with its value 7, absent, not possible or refused.
+/// Returns a letter for a reply: done, found with its value 7, absent, not possible or refused.
 fn letter(reply: &HeapReply) -> char {
     match reply {
         Reply::Done => 'd',
@@ -83,7 +83,7 @@ fn a_list_of_steps_is_refused_before_the_first(rt: HostRuntime) -> Result<(), Fa
     Ok(())
 }
 
-/// Whether a whole get finds key 1.
+/// Returns `true` if a whole get finds key 1.
 fn is_hit(core: &mut HeapCore) -> bool {
     if !core.is_at_rest() {
         return false;
@@ -91,7 +91,7 @@ fn is_hit(core: &mut HeapCore) -> bool {
     matches!(core.get(&1, at(0)), Reply::Found(Some(_)))
 }
 
-/// How many of three hundred gets are hits, which make a maintenance due, several times over, and how many requests they make.
+/// Returns how many of three hundred gets are hits, with several maintenances among them, and how many requests they make.
 fn requests_of_hits<R: Wait>(rt: &R, heap: &Heap) -> (u64, u64) {
     let Ok(mut core) = Core::new(heap, FixedState::new()) else {
         return (0, 0);

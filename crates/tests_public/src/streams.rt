@@ -83,7 +83,7 @@ fn run_of_writes(alloc: Global, calls: usize) -> (Result<End, ScriptError>, Vec<
     (end, sink.into_inner().taken)
 }
 
-/// Whether the source refuses after `calls` calls, and then nothing is written. Otherwise all replies are. Anything else is nothing.
+/// Returns if the source refuses after `calls` calls, and nothing is written then. Otherwise all replies are. Anything else is nothing.
 fn is_read_refused(alloc: Global, calls: usize) -> Option<bool> {
     let (end, text) = run_of_reads(alloc, calls);
     match end {
@@ -93,7 +93,7 @@ fn is_read_refused(alloc: Global, calls: usize) -> Option<bool> {
     }
 }
 
-/// Whether the sink refuses after `calls` calls, and has the first replies then, two bytes by each call. Otherwise it has all. Anything else is nothing.
+/// Returns if the sink refuses after `calls` calls, and has the first replies then, two bytes a call. Otherwise it has all. Anything else is nothing.
 fn is_write_refused(alloc: Global, calls: usize) -> Option<bool> {
     let (end, text) = run_of_writes(alloc, calls);
     let replies = REPLIES.as_bytes();

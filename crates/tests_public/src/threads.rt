@@ -24,7 +24,7 @@ fn insert<R: Wait>(
     Some(cache.insert(rt, key, value, at(0)))
 }
 
-/// Whether a value that was found names its key.
+/// Returns `true` if a value that was found names its key.
 fn is_own(found: Result<Option<Named>, OutOfMemory>, key: u64) -> bool {
     match found {
         Ok(Some(value)) => *value == key,
@@ -32,7 +32,7 @@ fn is_own(found: Result<Option<Named>, OutOfMemory>, key: u64) -> bool {
     }
 }
 
-/// How many pairs a snapshot has, or none where it is refused, and how many of their values don't name their key.
+/// Returns the number of pairs of a snapshot, or 0 if it is refused, and how many of their values don't name their key.
 fn count_of<R: Wait>(rt: &R, cache: &NamedCache) -> (u64, u64) {
     let Ok(pairs) = cache.iter(rt, at(0)) else {
         return (0, 0);
@@ -66,7 +66,7 @@ fn is_answered<R: Wait>(rt: &R, heap: &Heap, cache: &NamedCache, kind: u64, key:
     }
 }
 
-/// Whether 25,000 calls of all kinds on a hundred keys are answered rightly.
+/// Returns `true` if 25,000 calls of all kinds on a hundred keys are answered rightly.
 fn are_answered<R: Wait>(rt: &R, heap: &Heap, cache: &NamedCache, seed: u64) -> bool {
     let mut number = seed;
     for _ in 0..25_000 {
@@ -81,7 +81,7 @@ fn are_answered<R: Wait>(rt: &R, heap: &Heap, cache: &NamedCache, seed: u64) -> 
     true
 }
 
-/// Whether four threads are answered rightly by a cache that they share.
+/// Returns `true` if four threads are answered rightly by a cache that they share.
 fn are_answered_by_threads<R: Wait + Threads + Copy + Send + 'static>(
     rt: R,
     alloc: Global,
@@ -102,7 +102,7 @@ fn are_answered_by_threads<R: Wait + Threads + Copy + Send + 'static>(
     Ok(is_well)
 }
 
-/// What a cache counts after one maintenance with all memory, and what its snapshot has.
+/// Returns the counts of a cache after one maintenance with all memory, and what its snapshot has.
 fn counts_of<R: Wait>(rt: &R, heap: &Heap, cache: &NamedCache) -> (u64, u64, (u64, u64)) {
     heap.refuse(Refusals::Never);
     cache.sync(rt, at(0));

@@ -9,7 +9,7 @@ use tests_heap::{Refusals, RefusingHeap, for_each_refusal};
 /// More plays than any script here has requests.
 const BOUND: u64 = 5000;
 
-/// How many plays end in each way.
+/// Number of plays that end in each way.
 #[derive(Clone, Copy, Default)]
 struct Counts {
     broken_off: u64,
@@ -113,7 +113,7 @@ fn play(
 struct Kept {
     script: String,
     replies: String,
-    /// How many others there are.
+    /// Number of the others.
     refused: u64,
 }
 
@@ -164,8 +164,8 @@ fn push_line(text: &mut String, line: &str) -> Result<(), AllocError> {
     text.push_str("\n")
 }
 
-/// Whether a reply is the wanted one with less in the cache: an entry that is gone is not found or listed, counts for nothing, and its removal leaves
-/// nothing to push.
+/// Returns `true` if a reply is the wanted one with less in the cache. An entry that is gone isn't found, listed or counted, and its removal leaves nothing to
+/// push.
 fn has_less(reply: &str, wanted: &str) -> bool {
     match (reply.parse::<u64>(), wanted.parse::<u64>()) {
         (Ok(number), Ok(most)) => number < most,
@@ -180,7 +180,7 @@ fn has_less(reply: &str, wanted: &str) -> bool {
     }
 }
 
-/// Whether each number right behind a list of pairs is how many they are.
+/// Returns `true` if each number right behind a list of pairs is their number.
 fn counts_agree(replies: &str) -> bool {
     let mut pairs = None;
     for reply in replies.lines() {
@@ -194,7 +194,7 @@ fn counts_agree(replies: &str) -> bool {
     true
 }
 
-/// How many pairs a reply lists, if it is a list of these.
+/// Returns the number of pairs that a reply lists, if it is a list of pairs.
 fn pairs_in(reply: &str) -> Option<u64> {
     if reply == "empty" {
         return Some(0);

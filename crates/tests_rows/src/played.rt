@@ -10,7 +10,7 @@ use std::io::Eprint;
 use std::sync::Wait;
 use tests_heap::RefusingHeap;
 
-/// How many rows were played, how many lines their scripts had, and how many rows differ.
+/// Number of rows played, of lines of their scripts, and of rows that differ.
 #[derive(Clone, Copy, Default)]
 pub struct Played {
     pub rows: u64,
@@ -103,7 +103,7 @@ pub fn outcome_of(
     (Ending::of(ended), sink.into_inner())
 }
 
-/// What differs where a script is run, in words.
+/// Runs a script, and returns what differs, in words.
 fn difference(rt: &impl Wait, alloc: Global, wanted: &Wanted) -> Result<Option<String>> {
     let heap = RefusingHeap::new(alloc, alloc, wanted.refusals)?;
     let (ending, written) = outcome_of(rt, alloc, &heap, &wanted.script);

@@ -3,7 +3,7 @@
 /// The mark in front of each line of a row but its name.
 const INDENT: &str = "    ";
 
-/// What a line of a block is.
+/// The kind of a line of a block.
 #[derive(Clone, Copy, Debug, PartialEq, Eq)]
 pub enum RowLine<'a> {
     /// A comment, or nothing.
@@ -19,7 +19,7 @@ pub fn blocks_of(text: &str) -> std::str::Split<'_, &'static str> {
     text.split("\n\n")
 }
 
-/// What this line is.
+/// Reads a line of a block.
 pub fn line_of(line: &str) -> RowLine<'_> {
     let Some(text) = line.strip_prefix(INDENT) else {
         if line.is_empty() || line.starts_with("#") {

@@ -13,16 +13,16 @@ const TIMES: &str = " times ";
 /// Separates the lines of a script that are repeated together.
 const AND: &str = "; ";
 
-/// What a line begins with that says how the script ends.
+/// The beginning of a line that says how the script ends.
 const ENDS: &str = "ends with ";
 
-/// What a line begins with that names the request for memory that is refused.
+/// The beginning of a line that names the request for memory that is refused.
 const REFUSES: &str = "refuses request ";
 
-/// What a line begins with that names the first of the requests for memory that are refused, and what it ends with.
+/// The beginning and the end of a line that names the first of the requests that are refused.
 const REFUSES_FROM: (&str, &str) = ("refuses requests from ", " on");
 
-/// What a line begins with that says how the plays end in which each request for memory is refused in turn.
+/// The beginning of a line that says how the plays end in which each request is refused in turn.
 const REFUSES_EACH: &str = "refuses each request: ";
 
 /// Why a line of a row isn't read.
@@ -57,9 +57,9 @@ pub struct Wanted {
     pub ending: Ending,
     /// The requests for memory that are refused while the script runs.
     pub refusals: Refusals,
-    /// How many plays end in each way in which each request is refused in turn, or nothing where it is not played so.
+    /// Number of plays that end in each way with each request refused in turn, or nothing if the script isn't played so.
     pub in_turn: String,
-    /// Whether any replies will do, as for a script in quotes.
+    /// True if any replies will do, as for a script in quotes.
     pub is_open: bool,
 }
 
@@ -91,7 +91,7 @@ impl Wanted {
         Ok(wanted)
     }
 
-    /// What must be written: the replies, a bad line, or nothing where the run is broken off.
+    /// Returns what must be written: the replies, a bad line, or nothing if the run is broken off.
     pub fn text(&self, alloc: Global) -> Result<String, AllocError> {
         match self.ending {
             Ending::Done => String::from_str(alloc, &self.replies),
@@ -215,7 +215,7 @@ fn push_unescaped(text: &mut String, escaped: &str) -> Result<(), LineError> {
     Ok(())
 }
 
-/// What the letter stands for that a text begins with, and what is behind it.
+/// Returns what the letter at the beginning of a text stands for, and what is behind it.
 fn unescaped(text: &str) -> Result<(&'static str, &str), LineError> {
     for (letter, meant) in [("n", "\n"), ("r", "\r"), ("t", "\t"), ("0", "\0")] {
         if let Some(rest) = text.strip_prefix(letter) {

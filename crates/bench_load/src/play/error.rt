@@ -29,7 +29,7 @@ pub enum PlayError {
     /// A soak doesn't start its threads.
     #[error("no thread")]
     NoThread,
-    /// What a soak has found isn't as it must be. Its report was written.
+    /// A soak isn't sound. Its report was written.
     #[error("not sound")]
     NotSound,
 }

@@ -10,10 +10,10 @@ use std::thread::{Builder, Threads};
 use std::time::Clock;
 use std::{fmt, mem};
 
-/// What a line is replied to.
+/// The reply to a line.
 #[derive(Clone, Copy, Debug, PartialEq, Eq)]
 pub enum Reply {
-    /// What a play gave: how many look-ups found their key, the sum of the found values modulo 2^64, and how many entries there were in the end.
+    /// The outcome of a play: look-ups that found their key, the sum of the found values modulo 2^64, and entries in the end.
     Played { hits: u64, sum: u64, entries: u64 },
     /// How long the last play took, from the moment when the first thread began to that when the last one ended.
     Nanos(u64),
@@ -30,14 +30,14 @@ impl fmt::Display for Reply {
     }
 }
 
-/// What the lines have asked for so far.
+/// The requests of the lines so far.
 #[derive(Drop)]
 pub struct Player {
     alloc: Global,
-    /// How many lines were taken.
+    /// Number of lines taken.
     lines: u64,
     capacity: Option<u64>,
-    /// What fills each new cache.
+    /// Calls that fill each new cache.
     filling: Vec<Call>,
     /// The calls of each thread.
     threads: Vec<Vec<Call>>,

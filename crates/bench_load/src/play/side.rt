@@ -17,7 +17,7 @@ use std::sync::{Arc, Mutex, Wait};
 
 /// A cache as threads share it.
 pub(crate) trait Side: Sized + Drop {
-    /// The same cache once more, for another thread.
+    /// Returns the same cache, for another thread.
     fn another(&mut self) -> Result<Self, AllocError>;
 
     /// A copy of the value of a key.
@@ -26,10 +26,10 @@ pub(crate) trait Side: Sized + Drop {
     /// Inserts a key with itself for its value.
     fn put<R: Wait>(&mut self, rt: &R, key: u64) -> Result<(), PlayError>;
 
-    /// How many entries were counted last.
+    /// Returns the entry count of the last maintenance.
     fn count<R: Wait>(&mut self, rt: &R) -> u64;
 
-    /// How many entries there are, once all is done that was put off.
+    /// Returns the number of entries after all delayed work is done.
     fn entries<R: Wait>(&mut self, rt: &R) -> u64;
 }
 
@@ -86,7 +86,7 @@ impl Side for Shared {
     }
 }
 
-/// The same, with its counts published.
+/// `sync::Cache` with its counts published.
 #[derive(Drop)]
 pub(crate) struct Counted {
     cache: SyncCache<u64, u64, MultiplyState>,

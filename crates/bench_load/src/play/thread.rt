@@ -8,10 +8,10 @@ use std::sync::{Barrier, Wait};
 use std::thread::JoinHandle;
 use std::time::{Clock, Instant};
 
-/// What look-ups have found so far.
+/// The look-ups of a thread so far.
 #[derive(Clone, Copy)]
 pub(crate) struct Found {
-    /// How many have found their key.
+    /// Look-ups that found their key.
     pub(crate) hits: u64,
     /// The sum of the found values, modulo 2^64.
     pub(crate) sum: u64,
@@ -33,7 +33,7 @@ impl Found {
     }
 }
 
-/// What a thread has found, and when: or several threads together.
+/// The hits of a thread and its times, or of several threads together.
 #[derive(Clone, Copy)]
 pub(crate) struct Played {
     pub(crate) found: Found,

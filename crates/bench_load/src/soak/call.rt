@@ -40,8 +40,7 @@ impl Call {
     }
 }
 
-/// How many of the calls are of each kind, out of `OUT_OF`; what is left are look-ups. An invalidation of all is seldom, or entries would neither expire nor be
-/// too much.
+/// Calls of each kind, out of `OUT_OF`. The rest are look-ups. An invalidation of all is seldom, or entries would neither expire nor be too much.
 const SHARES: [(Kind, u64); 11] = [
     (Kind::Insert, OUT_OF / 20 * 6),
     (Kind::GetIfPresent, OUT_OF / 10),

@@ -83,7 +83,7 @@ impl From<OutOfMemory> for SoakError {
     }
 }
 
-/// What starts a thread has this error alone.
+/// Starting a thread has this error alone.
 impl From<io::Error> for SoakError {
     ghost from_gives = { λ _ error. error ≡ variant.NoThread };
 

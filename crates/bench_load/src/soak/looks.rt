@@ -13,7 +13,7 @@ use std::alloc::Global;
 use std::fmt;
 use std::sync::Wait;
 
-/// What the cache counts once it is settled, and what a snapshot has at the same moment.
+/// The counts of a settled cache, and a snapshot of the same moment.
 #[derive(Clone, Copy, Debug, PartialEq, Eq)]
 pub struct Look {
     pub counted: Size,
@@ -23,7 +23,7 @@ pub struct Look {
 impl Look {
     ghost use Rattle.bench_load.specs.Sound.{AgreesOn, IsCovered};
 
-    /// Whether no more is left than is counted, and that is within the limit. Less may be left: an entry that is expired leaves behind those before it in its
+    /// Returns `true` if no more is left than is counted, within the limit. Less may be left: an entry that is expired leaves behind those before it in its
     /// order, and where moments go back one of those may not be.
     pub fn is_covered(&self) -> bool
         ensures { IsTrue result ↔ IsCovered self.now }
@@ -31,7 +31,7 @@ impl Look {
         self.left.is_within(&self.counted) && self.counted.weight <= LIMIT
     }
 
-    /// Whether what is left is what is counted, and has this number of entries.
+    /// Returns `true` if what is left is what is counted, and has this number of entries.
     pub fn agrees_on(&self, entries: u64) -> bool
         ensures { IsTrue result ↔ AgreesOn entries self.now }
     {
@@ -62,7 +62,7 @@ pub struct Looks {
 impl Looks {
     ghost use Rattle.bench_load.specs.Sound.{AreRight};
 
-    /// Whether each look is as it must be.
+    /// Returns `true` if each look is as it must be.
     pub fn are_right(&self) -> bool
         ensures { IsTrue result ↔ AreRight self.now }
     {

@@ -1,7 +1,7 @@
 //! How many calls have been made.
 use crate::soak::call::Kind;
 
-/// How many calls of each kind.
+/// Number of calls of each kind.
 #[derive(Clone, Copy, Debug, PartialEq, Eq)]
 pub struct Made {
     pub gets: u64,

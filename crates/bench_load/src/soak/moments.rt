@@ -20,19 +20,19 @@ impl Clock {
         })
     }
 
-    /// The same clock.
+    /// Returns the same clock.
     pub(crate) fn try_clone(&self) -> Result<Clock, AllocError> {
         Ok(Clock {
             millis: Arc::try_clone(&self.millis)?,
         })
     }
 
-    /// How many milliseconds after the start it is. No moment of a call whose caller has ended is later than this by more than `FAR`.
+    /// Returns the milliseconds since the start. No moment of a call whose caller has ended is later than this by more than `FAR`.
     pub(crate) fn millis(&self) -> u64 {
         self.millis.load(Ordering::SeqCst)
     }
 
-    /// What it showed before it went forward by `CALLS_A_LOOK`.
+    /// Moves the clock forward by `CALLS_A_LOOK`, and returns what it showed before.
     fn advance(&self) -> u64 {
         self.millis.fetch_add(CALLS_A_LOOK, Ordering::SeqCst)
     }
@@ -43,7 +43,7 @@ impl Clock {
 pub(crate) struct Moments {
     clock: Clock,
     millis: u64,
-    /// For how many calls it goes on by itself.
+    /// Calls for which it goes on by itself.
     calls: u64,
 }
 
@@ -66,7 +66,7 @@ impl Moments {
         Instant::from_millis(millis.saturating_add(jump).saturating_sub(FAR))
     }
 
-    /// The same as the clock shows it, in milliseconds after the start.
+    /// Returns the next moment of the clock, in milliseconds since the start.
     fn next_millis(&mut self) -> u64 {
         if self.calls == 0 {
             self.millis = self.clock.advance();

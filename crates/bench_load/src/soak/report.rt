@@ -18,14 +18,14 @@ impl Report {
     ghost use Rattle.std.specs.Prelude.{IsTrue};
     ghost use Rattle.bench_load.specs.Sound.{IsSound};
 
-    /// Whether all calls were made, nothing was wrong, and what is left is what is counted.
+    /// Returns `true` if all calls were made, nothing was wrong, and what is left is what is counted.
     pub fn is_sound(&self) -> bool
         ensures { IsTrue result → IsSound self.now }
     {
         self.tally.made.total() == self.calls && self.tally.has_no_fault() && self.looks.are_right()
     }
 
-    /// Whether it is sound, no call was refused, and one call of a hundred has found a value.
+    /// Returns `true` if it is sound, no call was refused, and one call of a hundred has found a value.
     pub fn is_served(&self) -> bool {
         self.is_sound() && self.tally.refusals == 0 && self.calls / 100 <= self.tally.hits
     }

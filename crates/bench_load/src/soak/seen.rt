@@ -24,7 +24,7 @@ impl Seen {
         self.number = self.number.saturating_add(1);
     }
 
-    /// Whether the last snapshot gives this key for the first time. A key that is none of the soak's is never so.
+    /// Returns `true` if the last snapshot gives this key for the first time. A key that is none of the soak's is never so.
     pub(crate) fn is_first(&mut self, key: u64) -> bool {
         let Some(snapshot) = self.snapshots.get_mut(key as usize) else {
             return false;

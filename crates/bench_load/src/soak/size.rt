@@ -25,14 +25,14 @@ impl Size {
         }
     }
 
-    /// Whether neither number is greater than the other's.
+    /// Returns `true` if neither number is greater than the other's.
     pub fn is_within(&self, other: &Size) -> bool
         ensures { IsTrue result ↔ ((self.now.entries ≤ other.now.entries) × (self.now.weight ≤ other.now.weight)) }
     {
         self.entries <= other.entries && self.weight <= other.weight
     }
 
-    /// Whether it is that of nothing.
+    /// Returns `true` if it is the size of nothing.
     pub fn is_nothing(&self) -> bool
         ensures { IsTrue result ↔ ((self.now.entries ≡ 0) × (self.now.weight ≡ 0)) }
     {

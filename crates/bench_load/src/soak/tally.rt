@@ -9,17 +9,17 @@ use moka_common::error::OutOfMemory;
 #[derive(Clone, Copy, Debug, PartialEq, Eq)]
 pub struct Tally {
     pub made: Made,
-    /// How many values were found.
+    /// Values that were found.
     pub hits: u64,
-    /// How many pairs snapshots gave.
+    /// Pairs of snapshots.
     pub pairs: u64,
-    /// How many calls were refused for want of memory.
+    /// Calls refused for want of memory.
     pub refusals: u64,
-    /// How many values, found or in a snapshot, named another key.
+    /// Values, found or in a snapshot, that named another key.
     pub wrong_values: u64,
-    /// How many keys a snapshot gave twice, or were none of the soak's.
+    /// Keys that a snapshot gave twice, or that were none of the soak's.
     pub wrong_keys: u64,
-    /// How many policies weren't as they were set.
+    /// Policies that weren't as they were set.
     pub wrong_policies: u64,
     /// The greatest weight that was told.
     pub heaviest: u64,
@@ -40,7 +40,7 @@ impl Tally {
         heaviest: 0,
     };
 
-    /// What was found of a key.
+    /// Notes what was found of a key.
     pub fn note_found(&mut self, key: u64, found: Result<Option<Stamp>, OutOfMemory>) {
         match found {
             Ok(Some(stamp)) => {
@@ -68,7 +68,7 @@ impl Tally {
         }
     }
 
-    /// Whether nothing was wrong.
+    /// Returns `true` if nothing was wrong.
     pub fn has_no_fault(&self) -> bool
         ensures { IsTrue result ↔ HasNoFault self.now }
     {

@@ -38,7 +38,7 @@ pub fn soak<C: Soaked + Send + 'static, R: Wait + Threads + Copy + Send + 'stati
     })
 }
 
-/// What the callers met with together.
+/// Runs the callers, and returns what they met with together.
 fn soak_by_threads<C: Soaked + Send + 'static, R: Wait + Threads + Copy + Send + 'static>(
     rt: R,
     alloc: Global,
@@ -61,7 +61,7 @@ fn soak_by_threads<C: Soaked + Send + 'static, R: Wait + Threads + Copy + Send +
     Ok(tally)
 }
 
-/// How many of the calls are those of the caller with this number: every eighth, from its own on.
+/// Returns the number of calls of the caller with this number: every eighth, from its own on.
 fn share_of(calls: u64, number: u64) -> u64 {
     calls.saturating_sub(number).div_ceil(CALLERS)
 }

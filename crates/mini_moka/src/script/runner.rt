@@ -71,8 +71,7 @@ impl fmt::Display for ScriptError {
 
 impl std::error::Error for ScriptError {}
 
-/// The exit status of a program whose run ends so: 0 where the replies were written, 2 where the input is no script, 1 after a fault or where the script
-/// is still to be run.
+/// Returns a program's exit status. It is 0 if the replies were written, 2 if the input is no script, and 1 after a fault or if the script is still to be run.
 pub fn status_of<A: Allocator + Clone + Drop>(ended: Result<End<A>, ScriptError>) -> u8
     ensures { result ≡ status_of ended }
 {

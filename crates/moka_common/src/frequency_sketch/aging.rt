@@ -20,11 +20,11 @@ const LOWER_COUNTERS: u16 = 0x0f0f;
 /// The lower byte of a group.
 const LOWER_BYTE: u16 = 0x00ff;
 
-/// How many groups a vector has, each in a lane.
+/// Groups in a vector, each in a lane.
 const LANES: usize = 32;
 
-/// How many groups are aged before their odd counters are added up. A lane counts them in counters of four bits, so it can take 15 groups at most. It
-/// takes 12, since the compiler unrolls a loop of 12 steps, and none of 15.
+/// Groups that are aged before their odd counters are added up. A lane counts them in counters of four bits, so it can take 15 groups at most. It takes 12,
+/// since the compiler unrolls a loop of 12 steps, and none of 15.
 const BLOCK_LEN: usize = 12 * LANES;
 
 /// Ages a table of this size, and returns its new size. It runs at most once in half a sample of counts, so it is kept out of line.
@@ -53,7 +53,7 @@ pub fn age(groups: &mut [u16]) -> u64
     odd + age_block(&mut groups[BLOCK_LEN * blocks..])
 }
 
-/// Ages a block, or what is left of a table after the last whole one: chunks of `LANES` groups by vectors, and the rest by the plain loop.
+/// Ages a block, or the rest of a table after the last whole block. It takes chunks of `LANES` groups by vectors, and the rest by the plain loop.
 fn age_block(groups: &mut [u16]) -> u64
     requires { length groups.old ≤ BLOCK_LEN }
     ensures halved { groups.new ≡ map halved_group groups.old }
@@ -84,7 +84,7 @@ fn sum_of_counters(groups: u16x32) -> u64
     u64::from(of_groups.reduce_sum())
 }
 
-/// What `age` does, one group at a time.
+/// Ages a table as `age` does, one group at a time.
 pub fn age_plain(groups: &mut [u16]) -> u64
     requires { length groups.old ≤ GROUPS_PER_WORD * MAX_TABLE_LEN }
     ensures groups { groups.new ≡ map halved_group groups.old }

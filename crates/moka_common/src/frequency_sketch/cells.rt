@@ -10,7 +10,7 @@ use crate::constants::{COUNTER_BITS, DEPTHS, GROUPS_PER_WORD, MAX_FREQUENCY};
 /// A full counter.
 const FULL: u16 = MAX_FREQUENCY as u16;
 
-/// What each depth mixes into a hash: the seeds of Caffeine's sketch, large numbers from CityHash and FNV-1a.
+/// The seeds that the depths mix into a hash: those of Caffeine's sketch, large numbers from CityHash and FNV-1a.
 const SEEDS: [u64; DEPTHS] = [
     0xc3a5c85c97cb3127,
     0xb492b66fbe98f273,

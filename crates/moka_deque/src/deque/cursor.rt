@@ -5,7 +5,7 @@ ghost use Rattle.moka_deque.specs.Deque.{CursorIsIn, cursor_at, entered, advance
 use crate::deque::linked::Linked;
 use std::alloc::Allocator;
 
-/// Where the cursor of a list stands: before the first node, at a node, or past the last. Contracts name it; no call takes or gives one.
+/// The place of a list's cursor: before the first node, at a node, or past the last. Contracts name it; no call takes or gives one.
 #[derive(Clone, Copy, Debug, PartialEq, Eq)]
 pub enum Cursor {
     Start,

@@ -1,4 +1,4 @@
-// A list of nodes, which contracts see as the node ids with their elements. It has no nodes until room is made for one.
+// A list of nodes. Contracts see the node ids with their elements. It has no nodes until one is reserved.
 ghost use Rattle.std.specs.Prelude.{◌≡◌, ℕ, ◌+◌, ◌<◌, ◌≤◌, [], ◌↔◌, nat_eq, length, IsTrue, IsOk, OnOk, Some, is_some, true};
 ghost use Rattle.std.specs.Borrow.{sem};
 ghost use Rattle.std.specs.Map.{lookup, values_of};

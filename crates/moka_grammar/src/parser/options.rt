@@ -62,7 +62,7 @@ fn span_option<'a>(
     Ok((Some(span), behind))
 }
 
-/// Whether the word comes first which says that inserts have weights, and the words that are left.
+/// Answers if the first word says that inserts have weights, and returns the words that are left.
 #[tactic(auto, unfolding(crate::specs::ReadingOptions::weighed_of))]
 fn weighed_of<'a>(arguments: &'a [&'a [u8]]) -> (bool, &'a [&'a [u8]])
     ensures { (result.0, map (λ word. word.now) result.1.now) ≡ weighed_of (map (λ word. word.now) arguments.now) }
@@ -92,7 +92,7 @@ fn span_of(word: &[u8]) -> Result<Span, LineError>
     Err(LineError::Bad)
 }
 
-/// What is in front of this end of a word.
+/// Returns what is in front of this end of a word.
 #[tactic(auto, unfolding(crate::specs::ReadingOptions::front_of))]
 fn front_of<'a>(word: &'a [u8], end: &[u8]) -> Option<&'a [u8]>
     ensures { option_map (λ front. front.now) result ≡ front_of end.now word.now }

@@ -28,7 +28,7 @@ impl<R: Read> Source for FromRead<R> {
 }
 
 impl<R: Read> FromRead<R> {
-    /// What the reader has left.
+    /// Makes a source of what the reader has left.
     pub fn new(inner: R) -> FromRead<R>
         ensures remaining { ⟦<FromRead<R> as Source>⟧.remaining result ≡ R.remaining inner }
         ensures failed { ⟦<FromRead<R> as Source>⟧.failed result ≡ false }

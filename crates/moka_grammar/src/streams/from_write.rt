@@ -28,7 +28,7 @@ impl<W: Write> Sink for FromWrite<W> {
 }
 
 impl<W: Write> FromWrite<W> {
-    /// What the writer holds. It isn't flushed by this type.
+    /// Makes a sink that appends to what the writer holds. It doesn't flush the writer.
     pub fn new(inner: W) -> FromWrite<W>
         ensures contents { ⟦<FromWrite<W> as Sink>⟧.contents result ≡ W.contents inner }
         ensures failed { ⟦<FromWrite<W> as Sink>⟧.failed result ≡ false }
@@ -39,7 +39,7 @@ impl<W: Write> FromWrite<W> {
         }
     }
 
-    /// The writer, with what it holds.
+    /// Returns the writer, with what it holds.
     pub fn into_inner(self) -> W
         ensures { W.contents result ≡ ⟦<FromWrite<W> as Sink>⟧.contents self }
     {

@@ -77,8 +77,8 @@ impl<
         }
     }
 
-    /// How many of the reads that are left in a round may leave their log together. Where a time to idle is set a get sees whether an entry was touched,
-    /// so there each leaves when its turn comes.
+    /// Returns how many of the reads that are left in a round may leave their log together. Where a time to idle is set a get sees whether an entry was
+    /// touched, so there each leaves when its turn comes.
     fn reads_wanted(&self, left: usize) -> usize
         ensures within { result ≤ left }
         ensures singly { IsSome self.now.settings.policy.time_to_idle → result ≤ 1 }

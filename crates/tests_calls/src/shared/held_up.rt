@@ -30,7 +30,7 @@ fn wait_for(flag: &AtomicBool) {
     }
 }
 
-/// What holds a thread up.
+/// A value whose clone holds a thread up.
 #[derive(Drop)]
 struct Gate {
     is_reached: AtomicBool,
@@ -178,7 +178,7 @@ fn a_read_past_the_flush_point_is_applied(rt: HostRuntime) -> Result<(), Fail> {
     Ok(())
 }
 
-/// How many milliseconds a thread is given to come to the lock that it waits for.
+/// Milliseconds for a thread to come to the lock that it waits for.
 const START: u64 = 2;
 
 /// Entries of two keys of one shard: 16, and 0 with a gate.

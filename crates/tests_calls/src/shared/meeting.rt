@@ -55,7 +55,7 @@ fn insert_together<R: Wait>(rt: &R, cache: &MeetingCache, together: &Barrier, ke
     cache.insert(rt, key, 0, Instant::from_nanos(0)).is_ok()
 }
 
-/// Whether two threads insert a key each, which first meet.
+/// Returns `true` if two threads insert a key each, and meet before that.
 fn are_inserted_together<R: Wait + Threads + Copy + Send + 'static>(
     rt: R,
     alloc: Global,

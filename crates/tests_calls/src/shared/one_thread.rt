@@ -21,12 +21,12 @@ fn insert_all<R: Wait>(rt: &R, cache: &Numbers, keys: &[u64]) -> Result<(), Fail
     Ok(())
 }
 
-/// How many entries are counted, and their weight.
+/// Returns the number of counted entries, and their weight.
 fn counts(cache: &Numbers) -> [u64; 2] {
     [cache.entry_count(), cache.weighted_size()]
 }
 
-/// What the maintenance with this number has published, where there are `count` entries that weigh 1 each.
+/// Returns what the maintenance with this number has published, with `count` entries that weigh 1 each.
 fn published(number: u64, count: u64) -> Published {
     Published {
         number,
@@ -53,7 +53,7 @@ fn the_counts_are_those_of_the_last_maintenance(rt: HostRuntime) -> Result<(), F
     Ok(())
 }
 
-/// What a snapshot of one pair shows, that pair, its key, the value that it is, and what the snapshot shows then.
+/// Returns what a snapshot of one pair shows, the pair, its key, its value, and what the snapshot shows then.
 fn text_of_snapshot(alloc: Global, mut pairs: Iter<u64, u64>) -> Result<String, Fail> {
     let before = format!(in alloc; "{pairs:?}")?;
     let Some(pair) = pairs.next() else {

@@ -12,7 +12,7 @@ use std::thread::join;
 /// How often the two threads begin together.
 const ROUNDS: u64 = 20_000;
 
-/// How many hints to the processor a maintenance lasts.
+/// Hints to the processor for which a maintenance lasts.
 const STAY: u64 = 50;
 
 /// A housekeeper, and what the maintenances that it runs see of each other.

@@ -20,7 +20,7 @@ fn open(alloc: Global) -> Result<(Recorded<u64, u64>, Vec<CallPass>), Fail> {
     Ok(Recorded::open(alloc, core, 1)?)
 }
 
-/// Whether an insert of key 7 is recorded and done, and whether a get is recorded and finds it.
+/// Returns if an insert of key 7 is recorded and done, and if a get is recorded and finds it.
 fn insert_and_get<R: Wait>(
     rt: &R,
     alloc: Global,

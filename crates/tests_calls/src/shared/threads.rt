@@ -14,7 +14,7 @@ fn start() -> Instant {
     Instant::from_nanos(0)
 }
 
-/// Whether a value that was inserted is read back.
+/// Returns `true` if a value that was inserted is read back.
 fn is_read_back<R: Wait>(rt: &R, cache: &Cache<u64, u64>, key: u64) -> bool {
     if cache.insert(rt, key, key, start()).is_err() {
         return false;
@@ -22,7 +22,7 @@ fn is_read_back<R: Wait>(rt: &R, cache: &Cache<u64, u64>, key: u64) -> bool {
     cache.get(rt, &key, start()) == Ok(Some(key))
 }
 
-/// Whether each of 64 keys from this one on is.
+/// Returns `true` if each of 64 keys from this one on is read back.
 fn are_read_back<R: Wait>(rt: &R, cache: &Cache<u64, u64>, first: u64) -> bool {
     for key in first..first.saturating_add(64) {
         if !is_read_back(rt, cache, key) {
@@ -42,7 +42,7 @@ fn insert_all<R: Wait>(rt: &R, cache: &Cache<u64, u64>, keys: u64) -> bool {
     true
 }
 
-/// Whether a snapshot has `keys` pairs, each of a key with itself. By the contract of `iter` their keys are different ones.
+/// Returns `true` if a snapshot has `keys` pairs, each of a key with itself. By the contract of `iter` their keys are different ones.
 fn is_whole<R: Wait>(rt: &R, cache: &Cache<u64, u64>, keys: u64) -> bool {
     let Ok(pairs) = cache.iter(rt, start()) else {
         return false;
@@ -70,7 +70,7 @@ fn keep_three_of_four<R: Wait>(rt: &R, cache: &Cache<u64, u64>, first: u64) -> b
     true
 }
 
-/// How many keys are removed by all threads.
+/// Keys that all threads remove.
 const REMOVED: u64 = 1000;
 
 /// The value of a key that its insert with this serial number brings: it names both.
@@ -78,7 +78,7 @@ fn value_of(key: u64, serial: u64) -> u64 {
     serial.wrapping_mul(10_000).wrapping_add(key)
 }
 
-/// Where the thread with the keys from this one on puts what it has removed at a key.
+/// Returns the key at which the thread with the keys from this one on puts what it has removed at a key.
 fn carried_to(key: u64, first: u64) -> u64 {
     first
         .wrapping_mul(1000)
@@ -104,7 +104,7 @@ fn carry_all<R: Wait>(rt: &R, cache: &Cache<u64, u64>, first: u64) -> bool {
     true
 }
 
-/// How many of eight threads have the last value of a key, or nothing where one has another value or the key is still there.
+/// Returns how many of eight threads have the last value of a key. It is `None` if one has another value or the key is still there.
 fn carriers<R: Wait>(rt: &R, cache: &Cache<u64, u64>, key: u64) -> Option<u64> {
     if cache.contains_key(rt, &key, start()) {
         return None;
@@ -133,7 +133,7 @@ fn insert_own<R: Wait>(rt: &R, cache: &Cache<u64, u64>, first: u64) -> bool {
     true
 }
 
-/// What one of several threads does with the cache that all share.
+/// The work of one of several threads that share a cache.
 #[derive(Clone, Copy)]
 enum Task {
     InsertAll,
@@ -156,7 +156,7 @@ impl Task {
     }
 }
 
-/// Whether each of these threads does well, of which each has 64 keys of its own.
+/// Returns `true` if each of these threads does well, each with 64 keys of its own.
 fn are_well_done<R: Wait + Threads + Copy + Send + 'static>(
     rt: R,
     alloc: Global,
@@ -200,7 +200,7 @@ fn a_snapshot_is_whole_while_threads_insert_the_same_pairs(rt: HostRuntime) -> R
     Ok(())
 }
 
-/// Whether the keys divisible by 4 are absent, among them that of all threads, and each other one has itself for its value.
+/// Returns `true` if the keys divisible by 4 are absent and each other one has itself for its value.
 fn has_three_of_four<R: Wait>(rt: &R, cache: &Cache<u64, u64>) -> bool {
     if cache.contains_key(rt, &OF_ALL, start()) {
         return false;

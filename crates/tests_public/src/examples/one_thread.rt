@@ -32,7 +32,7 @@ fn examples_for_one_thread_give_what_they_say(rt: HostRuntime) -> Result<(), Fai
     Ok(())
 }
 
-/// Whether a page is found that was put, and whether one that wasn't.
+/// Returns if a page is found that was put, and if one that wasn't.
 fn pages_found(alloc: Global, clock: &impl Clock) -> Result<[bool; 2], Error> {
     let mut pages = Pages::open(alloc, clock)?;
     pages.put(clock, 7, String::from_str(alloc, "alice")?)?;
@@ -48,7 +48,7 @@ fn a_page_is_found_by_a_running_clock(rt: HostRuntime) -> Result<(), Fail> {
     Ok(())
 }
 
-/// Whether what a list of calls wrote is found.
+/// Returns `true` if what a list of calls wrote is found.
 fn is_written(alloc: Global) -> Result<bool, Error> {
     let now = Instant::from_secs(0);
     let value = Rc::new(alloc, 10)?;
@@ -57,7 +57,7 @@ fn is_written(alloc: Global) -> Result<bool, Error> {
     Ok(is_found_after(alloc, &mut cache, calls, &7, now)?)
 }
 
-/// Whether what is taken out was there, and whether it is there once more.
+/// Returns if what is taken out was there, and if it is there once more.
 fn taken_twice(alloc: Global) -> Result<[bool; 2], Error> {
     let now = Instant::from_nanos(0);
     let mut cache: Cache<u64, u32> = minute_cache(alloc, 10)?;

@@ -14,7 +14,7 @@ use std::test::Fail;
 use std::thread::{Builder, Threads};
 use std::time::Duration;
 
-/// How many calls each thread makes.
+/// Calls that each thread makes.
 const CALLS: u64 = 100_000;
 
 /// A core with a small limit and both durations, with which nothing has been done.

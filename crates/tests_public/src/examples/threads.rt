@@ -86,7 +86,7 @@ fn an_entry_reads_as_its_text(rt: HostRuntime) -> Result<(), Fail> {
     Ok(())
 }
 
-/// Whether a log is emptied at this second, and its length then.
+/// Returns if a log is emptied at this second, and its length then.
 fn emptied_at(keeper: &Housekeeper, log: &mut Vec<u32>, second: u64) -> (bool, usize) {
     let now = Instant::from_secs(second);
     let is_emptied = empty_if_due(keeper, log.len(), now, || log.clear());
