@@ -424,25 +424,19 @@ impl<
         ensures turn { (refused : Bool) × (self.new.state ≡ after_turn refused self.old.state) }
         ensures kept { KeepsRoom self.old self.new }
     {
-        let settings = self.map.settings();
-        if let Some(ticket) = self
-            .maintenance
-            .need_to_scan::<K, V, S>(settings, self.valid_after)
-        {
-            self.map
-                .turn_of_scan(&mut self.maintenance, ticket, self.valid_after);
+        if let Some(ticket) = self.maintenance.need_to_scan::<K, V, S>() {
+            self.map.turn_of_scan(&mut self.maintenance, ticket);
             return;
         }
+        let settings = self.map.settings();
         match self.maintenance.need::<K, V, S>(settings, self.valid_after) {
-            Need::Nothing => self
-                .maintenance
-                .turn_alone::<K, V, S>(settings, self.valid_after),
+            Need::Nothing => self.maintenance.turn_alone::<K, V, S>(settings),
             Need::Reads => self
                 .maintenance
-                .turn_with_reads::<K, V, S>(settings, self.valid_after, &mut self.read_log),
+                .turn_with_reads::<K, V, S>(&mut self.read_log),
             Need::Writes => self
                 .maintenance
-                .turn_with_writes::<K, V, S>(settings, self.valid_after, &mut self.write_log),
+                .turn_with_writes::<K, V, S>(&mut self.write_log),
             Need::Entry(ticket) => {
                 self.map
                     .turn(&mut self.maintenance, ticket, self.valid_after)

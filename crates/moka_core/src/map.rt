@@ -1,6 +1,7 @@
 //! The map of the core: its shards, and the settings by whose hash state keys find theirs.
 ghost use Rattle.std.specs.Prelude.{◌≡◌, ◌≢◌, ◌<◌, ◌↔◌, ℕ, Bool, IsTrue, slice_index, false, [], map};
 ghost use Rattle.std.specs.Prelude.{replicate, IfOk, OnOk, IsSome, IsErr, is_some, option_map};
+ghost use Rattle.moka_common.specs.Settings.{Settings as SettingsState};
 ghost use Rattle.moka_common.specs.Keys.{keys_by};
 ghost use Rattle.moka_sync_model.specs.declared.constants.TheConstants.{SHARDS};
 ghost use Rattle.moka_sync_model.specs.Entry.{entry_at, touched};
@@ -219,19 +220,16 @@ impl<K: Eq + Hash + Drop, V: Drop, S: BuildHasher + Drop, A: Allocator + Clone +
 
     /// A turn of a scan that needs the entry of a ticket.
     #[inline(always)]
-    pub fn turn_of_scan(
-        &mut self,
-        maintenance: &mut Maintenance<A>,
-        ticket: Ticket,
-        valid_after: Instant,
-    )
+    pub fn turn_of_scan(&mut self, maintenance: &mut Maintenance<A>, ticket: Ticket)
         requires scans { IsScan maintenance.old.place }
-        requires need { need_of (turn_at {K = K} {V = V} self.old.settings valid_after false maintenance.old.place maintenance.old)
-            ≡ NeedsShard ticket }
-        ensures { TurnsOnMap self.old self.new valid_after false maintenance.old maintenance.new }
+        requires need { (valid_after : ℕ)
+            × (need_of (turn_at {K = K} {V = V} self.old.settings valid_after false maintenance.old.place maintenance.old) ≡ NeedsShard ticket) }
+        ensures { (valid_after : ℕ)
+            → need_of (turn_at {K = K} {V = V} self.old.settings valid_after false maintenance.old.place maintenance.old) ≡ NeedsShard ticket
+            → TurnsOnMap self.old self.new valid_after false maintenance.old maintenance.new }
     {
         let shard = &mut self.shards[(ticket.hash % SHARDS as u64) as usize];
-        scan_with_shard(maintenance, shard, ticket, &self.settings, valid_after);
+        scan_with_shard(maintenance, shard, ticket);
     }
 
     /// The entry of a hit, if it stands, was used; it is looked for in a slot first. The answer is where its node may be found.
@@ -266,18 +264,13 @@ impl<K: Eq + Hash + Drop, V: Drop, S: BuildHasher + Drop, A: Allocator + Clone +
 
     /// The turn that applies an upsert, which the maintenance has just taken from its log.
     #[inline(always)]
-    pub fn turn_with_upsert(
-        &mut self,
-        maintenance: &mut Maintenance<A>,
-        ticket: Ticket,
-        valid_after: Instant,
-    )
+    pub fn turn_with_upsert(&mut self, maintenance: &mut Maintenance<A>, ticket: Ticket)
         requires { TakesWrite maintenance.old }
-        ensures { (refused : Bool)
-            × TurnsOnMap self.old self.new valid_after refused (having_taken_write (Upsert ticket) maintenance.old) maintenance.new }
+        ensures { (refused : Bool) × ((valid_after : ℕ)
+            → TurnsOnMap self.old self.new valid_after refused (having_taken_write (Upsert ticket) maintenance.old) maintenance.new) }
     {
         let shard = &mut self.shards[(ticket.hash % SHARDS as u64) as usize];
-        apply_upsert(maintenance, shard, ticket, &self.settings, valid_after);
+        apply_upsert(maintenance, shard, ticket, &self.settings);
     }
 }
 
@@ -311,20 +304,17 @@ fn scan_with_shard<
     V: Drop,
     S: BuildHasher + Drop,
     A: Allocator + Clone + Drop,
->(
-    maintenance: &mut Maintenance<A>,
-    shard: &mut Shard<K, V, S, A>,
-    ticket: Ticket,
-    settings: &Settings<S, A>,
-    valid_after: Instant,
-)
+>(maintenance: &mut Maintenance<A>, shard: &mut Shard<K, V, S, A>, ticket: Ticket)
     requires scans { IsScan maintenance.old.place }
-    requires need { need_of (turn_at {K = K} {V = V} settings.now valid_after false maintenance.old.place maintenance.old) ≡ NeedsShard ticket }
-    ensures turn { TurnsOnShard settings.now valid_after false ticket maintenance.old maintenance.new (state_of shard.old) (state_of shard.new) }
+    requires need { (settings : SettingsState S) × (valid_after : ℕ)
+        × (need_of (turn_at {K = K} {V = V} settings valid_after false maintenance.old.place maintenance.old) ≡ NeedsShard ticket) }
+    ensures turn { (settings : SettingsState S) → (valid_after : ℕ)
+        → need_of (turn_at {K = K} {V = V} settings valid_after false maintenance.old.place maintenance.old) ≡ NeedsShard ticket
+        → TurnsOnShard settings valid_after false ticket maintenance.old maintenance.new (state_of shard.old) (state_of shard.new) }
     ensures valid { IsValidShard (keys_by K.Hash S.BuildHasher S.Hasher.Hasher) (state_of shard.new) }
 {
     let slot = shard.find_ticket(ticket);
-    let change = maintenance.scan::<K, V, S>(settings, valid_after, shard.weight(slot));
+    let change = maintenance.scan::<K, V, S>(shard.weight(slot));
     shard.change(slot, change);
 }
 
@@ -335,16 +325,15 @@ fn apply_upsert<K: Eq + Hash + Drop, V: Drop, S: BuildHasher + Drop, A: Allocato
     shard: &mut Shard<K, V, S, A>,
     ticket: Ticket,
     settings: &Settings<S, A>,
-    valid_after: Instant,
 )
     requires { TakesWrite maintenance.old }
-    ensures turn { (refused : Bool)
-        × TurnsOnShard settings.now valid_after refused ticket (having_taken_write (Upsert ticket) maintenance.old) maintenance.new
-        (state_of shard.old) (state_of shard.new) }
+    ensures turn { (refused : Bool) × ((valid_after : ℕ)
+        → TurnsOnShard settings.now valid_after refused ticket (having_taken_write (Upsert ticket) maintenance.old) maintenance.new
+        (state_of shard.old) (state_of shard.new)) }
     ensures valid { IsValidShard (keys_by K.Hash S.BuildHasher S.Hasher.Hasher) (state_of shard.new) }
 {
     let slot = shard.find_ticket(ticket);
-    let change = maintenance.turn_with_upsert(settings, valid_after, ticket, shard.entry(slot));
+    let change = maintenance.turn_with_upsert(settings, ticket, shard.entry(slot));
     shard.change(slot, change);
 }
 

@@ -1,18 +1,17 @@
 //! The writes on their way from callers to the maintenance.
-ghost use Rattle.std.specs.Prelude.{◌≡◌, ◌↔◌, ◌<◌, ◌++◌, Bool, false, [], ◌∷◌, length, min, take, drop, IfOk, IsTrue, IsFalse};
+ghost use Rattle.std.specs.Prelude.{◌≡◌, ◌↔◌, ◌<◌, ◌++◌, ℕ, Bool, false, [], ◌∷◌, length, min, take, drop, IfOk, IsTrue, IsFalse};
+ghost use Rattle.moka_common.specs.Settings.{Settings as SettingsState};
 ghost use Rattle.moka_sync_model.specs.declared.constants.TheConstants.{WRITE_LOG_SIZE};
 ghost use Rattle.moka_sync_model.specs.Parts.{NeedsWrites, TurnsWithWrites, need_of};
 ghost use Rattle.moka_sync_model.specs.Turn.Turn.{turn_at};
 ghost use Rattle.moka_guards.specs.WriteQueue.{on_their_way};
 
 use moka_common::error::OutOfMemory;
-use moka_common::time::Instant;
 use moka_maintenance::maintenance::Maintenance;
 use moka_queues::logs::WriteLog;
 use moka_queues::taken::TakenWrites;
 use moka_sync_model::constants::WRITE_LOG_SIZE;
 use moka_sync_model::operation::Write;
-use moka_sync_model::settings::Settings;
 use std::alloc::{Allocator, Global};
 use std::marker::Model;
 
@@ -86,19 +85,15 @@ impl<A: Allocator + Clone + Drop> WriteQueue<A> {
     }
 
     /// A turn of the maintenance that looks at the log, where it has applied all that it has taken.
-    pub fn turn_with_writes<K: Drop, V: Drop, S: Drop>(
-        &mut self,
-        maintenance: &mut Maintenance<A>,
-        settings: &Settings<S, A>,
-        valid_after: Instant,
-    )
-        requires { need_of (turn_at {K = K} {V = V} settings.now valid_after false maintenance.old.place maintenance.old) ≡ NeedsWrites }
-        ensures turn { (refused : Bool)
-            × TurnsWithWrites K V settings.now valid_after refused maintenance.old maintenance.new self.old.log self.new.log }
+    pub fn turn_with_writes<K: Drop, V: Drop, S: Drop>(&mut self, maintenance: &mut Maintenance<A>)
+        requires { (settings : SettingsState S) × (valid_after : ℕ)
+            × (need_of (turn_at {K = K} {V = V} settings valid_after false maintenance.old.place maintenance.old) ≡ NeedsWrites) }
+        ensures turn { (settings : SettingsState S) → (valid_after : ℕ)
+            → TurnsWithWrites K V settings valid_after false maintenance.old maintenance.new self.old.log self.new.log }
         ensures applied { self.new.at_hand ≡ 0 }
     {
         self.note_applied();
-        maintenance.turn_with_writes::<K, V, S>(settings, valid_after, &mut self.log);
+        maintenance.turn_with_writes::<K, V, S>(&mut self.log);
         let _ = self.log.len();
     }
 }

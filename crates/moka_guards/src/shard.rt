@@ -1,5 +1,5 @@
 //! What lies behind the lock of a shard: its entries, whose pairs meet the rule.
-ghost use Rattle.std.specs.Prelude.{◌≡◌, ◌≢◌, [], Bool, Some, false, is_some, map, option_map, IfOk, IfSome};
+ghost use Rattle.std.specs.Prelude.{◌≡◌, ◌≢◌, ℕ, [], Bool, Some, false, is_some, map, option_map, IfOk, IfSome};
 ghost use Rattle.std.specs.Prelude.{IsErr, IsNone, IsSome, IsTrue, OnErr, option_copied};
 ghost use Rattle.std.specs.List.{IsDistinct};
 ghost use Rattle.moka_common.specs.Keys.{keys_by};
@@ -246,16 +246,15 @@ impl<
         maintenance: &mut Maintenance<A>,
         ticket: Ticket,
         settings: &Settings<S, A>,
-        valid_after: Instant,
     )
         requires { TakesWrite maintenance.old }
         ensures turn { IsTurn K V settings.now (having_taken_write (Upsert ticket) maintenance.old) maintenance.new }
-        ensures shard { (refused : Bool) × TurnsOnShard settings.now valid_after refused ticket
-            (having_taken_write (Upsert ticket) maintenance.old) maintenance.new (state_of self.old) (state_of self.new) }
+        ensures shard { (refused : Bool) × ((valid_after : ℕ) → TurnsOnShard settings.now valid_after refused ticket
+            (having_taken_write (Upsert ticket) maintenance.old) maintenance.new (state_of self.old) (state_of self.new)) }
     {
         let slot = self.shard.find_ticket(ticket);
         let found = self.shard.entry(slot);
-        let change = maintenance.turn_with_upsert(settings, valid_after, ticket, found);
+        let change = maintenance.turn_with_upsert(settings, ticket, found);
         self.shard.change(slot, change);
     }
 }

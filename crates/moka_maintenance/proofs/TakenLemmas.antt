@@ -1,5 +1,5 @@
 -- An operation that leaves its log.
-use Rattle.std.proofs.Common.{◌≡◌, ◌∙◌, ◌+◌, ◌-◌, ◌<◌, ◌≤◌, ◌==◌, ℕ, if◌then◌else◌, Bool, true, false, List}
+use Rattle.std.proofs.Common.{◌≡◌, ◌∙◌, ◌+◌, ◌-◌, ◌<◌, ◌≤◌, ◌==◌, ℕ, Bool, true, false, List}
 use Rattle.std.proofs.Common.{[], ◌∷◌, length, drop, slice_get, Option, Some, None, refl, sym, ap, subst, arith}
 use Rattle.std.specs.List.{fold}
 use Rattle.std.proofs.lemmas.Bool.{eqb-true, false≢true}
@@ -14,7 +14,7 @@ use Rattle.moka_sync_model.specs.declared.ticket.Ticket.{Ticket}
 use Rattle.moka_sync_model.specs.CoreState.{Maintenance}
 use Rattle.moka_sync_model.specs.Entry.{Entry}
 use Rattle.moka_sync_model.specs.Orders.{charge_of, charged_weight}
-use Rattle.moka_sync_model.specs.Parts.{TurnsAlone, TurnsAtEntry}
+use Rattle.moka_sync_model.specs.Parts.{NeedsShard, TurnsAlone, TurnsAtEntry, need_of}
 use Rattle.moka_sync_model.specs.Place as place
 use Rattle.moka_sync_model.specs.declared.at_hand.Work.{Work}
 use Rattle.moka_sync_model.specs.Place.{Place, is_idle}
@@ -26,7 +26,7 @@ use Rattle.moka_queues.specs.declared.orders.Node.{Node}
 use Rattle.moka_maintenance.specs.declared.maintenance.place.Stage.{Stage}
 use Rattle.moka_maintenance.specs.declared.maintenance.place.Stage.TheVariants as stage
 use Rattle.moka_maintenance.specs.Held.{place_of}
-use Rattle.moka_maintenance.specs.Taken.{IsTaken, counted, having_applied, having_taken_write, place_with_write, used_by}
+use Rattle.moka_maintenance.specs.Taken.{IsTaken, TakesWrite, counted, having_applied, having_taken_write, place_with_write, used_by}
 
 -- the first one is taken, if there is one
 pub taken : {X : Type 0} (Takes : Type 0) → Takes → (old new : List X) (operation : Option X) → operation ≡ slice_get old 0
@@ -143,3 +143,11 @@ applied_later work read later m left =
       sketch = fold counted m.sketch (read ∷ later);
       place = reads_or_on (record work { left = n });
     }) (omega (arith, left))
+
+-- an upsert that was taken needs the entry of its ticket
+pub upsert_needs : (K V : Type 0) {S : Type 0} (settings : Settings S) (valid_after : ℕ) (t : Ticket) (m : Maintenance) → TakesWrite m
+    → need_of (turn_at {K = K} {V = V} settings valid_after false (having_taken_write (Upsert t) m).place (having_taken_write (Upsert t) m))
+    ≡ NeedsShard t
+upsert_needs K V settings valid_after t m takes =
+    subst (λ p. need_of (turn_at {K = K} {V = V} settings valid_after false (place_with_write (Upsert t) p)
+    (gone_to (place_with_write (Upsert t) p) m)) ≡ NeedsShard t) (sym takes.1) refl

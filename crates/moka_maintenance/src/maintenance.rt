@@ -1,6 +1,7 @@
 //! The maintenance of the cache that threads share: it applies what callers have left in the logs, decides which entries enter and leave, and
 //! publishes the counts. It goes on by turns, each of which needs at most one log or one entry besides it.
-ghost use Rattle.std.specs.Prelude.{◌≡◌, ◌≤◌, ◌<◌, ◌↔◌, Bool, IfOk, IfSome, IsTrue, Option, false, length, option_copied, option_map};
+ghost use Rattle.std.specs.Prelude.{◌≡◌, ◌≤◌, ◌<◌, ◌↔◌, ℕ, Bool, IfOk, IfSome, IsTrue, Option, false, length, option_copied, option_map};
+ghost use Rattle.moka_common.specs.Settings.{Settings as SettingsState};
 ghost use Rattle.moka_sync_model.specs.CoreState.{new_maintenance};
 ghost use Rattle.moka_sync_model.specs.Orders.{charged_weight};
 ghost use Rattle.moka_sync_model.specs.Parts.{NeedsNothing, NeedsReads, NeedsShard, NeedsWrites, TurnsAlone};
@@ -159,19 +160,12 @@ impl<A: Allocator + Clone + Drop> Maintenance<A> {
     }
 
     /// A turn that needs the read log.
-    pub fn turn_with_reads<K: Drop, V: Drop, S: Drop>(
-        &mut self,
-        settings: &Settings<S, A>,
-        valid_after: Instant,
-        log: &mut ReadLog<A>,
-    )
-        requires { need_of (turn_at {K = K} {V = V} settings.now valid_after false self.old.place self.old)
-            ≡ NeedsReads }
-        ensures { (refused : Bool)
-            × TurnsWithReads K V settings.now valid_after refused self.old self.new log.old log.new }
+    pub fn turn_with_reads<K: Drop, V: Drop, S: Drop>(&mut self, log: &mut ReadLog<A>)
+        requires { (settings : SettingsState S) × (valid_after : ℕ)
+            × (need_of (turn_at {K = K} {V = V} settings valid_after false self.old.place self.old) ≡ NeedsReads) }
+        ensures { (settings : SettingsState S) → (valid_after : ℕ)
+            → TurnsWithReads K V settings valid_after false self.old self.new log.old log.new }
     {
-        let _ = settings;
-        let _ = valid_after;
         match self.state.stage {
             Stage::ReadCount { round } => self.state.count_reads(round, log.len()),
             Stage::Reads { work } => self.state.take_read(work, log),
@@ -242,15 +236,14 @@ impl<A: Allocator + Clone + Drop> Maintenance<A> {
     pub fn turn_with_upsert<K: Drop, V: Drop, S: Drop>(
         &mut self,
         settings: &Settings<S, A>,
-        valid_after: Instant,
         ticket: Ticket,
         found: Option<&Entry<K, V, A>>,
     ) -> EntryChange
         requires { TakesWrite self.old }
-        ensures { (refused : Bool) × TurnsAtEntry K V settings.now valid_after refused (having_taken_write (Upsert ticket) self.old) self.new
-            (option_copied found.entry) result }
+        ensures { (refused : Bool) × ((valid_after : ℕ)
+            → TurnsAtEntry K V settings.now valid_after refused (having_taken_write (Upsert ticket) self.old) self.new
+            (option_copied found.entry) result) }
     {
-        let _ = valid_after;
         match self.state.stage {
             Stage::Writes { work } => {
                 self.state
@@ -261,36 +254,23 @@ impl<A: Allocator + Clone + Drop> Maintenance<A> {
     }
 
     /// The turn that applies a removal, which `take_write` has taken.
-    pub fn turn_with_removal<K: Drop, V: Drop, S: Drop>(
-        &mut self,
-        settings: &Settings<S, A>,
-        valid_after: Instant,
-        ticket: Ticket,
-    )
+    pub fn turn_with_removal<K: Drop, V: Drop, S: Drop>(&mut self, ticket: Ticket)
         requires { TakesWrite self.old }
-        ensures { TurnsAlone K V settings.now valid_after false (having_taken_write (Remove ticket) self.old) self.new }
+        ensures { (settings : SettingsState S) → (valid_after : ℕ)
+            → TurnsAlone K V settings valid_after false (having_taken_write (Remove ticket) self.old) self.new }
     {
-        let _ = settings;
-        let _ = valid_after;
         if let Stage::Writes { work } = self.state.stage {
             self.state.apply_removal(work.less_one(), ticket);
         }
     }
 
     /// A turn that needs the write log.
-    pub fn turn_with_writes<K: Drop, V: Drop, S: Drop>(
-        &mut self,
-        settings: &Settings<S, A>,
-        valid_after: Instant,
-        log: &mut WriteLog<A>,
-    )
-        requires { need_of (turn_at {K = K} {V = V} settings.now valid_after false self.old.place self.old)
-            ≡ NeedsWrites }
-        ensures { (refused : Bool)
-            × TurnsWithWrites K V settings.now valid_after refused self.old self.new log.old log.new }
+    pub fn turn_with_writes<K: Drop, V: Drop, S: Drop>(&mut self, log: &mut WriteLog<A>)
+        requires { (settings : SettingsState S) × (valid_after : ℕ)
+            × (need_of (turn_at {K = K} {V = V} settings valid_after false self.old.place self.old) ≡ NeedsWrites) }
+        ensures { (settings : SettingsState S) → (valid_after : ℕ)
+            → TurnsWithWrites K V settings valid_after false self.old self.new log.old log.new }
     {
-        let _ = settings;
-        let _ = valid_after;
         match self.state.stage {
             Stage::WriteCount { round } => self.state.count_writes(round, log.len()),
             Stage::Writes { work } => self.state.take_write(work, log),
@@ -300,17 +280,13 @@ impl<A: Allocator + Clone + Drop> Maintenance<A> {
     }
 
     /// A turn that needs nothing besides.
-    pub fn turn_alone<K: Drop, V: Drop, S: Drop>(
-        &mut self,
-        settings: &Settings<S, A>,
-        valid_after: Instant,
-    )
-        requires { need_of (turn_at {K = K} {V = V} settings.now valid_after false self.old.place self.old)
-            ≡ NeedsNothing }
-        ensures { (refused : Bool)
-            × TurnsAlone K V settings.now valid_after refused self.old self.new }
+    pub fn turn_alone<K: Drop, V: Drop, S: Drop>(&mut self, settings: &Settings<S, A>)
+        requires { (valid_after : ℕ)
+            × (need_of (turn_at {K = K} {V = V} settings.now valid_after false self.old.place self.old) ≡ NeedsNothing) }
+        ensures { (valid_after : ℕ)
+            → need_of (turn_at {K = K} {V = V} settings.now valid_after false self.old.place self.old) ≡ NeedsNothing
+            → (refused : Bool) × TurnsAlone K V settings.now valid_after refused self.old self.new }
     {
-        let _ = valid_after;
         match self.state.stage {
             Stage::ReadApply { work, read } => {
                 if let Read::Miss { hash } = read {
@@ -335,16 +311,11 @@ impl<A: Allocator + Clone + Drop> Maintenance<A> {
 
     /// The ticket whose entry the next turn needs, where it is a turn of a scan and needs one: `scan`.
     #[inline(always)]
-    pub fn need_to_scan<K: Drop, V: Drop, S: Drop>(
-        &self,
-        settings: &Settings<S, A>,
-        valid_after: Instant,
-    ) -> Option<Ticket>
+    pub fn need_to_scan<K: Drop, V: Drop, S: Drop>(&self) -> Option<Ticket>
         ensures scans { IfSome result (λ t. IsScan self.now.place) }
-        ensures need { IfSome result (λ t. need_of (turn_at {K = K} {V = V} settings.now valid_after false self.now.place self.now) ≡ NeedsShard t) }
+        ensures need { IfSome result (λ t. (settings : SettingsState S) → (valid_after : ℕ)
+            → need_of (turn_at {K = K} {V = V} settings valid_after false self.now.place self.now) ≡ NeedsShard t) }
     {
-        let _ = settings;
-        let _ = valid_after;
         let Stage::Scanning { scan, .. } = self.state.stage else {
             return None;
         };
@@ -357,20 +328,13 @@ impl<A: Allocator + Clone + Drop> Maintenance<A> {
     /// The turn of a scan that needs an entry, of which it sees no more than what it weighs, where it stands. What becomes of the entry is for its owner
     /// to do.
     #[inline(always)]
-    pub fn scan<K: Drop, V: Drop, S: Drop>(
-        &mut self,
-        settings: &Settings<S, A>,
-        valid_after: Instant,
-        weight: Option<u32>,
-    ) -> EntryChange
+    pub fn scan<K: Drop, V: Drop, S: Drop>(&mut self, weight: Option<u32>) -> EntryChange
         requires scans { IsScan self.old.place }
-        requires need { (t : Ticket)
-            × (need_of (turn_at {K = K} {V = V} settings.now valid_after false self.old.place self.old) ≡ NeedsShard t) }
-        ensures { (found : Option (EntryState K V)) → option_map (λ e. e.weight) found ≡ weight
-            → TurnsAtEntry K V settings.now valid_after false self.old self.new found result }
+        requires need { (settings : SettingsState S) × (valid_after : ℕ) × (t : Ticket)
+            × (need_of (turn_at {K = K} {V = V} settings valid_after false self.old.place self.old) ≡ NeedsShard t) }
+        ensures { (settings : SettingsState S) → (valid_after : ℕ) → (found : Option (EntryState K V))
+            → option_map (λ e. e.weight) found ≡ weight → TurnsAtEntry K V settings valid_after false self.old self.new found result }
     {
-        let _ = settings;
-        let _ = valid_after;
         match self.state.stage {
             Stage::Scanning { work, scan } => self.state.scan::<K, V>(work, scan, weight),
             _ => EntryChange::Stays,
@@ -397,9 +361,7 @@ impl<A: Allocator + Clone + Drop> Maintenance<A> {
                 }
                 Read::Miss { .. } => EntryChange::Stays,
             },
-            Stage::Apply { work, write } => self
-                .state
-                .apply_write(settings, valid_after, work, write, found),
+            Stage::Apply { work, write } => self.state.apply_write(settings, work, write, found),
             Stage::Scanning { work, scan } => {
                 self.state.scan::<K, V>(work, scan, weight_of(found))
             }

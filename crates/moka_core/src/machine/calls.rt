@@ -303,13 +303,8 @@ impl<
             return false;
         };
         match write {
-            Write::Upsert { ticket } => {
-                self.map
-                    .turn_with_upsert(&mut self.maintenance, ticket, self.valid_after)
-            }
-            Write::Remove { ticket } => self
-                .maintenance
-                .turn_with_removal::<K, V, S>(self.map.settings(), self.valid_after, ticket),
+            Write::Upsert { ticket } => { self.map.turn_with_upsert(&mut self.maintenance, ticket) }
+            Write::Remove { ticket } => self.maintenance.turn_with_removal::<K, V, S>(ticket),
         }
         true
     }

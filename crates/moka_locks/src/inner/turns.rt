@@ -58,15 +58,15 @@ impl<
     {
         let valid_after = self.valid_after();
         match maintenance.need::<K, V, S>(&self.settings, valid_after) {
-            Need::Nothing => maintenance.turn_alone::<K, V, S>(&self.settings, valid_after),
+            Need::Nothing => maintenance.turn_alone::<K, V, S>(&self.settings),
             Need::Reads => {
                 let mut log = self.logs.lock_reads(rt);
-                maintenance.turn_with_reads::<K, V, S>(&self.settings, valid_after, &mut log);
+                maintenance.turn_with_reads::<K, V, S>(&mut log);
                 self.logs.tell_reads(log.len());
             }
             Need::Writes => {
                 let mut queue = self.logs.lock_writes(rt);
-                queue.turn_with_writes::<K, V, S>(maintenance, &self.settings, valid_after);
+                queue.turn_with_writes::<K, V, S>(maintenance);
                 self.logs.tell_writes(queue.len());
             }
             Need::Entry(ticket) => {
@@ -143,13 +143,9 @@ impl<
         match write {
             Write::Upsert { ticket } => {
                 let mut shard = lock(rt, self.shard(ticket.hash));
-                shard.turn_with_upsert(maintenance, ticket, &self.settings, self.valid_after());
+                shard.turn_with_upsert(maintenance, ticket, &self.settings);
             }
-            Write::Remove { ticket } => maintenance.turn_with_removal::<K, V, S>(
-                &self.settings,
-                self.valid_after(),
-                ticket,
-            ),
+            Write::Remove { ticket } => maintenance.turn_with_removal::<K, V, S>(ticket),
         }
     }
 

@@ -1,5 +1,5 @@
 // The turns that take and apply writes.
-ghost use Rattle.std.specs.Prelude.{◌≡◌, ◌≤◌, ◌<◌, Bool, None, Some, false, option_copied};
+ghost use Rattle.std.specs.Prelude.{◌≡◌, ◌≤◌, ◌<◌, ℕ, Bool, None, Some, false, option_copied};
 ghost use Rattle.moka_common.specs.Admission.{is_within};
 ghost use Rattle.moka_sync_model.specs.declared.constants.TheConstants.{MAX_ROUNDS};
 ghost use Rattle.moka_sync_model.specs.Orders.{charge_of};
@@ -14,7 +14,6 @@ use crate::maintenance::fronts::remove_ticket;
 use crate::maintenance::place::{Scan, Stage};
 use crate::maintenance::state::State;
 use moka_common::limits::Limits;
-use moka_common::time::Instant;
 use moka_queues::logs::WriteLog;
 use moka_sync_model::at_hand::{Candidate, Tally, Work};
 use moka_sync_model::constants::{FLUSH_POINT, MAX_ROUNDS};
@@ -132,20 +131,18 @@ impl<A: Allocator + Clone + Drop> State<A> {
     pub(crate) fn apply_write<K: Drop, V: Drop, S: Drop>(
         &mut self,
         settings: &Settings<S, A>,
-        valid_after: Instant,
         work: Work,
         write: Write,
         found: Option<&Entry<K, V, A>>,
     ) -> EntryChange
         requires round { work.round ≤ MAX_ROUNDS }
-        requires need { (t : Ticket)
+        requires need { (valid_after : ℕ) × (t : Ticket)
             × (need_of (write_turn {K = K} {V = V} settings.now valid_after false work write (maintenance_of self.old)) ≡ NeedsShard t) }
-        ensures step { (refused : Bool)
-            × LooksAt (write_turn settings.now valid_after refused work write (maintenance_of self.old))
-            (option_copied found.entry) result self.new }
+        ensures step { (refused : Bool) × ((valid_after : ℕ)
+            → LooksAt (write_turn settings.now valid_after refused work write (maintenance_of self.old))
+            (option_copied found.entry) result self.new) }
         ensures holds { IsAtHand self.new.orders self.new.stage }
     {
-        let _ = valid_after;
         match write {
             Write::Upsert { ticket } => self.apply_upsert(settings, work, ticket, found),
             Write::Remove { .. } => EntryChange::Stays,

@@ -9,6 +9,7 @@ returns-clause-turn g c =
     let shard = state_of c.args.shard.now in
     let found = entry_of c.args.ticket shard.entries in
     let here = c.find_ticket-slot.ensures.value in
-    turns_on_shard c.args.settings.now c.args.valid_after false c.args.maintenance.now c.scan-change.new.self c.args.ticket c.requires.need
-    found c.scan-change.result (c.scan-change.ensures found (sym (c.weight.ensures ∙ ap (option_map (λ e. e.weight)) here)))
+    λ settings valid_after need.
+    turns_on_shard settings valid_after false c.args.maintenance.now c.scan-change.new.self c.args.ticket need found c.scan-change.result
+    (c.scan-change.ensures settings valid_after found (sym (c.weight.ensures ∙ ap (option_map (λ e. e.weight)) here)))
     shard (state_of c.change.new.self) refl (c.change.ensures.step c.args.ticket here)

@@ -10,14 +10,17 @@ keys g = keys_by (record { eq = g.K.PartialEq.eq; hash_input = g.K.Hash.hash_inp
 
 pub invariant_of-self : goal.invariant_of-self
 invariant_of-self g c =
+    let (valid_after, need) = rw (← c.self.view_is) at c.requires.need in
     still_own (keys g) c.self.inside.settings c.self.inside.shards.items c.self.invariant c.args.ticket _ c.scan_with_shard.new.shard
-    c.index_mut-shard.ensures.value c.scan_with_shard.ensures.valid c.args.valid_after false c.args.maintenance.now c.scan_with_shard.new.maintenance
-    c.scan_with_shard.ensures.turn
+    c.index_mut-shard.ensures.value c.scan_with_shard.ensures.valid valid_after false c.args.maintenance.now
+    c.scan_with_shard.new.maintenance
+    (c.scan_with_shard.ensures.turn c.self.inside.settings valid_after need)
 
 pub returns : goal.returns
 returns g c =
-    rw (← c.self.view_is) (
+    rw (← c.self.view_is)
+    (λ valid_after need.
     turned_at (keys g) c.self.inside.settings c.self.inside.shards.items c.self.invariant c.args.ticket _ c.scan_with_shard.new.shard
-    c.index_mut-shard.ensures.value c.scan_with_shard.ensures.valid c.args.valid_after false c.args.maintenance.now c.scan_with_shard.new.maintenance
-    c.scan_with_shard.ensures.turn
-    )
+    c.index_mut-shard.ensures.value c.scan_with_shard.ensures.valid valid_after false c.args.maintenance.now
+    c.scan_with_shard.new.maintenance
+    (c.scan_with_shard.ensures.turn c.self.inside.settings valid_after need))

@@ -14,8 +14,8 @@ invariant_of-self g c =
     let (refused, step) = c.apply_upsert.ensures.turn in
     let taken = having_taken_write (Upsert c.args.ticket) c.args.maintenance.now in
     still_own (keys g) c.self.inside.settings c.self.inside.shards.items c.self.invariant c.args.ticket _ c.apply_upsert.new.shard
-    c.index_mut-shard.ensures.value c.apply_upsert.ensures.valid c.args.valid_after refused taken
-    c.apply_upsert.new.maintenance step
+    c.index_mut-shard.ensures.value c.apply_upsert.ensures.valid 0 refused taken
+    c.apply_upsert.new.maintenance (step 0)
 
 pub returns : goal.returns
 returns g c =
@@ -23,7 +23,7 @@ returns g c =
     let taken = having_taken_write (Upsert c.args.ticket) c.args.maintenance.now in
     rw (← c.self.view_is) (
       refused,
-      turned_at (keys g) c.self.inside.settings c.self.inside.shards.items c.self.invariant c.args.ticket _ c.apply_upsert.new.shard
-          c.index_mut-shard.ensures.value c.apply_upsert.ensures.valid c.args.valid_after refused taken
-          c.apply_upsert.new.maintenance step,
+      λ valid_after. turned_at (keys g) c.self.inside.settings c.self.inside.shards.items c.self.invariant c.args.ticket _ c.apply_upsert.new.shard
+          c.index_mut-shard.ensures.value c.apply_upsert.ensures.valid valid_after refused taken
+          c.apply_upsert.new.maintenance (step valid_after),
     )

@@ -5,7 +5,8 @@ use Rattle.moka_maintenance.specs.Taken.{having_taken_write}
 use Rattle.moka_shard.specs.Shard.{entries_in, state_of}
 use Rattle.moka_guards.specs.Rule.{AllMeet}
 use Rattle.moka_guards.proofs.RuleLemmas.{after_change_meet}
-use Rattle.moka_guards.proofs.TurnLemmas.{at_entry, upsert_needs}
+use Rattle.moka_guards.proofs.TurnLemmas.{at_entry}
+use Rattle.moka_maintenance.proofs.TakenLemmas.{upsert_needs}
 use Rattle.moka_shard.proofs.ShardTurnLemmas.{turns_on_shard}
 use Rattle.moka_guards.proofs.shard.RuledShard.turn_with_upsert.Goals as goal
 
@@ -19,8 +20,8 @@ invariant_of-self g c =
 pub returns-clause-turn : goal.returns-clause-turn
 returns-clause-turn g c =
     let turn = c.turn_with_upsert-change.ensures in
-    at_entry c.args.settings.now c.args.valid_after turn.0 (having_taken_write (Upsert c.args.ticket) c.args.maintenance.now)
-    c.turn_with_upsert-change.new.self _ _ turn.1
+    at_entry c.args.settings.now 0 turn.0 (having_taken_write (Upsert c.args.ticket) c.args.maintenance.now)
+    c.turn_with_upsert-change.new.self _ _ (turn.1 0)
 
 pub returns-clause-shard : goal.returns-clause-shard
 returns-clause-shard g c =
@@ -28,9 +29,10 @@ returns-clause-shard g c =
     let here = c.find_ticket-slot.ensures.value in (
       refused,
       rw (← c.self.view_is)
-          (turns_on_shard c.args.settings.now c.args.valid_after refused (having_taken_write (Upsert c.args.ticket) c.args.maintenance.now)
+          (λ valid_after.
+          turns_on_shard c.args.settings.now valid_after refused (having_taken_write (Upsert c.args.ticket) c.args.maintenance.now)
           c.turn_with_upsert-change.new.self c.args.ticket
-          (upsert_needs g.row.K.Denot g.row.V.Denot c.args.settings.now c.args.valid_after c.args.ticket c.args.maintenance.now c.requires)
-          _ c.turn_with_upsert-change.result turn (state_of c.self.inside.shard) _ (c.entry-found.ensures ∙ here)
+          (upsert_needs g.row.K.Denot g.row.V.Denot c.args.settings.now valid_after c.args.ticket c.args.maintenance.now c.requires)
+          _ c.turn_with_upsert-change.result (turn valid_after) (state_of c.self.inside.shard) _ (c.entry-found.ensures ∙ here)
           (c.change.ensures.step c.args.ticket here)),
     )

@@ -34,15 +34,15 @@ returns-in-Remove-clause-turns g c =
     removed g.row.K.Denot g.row.V.Denot c.self.inside.settings c.args.maintenance.now c.requires.takes c.args.taken.now
     c.next_write.new.taken c.next_write.result _ c.in-Remove.ticket c.turn_with_removal.new.self c.next_write.ensures.first
     (c.in-Some.is ∙ ap Some c.in-Remove.is) c.in-Some.ensures.some
-    c.turn_with_removal.ensures
+    (c.turn_with_removal.ensures c.self.inside.settings 0)
     )
 
 pub returns-in-Remove-clause-left : goal.returns-in-Remove-clause-left
 returns-in-Remove-clause-left g c =
     let old = c.args.maintenance.now in
     let new = c.turn_with_removal.new.self in
-    let turn = alone g.row.K.Denot g.row.V.Denot c.self.inside.settings _ false (having_taken_write (Remove c.in-Remove.ticket) old) new
-    c.turn_with_removal.ensures in
+    let turn = alone g.row.K.Denot g.row.V.Denot c.self.inside.settings 0 false (having_taken_write (Remove c.in-Remove.ticket) old) new
+    (c.turn_with_removal.ensures c.self.inside.settings 0) in
     let kept : writes_left old.place ≤ writes_left new.place + 1 =
     takes_one g.row.K.Denot g.row.V.Denot c.self.inside.settings (Remove c.in-Remove.ticket) old new c.requires.takes turn in
     omega (arith, c.in-Some.ensures.some, kept)

@@ -11,7 +11,7 @@ returns-in-Writes g c =
     let is = ap (λ m. m.state.stage) (sym c.self-inside.view_is) ∙ c.in-Writes.is in
     let left : c.less_one.result ≡ less_one c.in-Writes.work =
     λ i. record { round = c.less_one.ensures.round i; left = c.less_one.ensures.left i } in
-    rw (← c.self.view_is) (
-    removal_turn g.row.K.Denot g.row.V.Denot c.args.settings.now c.args.valid_after (maintenance_of held) _ c.in-Writes.work
-    (ap (place_of held.orders.nodes) is) t (c.apply_removal.ensures.step ∙ ap (λ w. after_removal w t (maintenance_of held)) left)
-    )
+    rw (← c.self.view_is)
+    (λ settings valid_after.
+    removal_turn g.row.K.Denot g.row.V.Denot settings valid_after (maintenance_of held) _ c.in-Writes.work
+    (ap (place_of held.orders.nodes) is) t (c.apply_removal.ensures.step ∙ ap (λ w. after_removal w t (maintenance_of held)) left))

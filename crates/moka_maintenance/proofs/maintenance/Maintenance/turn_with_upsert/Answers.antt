@@ -13,6 +13,6 @@ returns-in-Writes g c =
     let step = c.apply_upsert.ensures.step in
     rw (← c.self.view_is) (
       step.0,
-      upsert_turn c.args.settings.now c.args.valid_after step.0 (maintenance_of held) _ c.in-Writes.work
+      λ valid_after. upsert_turn c.args.settings.now valid_after step.0 (maintenance_of held) _ c.in-Writes.work
           (ap (place_of held.orders.nodes) is) t _ _ c.less_one.result left step.1,
     )

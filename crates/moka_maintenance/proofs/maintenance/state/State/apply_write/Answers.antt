@@ -9,10 +9,10 @@ returns-in-Upsert-clause-step g c =
     let s = c.apply_upsert.ensures.step in
     let held = c.args.self.now in (
       s.0,
-      record {
+      λ valid_after. record {
         ticket = c.in-Upsert.ticket;
         looks = after_upsert c.args.settings.now s.0 c.args.work c.in-Upsert.ticket (maintenance_of held);
-        is = ap (λ w. write_turn c.args.settings.now c.args.valid_after s.0 c.args.work w (maintenance_of held)) c.in-Upsert.is;
+        is = ap (λ w. write_turn c.args.settings.now valid_after s.0 c.args.work w (maintenance_of held)) c.in-Upsert.is;
         ends = sym s.1;
       },
     )
