@@ -13,6 +13,7 @@ use std::marker::Model;
 
 pub(crate) mod aging;
 mod cells;
+pub mod enabling;
 
 /// Counters for hashes. It has no table, and counts nothing, until `ensure_capacity` makes one.
 ///
@@ -135,7 +136,7 @@ fn wanted_sample_size(cap: u32) -> u32
 }
 
 /// The capacity to ask of the sketch, for a cache with room for `x` entries.
-pub fn sketch_capacity(x: u64) -> u32
+fn sketch_capacity(x: u64) -> u32
     ensures { result ≡ sketch_capacity x }
 {
     x.clamp(MIN_SKETCH_CAPACITY, u64::from(u32::MAX)) as u32

@@ -11,7 +11,8 @@ use Rattle.moka_sync_model.specs.Place.{Place, held}
 use Rattle.moka_sync_model.specs.CoreState.{CoreState, Maintenance}
 use Rattle.moka_sync_model.specs.Turn.Plan.{reads_or_on, writes_or_on, after_plan}
 use Rattle.moka_sync_model.specs.Turn.Expiry.{is_outlived, is_out_of_use, write_front, access_front}
-use Rattle.moka_sync_model.specs.Turn.Turn.{after_enabling, after_more_reads, after_more_writes, next_published, turn_at, after_turn}
+use Rattle.moka_common.specs.Enabling.{after_enabling}
+use Rattle.moka_sync_model.specs.Turn.Turn.{load_of, after_more_reads, after_more_writes, next_published, turn_at, after_turn}
 use Rattle.moka_sync_model.specs.Consistent.{AreEntriesConsistent, Fits}
 use Rattle.moka_sync_model.proofs.OrdersLemmas.{Reorders-none, Reorders-used, Reorders-rewritten}
 use Rattle.moka_sync_model.proofs.StepLemmas.{consistent_quiet}
@@ -77,7 +78,7 @@ module _ {K V S : Type 0} (keys : Keys K S) (core : CoreState K V S) (good : Are
       let m = core.maintenance in
       calm (place.Sketch round)
       (record m {
-        sketch = after_enabling core.settings m.orders core.settings.policy.max_capacity refused m.sketch;
+        sketch = after_enabling core.settings.policy.max_capacity (load_of core.settings m.orders) refused m.sketch;
         place =
             place.MoreReads round;
       }) is refl refl tt

@@ -1,14 +1,13 @@
 //! The cache for one thread.
-ghost use Rattle.std.specs.Prelude.{◌≡◌, ◌⊎◌, ◌<◌, ◌≤◌, ◌-◌, ◌^◌, Bool, List, [], All, false, length, min, None, Some};
+ghost use Rattle.std.specs.Prelude.{◌≡◌, ◌⊎◌, ◌<◌, ◌≤◌, ◌^◌, Bool, List, [], All, false, length, None, Some};
 ghost use Rattle.std.specs.Prelude.{IfErr, IfOk, OnErr, OnOk, option_copied, option_map};
 ghost use Rattle.std.specs.Borrow.{sem};
 ghost use Rattle.std.specs.Map.Iter.{deref_pair};
 ghost use Rattle.moka_common.specs.Keys.{keys_by};
-ghost use Rattle.moka_common.specs.Enabling.{enables_sketch, expected_entries};
 ghost use Rattle.moka_common.specs.Settings.{keeps_writes};
 ghost use Rattle.moka_unsync.specs.Builder.{new_builder};
 ghost use Rattle.moka_unsync_model.specs.CacheState.{new_cache};
-ghost use Rattle.moka_unsync_model.specs.Contents.{entry_at, total_weight, weighted_size};
+ghost use Rattle.moka_unsync_model.specs.Contents.{entry_at, weighted_size};
 ghost use Rattle.moka_unsync_model.specs.Lookup.{after_get, after_look, found_by_get, found_by_peek, is_contained};
 ghost use Rattle.moka_unsync_model.specs.GetOrInsert.{IsGotOrInserted, IsRefusedBehind};
 ghost use Rattle.moka_unsync_model.specs.Insert.{IsInserted, IsRefused, after_asking};
@@ -27,7 +26,8 @@ use crate::upkeep::Bounds;
 use crate::walk::next_unexpired;
 pub use iter::Iter;
 use moka_common::error::{BuildError, InsertError, OutOfMemory};
-use moka_common::frequency_sketch::{FrequencySketch, sketch_capacity};
+use moka_common::frequency_sketch::FrequencySketch;
+use moka_common::frequency_sketch::enabling::Load;
 use moka_common::hash::FixedState;
 use moka_common::policy::Policy;
 use moka_common::time::Instant;
@@ -448,7 +448,7 @@ impl<
         Some((&entry.key, &entry.value))
     }
 
-    /// Asks for the sketch's table, if the cache is at least half full and has none.
+    /// Asks for the sketch's table, if the cache is at least half full and has none. If that fails it asks again at the next new entry.
     #[inline(always)]
     fn enable_sketch(&mut self)
         ensures { (refused : Bool) × (self.new ≡ after_asking K.eq refused self.old) }
@@ -463,30 +463,13 @@ impl<
     fn ask_for_table(&mut self)
         ensures { (refused : Bool) × (self.new ≡ after_asking K.eq refused self.old) }
     {
-        let Some(limit) = self.bounds.policy().max_capacity() else {
-            return;
+        let load = Load {
+            is_weighed: self.is_weighed,
+            entries: self.store.len(),
+            weight: u128::from(self.store.weight()),
         };
-        if self.sketch.table_len() == 0 && self.store.weight() >= limit / 2 {
-            let cap = sketch_capacity(self.expected_entries(limit));
-            // Without memory for it the sketch stays off, and is asked for again at the next new entry.
-            let _ = self.sketch.ensure_capacity(cap);
-        }
-    }
-
-    /// Returns the number of entries that fit at the present mean weight, as far as 64 bits tell.
-    fn expected_entries(&self, limit: u64) -> u64
-        ensures { result ≡ min (2 ^ 64 - 1) (expected_entries self.now.settings.is_weighed limit
-            (length self.now.contents.entries) (total_weight self.now.contents.entries)) }
-    {
-        if !self.is_weighed {
-            return limit;
-        }
-        if limit == 0 {
-            return 0;
-        }
-        let weight = u128::from(self.store.weight());
-        let entries = self.store.len() as u128 * weight / u128::from(limit);
-        u64::try_from(entries).unwrap_or(u64::MAX)
+        self.sketch
+            .enable_if_half_full(self.bounds.policy().max_capacity(), load);
     }
 }
 

@@ -1,9 +1,9 @@
 -- What an insert leaves.
 use Rattle.std.specs.Prelude.{◌≡◌, ◌<◌, ◌≤◌, ◌^◌, ℕ, Bool, true, false, List, [], ◌∷◌, ◌++◌, length, is_some, Option, Some, None, if◌then◌else◌}
-use Rattle.moka_common.specs.Enabling.{enables_sketch, capacity_asked}
+use Rattle.moka_common.specs.Enabling.{after_enabling}
+use Rattle.moka_common.specs.declared.frequency_sketch.enabling.Load.{Load}
 use Rattle.moka_common.specs.Keys.{Keys}
 use Rattle.moka_common.specs.Sketch.{Table}
-use Rattle.moka_common.specs.SketchCapacity.{after_ensure_capacity}
 use Rattle.moka_unsync_model.specs.declared.entry.Entry.{Entry}
 use Rattle.moka_unsync_model.specs.declared.entry.Part.TheVariants.{Probation, Window}
 use Rattle.moka_unsync_model.specs.Contents.{Contents, Write, total_weight, entry_keys, entry_at, writes_without, after_leaving, with_latest}
@@ -48,20 +48,19 @@ module _ {K V : Type 0} (eq : K → K → Bool) where
       let entered = after_entry keeps (record new { part = Window }) contents in
       after_candidates eq limits sketch (candidates limits entered.entries) entered
 
--- the sketch once a table was asked for, if these contents ask for one, and whether memory refuses it
-abbrev pub after_enabling : {K V S : Type 0} → Settings S → Option ℕ → Option Table → Contents K V → Bool → Option Table
-after_enabling settings None sketch contents refused = sketch
-after_enabling settings (Some limit) sketch contents true = sketch
-after_enabling settings (Some limit) sketch contents false =
-    if enables_sketch (Some limit) sketch (total_weight contents.entries) then
-    after_ensure_capacity sketch (capacity_asked settings.is_weighed limit (length contents.entries) (total_weight contents.entries))
-    else sketch
+-- what the cache holds when it asks whether to turn its sketch on
+abbrev pub load_of : {K V S : Type 0} → Settings S → Contents K V → Load
+load_of settings contents = record {
+  is_weighed = settings.is_weighed;
+  entries = length contents.entries;
+  weight = total_weight contents.entries;
+}
 
 module _ {K V S W : Type 0} (eq : K → K → Bool) where
   -- the cache once it has asked whether to turn its sketch on
   abbrev pub after_asking : Bool → CacheState K V S W → CacheState K V S W
   after_asking refused cache =
-      record cache { sketch = after_enabling cache.settings cache.settings.policy.max_capacity cache.sketch cache.contents refused }
+      record cache { sketch = after_enabling cache.settings.policy.max_capacity (load_of cache.settings cache.contents) refused cache.sketch }
 
   -- the cache once a new entry was admitted in place of these, or was rejected
   abbrev pub after_verdict : CacheState K V S W → Entry K V → Option (List (Entry K V)) → Bool → CacheState K V S W

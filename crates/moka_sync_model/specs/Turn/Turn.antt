@@ -1,9 +1,9 @@
 -- One turn of the maintenance.
 use Rattle.std.specs.Prelude.{ℕ, ◌+◌, ◌-◌, ◌^◌, ◌==◌, min, Bool, true, false, nat_le, List, [], ◌∷◌, length, Option, None, Some}
 use Rattle.std.specs.Prelude.{if◌then◌else◌}
-use Rattle.moka_common.specs.Enabling.{enables_sketch, capacity_asked}
+use Rattle.moka_common.specs.Enabling.{after_enabling}
+use Rattle.moka_common.specs.declared.frequency_sketch.enabling.Load.{Load}
 use Rattle.moka_common.specs.Sketch.{Table}
-use Rattle.moka_common.specs.SketchCapacity.{after_ensure_capacity}
 use Rattle.moka_sync_model.specs.declared.constants.TheConstants.{FLUSH_POINT, MAX_ROUNDS}
 use Rattle.moka_sync_model.specs.declared.operation.Read.{Read}
 use Rattle.moka_sync_model.specs.declared.operation.Read.TheVariants.{Hit, Miss}
@@ -21,14 +21,13 @@ use Rattle.moka_sync_model.specs.Turn.Admission.{next_seen, after_scan, after_re
 use Rattle.moka_sync_model.specs.Turn.Expiry.{is_outlived, is_out_of_use, after_front, after_eviction, write_front, access_front}
 use Rattle.moka_sync_model.specs.Turn.Expiry.{eviction_front, after_pass}
 
--- the sketch once the maintenance has asked whether to turn it on, and whether memory refuses the table
-abbrev pub after_enabling : {S : Type 0} → Settings S → Orders → Option ℕ → Bool → Option Table → Option Table
-after_enabling settings orders None refused sketch = sketch
-after_enabling settings orders (Some limit) true sketch = sketch
-after_enabling settings orders (Some limit) false sketch =
-    if enables_sketch (Some limit) sketch (charged_weight orders)
-    then after_ensure_capacity sketch (capacity_asked settings.is_weighed limit (length orders.access) (charged_weight orders))
-    else sketch
+-- what the cache holds when it asks whether to turn its sketch on
+abbrev pub load_of : {S : Type 0} → Settings S → Orders → Load
+load_of settings orders = record {
+  is_weighed = settings.is_weighed;
+  entries = length orders.access;
+  weight = charged_weight orders;
+}
 
 -- the place once a log of this length was looked at
 abbrev pub after_more_reads : ℕ → ℕ → Place
@@ -86,7 +85,7 @@ module _ {K V S : Type 0} (settings : Settings S) (valid_after : ℕ) where
   turn_at refused (place.Enter work c skipped) m = AtEntry c.ticket (after_entering (keeps_writes settings.policy) work c skipped m)
   turn_at refused (place.Sketch round) m =
       Alone (record m {
-        sketch = after_enabling settings m.orders settings.policy.max_capacity refused m.sketch;
+        sketch = after_enabling settings.policy.max_capacity (load_of settings m.orders) refused m.sketch;
         place = place.MoreReads round;
       })
   turn_at refused (place.MoreReads round) m = AtReads (λ log. (gone_to (after_more_reads round (length log)) m, log))
