@@ -44,18 +44,6 @@ impl Marks {
         }
     }
 
-    /// The first node after a part.
-    #[inline(always)]
-    fn behind(&self, part: Part) -> Option<NodeId>
-        ensures { result ≡ behind part self.now }
-    {
-        match part {
-            Part::Probation => self.late,
-            Part::Protected => self.window,
-            Part::Window => None,
-        }
-    }
-
     /// Moves the marks off a node that is about to leave its place.
     #[inline(always)]
     pub(crate) fn pass<K: Drop, V: Drop, A: Allocator>(
@@ -69,21 +57,27 @@ impl Marks {
           window = passed id (next_id id entries.now.items) self.old.window;
         } }
     {
-        pass(&mut self.late, entries, id);
-        pass(&mut self.window, entries, id);
+        if self.late == Some(id) {
+            self.late = entries.next(id);
+        }
+        if self.window == Some(id) {
+            self.window = entries.next(id);
+        }
     }
 
-    /// Sets the marks for a node that has become the last of its part.
+    /// Sets the marks for a node that has become the last of its part. Returns the first node after that part.
     #[inline(always)]
-    fn join(&mut self, id: NodeId, part: Part)
-        ensures { self.new ≡ with_mark id part self.old }
+    fn join(&mut self, id: NodeId, part: Part) -> Option<NodeId>
+        ensures next { result ≡ behind part self.old }
+        ensures marks { self.new ≡ with_mark id part self.old }
     {
         match part {
-            Part::Probation => (),
+            Part::Probation => self.late,
             Part::Protected => {
                 if self.late == self.window {
                     self.late = Some(id);
                 }
+                self.window
             }
             Part::Window => {
                 if self.late.is_none() {
@@ -92,23 +86,9 @@ impl Marks {
                 if self.window.is_none() {
                     self.window = Some(id);
                 }
+                None
             }
         }
-    }
-}
-
-/// A mark, moved to the next node if it is at this one.
-#[inline(always)]
-fn pass<K: Drop, V: Drop, A: Allocator>(
-    mark: &mut Option<NodeId>,
-    entries: &Chain<Entry<K, V>, A>,
-    id: NodeId,
-)
-    requires { IsIn entries.now.items id }
-    ensures { mark.new ≡ passed id (next_id id entries.now.items) mark.old }
-{
-    if *mark == Some(id) {
-        *mark = entries.next(id);
     }
 }
 
@@ -140,9 +120,7 @@ pub(crate) fn settle<K: Drop, V: Drop, A: Allocator>(
     ensures marks { AreMarks entries.new.items marks.new }
     ensures unchanged { entries.new ≡ record entries.old { items = entries.new.items } }
 {
-    let next = marks.behind(part);
-    marks.join(id, part);
-    match next {
+    match marks.join(id, part) {
         Some(next) => entries.move_before(id, next),
         None => to_back(entries, id),
     }

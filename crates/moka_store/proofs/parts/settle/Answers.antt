@@ -12,8 +12,8 @@ move_before-requires-clause-next g c =
     let (e, stood, is) = c.requires.here in
     let items = c.args.entries.now.items in
     (subst (λ o. IfSome o (λ n. IsIn items n × (c.args.id ≢ n))) c.in-Some.is
-    (next_is c.args.id e items c.requires.once stood c.behind-next.result
-    (c.behind-next.ensures ∙ (ap (λ p. behind p c.args.marks.now) (sym is)
+    (next_is c.args.id e items c.requires.once stood c.join.result
+    (c.join.ensures.next ∙ (ap (λ p. behind p c.args.marks.now) (sym is)
     ∙ behind-first e.part (remove_entry (nat_eq c.args.id) items) c.args.marks.now c.requires.marks)))).0
 
 pub move_before-requires-clause-apart : goal.move_before-requires-clause-apart
@@ -21,8 +21,8 @@ move_before-requires-clause-apart g c =
     let (e, stood, is) = c.requires.here in
     let items = c.args.entries.now.items in
     (subst (λ o. IfSome o (λ n. IsIn items n × (c.args.id ≢ n))) c.in-Some.is
-    (next_is c.args.id e items c.requires.once stood c.behind-next.result
-    (c.behind-next.ensures ∙ (ap (λ p. behind p c.args.marks.now) (sym is)
+    (next_is c.args.id e items c.requires.once stood c.join.result
+    (c.join.ensures.next ∙ (ap (λ p. behind p c.args.marks.now) (sym is)
     ∙ behind-first e.part (remove_entry (nat_eq c.args.id) items) c.args.marks.now c.requires.marks)))).1
 
 pub returns-in-Some-clause-items : goal.returns-in-Some-clause-items
@@ -30,8 +30,8 @@ returns-in-Some-clause-items g c e stood =
     let (x, at, is) = c.requires.here in
     let same = some_parts e x (sym stood ∙ at) in
     c.move_before.ensures.items ∙ (ap (λ o. moved c.args.id o c.args.entries.now.items) (sym c.in-Some.is)
-    ∙ moved-latest c.args.id e c.args.entries.now.items c.requires.once stood c.behind-next.result
-    (c.behind-next.ensures ∙ (ap (λ p. behind p c.args.marks.now) (sym (ap (λ y. y.part) same ∙ is))
+    ∙ moved-latest c.args.id e c.args.entries.now.items c.requires.once stood c.join.result
+    (c.join.ensures.next ∙ (ap (λ p. behind p c.args.marks.now) (sym (ap (λ y. y.part) same ∙ is))
     ∙ behind-first e.part (remove_entry (nat_eq c.args.id) c.args.entries.now.items) c.args.marks.now c.requires.marks)))
 
 pub returns-in-Some-clause-marks : goal.returns-in-Some-clause-marks
@@ -40,7 +40,7 @@ returns-in-Some-clause-marks g c =
     let rest = remove_entry (nat_eq c.args.id) c.args.entries.now.items in
     let apart = apart_from_distinct rest (IsDistinct-removed c.args.id c.args.entries.now.items c.requires.once) in
     subst (λ l. AreMarks l c.join.new.self) (sym (returns-in-Some-clause-items g c e stood))
-    (subst (AreMarks (latest_node (c.args.id, e) rest)) (sym (c.join.ensures ∙ ap (λ p. with_mark c.args.id p c.args.marks.now) (sym is)))
+    (subst (AreMarks (latest_node (c.args.id, e) rest)) (sym (c.join.ensures.marks ∙ ap (λ p. with_mark c.args.id p c.args.marks.now) (sym is)))
     (marks-joined c.args.id e rest c.args.marks.now apart c.requires.marks))
 
 pub returns-in-None-clause-items : goal.returns-in-None-clause-items
@@ -48,8 +48,8 @@ returns-in-None-clause-items g c e stood =
     let (x, at, is) = c.requires.here in
     let same = some_parts e x (sym stood ∙ at) in
     c.to_back.ensures.items ∙ (ap (λ o. moved c.args.id o c.args.entries.now.items) (sym c.in-None.is)
-    ∙ moved-latest c.args.id e c.args.entries.now.items c.requires.once stood c.behind-next.result
-    (c.behind-next.ensures ∙ (ap (λ p. behind p c.args.marks.now) (sym (ap (λ y. y.part) same ∙ is))
+    ∙ moved-latest c.args.id e c.args.entries.now.items c.requires.once stood c.join.result
+    (c.join.ensures.next ∙ (ap (λ p. behind p c.args.marks.now) (sym (ap (λ y. y.part) same ∙ is))
     ∙ behind-first e.part (remove_entry (nat_eq c.args.id) c.args.entries.now.items) c.args.marks.now c.requires.marks)))
 
 pub returns-in-None-clause-marks : goal.returns-in-None-clause-marks
@@ -58,5 +58,5 @@ returns-in-None-clause-marks g c =
     let rest = remove_entry (nat_eq c.args.id) c.args.entries.now.items in
     let apart = apart_from_distinct rest (IsDistinct-removed c.args.id c.args.entries.now.items c.requires.once) in
     subst (λ l. AreMarks l c.join.new.self) (sym (returns-in-None-clause-items g c e stood))
-    (subst (AreMarks (latest_node (c.args.id, e) rest)) (sym (c.join.ensures ∙ ap (λ p. with_mark c.args.id p c.args.marks.now) (sym is)))
+    (subst (AreMarks (latest_node (c.args.id, e) rest)) (sym (c.join.ensures.marks ∙ ap (λ p. with_mark c.args.id p c.args.marks.now) (sym is)))
     (marks-joined c.args.id e rest c.args.marks.now apart c.requires.marks))
