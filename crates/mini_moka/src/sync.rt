@@ -6,7 +6,7 @@ pub mod segmented;
 pub use moka_core::step_laws;
 pub use moka_guards::counts::CountPass;
 pub use moka_guards::laws as count_laws;
-pub use moka_guards::published_rule::Published;
+pub use moka_sync_model::published::Published;
 pub use moka_guards::rule::{AnyPair, PairRule};
 pub use moka_locks::housekeeper;
 pub use moka_segments::cache::SegmentedCache;

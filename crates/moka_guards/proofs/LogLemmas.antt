@@ -6,8 +6,9 @@ use mathlib.Core.Option.{some}
 use lib.ListN.{get_elem?}
 use Rattle.crossbeam_utils.specs.Register.{Turns, Forks}
 use Rattle.atomic_table.proofs.Lists.{at_set, at_snoc, set_again}
-use Rattle.moka_guards.specs.declared.published_rule.Published.{Published}
-use Rattle.moka_guards.specs.Log.{IsChain, IsLog, IsSuffix, Known, number_after, opening}
+use Rattle.moka_sync_model.specs.declared.published.Published.{Published}
+use Rattle.moka_guards.specs.Log.{IsChain, IsLog, IsSuffix, Known, number_after}
+use Rattle.moka_sync_model.specs.Published.{opening}
 
 -- what the first pass knows, who publishes
 abbrev pub at_first : Known

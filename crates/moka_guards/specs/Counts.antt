@@ -1,7 +1,7 @@
 -- What a contract sees of published counts.
 use Rattle.std.specs.Prelude.{List}
 use Rattle.atomic_table.specs.Seated.{TableId}
-use Rattle.moka_guards.specs.declared.published_rule.Published.{Published}
+use Rattle.moka_sync_model.specs.declared.published.Published.{Published}
 
 -- of which counts it is, and what it has seen of them, newest first
 pub record CountPass : Type 0 where

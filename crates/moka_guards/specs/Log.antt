@@ -2,11 +2,8 @@
 use Rattle.std.specs.Prelude.{◌≡◌, ℕ, Bool, true, List, [], ◌∷◌, ◌++◌, ◌+◌, ◌-◌, ◌^◌, min}
 use mathlib.Core.Option.{some}
 use lib.ListN.{get_elem?}
-use Rattle.moka_guards.specs.declared.published_rule.Published.{Published}
-
--- what stands in the cell before anything is published
-abbrev pub opening : Published
-opening = record { number = 0; count = 0; weight = 0 }
+use Rattle.moka_sync_model.specs.Published.{opening}
+use Rattle.moka_sync_model.specs.declared.published.Published.{Published}
 
 -- the number of what is published next, which stops at the last of 64 bits
 abbrev pub number_after : List Published → ℕ

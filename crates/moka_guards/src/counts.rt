@@ -1,11 +1,13 @@
 //! The cell of published counts, who publishes them, and the passes of those who load them.
 ghost use Rattle.std.specs.Prelude.{◌≡◌, [], ◌∷◌, List, IfOk};
 ghost use Rattle.moka_guards.specs.Counts.{CountPass as PassValue, Publisher as PublisherValue};
-ghost use Rattle.moka_guards.specs.Log.{IsChain, IsSuffix, number_after, opening};
+ghost use Rattle.moka_guards.specs.Log.{IsChain, IsSuffix, number_after};
+ghost use Rattle.moka_sync_model.specs.Published.{opening};
 
 use crate::in_memory::InMemory;
-use crate::published_rule::{Growing, Known, Published, Publishes, Sees, Tells};
+use crate::published_rule::{Growing, Known, Publishes, Sees, Tells};
 use crossbeam_utils::atomic::seq_cell::{Pass, RuledSeqCell};
+use moka_sync_model::published::Published;
 use std::alloc::{AllocError, Allocator, Global};
 use std::marker::Model;
 use std::sync::{Arc, Wait};
@@ -93,11 +95,7 @@ impl<A: Allocator + Clone + Drop> Publisher<A> {
     pub fn new(alloc: &A) -> Result<Self, AllocError>
         ensures { IfOk result (λ publisher. publisher.published ≡ opening ∷ []) }
     {
-        let first = Published {
-            number: 0,
-            count: 0,
-            weight: 0,
-        };
+        let first = Published::opening();
         let size = InMemory::<Cell<A>>::new()?;
         let (cell, pass) = Cell::ruled(alloc.clone()?, first)?;
         let Ok(cell) = Arc::new(alloc.clone()?, cell) else {

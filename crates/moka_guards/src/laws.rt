@@ -1,6 +1,6 @@
 //! What the numbers of published counts mean.
 ghost use Rattle.std.specs.Prelude.{◌≡◌, ◌≤◌, ◌+◌, ◌-◌, ◌^◌, ◌∷◌, ◌++◌, List, length, min};
-ghost use Rattle.moka_guards.specs.declared.published_rule.Published.{Published};
+ghost use Rattle.moka_sync_model.specs.declared.published.Published.{Published};
 ghost use Rattle.moka_guards.specs.Log.{IsChain};
 
 /// The number of published counts is how many publications there have been, theirs included, up to 2^64 - 1. The opening zeros have number 0.

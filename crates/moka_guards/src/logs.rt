@@ -2,7 +2,7 @@
 ghost use Rattle.std.specs.Prelude.{◌≡◌, ◌≤◌, [], length};
 
 use crate::queue::WriteQueue;
-use crate::waiting::{ROOM_AWAITED, has_room, lock, lock_giving_way};
+use crate::waiting::{WRITE_BATCH, has_room, lock, lock_yielding};
 use crossbeam_utils::CachePadded;
 use moka_common::error::OutOfMemory;
 use moka_queues::logs::{LoggedRead, ReadLog};
@@ -15,8 +15,8 @@ use std::sync::{Mutex, MutexGuard, Wait};
 
 /// The write log behind its lock. Whoever has taken the lock writes the word beside it, so both lie on one line.
 #[derive(Drop)]
-struct ToldQueue<A: Allocator + Clone + Drop> {
-    /// The published length of the write log, as `told_writes` has it when the log was left last.
+struct HintedQueue<A: Allocator + Clone + Drop> {
+    /// The published length of the write log, as `published_write_len` has it when the log was left last.
     len: AtomicUsize,
     queue: Mutex<WriteQueue<A>>,
 }
@@ -26,17 +26,17 @@ struct ToldQueue<A: Allocator + Clone + Drop> {
 #[derive(Drop)]
 pub struct Logs<A: Allocator + Clone + Drop = Global> {
     read_log: CachePadded<Mutex<ReadLog<A>>>,
-    /// The published length of the read log, as `told_reads` has it when the log was left last. It seldom changes, so it lies apart from the lock, where those
+    /// The published length of the read log, as `published_read_len` has it when the log was left last. It seldom changes, so it lies apart from the lock, where those
     /// who look at it keep the line.
     reads: CachePadded<AtomicUsize>,
-    writes: CachePadded<ToldQueue<A>>,
+    writes: CachePadded<HintedQueue<A>>,
 }
 
 impl<A: Allocator + Clone + Drop> Logs<A> {
     /// Empty logs, with room for all that they will hold.
     pub fn new(alloc: &A) -> Result<Self, OutOfMemory> {
         let read_log = ReadLog::new(alloc.clone()?)?;
-        let writes = ToldQueue {
+        let writes = HintedQueue {
             len: AtomicUsize::new(0),
             queue: Mutex::new(WriteQueue::new(alloc.clone()?)?),
         };
@@ -52,34 +52,34 @@ impl<A: Allocator + Clone + Drop> Logs<A> {
         self.reads.load(Ordering::Acquire)
     }
 
-    /// Returns the published number of writes that are on their way, a multiple of `ROOM_AWAITED`.
+    /// Returns the published number of writes that are on their way, a multiple of `WRITE_BATCH`.
     pub fn writes(&self) -> usize {
         self.writes.len.load(Ordering::Acquire)
     }
 
-    /// The read log, locked. Before it is left, `tell_reads` is to have its length.
+    /// The read log, locked. Before it is left, `publish_read_len` is to have its length.
     #[inline]
     pub fn lock_reads<R: Wait>(&self, rt: &R) -> MutexGuard<'_, ReadLog<A>> {
         lock(rt, &self.read_log)
     }
 
-    /// The write log, locked. Before it is left, `tell_writes` is to have its length.
+    /// The write log, locked. Before it is left, `publish_write_len` is to have its length.
     #[inline]
     pub fn lock_writes<R: Wait>(&self, rt: &R) -> MutexGuard<'_, WriteQueue<A>> {
         lock(rt, &self.writes.queue)
     }
 
     /// Publishes how many reads there are. It stores only a value that differs, since a store takes the cache line from all who read it.
-    pub fn tell_reads(&self, len: usize) {
-        let told = told_reads(len);
+    pub fn publish_read_len(&self, len: usize) {
+        let told = published_read_len(len);
         if self.reads() != told {
             self.reads.store(told, Ordering::Release);
         }
     }
 
     /// Publishes how many writes are on their way. It stores only a value that differs, since a store is an exchange here.
-    pub fn tell_writes(&self, len: usize) {
-        let told = told_writes(len);
+    pub fn publish_write_len(&self, len: usize) {
+        let told = published_write_len(len);
         if self.writes() != told {
             self.writes.len.store(told, Ordering::Release);
         }
@@ -92,7 +92,7 @@ impl<A: Allocator + Clone + Drop> Logs<A> {
         }
         let mut log = self.lock_reads(rt);
         let is_pushed = log.push_logged(logged).is_ok();
-        self.tell_reads(log.len());
+        self.publish_read_len(log.len());
         is_pushed
     }
 
@@ -103,9 +103,9 @@ impl<A: Allocator + Clone + Drop> Logs<A> {
         ensures held { result ≤ length reads.old }
         ensures same { length reads.new ≡ length reads.old }
     {
-        let mut log = lock_giving_way(rt, &self.read_log);
+        let mut log = lock_yielding(rt, &self.read_log);
         let count = log.take_first(wanted, reads);
-        self.tell_reads(log.len());
+        self.publish_read_len(log.len());
         count
     }
 
@@ -116,7 +116,7 @@ impl<A: Allocator + Clone + Drop> Logs<A> {
         }
         let mut queue = self.lock_writes(rt);
         let is_pushed = queue.push(write);
-        self.tell_writes(queue.len());
+        self.publish_write_len(queue.len());
         is_pushed
     }
 
@@ -127,19 +127,19 @@ impl<A: Allocator + Clone + Drop> Logs<A> {
     {
         let mut queue = self.lock_writes(rt);
         queue.take_first(wanted, taken);
-        self.tell_writes(queue.len());
+        self.publish_write_len(queue.len());
     }
 
     /// The writes that were taken are applied, and take no room any more.
     pub fn note_applied<R: Wait>(&self, rt: &R) {
         let mut queue = self.lock_writes(rt);
         queue.note_applied();
-        self.tell_writes(queue.len());
+        self.publish_write_len(queue.len());
     }
 }
 
 /// The published length of the read log: callers ask whether it is full, and whether it has reached the flush point.
-fn told_reads(len: usize) -> usize {
+fn published_read_len(len: usize) -> usize {
     if len >= READ_LOG_SIZE {
         READ_LOG_SIZE
     } else if len >= FLUSH_POINT {
@@ -149,8 +149,8 @@ fn told_reads(len: usize) -> usize {
     }
 }
 
-/// Returns the published length of the write log. Callers ask if it is full, has reached the flush point, or has space for `ROOM_AWAITED` operations, and all
+/// Returns the published length of the write log. Callers ask if it is full, has reached the flush point, or has space for `WRITE_BATCH` operations, and all
 /// these are multiples of that.
-fn told_writes(len: usize) -> usize {
-    len - len % ROOM_AWAITED
+fn published_write_len(len: usize) -> usize {
+    len - len % WRITE_BATCH
 }

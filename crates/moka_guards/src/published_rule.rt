@@ -1,40 +1,13 @@
 //! The rule of published counts: there is one list of them, which only grows, and the cell has the newest.
 ghost use Rattle.std.specs.Prelude.{◌≡◌, true, false, [], ◌∷◌, List};
-ghost use Rattle.moka_guards.specs.Log.{IsChain, IsLog, IsSuffix, opening};
+ghost use Rattle.moka_guards.specs.Log.{IsChain, IsLog, IsSuffix};
+ghost use Rattle.moka_sync_model.specs.Published.{opening};
 ghost use Rattle.moka_guards.specs.Log.{Known as KnownValue};
 
 use atomic_table::Split;
-use crossbeam_utils::atomic::seq_cell::Words;
 use crossbeam_utils::rule::{Outcome, Protocol};
+use moka_sync_model::published::Published;
 use std::marker::Model;
-
-/// The counts that a maintenance publishes when it ends.
-#[derive(Clone, Copy, Debug, PartialEq, Eq)]
-pub struct Published {
-    /// Number of publications before it, at most `u64::MAX`.
-    pub number: u64,
-    /// Number of charged entries.
-    pub count: u64,
-    /// Their weight, at most `u64::MAX`.
-    pub weight: u64,
-}
-
-impl Words<3> for Published {
-    ghost words = { λ p. p.number ∷ p.count ∷ p.weight ∷ [] };
-
-    fn to_words(self) -> [u64; 3] {
-        [self.number, self.count, self.weight]
-    }
-
-    fn from_words(bits: &[u64; 3]) -> Published {
-        let [number, count, weight] = *bits;
-        Published {
-            number,
-            count,
-            weight,
-        }
-    }
-}
 
 /// A pass's knowledge of the list. No value of it is made.
 pub struct Known;

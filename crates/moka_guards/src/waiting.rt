@@ -9,7 +9,7 @@ use std::sync::{Mutex, MutexGuard, Wait};
 const FIRST_PAUSES: usize = 4;
 
 /// How often a thread looks at a lock then, each time after a longer pause, before it sleeps in wait for it.
-const LOCK_LOOKS: usize = 64;
+const LOCK_ATTEMPTS: usize = 64;
 
 /// Hints to the processor that a thread makes which gives way to others, before it looks at a lock again: about 30 microseconds.
 const GIVING_WAY: usize = 600;
@@ -22,7 +22,7 @@ const ROOM_LOOKS: usize = 16;
 
 /// The room, in operations, that a writer waits for. Where several wait, they push in turns of this many, and don't all ask for the lock at
 /// each operation that leaves the log.
-pub(crate) const ROOM_AWAITED: usize = 16;
+pub(crate) const WRITE_BATCH: usize = 16;
 
 /// Never returns. It stands where a case can't come and no type says so: any answer would be a wrong one.
 #[cold]
@@ -48,7 +48,7 @@ pub fn lock<'a, T, R: Wait>(rt: &R, part: &'a Mutex<T>) -> MutexGuard<'a, T> {
 #[inline(never)]
 fn wait_for<'a, T, R: Wait>(rt: &R, part: &'a Mutex<T>) -> MutexGuard<'a, T> {
     let backoff = pause();
-    for _ in 0..LOCK_LOOKS {
+    for _ in 0..LOCK_ATTEMPTS {
         if let Some(guard) = part.try_lock() {
             return guard;
         }
@@ -59,18 +59,18 @@ fn wait_for<'a, T, R: Wait>(rt: &R, part: &'a Mutex<T>) -> MutexGuard<'a, T> {
 
 /// Takes a lock that others are to have first: where it is found held, a thread waits longer before it looks again than they do. Who takes reads out of
 /// their log does so: each look takes the line of the lock from those who put them in, and a read that finds the log full costs nobody anything more.
-pub(crate) fn lock_giving_way<'a, T, R: Wait>(rt: &R, part: &'a Mutex<T>) -> MutexGuard<'a, T> {
+pub(crate) fn lock_yielding<'a, T, R: Wait>(rt: &R, part: &'a Mutex<T>) -> MutexGuard<'a, T> {
     for _ in 0..TIMES_GIVING_WAY {
         if let Some(guard) = part.try_lock() {
             return guard;
         }
-        make_hints(GIVING_WAY);
+        spin(GIVING_WAY);
     }
     lock(rt, part)
 }
 
 /// So many hints to the processor that this thread waits for another.
-fn make_hints(count: usize) {
+fn spin(count: usize) {
     for _ in 0..count {
         hint::spin_loop();
     }
@@ -87,7 +87,7 @@ pub(crate) fn has_room(len: &AtomicUsize, size: usize) -> bool {
 fn gets_room(len: &AtomicUsize, size: usize) -> bool {
     let backoff = pause();
     for _ in 0..ROOM_LOOKS {
-        if len.load(Ordering::Acquire) < size.saturating_sub(ROOM_AWAITED) {
+        if len.load(Ordering::Acquire) < size.saturating_sub(WRITE_BATCH) {
             return true;
         }
         backoff.snooze();

@@ -4,7 +4,7 @@ use Rattle.atomic_table.specs.Seated.{TableId}
 use Rattle.moka_sync_model.specs.CoreState.{Maintenance}
 use Rattle.moka_sync_model.specs.Orders.{charged_weight}
 use Rattle.moka_guards.specs.Counts.{Publisher}
-use Rattle.moka_guards.specs.declared.published_rule.Published.{Published}
+use Rattle.moka_sync_model.specs.declared.published.Published.{Published}
 
 -- the newest is what is charged: how many nodes there are, and their weight, as far as 64 bits tell
 abbrev pub IsCharged : Maintenance → List Published → Type 0

@@ -6,7 +6,8 @@ ghost use Rattle.moka_sync_model.specs.declared.constants.TheConstants.{SHARDS};
 ghost use Rattle.moka_common.specs.Keys.{keys_by};
 ghost use Rattle.moka_locks.specs.Cache.{new_cache};
 ghost use Rattle.moka_locks.specs.Charged.{counts_of};
-ghost use Rattle.moka_guards.specs.Log.{IsChain, IsSuffix, opening};
+ghost use Rattle.moka_guards.specs.Log.{IsChain, IsSuffix};
+ghost use Rattle.moka_sync_model.specs.Published.{opening};
 ghost use Rattle.moka_guards.specs.Permitted.{ContainsIn, CopiesIn, FindsIn, InsertsIn, InvalidatesIn, StandsIn, TakesIn, first_of_ok};
 ghost use Rattle.moka_guards.specs.Rule.{PairsMeet};
 ghost use Rattle.moka_locks.specs.Snapshot.{IsSnapshot, own_pairs};
@@ -29,7 +30,6 @@ use moka_common::shared::Shared;
 use moka_common::time::Instant;
 use moka_guards::counts::{CountPass, Counts, Publisher};
 use moka_guards::logs::Logs;
-use moka_guards::published_rule::Published;
 use moka_guards::rule::PairRule;
 use moka_guards::shard::RuledShard;
 use moka_guards::waiting::lock;
@@ -38,6 +38,7 @@ use moka_queues::logs::LoggedRead;
 use moka_shard::shard::Shard;
 use moka_sync_model::constants::SHARDS;
 use moka_sync_model::operation::Write;
+use moka_sync_model::published::Published;
 use moka_sync_model::settings::{CoreParts, Settings};
 use moka_sync_model::ticket::Ticket;
 use moka_sync_model::weigh::WeighShared;
@@ -321,7 +322,7 @@ impl<
     }
 
     /// Returns `true` if a maintenance is due, as a get asks, and nobody else runs one. Then nobody does until `end_maintenance`.
-    pub(crate) fn win_for_reads(&self, now: Instant) -> bool {
+    pub(crate) fn try_start_for_reads(&self, now: Instant) -> bool {
         self.housekeeper.should_apply_reads(self.logs.reads(), now)
             && self.housekeeper.try_begin(now)
     }
@@ -351,8 +352,7 @@ impl<
     /// Publishes what a maintenance that has ended has left.
     pub(crate) fn publish(&self, maintenance: &Maintenance<A>) {
         let published = maintenance.published();
-        self.entry_count
-            .store(published.count as u64, Ordering::Release);
+        self.entry_count.store(published.count, Ordering::Release);
         self.weighted_size
             .store(published.weight, Ordering::Release);
     }

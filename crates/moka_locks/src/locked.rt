@@ -44,7 +44,7 @@ pub struct Locked<
     /// The maintenance that the caller runs.
     running: Option<Running<'a, A>>,
     /// True if the caller has been told to run it, and nobody else is until it has ended.
-    has_won: bool,
+    runs_maintenance: bool,
 }
 
 // By hand, and not derived: wherever a call may end, there is one call to prove then, in place of one for each of its parts.
@@ -62,7 +62,7 @@ impl<
             inner: _,
             pending: _,
             running: _,
-            has_won: _,
+            runs_maintenance: _,
         } = self;
     }
 }
@@ -105,7 +105,7 @@ impl<
             inner,
             pending: Pending::Nothing,
             running: None,
-            has_won: false,
+            runs_maintenance: false,
         }
     }
 
@@ -126,8 +126,8 @@ impl<
         };
         self.inner.publish(running.maintenance());
         running.end(rt);
-        if self.has_won {
-            self.has_won = false;
+        if self.runs_maintenance {
+            self.runs_maintenance = false;
             self.inner.end_maintenance();
         }
     }
@@ -239,12 +239,12 @@ impl<
     }
 
     fn decide(&mut self, log: WhichLog, now: Instant) -> bool {
-        let has_won = match log {
-            WhichLog::Reads => self.inner.win_for_reads(now),
+        let runs_maintenance = match log {
+            WhichLog::Reads => self.inner.try_start_for_reads(now),
             WhichLog::Writes => self.inner.win_for_writes(now),
         };
-        self.has_won = has_won;
-        has_won
+        self.runs_maintenance = runs_maintenance;
+        runs_maintenance
     }
 
     fn begin<R: Wait>(&mut self, rt: &R, now: Instant) {

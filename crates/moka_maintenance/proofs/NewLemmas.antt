@@ -1,12 +1,12 @@
 -- A maintenance with which nothing was done.
-use Rattle.std.proofs.Common.{◌≡◌, ◌≤◌, ◌&&◌, ℕ, Bool, true, false, nat_eq, List}
+use Rattle.std.proofs.Common.{◌≡◌, ◌≤◌, false, List}
 use Rattle.std.proofs.Common.{[], ◌∷◌, length, Option, Some, None, is_some, refl, sym}
 use Rattle.std.proofs.Common.{arith, slice_get}
-use Rattle.std.proofs.lemmas.Bool.{and_parts, eqb-true, false≢true}
+use Rattle.std.proofs.lemmas.Bool.{false≢true}
 use Rattle.moka_common.specs.Sketch.{Table, IsSketch}
 use Rattle.moka_common.specs.SketchCapacity.{table_len}
 use Rattle.moka_common.proofs.SketchLemmas.{power_pos}
-use Rattle.moka_sync_model.specs.CoreState.{Published, new_maintenance}
+use Rattle.moka_sync_model.specs.CoreState.{new_maintenance}
 use Rattle.moka_queues.specs.OrdersState.{access_of}
 use Rattle.moka_maintenance.specs.declared.maintenance.place.Stage.TheVariants as stage
 use Rattle.moka_maintenance.specs.Held.{Held, maintenance_of, place_of}
@@ -23,19 +23,6 @@ no_table : (o : Option Table) → IsSketch o → table_len o ≤ 0 → o ≡ Non
 no_table None s h = refl
 no_table (Some t) s h = let some = power_pos t.places s.shape.power in absurd (omega (arith, some, h))
 
--- these are the number, the count and the weight of a maintenance that has published nothing
-abbrev pub is_published : ℕ → ℕ → ℕ → Type 0
-is_published number count weight =
-    ◌≡◌ {A = Published} (record { number = number; count = count; weight = weight }) (record { number = 0; count = 0; weight = 0 })
-
--- whatever number, count and weight are none
-pub unpublished : (number count weight : ℕ) → (nat_eq number 0 && (nat_eq count 0 && nat_eq weight 0)) ≡ true
-    → is_published number count weight
-unpublished number count weight h =
-    let outer = and_parts (nat_eq number 0) (nat_eq count 0 && nat_eq weight 0) h in
-    let inner = and_parts (nat_eq count 0) (nat_eq weight 0) outer.1 in
-    λ i. record { number = eqb-true number 0 outer.0 i; count = eqb-true count 0 inner.0 i; weight = eqb-true weight 0 inner.1 i }
-
 pub new_from : (h : Held) → h.stage ≡ stage.Idle → length h.orders.nodes ≤ 0 → is_some (slice_get h.orders.written 0) ≡ false
     → IsSketch h.sketch → table_len h.sketch ≤ 0 → h.moment ≤ 0 → h.published ≡ record { number = 0; count = 0; weight = 0 }
     → maintenance_of h ≡ new_maintenance
@@ -48,7 +35,3 @@ new_from h idle nodes written sketch table moment published =
       moment = start i;
       published = published i;
     }
-
-pub from_not : (b : Bool) → Rattle.std.proofs.Common.not b ≡ false → b ≡ true
-from_not true h = refl
-from_not false h = absurd (false≢true (sym h))

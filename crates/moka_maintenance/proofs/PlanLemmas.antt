@@ -7,7 +7,6 @@ use Rattle.std.specs.Map.{lookup, keys_of}
 use Rattle.moka_list.specs.Nodes.{first_id}
 use Rattle.moka_sync_model.specs.declared.at_hand.Candidate.{Candidate}
 use Rattle.moka_sync_model.specs.declared.at_hand.Tally.{Tally}
-use Rattle.moka_sync_model.specs.Place as place
 use Rattle.moka_sync_model.specs.Place.{Seen}
 use Rattle.moka_sync_model.specs.CoreState.{Maintenance}
 use Rattle.moka_sync_model.specs.declared.ticket.Ticket.{Ticket}

@@ -12,7 +12,8 @@ use Rattle.moka_sync_model.specs.EntryChange.{change_of}
 use Rattle.moka_sync_model.specs.Orders.{charge_of}
 use Rattle.moka_sync_model.specs.Place as place
 use Rattle.moka_sync_model.specs.Place.{Place, Seen}
-use Rattle.moka_sync_model.specs.CoreState.{Maintenance, Published}
+use Rattle.moka_sync_model.specs.CoreState.{Maintenance}
+use Rattle.moka_sync_model.specs.declared.published.Published.{Published}
 use Rattle.moka_sync_model.specs.Entry.{Entry}
 use Rattle.moka_sync_model.specs.Turn.Plan.{AtEntry, Outcome, Plan}
 use Rattle.moka_sync_model.specs.Turn.Admission.{after_removing, after_scan, next_seen}

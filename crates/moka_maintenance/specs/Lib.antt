@@ -1,5 +1,4 @@
 pub mod Need
-pub mod Published
 pub mod Taken
 -- inside
 pub mod Held

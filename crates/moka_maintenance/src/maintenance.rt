@@ -11,7 +11,6 @@ ghost use Rattle.moka_sync_model.specs.Turn.Turn.{turn_at};
 ghost use Rattle.moka_sync_model.specs.Entry.{Entry as EntryState};
 ghost use Rattle.moka_sync_model.specs.declared.operation.Write.TheVariants.{Remove, Upsert};
 ghost use Rattle.moka_maintenance.specs.Need.{need_at_front, need_named, need_to_read, need_to_write};
-ghost use Rattle.moka_maintenance.specs.Published.{published_of};
 ghost use Rattle.moka_queues.specs.LoggedReads.{reads_of};
 ghost use Rattle.moka_maintenance.specs.Taken.{AppliesReads, IsScan, IsTaken, TakesRead, TakesWrite, having_taken_write, reads_left, writes_left};
 
@@ -32,12 +31,12 @@ use moka_common::frequency_sketch::FrequencySketch;
 use moka_common::time::Instant;
 use moka_queues::logs::{LoggedRead, ReadLog, WriteLog};
 use moka_queues::orders::Orders;
-use moka_sync_model::entry::{Entry, EntryChange, place_of};
+use moka_sync_model::entry::{Entry, EntryChange, node_hint_of};
 use moka_sync_model::operation::{Read, Write};
 use moka_sync_model::place::Place;
+use moka_sync_model::published::Published;
 use moka_sync_model::settings::Settings;
 use moka_sync_model::ticket::Ticket;
-pub use publish::Published;
 use std::alloc::{AllocError, Allocator, Global};
 use std::marker::Model;
 
@@ -79,11 +78,7 @@ impl<A: Allocator + Clone + Drop> Maintenance<A> {
                 sketch: FrequencySketch::default(alloc),
                 stage: Stage::Idle,
                 moment: Instant::from_nanos(0),
-                published: Published {
-                    number: 0,
-                    count: 0,
-                    weight: 0,
-                },
+                published: Published::opening(),
             },
         })
     }
@@ -104,7 +99,7 @@ impl<A: Allocator + Clone + Drop> Maintenance<A> {
 
     /// Returns the counts that were published last.
     pub fn published(&self) -> Published
-        ensures { published_of result ≡ self.now.published }
+        ensures { result ≡ self.now.published }
     {
         self.state.published
     }
@@ -356,7 +351,7 @@ impl<A: Allocator + Clone + Drop> Maintenance<A> {
         match self.state.stage {
             Stage::ReadApply { work, read } => match read {
                 Read::Hit { ticket, moment } => {
-                    self.state.apply_hit(work, ticket, place_of(found));
+                    self.state.apply_hit(work, ticket, node_hint_of(found));
                     EntryChange::Touched(moment)
                 }
                 Read::Miss { .. } => EntryChange::Stays,

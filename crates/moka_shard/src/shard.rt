@@ -21,7 +21,7 @@ use moka_common::shared::Shared;
 use moka_common::time::Instant;
 use moka_list::hash_index::HashIndex;
 use moka_sync_model::constants::{MAX_OUTSTANDING, NO_TICKET, SHARDS};
-use moka_sync_model::entry::{Entry, EntryChange, place_of};
+use moka_sync_model::entry::{Entry, EntryChange, node_hint_of};
 use moka_sync_model::settings::Settings;
 use moka_sync_model::ticket::Ticket;
 use moka_sync_model::weigh::WeighShared;
@@ -431,8 +431,8 @@ impl<K: Eq + Hash + Drop, V: Drop, S: BuildHasher + Drop, A: Allocator + Clone +
         (entry.into_value(), ticket)
     }
 
-    /// The entry of a ticket, if it stands, was used at a moment. It is looked for in a slot first: that in which it was found before, as far as the
-    /// caller knows it. The answer is where what is charged for it may be found.
+    /// Records that the entry of a ticket, if it stands, was used at a moment. Looks into `slot` first, where the caller has found it before. Returns the
+    /// entry's node hint, or `NO_HINT`.
     pub fn touch(&mut self, ticket: Ticket, slot: usize, moment: Instant) -> usize
         ensures step { state_of self.new ≡ record (state_of self.old) {
           entries = after_change ticket (change_of (Touched moment)) (entries_in self.old.slots);
@@ -440,9 +440,9 @@ impl<K: Eq + Hash + Drop, V: Drop, S: BuildHasher + Drop, A: Allocator + Clone +
         ensures valid { IsValidShard (keys_by K.Hash S.BuildHasher S.Hasher.Hasher) (state_of self.new) }
     {
         let slot = self.find_ticket_at(ticket, slot);
-        let place = place_of(self.entry(slot));
+        let hint = node_hint_of(self.entry(slot));
         self.change(slot, EntryChange::Touched(moment));
-        place
+        hint
     }
 
     /// Makes this of the entry in a slot, if a search has found one.

@@ -2,7 +2,7 @@
 ghost use Rattle.std.specs.Prelude.{◌≡◌, ◌∷◌, [], true, None, Some, IfErr, IfOk};
 ghost use Rattle.moka_sync.specs.Builder.{ArePartsOf, IsBuilt, IsLegal, new_builder, refusal_of};
 ghost use Rattle.moka_locks.specs.Cache.{new_cache};
-ghost use Rattle.moka_guards.specs.Log.{opening};
+ghost use Rattle.moka_sync_model.specs.Published.{opening};
 
 mod debug;
 

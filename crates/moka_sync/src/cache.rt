@@ -9,7 +9,8 @@ ghost use Rattle.moka_sync_model.specs.declared.event.Reply.TheVariants as reply
 ghost use Rattle.moka_sync.specs.Builder.{new_builder};
 ghost use Rattle.moka_locks.specs.Cache.{new_cache};
 ghost use Rattle.moka_locks.specs.Charged.{counts_of};
-ghost use Rattle.moka_guards.specs.Log.{IsChain, IsSuffix, opening};
+ghost use Rattle.moka_guards.specs.Log.{IsChain, IsSuffix};
+ghost use Rattle.moka_sync_model.specs.Published.{opening};
 ghost use Rattle.moka_locks.specs.Locked.{Locked as LockedValue, locked_allows, locked_caller, locked_decides, resting_at};
 ghost use Rattle.moka_sync_model.specs.Steps.{AnswersGet, AnswersRemove, insert_reply, pends_by};
 
@@ -22,11 +23,11 @@ use moka_common::shared::Shared;
 use moka_common::time::Instant;
 use moka_common::weigh::UnitWeight;
 use moka_guards::counts::{CountPass, Publisher};
-use moka_guards::published_rule::Published;
 use moka_guards::rule::{AnyPair, PairRule};
 use moka_locks::inner::Inner;
 use moka_locks::locked::Locked;
 use moka_sync_model::constants::SHARDS;
+use moka_sync_model::published::Published;
 use moka_sync_model::settings::CoreParts;
 use moka_sync_model::steps;
 use moka_sync_model::weigh::WeighShared;

@@ -11,14 +11,10 @@ use Rattle.moka_sync_model.specs.declared.operation.Write.{Write}
 use Rattle.moka_sync_model.specs.Entry.{Entry}
 use Rattle.moka_sync_model.specs.Orders.{Orders}
 use Rattle.moka_sync_model.specs.Place.{Place, Idle}
+use Rattle.moka_sync_model.specs.Published.{opening}
+use Rattle.moka_sync_model.specs.declared.published.Published.{Published}
 
--- what a maintenance has published last: its number, and the count and the weight that were charged
-pub record Published : Type 0 where
-  pub number : ℕ
-  pub count : ℕ
-  pub weight : ℕ
-
--- what lies behind the lock of the maintenance; the moment is that of the last begin
+-- what lies behind the lock of the maintenance; the moment is that of the last begin, the counts those published last
 pub record Maintenance : Type 0 where
   pub orders : Orders
   pub sketch : Option Table
@@ -46,7 +42,7 @@ new_maintenance = record {
   sketch = None;
   place = Idle;
   moment = 0;
-  published = record { number = 0; count = 0; weight = 0 };
+  published = opening;
 }
 
 -- a core as it is built, with this first ticket number in each shard

@@ -3,6 +3,7 @@ pub mod Entry
 pub mod Operation
 pub mod Orders
 pub mod Place
+pub mod Published
 pub mod CoreState
 pub mod Turn
 pub mod EntryChange

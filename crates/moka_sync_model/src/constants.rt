@@ -9,8 +9,8 @@ pub const NO_TICKET: u64 = u64::MAX;
 /// Upserts of an entry that can be outstanding. An insert that would be one more is refused, so that none is forgotten.
 pub const MAX_OUTSTANDING: u64 = u64::MAX;
 
-/// No place of a charge: the hint of an entry that isn't charged yet, or whose place 32 bits don't tell.
-pub const NO_PLACE: u32 = u32::MAX;
+/// The node hint of an entry that isn't charged yet, or whose node's number has more than 32 bits.
+pub const NO_HINT: u32 = u32::MAX;
 
 /// Operations in a log that make a maintenance due, or another round of it: enough of them to be worth its locks.
 pub const FLUSH_POINT: usize = 64;

@@ -3,7 +3,7 @@ ghost use Rattle.std.specs.Prelude.{◌≡◌, ◌<◌, ◌+◌, ◌^◌};
 ghost use Rattle.moka_sync_model.specs.CoreState.{is_expired};
 ghost use Rattle.moka_sync_model.specs.Entry.{touched, updated, with_upsert_done};
 
-use crate::constants::{MAX_OUTSTANDING, NO_PLACE};
+use crate::constants::{MAX_OUTSTANDING, NO_HINT};
 use crate::settings::Settings;
 use crate::ticket::Ticket;
 use moka_common::shared::Shared;
@@ -18,8 +18,8 @@ pub struct Entry<K: Drop, V: Drop, A: Allocator + Drop = Global> {
     key: Shared<K, A>,
     value: Shared<V, A>,
     weight: u32,
-    /// The place of its charge in the maintenance, as far as is known.
-    place: Cell<u32>,
+    /// The number of its node in the maintenance, as far as is known, or `NO_HINT`.
+    node_hint: Cell<u32>,
     accessed: Instant,
     modified: Instant,
     ticket: Ticket,
@@ -77,7 +77,7 @@ impl<K: Drop, V: Drop, A: Allocator + Drop> Entry<K, V, A> {
             key,
             value,
             weight,
-            place: Cell::new(NO_PLACE),
+            node_hint: Cell::new(NO_HINT),
             accessed: now,
             modified: now,
             ticket,
@@ -137,16 +137,16 @@ impl<K: Drop, V: Drop, A: Allocator + Drop> Entry<K, V, A> {
         self.ticket
     }
 
-    /// Returns the place at which the maintenance may find its charge. It is no more than a hint, of which no contract speaks.
+    /// Returns the number of the node where the maintenance looks for its charge first. No contract speaks of it.
     #[inline]
-    pub fn place(&self) -> usize {
-        self.place.get() as usize
+    pub fn node_hint(&self) -> usize {
+        self.node_hint.get() as usize
     }
 
-    /// Keeps a place for `place` to tell, if 32 bits can.
+    /// Sets the number that `node_hint` returns, if it has 32 bits.
     #[inline]
-    pub fn keep_place(&self, place: usize) {
-        self.place.set(u32::try_from(place).unwrap_or(NO_PLACE));
+    pub fn set_node_hint(&self, node: usize) {
+        self.node_hint.set(u32::try_from(node).unwrap_or(NO_HINT));
     }
 
     /// Returns the number of its upserts that the maintenance has not done.
@@ -203,10 +203,12 @@ impl<K: Drop, V: Drop, A: Allocator + Drop> Entry<K, V, A> {
     }
 }
 
-/// Returns the place at which the maintenance may find the charge of an entry, or `NO_PLACE`.
-pub fn place_of<K: Drop, V: Drop, A: Allocator + Drop>(found: Option<&Entry<K, V, A>>) -> usize {
+/// Returns the hint of an entry, or `NO_HINT`.
+pub fn node_hint_of<K: Drop, V: Drop, A: Allocator + Drop>(
+    found: Option<&Entry<K, V, A>>,
+) -> usize {
     match found {
-        Some(entry) => entry.place(),
-        None => NO_PLACE as usize,
+        Some(entry) => entry.node_hint(),
+        None => NO_HINT as usize,
     }
 }

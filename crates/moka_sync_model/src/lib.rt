@@ -11,6 +11,7 @@ pub mod housekeeper;
 pub mod laws;
 pub mod operation;
 pub mod place;
+pub mod published;
 pub mod settings;
 pub mod steps;
 pub mod ticket;

@@ -133,7 +133,7 @@ impl<
     {
         let published = self.maintenance.published();
         Reply::Counts {
-            count: published.count,
+            count: published.count as usize,
             weight: u128::from(published.weight),
         }
     }

@@ -62,12 +62,12 @@ impl<
             Need::Reads => {
                 let mut log = self.logs.lock_reads(rt);
                 maintenance.turn_with_reads::<K, V, S>(&mut log);
-                self.logs.tell_reads(log.len());
+                self.logs.publish_read_len(log.len());
             }
             Need::Writes => {
                 let mut queue = self.logs.lock_writes(rt);
                 queue.turn_with_writes::<K, V, S>(maintenance);
-                self.logs.tell_writes(queue.len());
+                self.logs.publish_write_len(queue.len());
             }
             Need::Entry(ticket) => {
                 let mut shard = lock(rt, self.shard(ticket.hash));

@@ -15,7 +15,7 @@ ghost use Rattle.moka_maintenance.specs.Held.{IsAtHand, IsEntering, IsRemoving, 
 ghost use Rattle.moka_maintenance.specs.Held.{maintenance_of, next_id_if, outcome_of, removal_plan, scan_plan, stage_of_removal};
 
 use crate::maintenance::Need;
-use crate::maintenance::fronts::{send_absent_back, send_back};
+use crate::maintenance::fronts::{requeue_front, requeue_missing};
 use crate::maintenance::place::{Removal, Scan, Stage};
 use crate::maintenance::state::State;
 use crate::maintenance::writes::writes_or_on;
@@ -119,7 +119,7 @@ impl<A: Allocator + Clone + Drop> State<A> {
             ≡ after_rejection work (first_seen scan.seen self.old.orders.nodes) (maintenance_of self.old) found }
         ensures holds { IsAtHand self.new.orders self.new.stage }
     {
-        send_absent_back(&mut self.orders, scan.seen);
+        requeue_missing(&mut self.orders, scan.seen);
         self.stage = writes_or_on(work);
         EntryChange::Leaves
     }
@@ -238,15 +238,15 @@ impl<A: Allocator + Clone + Drop> State<A> {
         ensures holds { IsAtHand self.new.orders self.new.stage }
     {
         let Some(standing) = found else {
-            send_back(&mut self.orders, skipped);
+            requeue_front(&mut self.orders, skipped);
             self.stage = writes_or_on(work);
             return EntryChange::Stays;
         };
         let place = self
             .orders
             .enter(candidate.ticket, standing.weight(), settings.limits());
-        standing.keep_place(place);
-        send_back(&mut self.orders, skipped);
+        standing.set_node_hint(place);
+        requeue_front(&mut self.orders, skipped);
         self.stage = writes_or_on(work);
         EntryChange::UpsertDone
     }

@@ -6,7 +6,7 @@ ghost use Rattle.moka_queues.specs.OrdersState.{orders_of};
 ghost use Rattle.moka_maintenance.specs.Fronts.{front_of};
 ghost use Rattle.moka_maintenance.specs.Held.{IsAtHand, maintenance_of, outcome_of};
 
-use crate::maintenance::fronts::{front_ticket, remove_front, renew_front, use_front};
+use crate::maintenance::fronts::{front_ticket, remove_front, touch_front, touch_front_both};
 use crate::maintenance::place::Stage;
 use crate::maintenance::state::State;
 use crate::maintenance::writes::is_within;
@@ -48,11 +48,11 @@ impl<A: Allocator + Clone + Drop> State<A> {
         let _ = ticket;
         self.stage = Stage::Evict { turns: turns + 1 };
         let Some(entry) = found else {
-            use_front(&mut self.orders);
+            touch_front(&mut self.orders);
             return EntryChange::Stays;
         };
         if entry.outstanding() > 0 {
-            renew_front(&mut self.orders);
+            touch_front_both(&mut self.orders);
             return EntryChange::Stays;
         }
         remove_front(&mut self.orders);

@@ -6,7 +6,7 @@ ghost use Rattle.moka_sync_model.specs.Turn.Expiry.{access_front, after_front, i
 ghost use Rattle.moka_queues.specs.OrdersState.{orders_of};
 ghost use Rattle.moka_maintenance.specs.Held.{IsAtHand, maintenance_of, outcome_of};
 
-use crate::maintenance::fronts::{front_ticket, remove_front, remove_ticket, use_front};
+use crate::maintenance::fronts::{front_ticket, remove_front, remove_ticket, touch_front};
 use crate::maintenance::place::Stage;
 use crate::maintenance::state::State;
 use moka_common::time::Instant;
@@ -117,7 +117,7 @@ impl<A: Allocator + Clone + Drop> State<A> {
     {
         let _ = ticket;
         let Some(entry) = found else {
-            use_front(&mut self.orders);
+            touch_front(&mut self.orders);
             self.stage = Stage::ExpireAccess { turns: turns + 1 };
             return EntryChange::Stays;
         };

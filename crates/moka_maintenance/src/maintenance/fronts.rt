@@ -13,7 +13,7 @@ use moka_sync_model::ticket::Ticket;
 use std::alloc::Allocator;
 
 /// The ticket's node, if there is one, becomes the most recently used one. It is looked for at a place first.
-pub(crate) fn use_ticket<A: Allocator + Clone + Drop>(
+pub(crate) fn touch_ticket<A: Allocator + Clone + Drop>(
     orders: &mut Orders<A>,
     ticket: Ticket,
     place: usize,
@@ -43,7 +43,7 @@ pub(crate) fn front_ticket<A: Allocator + Clone + Drop>(orders: &Orders<A>) -> O
 }
 
 /// The least recently used node becomes the most recently used one.
-pub(crate) fn use_front<A: Allocator + Clone + Drop>(orders: &mut Orders<A>)
+pub(crate) fn touch_front<A: Allocator + Clone + Drop>(orders: &mut Orders<A>)
     ensures { IfSome (front_of orders.old) (λ t. orders_of orders.new ≡ used t (orders_of orders.old)) }
 {
     if let Some(id) = orders.front() {
@@ -52,7 +52,7 @@ pub(crate) fn use_front<A: Allocator + Clone + Drop>(orders: &mut Orders<A>)
 }
 
 /// It becomes the most recent one in both orders.
-pub(crate) fn renew_front<A: Allocator + Clone + Drop>(orders: &mut Orders<A>)
+pub(crate) fn touch_front_both<A: Allocator + Clone + Drop>(orders: &mut Orders<A>)
     ensures { IfSome (front_of orders.old) (λ t. orders_of orders.new ≡ renewed t (orders_of orders.old)) }
 {
     if let Some(id) = orders.front() {
@@ -80,7 +80,7 @@ fn send_front<A: Allocator + Clone + Drop>(orders: &mut Orders<A>)
 }
 
 /// So many nodes go from the front to the back, one after another.
-pub(crate) fn send_back<A: Allocator + Clone + Drop>(orders: &mut Orders<A>, count: usize)
+pub(crate) fn requeue_front<A: Allocator + Clone + Drop>(orders: &mut Orders<A>, count: usize)
     requires { count ≤ length orders.old.nodes }
     ensures { orders_of orders.new ≡ all_used (first_tickets count orders.old.nodes) (orders_of orders.old) }
 {
@@ -106,7 +106,7 @@ fn send_if_absent<A: Allocator + Clone + Drop>(orders: &mut Orders<A>, id: NodeI
 }
 
 /// Of the first `count` nodes, those that a scan has marked as absent go to the back, one after another.
-pub(crate) fn send_absent_back<A: Allocator + Clone + Drop>(orders: &mut Orders<A>, count: usize)
+pub(crate) fn requeue_missing<A: Allocator + Clone + Drop>(orders: &mut Orders<A>, count: usize)
     requires { count ≤ length orders.old.nodes }
     ensures { orders_of orders.new ≡ all_used (absent_of (first_seen count orders.old.nodes)) (orders_of orders.old) }
 {

@@ -6,15 +6,8 @@ ghost use Rattle.moka_maintenance.specs.Held.{IsAtHand, maintenance_of};
 
 use crate::maintenance::place::Stage;
 use crate::maintenance::state::State;
+use moka_sync_model::published::Published;
 use std::alloc::Allocator;
-
-/// The counts that a maintenance has published last: the number of publications, and the charged count and weight then, each at most `u64::MAX`.
-#[derive(Clone, Copy, Debug, PartialEq, Eq)]
-pub struct Published {
-    pub number: u64,
-    pub count: usize,
-    pub weight: u64,
-}
 
 impl<A: Allocator + Clone + Drop> State<A> {
     /// The counts are published, and the maintenance ends.
@@ -25,7 +18,7 @@ impl<A: Allocator + Clone + Drop> State<A> {
     {
         self.published = Published {
             number: self.published.number.saturating_add(1),
-            count: self.orders.len(),
+            count: self.orders.len() as u64,
             weight: u64::try_from(self.orders.charged_weight()).unwrap_or(u64::MAX),
         };
         self.stage = Stage::Idle;

@@ -11,7 +11,7 @@ ghost use Rattle.moka_maintenance.specs.Held.{IsAtHand, IsPlain, maintenance_of}
 ghost use Rattle.moka_queues.specs.LoggedReads.{reads_of};
 ghost use Rattle.moka_maintenance.specs.Taken.{counted, hash_of_read, having_applied, used_by};
 
-use crate::maintenance::fronts::use_ticket;
+use crate::maintenance::fronts::touch_ticket;
 use crate::maintenance::place::Stage;
 use crate::maintenance::state::State;
 use moka_common::frequency_sketch::FrequencySketch;
@@ -72,7 +72,7 @@ fn use_node<A: Allocator + Clone + Drop>(orders: &mut Orders<A>, logged: LoggedR
     ensures { orders_of orders.new ≡ used_by (orders_of orders.old) logged.read }
 {
     if let Read::Hit { ticket, .. } = logged.read {
-        use_ticket(orders, ticket, logged.hint);
+        touch_ticket(orders, ticket, logged.hint);
     }
 }
 
@@ -137,7 +137,7 @@ impl<A: Allocator + Clone + Drop> State<A> {
             (used ticket (orders_of self.old.orders)) (reads_or_on work) }
         ensures holds { IsAtHand self.new.orders self.new.stage }
     {
-        use_ticket(&mut self.orders, ticket, place);
+        touch_ticket(&mut self.orders, ticket, place);
         self.apply_miss(work, ticket.hash);
     }
 

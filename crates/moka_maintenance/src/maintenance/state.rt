@@ -4,10 +4,10 @@ ghost use Rattle.moka_sync_model.specs.CoreState.{new_maintenance};
 ghost use Rattle.moka_maintenance.specs.Held.{maintenance_of};
 
 use crate::maintenance::place::Stage;
-use crate::maintenance::publish::Published;
 use moka_common::frequency_sketch::FrequencySketch;
 use moka_common::time::Instant;
 use moka_queues::orders::Orders;
+use moka_sync_model::published::Published;
 use std::alloc::{Allocator, Global};
 use std::marker::Model;
 
@@ -24,7 +24,6 @@ pub(crate) struct State<A: Allocator + Clone + Drop = Global> {
 
 impl<A: Allocator + Clone + Drop> Model for State<A> {
     ghost use Rattle.moka_maintenance.specs.Held.{Held};
-    ghost use Rattle.moka_maintenance.specs.Published.{published_of};
 
     ghost Value = { Held };
 
@@ -33,7 +32,7 @@ impl<A: Allocator + Clone + Drop> Model for State<A> {
       sketch = s.sketch;
       stage = s.stage;
       moment = s.moment;
-      published = published_of s.published;
+      published = s.published;
     } };
 }
 
@@ -42,12 +41,7 @@ impl<A: Allocator + Clone + Drop> State<A> {
     pub(crate) fn is_new(&self) -> bool
         ensures { IsTrue result ↔ (maintenance_of self.now ≡ new_maintenance) }
     {
-        let unpublished = Published {
-            number: 0,
-            count: 0,
-            weight: 0,
-        };
-        if self.published != unpublished {
+        if !self.published.is_opening() {
             return false;
         }
         if self.moment.nanos() > 0 {

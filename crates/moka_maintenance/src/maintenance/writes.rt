@@ -118,7 +118,7 @@ impl<A: Allocator + Clone + Drop> State<A> {
             self.stage = writes_or_on(work);
             return EntryChange::Stays;
         };
-        let Some(id) = self.orders.find_at(ticket, entry.place()) else {
+        let Some(id) = self.orders.find_at(ticket, entry.node_hint()) else {
             return self.apply_first_upsert(settings, work, ticket, entry);
         };
         self.orders.recharge(id, entry.weight());
@@ -171,7 +171,7 @@ impl<A: Allocator + Clone + Drop> State<A> {
         let charged = self.orders.charged_weight() + u128::from(weight);
         if is_within(settings.limits(), charged) {
             let place = self.orders.enter(ticket, weight, settings.limits());
-            entry.keep_place(place);
+            entry.set_node_hint(place);
             self.stage = writes_or_on(work);
             return EntryChange::UpsertDone;
         }

@@ -1,9 +1,8 @@
 -- One turn of the maintenance.
-use Rattle.std.specs.Prelude.{ℕ, ◌+◌, ◌-◌, ◌^◌, ◌==◌, min, Bool, true, false, nat_le, List, [], ◌∷◌, length, Option, None, Some}
+use Rattle.std.specs.Prelude.{ℕ, ◌+◌, ◌-◌, ◌^◌, ◌==◌, min, Bool, nat_le, List, [], ◌∷◌, length}
 use Rattle.std.specs.Prelude.{if◌then◌else◌}
 use Rattle.moka_common.specs.Enabling.{after_enabling}
 use Rattle.moka_common.specs.declared.frequency_sketch.enabling.Load.{Load}
-use Rattle.moka_common.specs.Sketch.{Table}
 use Rattle.moka_sync_model.specs.declared.constants.TheConstants.{FLUSH_POINT, MAX_ROUNDS}
 use Rattle.moka_sync_model.specs.declared.operation.Read.{Read}
 use Rattle.moka_sync_model.specs.declared.operation.Read.TheVariants.{Hit, Miss}
@@ -13,7 +12,8 @@ use Rattle.moka_sync_model.specs.Orders.{Orders, charged_weight, used, rewritten
 use Rattle.moka_sync_model.specs.Place as place
 use Rattle.moka_sync_model.specs.declared.at_hand.Work.{Work}
 use Rattle.moka_sync_model.specs.Place.{Place}
-use Rattle.moka_sync_model.specs.CoreState.{CoreState, Maintenance, Published}
+use Rattle.moka_sync_model.specs.CoreState.{CoreState, Maintenance}
+use Rattle.moka_sync_model.specs.declared.published.Published.{Published}
 use Rattle.moka_common.specs.Settings.{Settings, keeps_writes}
 use Rattle.moka_sync_model.specs.Turn.Plan.{Plan, Alone, AtReads, AtWrites, AtEntry, gone_to, after_plan, reads_or_on, writes_or_on}
 use Rattle.moka_sync_model.specs.Turn.Apply.{after_miss, after_removal, after_hit, after_upsert}

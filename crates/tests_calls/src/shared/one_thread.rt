@@ -2,7 +2,7 @@
 use moka_common::error::OutOfMemory;
 use moka_common::hash::FixedState;
 use moka_common::time::Instant;
-use moka_guards::published_rule::Published;
+use moka_sync_model::published::Published;
 use moka_sync::builder::CacheBuilder;
 use moka_sync::cache::{Cache, ConcurrentCacheExt};
 use moka_sync::iter::Iter;

@@ -44,7 +44,7 @@ returns-clause-step g c =
           sketch = c.self.inside.sketch;
           place = c.writes_or_on-self-inside-2.ensures.is c.renew.new.self.nodes i;
           moment = c.self.inside.moment;
-          published = Rattle.moka_maintenance.specs.Published.published_of c.self.inside.published;
+          published = c.self.inside.published;
         };
       },
     )

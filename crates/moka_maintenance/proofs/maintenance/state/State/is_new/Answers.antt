@@ -1,10 +1,9 @@
 use Rattle.std.proofs.Common.{◌≤◌, ◌∙◌, refl, subst, sym}
-use Rattle.moka_maintenance.proofs.NewLemmas.{new_from, unpublished, from_not}
+use Rattle.moka_maintenance.proofs.NewLemmas.{new_from}
 use Rattle.moka_maintenance.proofs.maintenance.state.State.is_new.Goals as goal
 
 pub returns-in-Idle : goal.returns-in-Idle
 returns-in-Idle g c =
-    let p = c.self.inside.published in
     rw (← c.self.view_is) (
       (λ _. new_from
           (record {
@@ -12,7 +11,7 @@ returns-in-Idle g c =
             sketch = c.self.inside.sketch;
             stage = c.self.inside.stage;
             moment = c.self.inside.moment;
-            published = Rattle.moka_maintenance.specs.Published.published_of p;
+            published = c.self.inside.published;
           })
           c.in-Idle.is
           (subst (λ n. n ≤ 0) c.len.ensures.value c.if-len-gt0.false)
@@ -20,6 +19,6 @@ returns-in-Idle g c =
           c.table_len.ensures.sketch
           (subst (λ n. n ≤ 0) c.table_len.ensures.value c.if-table_len-gt0.false)
           (subst (λ n. n ≤ 0) c.nanos.ensures c.if-nanos-gt0.false)
-          (unpublished p.number p.count p.weight (from_not _ (sym c.ne.ensures ∙ c.if-ne.false)))),
+          (c.is_opening.ensures.0 c.if-not-is_opening.false)),
       (λ _. refl),
     )

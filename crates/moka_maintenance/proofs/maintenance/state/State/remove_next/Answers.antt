@@ -26,7 +26,7 @@ returns-clause-step g c =
           removed_place c.self.inside.orders c.args.work c.args.removal s.counted.distinct s c.requires.left c.args.id c.requires.next
           c.remove.new.self c.remove.ensures.nodes c.next-next.result i;
       moment = c.self.inside.moment;
-      published = Rattle.moka_maintenance.specs.Published.published_of c.self.inside.published;
+      published = c.self.inside.published;
     })
 
 pub returns-clause-holds : goal.returns-clause-holds

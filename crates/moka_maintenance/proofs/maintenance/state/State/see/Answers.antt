@@ -54,7 +54,7 @@ returns-clause-step g c =
         sketch = c.self.inside.sketch;
         place = place.Scan c.args.work c.args.scan.candidate (tally i) (seen i);
         moment = c.self.inside.moment;
-        published = Rattle.moka_maintenance.specs.Published.published_of c.self.inside.published;
+        published = c.self.inside.published;
       };
     })
 

@@ -20,7 +20,7 @@ returns-clause-step g c =
       sketch = c.self.inside.sketch;
       stage = c.self.inside.stage;
       moment = c.self.inside.moment;
-      published = Rattle.moka_maintenance.specs.Published.published_of c.self.inside.published;
+      published = c.self.inside.published;
     })))
     (skipped_place c.self.inside.orders c.args.work c.args.removal s.counted.distinct s c.requires.left c.args.id
     c.requires.next n found

@@ -4,7 +4,7 @@ use Rattle.moka_sync_model.specs.Turn.Admission.{absent_of}
 use Rattle.moka_queues.specs.OrdersState.{orders_of}
 use Rattle.moka_maintenance.specs.Held.{first_seen}
 use Rattle.moka_maintenance.proofs.WalkLemmas.{IsWalked, walked, walked_in, walked_on, walked_first, walked_end}
-use Rattle.moka_maintenance.proofs.maintenance.fronts.send_absent_back.Goals as goal
+use Rattle.moka_maintenance.proofs.maintenance.fronts.requeue_missing.Goals as goal
 
 pub send-init : goal.send-init
 send-init g c =

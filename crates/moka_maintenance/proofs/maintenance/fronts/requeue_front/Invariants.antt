@@ -2,7 +2,7 @@ use Rattle.std.proofs.Common.{◌≡◌, ◌-◌, ◌≤◌, length}
 use Rattle.moka_sync_model.specs.Orders.{all_used}
 use Rattle.moka_queues.specs.OrdersState.{orders_of}
 use Rattle.moka_maintenance.specs.Held.{first_tickets}
-use Rattle.moka_maintenance.proofs.maintenance.fronts.send_back.Given as goal
+use Rattle.moka_maintenance.proofs.maintenance.fronts.requeue_front.Given as goal
 
 abbrev pub invariant-send : goal.invariant-send
 invariant-send g l =

@@ -3,7 +3,7 @@ use Rattle.moka_sync_model.specs.Orders.{all_used}
 use Rattle.moka_queues.specs.OrdersState.{orders_of}
 use Rattle.moka_maintenance.specs.Held.{first_tickets}
 use Rattle.moka_maintenance.proofs.SendLemmas.{sent}
-use Rattle.moka_maintenance.proofs.maintenance.fronts.send_back.Goals as goal
+use Rattle.moka_maintenance.proofs.maintenance.fronts.requeue_front.Goals as goal
 
 pub send-preserved : goal.send-preserved
 send-preserved g c =

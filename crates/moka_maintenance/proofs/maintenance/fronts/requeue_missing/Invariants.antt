@@ -4,7 +4,7 @@ use Rattle.moka_sync_model.specs.Turn.Admission.{absent_of}
 use Rattle.moka_queues.specs.OrdersState.{orders_of}
 use Rattle.moka_maintenance.specs.Held.{first_seen}
 use Rattle.moka_maintenance.proofs.WalkLemmas.{IsWalked}
-use Rattle.moka_maintenance.proofs.maintenance.fronts.send_absent_back.Given as goal
+use Rattle.moka_maintenance.proofs.maintenance.fronts.requeue_missing.Given as goal
 
 abbrev pub invariant-send : goal.invariant-send
 invariant-send g l =
