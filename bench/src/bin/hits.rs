@@ -15,9 +15,10 @@ const SHARES: [u64; 5] = [1, 5, 10, 50, 100];
 
 const SHARE_NAMES: [&str; 5] = ["0.1%", "0.5%", "1%", "5%", "10%"];
 
-const SIDES: [(&str, &str); 8] = [
+const SIDES: [(&str, &str); 9] = [
     ("best possible", "#999999"),
     ("this cache", "#1f5fa8"),
+    ("segments", "#bcbd22"),
     ("protected 80", "#17becf"),
     ("window 20", "#8c564b"),
     ("mini-moka 0.10.3", "#b5651d"),
@@ -95,8 +96,24 @@ fn caffeine_hits(jar: &str, keys: &[u64], capacities: &[u64]) -> Vec<u64> {
         .collect()
 }
 
+/// The hits of `SegmentedCache` with its usual segments. Each segment is one more cache of this library, with its part of the capacity and of the keys.
+fn segmented_hits(operations: &[Operation], capacity: u64) -> u64 {
+    let count = (capacity / 100).clamp(1, 64);
+    let mut parts = vec![Vec::new(); count as usize];
+    for operation in operations {
+        let segment = (spread(operation.key) >> 32) * count >> 32;
+        parts[segment as usize].push(*operation);
+    }
+    let mut hits = 0;
+    for (segment, part) in parts.iter().enumerate() {
+        let capacity = capacity / count + u64::from((segment as u64) < capacity % count);
+        hits += port::play(&Settings::with_capacity(capacity), part).hits;
+    }
+    hits
+}
+
 /// Each side's hits at a capacity, but for Caffeine's, which are handed in.
-fn hits_at(keys: &[u64], capacity: u64, caffeine: Option<u64>) -> [Option<u64>; 8] {
+fn hits_at(keys: &[u64], capacity: u64, caffeine: Option<u64>) -> [Option<u64>; 9] {
     let settings = Settings::with_capacity(capacity);
     let operations: Vec<Operation> = keys
         .iter()
@@ -109,6 +126,7 @@ fn hits_at(keys: &[u64], capacity: u64, caffeine: Option<u64>) -> [Option<u64>; 
     [
         Some(best_hits(keys, capacity as usize)),
         Some(port::play(&settings, &operations).hits),
+        Some(segmented_hits(&operations, capacity)),
         Some(port::play(&settings.with_shares(1, 80), &operations).hits),
         Some(port::play(&settings.with_shares(20, 0), &operations).hits),
         Some(play(&mut original(&settings), &operations).hits),
