@@ -8,6 +8,7 @@ use crate::clock::Clock;
 use crate::error::{BuildError, OutOfMemory};
 use crate::handle::Statistics;
 use std::fmt;
+use std::iter::FusedIterator;
 use std::sync::{Arc, Mutex, MutexGuard, PoisonError};
 use std::time::Duration;
 
@@ -46,7 +47,8 @@ const MOST_SEGMENTS: u64 = 16;
 ///
 /// Calls are those of [`crate::Cache`], by `&self`. A call at a key is one step: another thread sees
 /// the cache before it or after it. Calls on all segments, as [`len`](Self::len), take one segment
-/// after another. All segments read one clock.
+/// after another. All segments read one clock. Each call that needs a moment has a second form, whose
+/// name ends in `_at`, that takes it as a duration since that clock's start.
 ///
 /// # Memory
 ///
@@ -89,7 +91,12 @@ impl Cache {
     /// The key is counted, found or not, and its entry becomes the most recently used one of its
     /// segment. If memory is refused, it answers as if the key had no entry.
     pub fn get(&self, key: impl AsRef<[u8]>) -> Option<Vec<u8>> {
-        self.try_get(key).ok().flatten()
+        self.get_at(key, self.now())
+    }
+
+    /// Looks the key up as [`get`](Self::get) does, at a moment.
+    pub fn get_at(&self, key: impl AsRef<[u8]>, now: Duration) -> Option<Vec<u8>> {
+        self.try_get_at(key, now).ok().flatten()
     }
 
     /// Looks the key up as [`get`](Self::get) does, and tells a key without an entry from one for
@@ -99,7 +106,20 @@ impl Cache {
     ///
     /// Those of [`crate::Cache::try_get`].
     pub fn try_get(&self, key: impl AsRef<[u8]>) -> Result<Option<Vec<u8>>, OutOfMemory> {
-        let (key, now) = (key.as_ref(), self.now());
+        self.try_get_at(key, self.now())
+    }
+
+    /// Looks the key up as [`try_get`](Self::try_get) does, at a moment.
+    ///
+    /// # Errors
+    ///
+    /// Those of [`crate::Cache::try_get`].
+    pub fn try_get_at(
+        &self,
+        key: impl AsRef<[u8]>,
+        now: Duration,
+    ) -> Result<Option<Vec<u8>>, OutOfMemory> {
+        let key = key.as_ref();
         self.segment(key).try_get_at(key, now)
     }
 
@@ -125,19 +145,43 @@ impl Cache {
         key: impl AsRef<[u8]>,
         buffer: &mut Vec<u8>,
     ) -> Result<bool, OutOfMemory> {
-        let (key, now) = (key.as_ref(), self.now());
+        self.get_into_at(key, buffer, self.now())
+    }
+
+    /// Looks the key up as [`get_into`](Self::get_into) does, at a moment.
+    ///
+    /// # Errors
+    ///
+    /// Those of [`crate::Cache::get_into`].
+    pub fn get_into_at(
+        &self,
+        key: impl AsRef<[u8]>,
+        buffer: &mut Vec<u8>,
+        now: Duration,
+    ) -> Result<bool, OutOfMemory> {
+        let key = key.as_ref();
         self.segment(key).get_into_at(key, buffer, now)
     }
 
     /// Looks the key up and returns a copy of its value. It doesn't count as an access.
     pub fn peek(&self, key: impl AsRef<[u8]>) -> Option<Vec<u8>> {
-        let (key, now) = (key.as_ref(), self.now());
+        self.peek_at(key, self.now())
+    }
+
+    /// Looks the key up as [`peek`](Self::peek) does, at a moment.
+    pub fn peek_at(&self, key: impl AsRef<[u8]>, now: Duration) -> Option<Vec<u8>> {
+        let key = key.as_ref();
         self.segment(key).peek_at(key, now)
     }
 
     /// Returns `true` if the key has an unexpired entry. It doesn't count as an access.
     pub fn contains_key(&self, key: impl AsRef<[u8]>) -> bool {
-        let (key, now) = (key.as_ref(), self.now());
+        self.contains_key_at(key, self.now())
+    }
+
+    /// Looks the key up as [`contains_key`](Self::contains_key) does, at a moment.
+    pub fn contains_key_at(&self, key: impl AsRef<[u8]>, now: Duration) -> bool {
+        let key = key.as_ref();
         self.segment(key).contains_key_at(key, now)
     }
 
@@ -173,6 +217,27 @@ impl Cache {
         Ok(value)
     }
 
+    /// Looks the key up as [`get_or_insert_with`](Self::get_or_insert_with) does, at a moment, which
+    /// is that of the insert too.
+    ///
+    /// # Errors
+    ///
+    /// Those of [`crate::Cache::get_or_insert_with`].
+    pub fn get_or_insert_with_at(
+        &self,
+        key: impl AsRef<[u8]>,
+        make: impl FnOnce() -> Vec<u8>,
+        now: Duration,
+    ) -> Result<Vec<u8>, OutOfMemory> {
+        let key = key.as_ref();
+        if let Some(value) = self.try_get_at(key, now)? {
+            return Ok(value);
+        }
+        let value = make();
+        self.insert_at(key, &value, now)?;
+        Ok(value)
+    }
+
     /// Puts a copy of the value at a copy of the key. A full segment may reject a new key for one
     /// that is used more, which is `Ok` too.
     ///
@@ -184,7 +249,21 @@ impl Cache {
         key: impl AsRef<[u8]>,
         value: impl AsRef<[u8]>,
     ) -> Result<(), OutOfMemory> {
-        let (key, value, now) = (key.as_ref(), value.as_ref(), self.now());
+        self.insert_at(key, value, self.now())
+    }
+
+    /// Puts a copy of the value at a copy of the key as [`insert`](Self::insert) does, at a moment.
+    ///
+    /// # Errors
+    ///
+    /// Those of [`crate::Cache::insert`].
+    pub fn insert_at(
+        &self,
+        key: impl AsRef<[u8]>,
+        value: impl AsRef<[u8]>,
+        now: Duration,
+    ) -> Result<(), OutOfMemory> {
+        let key = key.as_ref();
         self.segment(key).insert_at(key, value, now)
     }
 
@@ -194,7 +273,20 @@ impl Cache {
     ///
     /// Those of [`crate::Cache::remove`]. Then the entry stays.
     pub fn remove(&self, key: impl AsRef<[u8]>) -> Result<Option<Vec<u8>>, OutOfMemory> {
-        let (key, now) = (key.as_ref(), self.now());
+        self.remove_at(key, self.now())
+    }
+
+    /// Removes the entry of the key as [`remove`](Self::remove) does, at a moment.
+    ///
+    /// # Errors
+    ///
+    /// Those of [`crate::Cache::remove`]. Then the entry stays.
+    pub fn remove_at(
+        &self,
+        key: impl AsRef<[u8]>,
+        now: Duration,
+    ) -> Result<Option<Vec<u8>>, OutOfMemory> {
+        let key = key.as_ref();
         self.segment(key).remove_at(key, now)
     }
 
@@ -204,7 +296,16 @@ impl Cache {
     ///
     /// Those of [`crate::Cache::invalidate`]. Then the entry stays.
     pub fn invalidate(&self, key: impl AsRef<[u8]>) -> Result<(), OutOfMemory> {
-        let (key, now) = (key.as_ref(), self.now());
+        self.invalidate_at(key, self.now())
+    }
+
+    /// Removes the entry of the key as [`invalidate`](Self::invalidate) does, at a moment.
+    ///
+    /// # Errors
+    ///
+    /// Those of [`crate::Cache::invalidate`]. Then the entry stays.
+    pub fn invalidate_at(&self, key: impl AsRef<[u8]>, now: Duration) -> Result<(), OutOfMemory> {
+        let key = key.as_ref();
         self.segment(key).invalidate_at(key, now)
     }
 
@@ -212,6 +313,37 @@ impl Cache {
     pub fn clear(&self) {
         for segment in &self.shared.segments {
             segment.lock().clear();
+        }
+    }
+
+    /// Returns an iterator over copies of the unexpired entries, as pairs of key and value, of one
+    /// segment after another. It doesn't count as an access, and removes none.
+    ///
+    /// A segment's entries are copied when the iterator comes to it, under its lock. So another
+    /// thread is never kept waiting for the rest of the iteration, and each key comes once at most. If
+    /// memory for the copies of a segment is refused, the next step copies it again.
+    ///
+    /// ```
+    /// use mini_moka_proved::sync::Cache;
+    ///
+    /// let cache = Cache::new(10_000)?;
+    /// cache.insert("alice", "admin")?;
+    /// for pair in &cache {
+    ///     let (name, role) = pair?;
+    ///     assert_eq!((name, role), (b"alice".to_vec(), b"admin".to_vec()));
+    /// }
+    /// # Ok::<(), mini_moka_proved::OutOfMemory>(())
+    /// ```
+    pub fn iter(&self) -> Iter<'_> {
+        self.iter_at(self.now())
+    }
+
+    /// Returns an iterator as [`iter`](Self::iter) does, at a moment.
+    pub fn iter_at(&self, now: Duration) -> Iter<'_> {
+        Iter {
+            left: &self.shared.segments,
+            copied: Vec::new().into_iter(),
+            now,
         }
     }
 
@@ -254,8 +386,8 @@ impl Cache {
         self.shared.segments.len()
     }
 
-    /// Returns the moment of the cache's clock.
-    fn now(&self) -> Duration {
+    /// Returns the moment of the cache's clock. It is always zero if the cache has no duration.
+    pub fn now(&self) -> Duration {
         self.shared.clock.elapsed()
     }
 
@@ -271,6 +403,73 @@ impl Segment {
     /// Locks the cache. A call that panicked in another thread left it whole.
     fn lock(&self) -> MutexGuard<'_, crate::Cache> {
         self.cache.lock().unwrap_or_else(PoisonError::into_inner)
+    }
+
+    /// Copies the unexpired entries.
+    fn pairs(&self, now: Duration) -> Result<Vec<Pair>, OutOfMemory> {
+        let mut cache = self.lock();
+        let mut pairs = Vec::new();
+        pairs.try_reserve_exact(cache.len())?;
+        for pair in cache.iter_at(now) {
+            pairs.push(pair?);
+        }
+        Ok(pairs)
+    }
+}
+
+/// A pair of a key and its value.
+type Pair = (Vec<u8>, Vec<u8>);
+
+/// An iterator over copies of the unexpired entries of a cache that threads share, by
+/// [`Cache::iter`].
+pub struct Iter<'a> {
+    // The segments that haven't been copied.
+    left: &'a [Segment],
+    copied: std::vec::IntoIter<Pair>,
+    now: Duration,
+}
+
+impl Iterator for Iter<'_> {
+    type Item = Result<Pair, OutOfMemory>;
+
+    fn next(&mut self) -> Option<Self::Item> {
+        loop {
+            if let Some(pair) = self.copied.next() {
+                return Some(Ok(pair));
+            }
+            let (segment, left) = self.left.split_first()?;
+            match segment.pairs(self.now) {
+                Ok(pairs) => {
+                    self.copied = pairs.into_iter();
+                    self.left = left;
+                }
+                Err(error) => return Some(Err(error)),
+            }
+        }
+    }
+
+    fn size_hint(&self) -> (usize, Option<usize>) {
+        // A refused segment comes again, so there is no upper bound.
+        (self.copied.len(), None)
+    }
+}
+
+impl FusedIterator for Iter<'_> {}
+
+impl fmt::Debug for Iter<'_> {
+    fn fmt(&self, f: &mut fmt::Formatter<'_>) -> fmt::Result {
+        f.debug_struct("Iter")
+            .field("segments_left", &self.left.len())
+            .finish_non_exhaustive()
+    }
+}
+
+impl<'a> IntoIterator for &'a Cache {
+    type Item = Result<Pair, OutOfMemory>;
+    type IntoIter = Iter<'a>;
+
+    fn into_iter(self) -> Iter<'a> {
+        self.iter()
     }
 }
 

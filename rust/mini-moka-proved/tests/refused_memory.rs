@@ -124,3 +124,17 @@ fn a_shared_cache_is_not_built() {
         assert_eq!(built.unwrap_err(), OutOfMemory);
     }
 }
+
+#[test]
+fn a_shared_iterator_copies_a_refused_segment_again() {
+    let cache = sync::Cache::builder().segments(1).build().unwrap();
+    cache.insert(b"long", [1; 1000]).unwrap();
+    cache.insert(b"short", [1; 10]).unwrap();
+    let mut pairs = cache.iter();
+    for limit in [0, 999] {
+        let refused = limited(limit, || pairs.next());
+        assert_eq!(refused, Some(Err(OutOfMemory)));
+    }
+    let lengths: Vec<_> = pairs.map(|pair| pair.unwrap().1.len()).collect();
+    assert_eq!(lengths, [1000, 10]);
+}

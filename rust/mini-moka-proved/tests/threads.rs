@@ -174,3 +174,57 @@ fn a_value_that_panics_harms_no_segment() {
         b"made"
     );
 }
+
+/// A shared cache's keys at a moment, in order.
+fn keys_at(cache: &sync::Cache, now: Duration) -> Vec<u8> {
+    let pairs = cache.iter_at(now).map(|pair| pair.unwrap());
+    let mut keys: Vec<u8> = pairs.map(|(key, _)| key[0]).collect();
+    keys.sort_unstable();
+    keys
+}
+
+#[test]
+fn a_shared_cache_takes_moments() {
+    let second = Duration::from_secs(1);
+    let builder = sync::Cache::builder().time_to_live(10 * second);
+    let cache = builder.segments(4).build().unwrap();
+    cache.insert_at([1], [1], 5 * second).unwrap();
+    let made = cache.get_or_insert_with_at([2], || vec![2], 6 * second);
+    assert_eq!(made, Ok(vec![2]));
+    let found = cache.get_or_insert_with_at([1], || vec![9], 14 * second);
+    assert_eq!(found, Ok(vec![1]));
+    assert_eq!(cache.get_at([1], 14 * second), Some(vec![1]));
+    assert_eq!(cache.peek_at([1], 14 * second), Some(vec![1]));
+    assert_eq!(keys_at(&cache, 14 * second), [1, 2]);
+    assert_eq!(keys_at(&cache, 15 * second), [2]);
+    assert!(!cache.contains_key_at([1], 15 * second));
+    assert!(cache.contains_key_at([2], 15 * second));
+    assert_eq!(cache.try_get_at([1], 15 * second), Ok(None));
+    let mut buffer = Vec::new();
+    assert_eq!(cache.get_into_at([2], &mut buffer, 15 * second), Ok(true));
+    assert_eq!(buffer, [2]);
+    assert_eq!(cache.remove_at([2], 15 * second), Ok(Some(vec![2])));
+    cache.insert_at([3], [3], 15 * second).unwrap();
+    cache.invalidate_at([3], 15 * second).unwrap();
+    assert!(cache.is_empty());
+    assert_eq!(sync::Cache::new(9).unwrap().now(), Duration::ZERO);
+}
+
+#[test]
+fn an_iterator_meets_each_entry_of_each_segment_once() {
+    let cache = sync::Cache::builder().segments(7).build().unwrap();
+    for key in 0..200u8 {
+        cache.insert([key], [key, key]).unwrap();
+    }
+    assert_eq!(keys_at(&cache, cache.now()), Vec::from_iter(0..200));
+    let before = cache.statistics();
+    for pair in &cache {
+        let (key, value) = pair.unwrap();
+        assert_eq!(value, [key[0], key[0]]);
+        // No lock is held here.
+        cache.invalidate(key).unwrap();
+    }
+    assert!(cache.is_empty());
+    assert_eq!(cache.statistics().hits, before.hits);
+    assert!(cache.iter().next().is_none());
+}
