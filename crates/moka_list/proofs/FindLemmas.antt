@@ -1,6 +1,7 @@
 -- What a search among candidates tells its caller.
-use Rattle.std.proofs.Common.{◌≡◌, ℕ, Bool, true, false, nat_eq, List, [], ◌∷◌, Some, None, sym, subst, inl, inr}
+use Rattle.std.proofs.Common.{◌≡◌, ℕ, Bool, true, false, nat_eq, List, [], ◌∷◌, Option, Some, None, IfSome, IsSome, refl, sym, subst, inl, inr}
 use Rattle.std.proofs.lemmas.Bool.{eqb-true, false≢true, or_cases, or_left, or_right}
+use Rattle.std.specs.Map.{lookup}
 use Rattle.moka_list.specs.HashIndex.{FindsFirst}
 use Rattle.moka_list.specs.IdList.{is_listed}
 use Rattle.moka_list.proofs.IdLemmas.{not_none, some_parts}
@@ -27,3 +28,20 @@ module _ (test : ℕ → Bool → Type 0) where
         | inl same ↦ subst (λ j. test j false) (sym (eqb-true id i same)) s.0
         | inr later ↦ none_passes ids s.1 id later
       ]
+
+module _ {T : Type 0} (test : T → Bool → Type 0) (nodes : List (ℕ × T)) where
+  -- a search tests this of a node's element
+  abbrev pub IsTested : ℕ → Bool → Type 0
+  IsTested id answer = IfSome (lookup (nat_eq id) nodes) (λ e. test e answer)
+
+  -- a node that passes has an element that passes
+  pub passes : (id : ℕ) → IsSome (lookup (nat_eq id) nodes) → IsTested id true → (e : T) × (lookup (nat_eq id) nodes ≡ Some e) × test e true
+  passes id stands s = by (lookup (nat_eq id) nodes) stands s
+    where
+      by : (o : Option T) → IsSome o → IfSome o (λ e. test e true) → (e : T) × (o ≡ Some e) × test e true
+      by None some t = absurd (false≢true some)
+      by (Some e) some t = (e, refl, t)
+
+  -- and one that fails an element that fails
+  pub fails : (id : ℕ) (e : T) → lookup (nat_eq id) nodes ≡ Some e → IsTested id false → test e false
+  fails id e stands s = subst (λ o. IfSome o (λ y. test y false)) stands s

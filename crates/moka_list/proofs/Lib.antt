@@ -15,3 +15,4 @@ pub mod PutLemmas
 pub mod FreeLemmas
 pub mod WayLemmas
 pub mod FindLemmas
+pub mod IndexLemmas

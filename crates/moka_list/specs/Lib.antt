@@ -4,6 +4,7 @@ pub mod ChainLends
 pub mod IdList
 pub mod HashIndex
 -- inside
+pub mod Indexed
 pub mod Probed
 pub mod Links
 pub mod Chained

@@ -5,5 +5,6 @@ pub mod chain;
 pub mod constants;
 pub mod group;
 pub mod hash_index;
+pub mod indexing;
 pub mod link;
 mod table;

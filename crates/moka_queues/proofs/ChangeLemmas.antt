@@ -12,12 +12,12 @@ use Rattle.moka_list.proofs.ItemLemmas.{length-remove, lookup-set}
 use Rattle.moka_sync_model.specs.declared.ticket.Ticket.{Ticket}
 use Rattle.moka_sync_model.specs.Orders.{charge_of, used, rewritten, recharged, with_node, without_node, with_write}
 use Rattle.moka_list.specs.HashIndex.{HashIndex}
+use Rattle.moka_list.specs.Indexed.{IsIndexed}
 use Rattle.moka_queues.specs.declared.orders.Node.{Node}
-use Rattle.moka_queues.specs.Indexed.{IsIndexed}
 use Rattle.moka_queues.specs.Kept.{IsKept, room_of, with_write_last, without_write}
 use Rattle.moka_queues.specs.OrdersState.{OrdersState, IsNodeOf, orders_of, access_of, charged}
 use Rattle.moka_list.proofs.IdLemmas.{lookup-rewritten, moved-found}
-use Rattle.moka_queues.proofs.IndexLemmas.{IsIndexed-rewrite}
+use Rattle.moka_list.proofs.IndexLemmas.{IsIndexed-rewrite}
 use Rattle.moka_queues.proofs.KeptLemmas.{IsKept-rewritten, access-moved, access-set, access-same, access-removed}
 use Rattle.moka_queues.proofs.KeptLemmas.{charge_found, written-moved, written-removed}
 use Rattle.moka_queues.proofs.TicketsLemmas.{seen-push}
@@ -64,9 +64,10 @@ module _ {items : List (ℕ × Node)} {writes : List (ℕ × Ticket)} {total : �
 
   -- ---- a node goes to the back
 
-  pub moved_indexed : (index : HashIndex) → IsIndexed items index → IsIndexed (moved_to_back id items) index
+  pub moved_indexed : (index : HashIndex) → IsIndexed (λ n. n.ticket.hash) items index
+      → IsIndexed (λ n. n.ticket.hash) (moved_to_back id items) index
   moved_indexed index i =
-      IsIndexed-rewrite i id n n stood refl (moved_to_back id items)
+      IsIndexed-rewrite (λ n. n.ticket.hash) i id n n stood refl (moved_to_back id items)
       (λ j. ap (lookup (nat_eq j)) (moved-found id n items stood) ∙ lookup-rewritten id j n items s.once)
 
   module _ (access written ids : ℕ) where
@@ -112,10 +113,11 @@ module _ {items : List (ℕ × Node)} {writes : List (ℕ × Ticket)} {total : �
     removed_orders access_after written_after ids_after =
         λ i. record { access = access-removed s id n stood i; write = written-removed s id n stood n.write refl i }
 
-  pub set_indexed : (m : Node) → m.ticket ≡ n.ticket → (index : HashIndex) → IsIndexed items index
-      → IsIndexed (set_value (nat_eq id) items m) index
+  pub set_indexed : (m : Node) → m.ticket ≡ n.ticket → (index : HashIndex) → IsIndexed (λ n. n.ticket.hash) items index
+      → IsIndexed (λ n. n.ticket.hash) (set_value (nat_eq id) items m) index
   set_indexed m ticket index i =
-      IsIndexed-rewrite i id n m stood ticket (set_value (nat_eq id) items m) (λ j. lookup-set id j m items (ap is_some stood))
+      IsIndexed-rewrite (λ n. n.ticket.hash) i id n m stood (ap (λ (t : Ticket). t.hash) ticket) (set_value (nat_eq id) items m)
+      (λ j. lookup-set id j m items (ap is_some stood))
 
   -- a write that it names is there
   pub write_in : (w : ℕ) → n.write ≡ Some w → lookup (nat_eq w) writes ≡ Some n.ticket

@@ -12,7 +12,7 @@ use Rattle.moka_queues.specs.declared.high_water.HighWater.{HighWater}
 use Rattle.moka_queues.specs.declared.orders.Node.{Node}
 use Rattle.moka_queues.specs.HighWater.{AreCovered, IsCovered}
 use Rattle.moka_queues.specs.OrdersState.{access_of}
-use Rattle.moka_queues.proofs.IndexLemmas.{none_of_ticket}
+use Rattle.moka_queues.proofs.FindLemmas.{none_of_ticket}
 use Rattle.moka_sync_model.proofs.TicketLemmas.{same_is}
 use Rattle.moka_sync_model.specs.Ticket.{same_ticket}
 

@@ -1,7 +1,7 @@
 pub mod LogLemmas
 pub mod TicketsLemmas
 pub mod KeptLemmas
-pub mod IndexLemmas
+pub mod FindLemmas
 pub mod RoomLemmas
 pub mod ChangeLemmas
 pub mod HighWaterLemmas

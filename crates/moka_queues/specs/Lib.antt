@@ -2,5 +2,4 @@ pub mod LoggedReads
 pub mod OrdersState
 -- inside
 pub mod Kept
-pub mod Indexed
 pub mod HighWater

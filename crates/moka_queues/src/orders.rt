@@ -7,17 +7,18 @@ ghost use Rattle.moka_common.specs.Settings.{keeps_writes};
 ghost use Rattle.moka_sync_model.specs.Ticket.{same_ticket};
 ghost use Rattle.moka_list.specs.Nodes.{IsIn, first_id, moved_to_back, next_id};
 ghost use Rattle.moka_sync_model.specs.Orders.{charge_of, charged_weight, is_written, used, rewritten, renewed, recharged, with_node, without_node};
-ghost use Rattle.moka_list.specs.HashIndex.{candidates};
-ghost use Rattle.moka_queues.specs.Indexed.{IsIndexed};
+ghost use Rattle.moka_list.specs.Indexed.{IsIndexed};
 ghost use Rattle.moka_queues.specs.Kept.{PushesNode, room_after, without_write};
 ghost use Rattle.moka_queues.specs.OrdersState.{AddsNode, AtNode, IsNodeOf, orders_of};
 
 use crate::high_water::HighWater;
 use moka_common::error::OutOfMemory;
+use moka_common::hash::Hashed;
 use moka_common::limits::Limits;
 use moka_deque::deque::{CacheRegion, Deque, NodeId};
 use moka_list::chain::Chain;
 use moka_list::hash_index::HashIndex;
+use moka_list::indexing::index_all;
 use moka_list::link::Link;
 use moka_sync_model::ticket::Ticket;
 use std::alloc::{AllocError, Allocator, Global};
@@ -31,6 +32,15 @@ pub struct Node {
     /// A scan's mark: the entry stood when it was looked at.
     pub is_present: bool,
     write: Link,
+}
+
+impl Hashed for Node {
+    ghost hash_of = { λ node. node.ticket.hash };
+
+    #[inline(always)]
+    fn hash(&self) -> u64 {
+        self.ticket.hash
+    }
 }
 
 /// The nodes of the entries that are charged, least recently used first, and with a time to live their tickets in order of writing. A node is
@@ -48,7 +58,7 @@ impl<A: Allocator + Clone + Drop> Model for Orders<A> {
     ghost use Rattle.std.specs.Map.{values_of};
     ghost use Rattle.moka_queues.specs.OrdersState.{OrdersState};
     ghost use Rattle.moka_queues.specs.Kept.{IsKept, room_of};
-    ghost use Rattle.moka_queues.specs.Indexed.{IsIndexed};
+    ghost use Rattle.moka_list.specs.Indexed.{IsIndexed};
     ghost use Rattle.moka_queues.specs.HighWater.{AreCovered};
 
     ghost Value = { OrdersState };
@@ -59,7 +69,7 @@ impl<A: Allocator + Clone + Drop> Model for Orders<A> {
       room = room_of o.access.items o.access.room o.writes.room o.index.ids;
     } };
 
-    ghost invariant = { λ o. IsKept o.access.items o.writes.items o.total × IsIndexed o.access.items o.index × AreCovered o.access.items o.high_water };
+    ghost invariant = { λ o. IsKept o.access.items o.writes.items o.total × IsIndexed (λ n. n.ticket.hash) o.access.items o.index × AreCovered o.access.items o.high_water };
 }
 
 impl<A: Allocator + Clone + Drop> Orders<A> {
@@ -294,9 +304,9 @@ fn push_node<A: Allocator>(
 ) -> usize
     requires room { 0 < access.old.room }
     requires ids { length access.old.items + access.old.room ≤ index.old.ids }
-    requires indexed { IsIndexed access.old.items index.old }
+    requires indexed { IsIndexed (λ n. n.ticket.hash) access.old.items index.old }
     ensures pushes { PushesNode access.old access.new node }
-    ensures indexed { IsIndexed access.new.items index.new }
+    ensures indexed { IsIndexed (λ n. n.ticket.hash) access.new.items index.new }
 {
     let hash = node.ticket.hash;
     let id = access.push_reserved(node);
@@ -322,8 +332,8 @@ fn index_more<A: Allocator>(
     access: &Chain<Node, A>,
     limits: &Limits,
 ) -> Result<usize, OutOfMemory>
-    requires indexed { IsIndexed access.now.items index.old }
-    ensures indexed { IsIndexed access.now.items index.new }
+    requires indexed { IsIndexed (λ n. n.ticket.hash) access.now.items index.old }
+    ensures indexed { IsIndexed (λ n. n.ticket.hash) access.now.items index.new }
     ensures some { IfOk result (λ more. 0 < more) }
 {
     let (len, ids) = (access.len(), access.capacity());
@@ -343,41 +353,5 @@ fn next_capacity(ids: usize, limits: &Limits) -> usize
     match limits.max_capacity() {
         Some(limit) if (ids as u64) <= limit => twice.min((limit as usize).saturating_add(1)),
         _ => twice,
-    }
-}
-
-/// Makes room in the index for all ids below this number.
-fn index_all<A: Allocator>(
-    index: &mut HashIndex<A>,
-    access: &Chain<Node, A>,
-    ids: usize,
-) -> Result<(), OutOfMemory>
-    requires bound { (id : ℕ) → IsIn access.now.items id → id < ids }
-    requires indexed { IsIndexed access.now.items index.old }
-    ensures indexed { IsIndexed access.now.items index.new }
-    ensures room { OnOk result (ids ≤ index.new.ids) }
-    ensures err { OnErr result (index.new ≡ index.old) }
-{
-    if ids <= index.ids() {
-        return Ok(());
-    }
-    index.clear_for(ids)?;
-    add_all(index, access);
-    Ok(())
-}
-
-/// Adds the ids of all nodes to an index that has none.
-fn add_all<A: Allocator>(index: &mut HashIndex<A>, access: &Chain<Node, A>)
-    requires bound { (id : ℕ) → IsIn access.now.items id → id < index.old.ids }
-    requires empty { (hash : ℕ) → candidates index.old hash ≡ [] }
-    ensures indexed { IsIndexed access.now.items index.new }
-    ensures ids { index.new.ids ≡ index.old.ids }
-{
-    // None stands twice.
-    let _ = access.len();
-    let mut here = access.front();
-    while let Some(id) = here {
-        index.add(id.number(), access.get(id).ticket.hash);
-        here = access.next(id);
     }
 }

@@ -4,7 +4,7 @@ pub mod MarkLemmas
 pub mod WeightLemmas
 pub mod SameLemmas
 pub mod WriteLemmas
-pub mod IndexLemmas
+pub mod FindLemmas
 pub mod FrontLemmas
 pub mod StoreLemmas
 pub mod StepLemmas

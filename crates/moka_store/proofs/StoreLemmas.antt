@@ -12,10 +12,10 @@ use Rattle.moka_unsync_model.specs.declared.entry.Entry.{Entry}
 use Rattle.moka_unsync_model.specs.Contents.{entry_at}
 use Rattle.moka_store.specs.declared.parts.Marks.{Marks}
 use Rattle.moka_store.specs.declared.parts.Weights.{Weights}
-use Rattle.moka_store.specs.Indexed.{HasRoom}
+use Rattle.moka_store.specs.Room.{HasRoom}
 use Rattle.moka_store.specs.Nodes.{AreMarks, IsBalanced, IsStored, SameBy, bare, latest_node, weights_of}
 use Rattle.moka_store.specs.Nodes.{write_added, write_last, write_left}
-use Rattle.moka_store.proofs.IndexLemmas.{IsIndexed-enter, IsIndexed-none, IsIndexed-remove}
+use Rattle.moka_list.proofs.IndexLemmas.{IsIndexed-enter, IsIndexed-none, IsIndexed-remove}
 use Rattle.moka_store.proofs.LatestLemmas.{all-latest, distinct-relisted, gone, length-latest, lookup-latest}
 use Rattle.moka_store.proofs.NodeLemmas.{all-removed, keyed-latest, keyed-none, keyed-removed, key_absent, length-keys, order-removed}
 use Rattle.moka_store.proofs.NodeLemmas.{order-with, removed_parts}
@@ -74,7 +74,7 @@ stored-none {K = K} {V = V} eq keeps nodes marks ids weights index nodes_is mark
       small = tt;
       weighed = weights_is;
       written = written-none keeps;
-      indexed = IsIndexed-none index empty;
+      indexed = IsIndexed-none (λ e. e.hash) index empty;
     })
 
 module _ {K V : Type 0} {eq : K → K → Bool} (laws : IsEquivalence eq) {keeps : Bool} {nodes : List (ℕ × Entry K V)} {marks : Marks} {ids : List ℕ}
@@ -93,7 +93,7 @@ module _ {K V : Type 0} {eq : K → K → Bool} (laws : IsEquivalence eq) {keeps
         small = all-removed (λ p. p.1.weight < 2 ^ 32) id nodes s.small;
         weighed = weighed;
         written = written-removed s.written id s.keyed.once;
-        indexed = IsIndexed-remove s.indexed id e s.keyed.once stood without step (remove_entry (nat_eq id) nodes) refl;
+        indexed = IsIndexed-remove (λ e. e.hash) s.indexed id s.keyed.once without step;
       })
 
   -- a node enters
@@ -110,7 +110,8 @@ module _ {K V : Type 0} {eq : K → K → Bool} (laws : IsEquivalence eq) {keeps
         small = rw new_is (all-latest (λ p. p.1.weight < 2 ^ 32) (id, e) nodes small s.small);
         weighed = weighed ∙ ap weights_of (sym new_is);
         written = rw new_is (written-latest s.written id e fresh);
-        indexed = rw new_is (IsIndexed-enter s.indexed id e room indexed step (latest_node (id, e) nodes) (λ v. lookup-latest v id e nodes fresh));
+        indexed = rw new_is (IsIndexed-enter (λ e. e.hash) s.indexed id e room indexed step (latest_node (id, e) nodes)
+            (λ v. lookup-latest v id e nodes fresh));
       })
 
   module _ (id : ℕ) (x e : Entry K V) (stood : lookup (nat_eq id) nodes ≡ Some x) (small : e.weight < 2 ^ 32) (new : List (ℕ × Entry K V))
@@ -159,7 +160,7 @@ module _ {K V : Type 0} {eq : K → K → Bool} (laws : IsEquivalence eq) {keeps
           weighed = weighed ∙ ap weights_of (sym new_is);
           written = written-same present nodes new (written-last s.written id (ap is_some stood))
               (subst (SameBy present nodes) (sym new_is) (same-relisted present id x e nodes s.keyed.once stood yes));
-          indexed = rw new_is (IsIndexed-enter (IsIndexed-remove s.indexed id x s.keyed.once stood without left rest refl) id e
+          indexed = rw new_is (IsIndexed-enter (λ e. e.hash) (IsIndexed-remove (λ e. e.hash) s.indexed id s.keyed.once without left) id e
               (subst (λ n. id < n) (sym left.ids) (s.indexed.below id (ap is_some stood))) indexed step
               (latest_node (id, e) rest) (λ v. lookup-latest v id e rest fresh));
         })

@@ -1,4 +1,4 @@
 pub mod Store
 -- inside
-pub mod Indexed
+pub mod Room
 pub mod Nodes

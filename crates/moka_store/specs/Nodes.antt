@@ -8,13 +8,13 @@ use Rattle.moka_list.specs.Chain.{moved_before}
 use Rattle.moka_list.specs.Nodes.{first_id, moved_to_back}
 use Rattle.moka_list.specs.IdList.{ids_without, is_listed}
 use Rattle.moka_list.specs.HashIndex.{HashIndex}
+use Rattle.moka_list.specs.Indexed.{IsIndexed}
 use Rattle.moka_unsync_model.specs.declared.entry.Entry.{Entry}
 use Rattle.moka_unsync_model.specs.declared.entry.Part.{Part}
 use Rattle.moka_unsync_model.specs.declared.entry.Part.TheVariants.{Probation, Protected, Window}
 use Rattle.moka_unsync_model.specs.Contents.{InOrder, Write, balanced, is_before, is_probation, is_protected, is_window, write_of}
 use Rattle.moka_store.specs.declared.parts.Marks.{Marks}
 use Rattle.moka_store.specs.declared.parts.Weights.{Weights}
-use Rattle.moka_store.specs.Indexed.{IsIndexed}
 
 -- whether a part stands behind probation
 abbrev pub is_late : Part → Bool
@@ -171,4 +171,4 @@ module _ {K V : Type 0} where
     pub small : AllByRecursion (λ p. p.1.weight < 2 ^ 32) nodes
     pub weighed : weights ≡ weights_of nodes
     pub written : IsWritten keeps nodes ids
-    pub indexed : IsIndexed nodes index
+    pub indexed : IsIndexed (λ e. e.hash) nodes index

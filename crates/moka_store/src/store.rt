@@ -14,7 +14,6 @@ ghost use Rattle.moka_store.specs.Nodes.{start_of};
 ghost use Rattle.moka_store.specs.Store.{AreCandidates, Enters, HasHash, IsFound, IsFront, IsFrontOf, IsOldest, Promotes, Removes, Replaces, Updates, Uses};
 ghost use Rattle.moka_store.specs.Store.{contents_of, entries_of, is_of, those_of};
 
-use crate::indexing::index_all;
 use crate::parts::{Marks, Weights, balance, is_of, settle};
 use crate::writes::{add_write, remove_write, write_again};
 use moka_common::error::OutOfMemory;
@@ -23,6 +22,7 @@ use moka_common::time::Instant;
 use moka_list::chain::{Chain, IdList, Iter, NodeId};
 use moka_list::constants::MOST_IDS;
 use moka_list::hash_index::{Candidates, HashIndex};
+use moka_list::indexing::index_all;
 use moka_unsync_model::entry::{Entry, Part};
 use std::alloc::{AllocError, Allocator, Global};
 use std::marker::Model;
@@ -44,7 +44,7 @@ pub struct Store<K: Eq + Drop, V: Drop, A: Allocator + Clone + Drop = Global> {
 
 impl<K: Eq + Drop, V: Drop, A: Allocator + Clone + Drop> Model for Store<K, V, A> {
     ghost use Rattle.moka_store.specs.Store.{Store as StoreState};
-    ghost use Rattle.moka_store.specs.Indexed.{HasRoom};
+    ghost use Rattle.moka_store.specs.Room.{HasRoom};
     ghost use Rattle.moka_store.specs.Nodes.{IsStored, written_under};
 
     ghost Value = { StoreState K V };

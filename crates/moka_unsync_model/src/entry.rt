@@ -1,4 +1,5 @@
 //! What a cache for one thread keeps of a key.
+use moka_common::hash::Hashed;
 use moka_common::time::Instant;
 
 /// The part of an entry: the window, or main's protected segment or probation.
@@ -21,4 +22,13 @@ pub struct Entry<K: Drop, V: Drop> {
     pub part: Part,
     pub accessed: Instant,
     pub modified: Instant,
+}
+
+impl<K: Drop, V: Drop> Hashed for Entry<K, V> {
+    ghost hash_of = { λ entry. entry.hash };
+
+    #[inline(always)]
+    fn hash(&self) -> u64 {
+        self.hash
+    }
 }

@@ -1,4 +1,4 @@
-use Rattle.std.proofs.Common.{◌≡◌, ◌≢◌, ◌∙◌, sym, subst, ap, nat_eq, IfSome}
+use Rattle.std.proofs.Common.{◌≢◌, ◌∙◌, sym, subst, ap, nat_eq, IfSome}
 use Rattle.std.specs.Map.{remove_entry}
 use Rattle.moka_list.specs.Nodes.{IsIn}
 use Rattle.moka_list.proofs.IdLemmas.{IsDistinct-removed, some_parts}

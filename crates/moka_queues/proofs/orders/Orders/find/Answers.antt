@@ -1,10 +1,12 @@
-use Rattle.std.proofs.Common.{◌≡◌, ℕ, false, nat_eq, Some}
+use Rattle.std.proofs.Common.{◌≡◌, ℕ, false, true, nat_eq, Some, subst, sym}
 use Rattle.std.specs.Map.{lookup, values_of}
-use Rattle.moka_list.proofs.FindLemmas.{found_passes, none_passes}
+use Rattle.moka_list.proofs.FindLemmas.{fails, found_passes, none_passes, passes, IsTested}
+use Rattle.moka_list.specs.HashIndex.{is_candidate}
+use Rattle.moka_sync_model.proofs.TicketLemmas.{same_is}
 use Rattle.moka_sync_model.specs.Ticket.{same_ticket}
 use Rattle.moka_queues.specs.declared.orders.Node.{Node}
 use Rattle.moka_queues.proofs.ChangeLemmas.{node_of}
-use Rattle.moka_queues.proofs.IndexLemmas.{fails, none_of_ticket, passes, IsTested}
+use Rattle.moka_queues.proofs.FindLemmas.{none_of_ticket, other_ticket, IsSought}
 use Rattle.moka_queues.proofs.KeptLemmas.{ticket_unwritten}
 use Rattle.moka_queues.proofs.orders.Orders.find.Goals.{After-from_residual}
 use Rattle.moka_queues.proofs.orders.Orders.find.Goals as goal
@@ -13,8 +15,12 @@ use Rattle.moka_queues.proofs.orders.Orders.find.Goals as goal
 none : (g : _) (c : After-from_residual g) → (id : ℕ) (n : Node) → lookup (nat_eq id) c.self.inside.access.items ≡ Some n
     → same_ticket c.args.ticket n.ticket ≡ false
 none g c id n stands =
-    fails c.args.ticket c.self.inside.access.items c.self.inside.index c.self.invariant.1 id n stands
-    (none_passes (IsTested c.args.ticket c.self.inside.access.items) _ (c.in_err-number.ensures {u = tt}) id)
+    let test = IsSought c.args.ticket in
+    let nodes = c.self.inside.access.items in
+    other_ticket c.args.ticket n
+    (λ own. fails test nodes id n stands
+    (none_passes (IsTested test nodes) _ (c.in_err-number.ensures {u = tt}) id
+    (subst (λ hash. is_candidate c.self.inside.index hash id ≡ true) own (c.self.invariant.1.listed id n stands))))
 
 pub find-requires : goal.find-requires
 find-requires g c = c.self.invariant.1.standing c.args.ticket.hash
@@ -35,7 +41,8 @@ returns-clause-found g c =
     let old = c.self.inside in
     let nodes = old.access.items in
     let number = c.in_ok-number.number in
-    let f = found_passes (IsTested c.args.ticket nodes) _ number (c.in_ok-number.ensures {u = tt}) in
-    let p = passes c.args.ticket nodes number (c.self.invariant.1.standing c.args.ticket.hash number f.0) f.1 in
+    let test = IsSought c.args.ticket in
+    let f = found_passes (IsTested test nodes) _ number (c.in_ok-number.ensures {u = tt}) in
+    let p = passes test nodes number (c.self.invariant.1.standing c.args.ticket.hash number f.0) f.1 in
     rw c.from_number.ensures (rw (← c.self.view_is)
-    (node_of c.self.invariant.0 number p.0 p.1 old.access.room old.writes.room old.index.ids c.args.ticket p.2))
+    (node_of c.self.invariant.0 number p.0 p.1 old.access.room old.writes.room old.index.ids c.args.ticket (same_is p.0.ticket c.args.ticket (sym {b = same_ticket p.0.ticket c.args.ticket} p.2))))

@@ -8,7 +8,7 @@ use Rattle.moka_list.proofs.IdLemmas.{some_parts}
 use Rattle.moka_queues.proofs.ChangeLemmas.{seen, removed_orders}
 use Rattle.moka_queues.proofs.KeptLemmas.{IsKept-remove, charge_in_total}
 use Rattle.moka_queues.proofs.HighWaterLemmas.{AreCovered-remove}
-use Rattle.moka_queues.proofs.IndexLemmas.{IsIndexed-remove}
+use Rattle.moka_list.proofs.IndexLemmas.{IsIndexed-remove}
 use Rattle.moka_queues.proofs.RoomLemmas.{room_removed}
 use Rattle.moka_queues.proofs.orders.Orders.remove.Goals as goal
 
@@ -20,7 +20,7 @@ invariant_of-self g c =
     let n = c.unlink-node.result in
     rw (c.unlink-node.ensures.items, c.unlink_write.ensures.items, c.from.ensures, c.id.ensures) (
       IsKept-remove c.self.invariant.0 c.args.id n c.unlink-node.ensures.value,
-      IsIndexed-remove c.self.invariant.1 c.args.id c.self.invariant.0.once c.remove.new.self
+      IsIndexed-remove (λ n. n.ticket.hash) c.self.invariant.1 c.args.id c.self.invariant.0.once c.remove.new.self
           (subst (λ i. Removes c.self.inside.index i c.remove.new.self) c.number.ensures c.remove.ensures.step),
       AreCovered-remove c.self.inside.access.items c.self.inside.high_water c.self.invariant.2 c.args.id c.self.invariant.0.once,
     )

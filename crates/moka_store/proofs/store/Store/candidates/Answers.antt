@@ -1,6 +1,6 @@
 use Rattle.std.proofs.Common.{subst, sym}
 use Rattle.moka_store.specs.Store.{AreCandidates}
-use Rattle.moka_store.proofs.IndexLemmas.{are_candidates}
+use Rattle.moka_store.proofs.FindLemmas.{are_candidates}
 use Rattle.moka_store.proofs.store.Store.candidates.Goals as goal
 
 pub returns : goal.returns

@@ -1,9 +1,9 @@
-use Rattle.std.proofs.Common.{◌≡◌, ℕ, false, nat_eq, IsSome, Some, subst, sym}
+use Rattle.std.proofs.Common.{◌≡◌, ℕ, Bool, false, nat_eq, IsSome, Some, subst, sym}
 use Rattle.std.specs.Map.{lookup}
-use Rattle.moka_list.proofs.FindLemmas.{found_passes, none_passes}
+use Rattle.moka_list.proofs.FindLemmas.{fails, found_passes, none_passes, passes, IsTested}
 use Rattle.moka_unsync_model.specs.declared.entry.Entry.{Entry}
 use Rattle.moka_store.specs.Store.{HasHash}
-use Rattle.moka_store.proofs.IndexLemmas.{fails, has_hash, none_of_key, passes, IsTested}
+use Rattle.moka_store.proofs.FindLemmas.{has_hash, has_key, none_of_key, other_key, IsSought}
 use Rattle.moka_store.proofs.NodeLemmas.{alone}
 use Rattle.moka_store.proofs.WriteLemmas.{under-absent}
 use Rattle.moka_store.proofs.store.Store.find_among.Goals.{After-from_residual}
@@ -19,9 +19,10 @@ none g c id e stands =
     let hash = c.args.hash in
     let hashed = subst (λ v. HasHash eq v key hash) (sym c.self.view_is) c.requires.hashed in
     let stood : lookup (nat_eq id) c.args.self.now.nodes ≡ Some e = rw (← c.self.view_is) stands in
-    fails eq key nodes hash id e stands (has_hash eq key nodes hash hashed id e stands)
-    (λ own. none_passes (IsTested eq key nodes hash) c.args.candidates (c.in_err-number.ensures {u = tt}) id
-    (c.requires.candidates.ahead id e stood own))
+    let test : Entry g.row.K.Denot g.row.V.Denot → Bool → Type 0 = IsSought eq key hash in
+    other_key eq key hash e (has_hash eq key nodes hash hashed id e stands)
+    (λ own. fails test nodes id e stands
+    (none_passes (IsTested test nodes) c.args.candidates (c.in_err-number.ensures {u = tt}) id (c.requires.candidates.ahead id e stood own)))
 
 pub returns-in_err-number-clause-absent : goal.returns-in_err-number-clause-absent
 returns-in_err-number-clause-absent g c =
@@ -39,10 +40,11 @@ returns-clause-found g c =
     let eq = g.K.PartialEq.eq in
     let key = c.args.key.now in
     let nodes = c.self.inside.entries.items in
-    let f = found_passes (IsTested eq key nodes c.args.hash) c.args.candidates c.in_ok-number.number (c.in_ok-number.ensures {u = tt}) in
+    let test : Entry g.row.K.Denot g.row.V.Denot → Bool → Type 0 = IsSought eq key c.args.hash in
+    let f = found_passes (IsTested test nodes) c.args.candidates c.in_ok-number.number (c.in_ok-number.ensures {u = tt}) in
     let stands : IsSome (lookup (nat_eq c.in_ok-number.number) nodes) =
     subst (λ v. IsSome (lookup (nat_eq c.in_ok-number.number) v.nodes)) (sym c.self.view_is)
     (c.requires.candidates.standing c.in_ok-number.number f.0) in
-    let p = passes eq key nodes c.args.hash c.in_ok-number.number stands f.1 in
+    let p = passes test nodes c.in_ok-number.number stands f.1 in
     rw c.from_number.ensures (rw (← c.self.view_is)
-    (p.0, p.1, alone g.met.K.Eq.laws c.self.invariant.0.keyed c.in_ok-number.number p.0 p.1 key p.2))
+    (p.0, p.1, alone g.met.K.Eq.laws c.self.invariant.0.keyed c.in_ok-number.number p.0 p.1 key (has_key eq key c.args.hash p.0 p.2)))

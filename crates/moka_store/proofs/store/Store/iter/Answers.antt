@@ -1,6 +1,5 @@
-use Rattle.std.proofs.Common.{◌≡◌, ◌<◌, ◌^◌, ◌∙◌, ap, length, subst, sym}
+use Rattle.std.proofs.Common.{◌<◌, ◌^◌, ◌∙◌, ap, length, subst, sym}
 use Rattle.std.proofs.lemmas.Map.Entries.{length-values_of}
-use Rattle.moka_store.specs.Store.{entries_of}
 use Rattle.moka_store.proofs.store.Store.iter.Goals as goal
 
 pub returns-clause-few : goal.returns-clause-few

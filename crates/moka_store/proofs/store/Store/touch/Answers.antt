@@ -1,5 +1,4 @@
 use Rattle.std.proofs.Common.{◌∙◌, ap, refl}
-use Rattle.moka_unsync_model.specs.Lookup.{used_part}
 use Rattle.moka_store.proofs.ChangeLemmas.{set_here, set_marks, set_once, settled, shift_fits, shifted, writes_balanced}
 use Rattle.moka_store.proofs.RelistLemmas.{length-settled, stored-settled}
 use Rattle.moka_store.proofs.StepLemmas.{uses_is}
