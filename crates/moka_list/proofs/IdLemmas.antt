@@ -9,7 +9,7 @@ use Rattle.std.proofs.lemmas.Map.Keys.{IsDistinct-head, IsDistinct-tail, IsDisti
 use Rattle.std.proofs.lemmas.List.Elements.{All-weaker, All-contains_itself, recursion_from_All}
 use Rattle.std.specs.List.{IsDistinct, AllByRecursion, list_any}
 use Rattle.std.specs.Map.{lookup, remove_entry, keys_of}
-use Rattle.moka_list.specs.Nodes.{moved_to_back}
+use Rattle.moka_list.specs.Nodes.{IsIn, moved_to_back}
 use Rattle.moka_list.proofs.ItemLemmas.{lookup-push, nat_eq-same}
 
 -- equal somethings are of equal parts
@@ -21,6 +21,14 @@ pub not_none : {X : Type 0} {P : Type 0} (x : X) → Some x ≡ None → P
 not_none x e = absurd (false≢true (sym (ap is_some e)))
 
 module _ {X : Type 0} where
+  -- what is in the list is a node
+  pub node_at : (id : ℕ) (es : List (ℕ × X)) → IsIn es id → (x : X) × (lookup (nat_eq id) es ≡ Some x)
+  node_at id es h = by (lookup (nat_eq id) es) refl
+    where
+      by : (o : Option X) → lookup (nat_eq id) es ≡ o → (x : X) × (lookup (nat_eq id) es ≡ Some x)
+      by None e = absurd (false≢true (sym (ap is_some e) ∙ h))
+      by (Some x) e = (x, e)
+
   -- each element is what is found under its own id
   pub each_found : (es : List (ℕ × X)) → IsDistinct nat_eq (keys_of es) → AllByRecursion (λ p. lookup (nat_eq p.0) es ≡ Some p.1) es
   each_found es distinct =

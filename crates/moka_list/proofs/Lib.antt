@@ -16,3 +16,4 @@ pub mod FreeLemmas
 pub mod WayLemmas
 pub mod FindLemmas
 pub mod IndexLemmas
+pub mod IndexedListLemmas

@@ -3,6 +3,7 @@ pub mod Chain
 pub mod ChainLends
 pub mod IdList
 pub mod HashIndex
+pub mod IndexedList
 -- inside
 pub mod Indexed
 pub mod Probed

@@ -5,6 +5,7 @@ pub mod chain;
 pub mod constants;
 pub mod group;
 pub mod hash_index;
+pub mod indexed_list;
 pub mod indexing;
 pub mod link;
 mod table;

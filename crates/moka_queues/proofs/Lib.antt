@@ -2,6 +2,5 @@ pub mod LogLemmas
 pub mod TicketsLemmas
 pub mod KeptLemmas
 pub mod FindLemmas
-pub mod RoomLemmas
 pub mod ChangeLemmas
 pub mod HighWaterLemmas

@@ -1,9 +1,8 @@
--- How the orders lie in a chain and a deque. No public clause cites this module.
-use Rattle.std.specs.Prelude.{◌≡◌, ◌<◌, ℕ, ◌+◌, ◌^◌, min, nat_eq, nat_le, List, [], ◌∷◌, ◌++◌, length, Option, Some, None}
-use Rattle.std.specs.Prelude.{if◌then◌else◌, sum_by}
+-- How the orders lie in a list and a deque. No public clause cites this module.
+use Rattle.std.specs.Prelude.{◌≡◌, ◌<◌, ℕ, ◌+◌, ◌^◌, nat_eq, List, Option, Some, None}
+use Rattle.std.specs.Prelude.{sum_by}
 use Rattle.std.specs.List.{IsDistinct}
 use Rattle.std.specs.Map.{lookup, keys_of, remove_entry, values_of}
-use Rattle.moka_list.specs.Chain.{Chain}
 use Rattle.moka_list.specs.Nodes.{moved_to_back}
 use Rattle.moka_sync_model.specs.declared.ticket.Ticket.{Ticket}
 use Rattle.moka_queues.specs.declared.orders.Node.{Node}
@@ -11,10 +10,6 @@ use Rattle.moka_queues.specs.declared.orders.Node.{Node}
 -- the weight that all nodes charge
 abbrev pub total_charge : List (ℕ × Node) → ℕ
 total_charge items = sum_by (λ n. n.charge) (values_of items)
-
--- for how many more nodes there is room in both lists, where the index has room for all ids
-abbrev pub room_of : List (ℕ × Node) → ℕ → ℕ → ℕ → ℕ
-room_of items access writes ids = if nat_le (length items + access) ids then min access writes else 0
 
 -- the room that is left once a write is taken out, if there is one
 abbrev pub room_after : Option ℕ → ℕ → ℕ
@@ -47,9 +42,3 @@ pub record IsKept (items : List (ℕ × Node)) (writes : List (ℕ × Ticket)) (
   pub written_once : IsDistinct nat_eq (keys_of writes)
   pub small : (i : ℕ) (n : Node) → lookup (nat_eq i) items ≡ Some n → n.charge < 2 ^ 32
   pub sum : total ≡ total_charge items
-
--- the node stands at the back under a new id
-pub record PushesNode (old new : Chain Node) (node : Node) : Type 0 where
-  pub id : ℕ
-  pub items : new.items ≡ old.items ++ (id, node) ∷ []
-  pub new_id : lookup (nat_eq id) old.items ≡ None

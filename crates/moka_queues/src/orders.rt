@@ -7,8 +7,7 @@ ghost use Rattle.moka_common.specs.Settings.{keeps_writes};
 ghost use Rattle.moka_sync_model.specs.Ticket.{same_ticket};
 ghost use Rattle.moka_list.specs.Nodes.{IsIn, first_id, moved_to_back, next_id};
 ghost use Rattle.moka_sync_model.specs.Orders.{charge_of, charged_weight, is_written, used, rewritten, renewed, recharged, with_node, without_node};
-ghost use Rattle.moka_list.specs.Indexed.{IsIndexed};
-ghost use Rattle.moka_queues.specs.Kept.{PushesNode, room_after, without_write};
+ghost use Rattle.moka_queues.specs.Kept.{room_after, without_write};
 ghost use Rattle.moka_queues.specs.OrdersState.{AddsNode, AtNode, IsNodeOf, orders_of};
 
 use crate::high_water::HighWater;
@@ -16,9 +15,7 @@ use moka_common::error::OutOfMemory;
 use moka_common::hash::Hashed;
 use moka_common::limits::Limits;
 use moka_deque::deque::{CacheRegion, Deque, NodeId};
-use moka_list::chain::Chain;
-use moka_list::hash_index::HashIndex;
-use moka_list::indexing::index_all;
+use moka_list::indexed_list::IndexedList;
 use moka_list::link::Link;
 use moka_sync_model::ticket::Ticket;
 use std::alloc::{AllocError, Allocator, Global};
@@ -44,21 +41,20 @@ impl Hashed for Node {
 }
 
 /// The nodes of the entries that are charged, least recently used first, and with a time to live their tickets in order of writing. A node is
-/// found by its ticket in constant time on average. The nodes lie in a chain, where a use moves a node by links alone.
+/// found by its ticket in constant time on average. A use moves a node by links alone.
 #[derive(Drop)]
 pub struct Orders<A: Allocator + Clone + Drop = Global> {
-    access: Chain<Node, A>,
+    access: IndexedList<Node, A>,
     writes: Deque<Ticket, A>,
-    index: HashIndex<A>,
     total: u128,
     high_water: HighWater,
 }
 
 impl<A: Allocator + Clone + Drop> Model for Orders<A> {
+    ghost use Rattle.std.specs.Prelude.{min};
     ghost use Rattle.std.specs.Map.{values_of};
     ghost use Rattle.moka_queues.specs.OrdersState.{OrdersState};
-    ghost use Rattle.moka_queues.specs.Kept.{IsKept, room_of};
-    ghost use Rattle.moka_list.specs.Indexed.{IsIndexed};
+    ghost use Rattle.moka_queues.specs.Kept.{IsKept};
     ghost use Rattle.moka_queues.specs.HighWater.{AreCovered};
 
     ghost Value = { OrdersState };
@@ -66,10 +62,10 @@ impl<A: Allocator + Clone + Drop> Model for Orders<A> {
     ghost view = { λ o. record {
       nodes = o.access.items;
       written = values_of o.writes.items;
-      room = room_of o.access.items o.access.room o.writes.room o.index.ids;
+      room = min o.access.room o.writes.room;
     } };
 
-    ghost invariant = { λ o. IsKept o.access.items o.writes.items o.total × IsIndexed (λ n. n.ticket.hash) o.access.items o.index × AreCovered o.access.items o.high_water };
+    ghost invariant = { λ o. IsKept o.access.items o.writes.items o.total × AreCovered o.access.items o.high_water };
 }
 
 impl<A: Allocator + Clone + Drop> Orders<A> {
@@ -78,9 +74,8 @@ impl<A: Allocator + Clone + Drop> Orders<A> {
         ensures { IfOk result (λ orders. orders ≡ record { nodes = []; written = []; room = 0 }) }
     {
         Ok(Orders {
-            access: Chain::new(alloc.clone()?, alloc.clone()?),
-            writes: Deque::new(alloc.clone()?, CacheRegion::Other),
-            index: HashIndex::new(alloc),
+            access: IndexedList::new(alloc.clone()?, alloc.clone()?, alloc.clone()?),
+            writes: Deque::new(alloc, CacheRegion::Other),
             total: 0,
             high_water: HighWater::new(),
         })
@@ -92,9 +87,8 @@ impl<A: Allocator + Clone + Drop> Orders<A> {
         ensures ok { OnOk result (0 < self.new.room) }
         ensures unchanged { self.new ≡ record self.old { room = self.new.room } }
     {
-        let more = index_more(&mut self.index, &self.access, limits)?;
+        let more = nodes_to_reserve(self.access.len(), self.access.capacity(), limits);
         self.access.reserve_exact(more)?;
-        index_all(&mut self.index, &self.access, self.access.capacity())?;
         let more_writes = if limits.has_time_to_live() { more } else { 1 };
         self.writes.reserve_exact(more_writes)
     }
@@ -125,13 +119,7 @@ impl<A: Allocator + Clone + Drop> Orders<A> {
         ensures absent { IsNone result → charge_of ticket (orders_of self.now) ≡ None }
         ensures unwritten { IsNone result → is_written ticket (orders_of self.now) ≡ false }
     {
-        let access = &self.access;
-        let is_sought = |number|
-            requires { IsSome (lookup (nat_eq number) access.now.items) }
-            ensures { IfSome (lookup (nat_eq number) access.entry.now.items) (λ n. result ≡ same_ticket n.ticket ticket) }
-        { access.get(NodeId::from_number(number)).ticket == ticket };
-        let number = self.index.find(ticket.hash, is_sought)?;
-        Some(NodeId::from_number(number))
+        self.access.find(ticket.hash, |node| node.ticket == ticket)
     }
 
     /// Returns the node of a ticket. It looks at a place first: that where `enter` has put it, as far as the caller knows. It spares the look-up in the index,
@@ -233,7 +221,7 @@ impl<A: Allocator + Clone + Drop> Orders<A> {
     {
         let charge = self.access.get(id).charge;
         self.total = with_charge(&self.access, self.total - u128::from(charge), weight);
-        self.access.get_mut(id).charge = weight;
+        self.access.update(id, |node| node.charge = weight);
     }
 
     /// The node has this mark.
@@ -243,7 +231,7 @@ impl<A: Allocator + Clone + Drop> Orders<A> {
             self.new ≡ record self.old { nodes = set_value (nat_eq id) self.old.nodes (record n { is_present = is_present }) }) }
         ensures orders { orders_of self.new ≡ orders_of self.old }
     {
-        self.access.get_mut(id).is_present = is_present;
+        self.access.update(id, |node| node.is_present = is_present);
     }
 
     /// A new node at the back, also in the order of writing where there is a time to live. There must be room for it, and no node of its
@@ -263,13 +251,13 @@ impl<A: Allocator + Clone + Drop> Orders<A> {
             write: Link::none(),
         };
         if !limits.has_time_to_live() {
-            return push_node(&mut self.access, &mut self.index, node);
+            return self.access.push_reserved(node).number();
         }
         let write = self.writes.push_reserved(ticket);
         // Its id is below the capacity, which is a word.
         let _ = self.writes.capacity();
         node.write = Link::to(write);
-        push_node(&mut self.access, &mut self.index, node)
+        self.access.push_reserved(node).number()
     }
 
     /// The node leaves both orders, and its room stays.
@@ -279,39 +267,20 @@ impl<A: Allocator + Clone + Drop> Orders<A> {
         ensures room { self.old.room ≤ self.new.room }
         ensures orders { AtNode self.old id (λ n. orders_of self.new ≡ without_node n.ticket (orders_of self.old)) }
     {
-        let node = self.access.unlink(id);
-        self.index.remove(id.number(), node.ticket.hash);
+        let node = self.access.remove(id);
         self.total -= u128::from(node.charge);
         unlink_write(&mut self.writes, node.write.id());
     }
 }
 
 /// A sum with one more charge. Fewer than 2^64 charges, of 32 bits each, come to less than 2^96.
-fn with_charge<A: Allocator>(access: &Chain<Node, A>, total: u128, charge: u32) -> u128
+fn with_charge<A: Allocator>(access: &IndexedList<Node, A>, total: u128, charge: u32) -> u128
     requires { total ≤ length access.now.items * (2 ^ 32 - 1) }
     ensures value { result ≡ total + charge }
     ensures small { charge < 2 ^ 32 }
 {
     let _ = access.len();
     total + u128::from(charge)
-}
-
-/// A node at the back, in room that was made. The answer is the number of its id.
-fn push_node<A: Allocator>(
-    access: &mut Chain<Node, A>,
-    index: &mut HashIndex<A>,
-    node: Node,
-) -> usize
-    requires room { 0 < access.old.room }
-    requires ids { length access.old.items + access.old.room ≤ index.old.ids }
-    requires indexed { IsIndexed (λ n. n.ticket.hash) access.old.items index.old }
-    ensures pushes { PushesNode access.old access.new node }
-    ensures indexed { IsIndexed (λ n. n.ticket.hash) access.new.items index.new }
-{
-    let hash = node.ticket.hash;
-    let id = access.push_reserved(node);
-    index.add(id.number(), hash);
-    id.number()
 }
 
 /// Takes a write out of the order of writing, if there is one.
@@ -325,24 +294,14 @@ fn unlink_write<A: Allocator>(writes: &mut Deque<Ticket, A>, write: Option<NodeI
     }
 }
 
-/// Reserves capacity in the index for the next capacity of nodes, if there is none for one more. If memory is refused, the queues are as they were. For how
-/// many more nodes the queues are to make room then.
-fn index_more<A: Allocator>(
-    index: &mut HashIndex<A>,
-    access: &Chain<Node, A>,
-    limits: &Limits,
-) -> Result<usize, OutOfMemory>
-    requires indexed { IsIndexed (λ n. n.ticket.hash) access.now.items index.old }
-    ensures indexed { IsIndexed (λ n. n.ticket.hash) access.now.items index.new }
-    ensures some { IfOk result (λ more. 0 < more) }
+/// Returns the number of nodes to reserve capacity for: one if it is there, or all up to the next capacity.
+fn nodes_to_reserve(len: usize, capacity: usize, limits: &Limits) -> usize
+    ensures { 0 < result }
 {
-    let (len, ids) = (access.len(), access.capacity());
-    if len < ids {
-        return Ok(1);
+    if len < capacity {
+        return 1;
     }
-    let target = next_capacity(ids, limits);
-    index_all(index, access, target)?;
-    Ok((target - len).max(1))
+    next_capacity(capacity, limits).saturating_sub(len).max(1)
 }
 
 /// Returns the next capacity of nodes: twice as many, but not past the limit. Weights of 0 pass it.

@@ -11,14 +11,14 @@ returns-then-eq-clause-found g c =
     let old = c.self.inside in
     let node = c.get.result.now in
     rw (← c.self.view_is)
-    (node_of c.self.invariant.0 c.from_number-id.result node c.get.ensures old.access.room old.writes.room old.index.ids c.args.ticket
+    (node_of c.self.invariant.0 c.from_number-id.result node c.get.ensures old.access.room old.writes.room c.args.ticket
     (same_is node.ticket c.args.ticket (sym c.eq.ensures ∙ c.if-eq.true)))
 
 pub returns-then-is_below-clause-absent : goal.returns-then-is_below-clause-absent
 returns-then-is_below-clause-absent g c =
     let old = c.self.inside in
     rw (← c.self.view_is)
-    (λ _. none_above old.access.items old.high_water c.self.invariant.2 c.args.ticket (c.is_below.ensures c.if-is_below.true)
+    (λ _. none_above old.access.items old.high_water c.self.invariant.1 c.args.ticket (c.is_below.ensures c.if-is_below.true)
     c.self.invariant.0.once (values_of old.writes.items))
 
 pub returns-then-is_below-clause-unwritten : goal.returns-then-is_below-clause-unwritten
@@ -26,5 +26,5 @@ returns-then-is_below-clause-unwritten g c =
     let old = c.self.inside in
     rw (← c.self.view_is)
     (λ _. ticket_unwritten c.self.invariant.0 c.args.ticket (values_of old.writes.items)
-    (none_above old.access.items old.high_water c.self.invariant.2 c.args.ticket (c.is_below.ensures c.if-is_below.true)
+    (none_above old.access.items old.high_water c.self.invariant.1 c.args.ticket (c.is_below.ensures c.if-is_below.true)
     c.self.invariant.0.once (values_of old.writes.items)))

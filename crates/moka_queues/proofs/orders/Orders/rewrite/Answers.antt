@@ -14,7 +14,6 @@ invariant_of-self g c =
       IsKept-rewritten c.self.invariant.0 c.in-Some.write n.ticket
           (write_in c.self.invariant.0 c.args.id n c.get.ensures c.in-Some.write (sym c.id-write.ensures ∙ c.in-Some.is)),
       c.self.invariant.1,
-      c.self.invariant.2,
     )
 
 pub returns-in-Some-clause-orders : goal.returns-in-Some-clause-orders
@@ -25,10 +24,10 @@ returns-in-Some-clause-orders g c =
     let named : n.write ≡ Some c.in-Some.write =
     ap (λ m. m.write) (some_parts n c.get.result.now (sym stood ∙ c.get.ensures)) ∙ sym c.id-write.ensures ∙ c.in-Some.is in
     subst (λ o.
-    orders_of (seen old.access.items (with_write_last o old.writes.items) old.access.room old.writes.room old.index.ids)
-    ≡ rewritten n.ticket (orders_of (seen old.access.items old.writes.items old.access.room old.writes.room old.index.ids)))
+    orders_of (seen old.access.items (with_write_last o old.writes.items) old.access.room old.writes.room)
+    ≡ rewritten n.ticket (orders_of (seen old.access.items old.writes.items old.access.room old.writes.room)))
     named
-    (rewritten_orders c.self.invariant.0 c.args.id n stood old.access.room old.writes.room old.index.ids))
+    (rewritten_orders c.self.invariant.0 c.args.id n stood old.access.room old.writes.room))
 
 pub returns-in_default-clause-orders : goal.returns-in_default-clause-orders
 returns-in_default-clause-orders g c =
@@ -38,7 +37,7 @@ returns-in_default-clause-orders g c =
     let named : n.write ≡ None =
     ap (λ m. m.write) (some_parts n c.get.result.now (sym stood ∙ c.get.ensures)) ∙ sym c.id-write.ensures ∙ c.in_default.is in
     subst (λ o.
-    orders_of (seen old.access.items (with_write_last o old.writes.items) old.access.room old.writes.room old.index.ids)
-    ≡ rewritten n.ticket (orders_of (seen old.access.items old.writes.items old.access.room old.writes.room old.index.ids)))
+    orders_of (seen old.access.items (with_write_last o old.writes.items) old.access.room old.writes.room)
+    ≡ rewritten n.ticket (orders_of (seen old.access.items old.writes.items old.access.room old.writes.room)))
     named
-    (rewritten_orders c.self.invariant.0 c.args.id n stood old.access.room old.writes.room old.index.ids))
+    (rewritten_orders c.self.invariant.0 c.args.id n stood old.access.room old.writes.room))
