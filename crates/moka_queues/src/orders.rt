@@ -69,7 +69,7 @@ impl<A: Allocator + Clone + Drop> Model for Orders<A> {
 }
 
 impl<A: Allocator + Clone + Drop> Orders<A> {
-    /// Orders without nodes.
+    /// Makes orders without nodes.
     pub fn new(alloc: A) -> Result<Self, AllocError>
         ensures { IfOk result (λ orders. orders ≡ record { nodes = []; written = []; room = 0 }) }
     {
@@ -113,7 +113,7 @@ impl<A: Allocator + Clone + Drop> Orders<A> {
         self.total
     }
 
-    /// The node of a ticket.
+    /// Returns the node of a ticket.
     pub fn find(&self, ticket: Ticket) -> Option<NodeId>
         ensures found { IfSome result (λ id. IsNodeOf self.now ticket id) }
         ensures absent { IsNone result → charge_of ticket (orders_of self.now) ≡ None }
@@ -139,7 +139,7 @@ impl<A: Allocator + Clone + Drop> Orders<A> {
         self.find(ticket)
     }
 
-    /// The node of an id.
+    /// Returns the node of an id.
     pub fn get(&self, id: NodeId) -> &Node
         requires { IsIn self.now.nodes id }
         ensures value { lookup (nat_eq id) self.now.nodes ≡ Some result.now }
@@ -148,14 +148,14 @@ impl<A: Allocator + Clone + Drop> Orders<A> {
         self.access.get(id)
     }
 
-    /// The least recently used node.
+    /// Returns the least recently used node.
     pub fn front(&self) -> Option<NodeId>
         ensures { result ≡ first_id self.now.nodes }
     {
         self.access.front()
     }
 
-    /// The node that was used next after this one.
+    /// Returns the node that was used next after this one.
     pub fn next(&self, id: NodeId) -> Option<NodeId>
         requires { IsIn self.now.nodes id }
         ensures { result ≡ next_id id self.now.nodes }
@@ -163,7 +163,7 @@ impl<A: Allocator + Clone + Drop> Orders<A> {
         self.access.next(id)
     }
 
-    /// The ticket that was written the longest ago.
+    /// Returns the ticket that was written the longest ago.
     pub fn oldest(&self) -> Option<Ticket>
         ensures value { result ≡ slice_get self.now.written 0 }
         ensures stands { IfSome result (λ t. IsSome (charge_of t (orders_of self.now))) }
@@ -171,9 +171,9 @@ impl<A: Allocator + Clone + Drop> Orders<A> {
         self.writes.peek_front().copied()
     }
 
-    /// The node becomes the most recently used one.
+    /// Makes the node the most recently used one.
     #[inline]
-    pub fn use_node(&mut self, id: NodeId)
+    pub fn touch(&mut self, id: NodeId)
         requires { IsIn self.old.nodes id }
         ensures step { self.new ≡ record self.old { nodes = moved_to_back id self.old.nodes } }
         ensures orders { AtNode self.old id (λ n. orders_of self.new ≡ used n.ticket (orders_of self.old)) }
@@ -181,27 +181,27 @@ impl<A: Allocator + Clone + Drop> Orders<A> {
         self.access.move_to_back(id);
     }
 
-    /// The ticket that was written the longest ago becomes the one written last.
-    pub fn rewrite_oldest(&mut self)
+    /// Makes the ticket that was written the longest ago the one written last.
+    pub fn requeue_oldest_write(&mut self)
         ensures step { self.new ≡ record self.old { written = self.new.written } }
         ensures orders { IfSome (slice_get self.old.written 0) (λ t. orders_of self.new ≡ rewritten t (orders_of self.old)) }
     {
         self.writes.move_front_to_back();
     }
 
-    /// The node becomes the most recent one in both orders.
-    pub fn renew(&mut self, id: NodeId)
+    /// Makes the node the most recent one in both orders.
+    pub fn touch_both(&mut self, id: NodeId)
         requires { IsIn self.old.nodes id }
         ensures nodes { self.new.nodes ≡ moved_to_back id self.old.nodes }
         ensures unchanged { self.new ≡ record self.old { nodes = self.new.nodes; written = self.new.written } }
         ensures orders { AtNode self.old id (λ n. orders_of self.new ≡ renewed n.ticket (orders_of self.old)) }
     {
-        self.rewrite(id);
-        self.use_node(id);
+        self.requeue_write(id);
+        self.touch(id);
     }
 
-    /// The node becomes the one written last.
-    fn rewrite(&mut self, id: NodeId)
+    /// Makes the node the one written last.
+    fn requeue_write(&mut self, id: NodeId)
         requires { IsIn self.old.nodes id }
         ensures step { self.new ≡ record self.old { written = self.new.written } }
         ensures orders { AtNode self.old id (λ n. orders_of self.new ≡ rewritten n.ticket (orders_of self.old)) }
@@ -212,7 +212,7 @@ impl<A: Allocator + Clone + Drop> Orders<A> {
         }
     }
 
-    /// The node charges this weight.
+    /// Sets what the node charges.
     pub fn recharge(&mut self, id: NodeId, weight: u32)
         requires { IsIn self.old.nodes id }
         ensures step { AtNode self.old id (λ n.
@@ -224,7 +224,7 @@ impl<A: Allocator + Clone + Drop> Orders<A> {
         self.access.update(id, |node| node.charge = weight);
     }
 
-    /// The node has this mark.
+    /// Sets the mark of the node.
     pub fn mark(&mut self, id: NodeId, is_present: bool)
         requires { IsIn self.old.nodes id }
         ensures step { AtNode self.old id (λ n.
@@ -234,8 +234,8 @@ impl<A: Allocator + Clone + Drop> Orders<A> {
         self.access.update(id, |node| node.is_present = is_present);
     }
 
-    /// A new node at the back, also in the order of writing where there is a time to live. There must be room for it, and no node of its
-    /// ticket: `reserve` and `find` tell. The answer is its place, for `find_at`.
+    /// Adds a node at the back, also in the order of writing if there is a time to live. There must be room for it, and no node of its ticket: `reserve`
+    /// and `find` tell. Returns its place, for `find_at`.
     pub fn enter(&mut self, ticket: Ticket, charge: u32, limits: &Limits) -> usize
         requires room { 0 < self.old.room }
         requires absent { charge_of ticket (orders_of self.old) ≡ None }
@@ -260,7 +260,7 @@ impl<A: Allocator + Clone + Drop> Orders<A> {
         self.access.push_reserved(node).number()
     }
 
-    /// The node leaves both orders, and its room stays.
+    /// Removes the node from both orders. Its room stays.
     pub fn remove(&mut self, id: NodeId)
         requires { IsIn self.old.nodes id }
         ensures nodes { self.new.nodes ≡ remove_entry (nat_eq id) self.old.nodes }

@@ -5,7 +5,7 @@ ghost use Rattle.moka_common.specs.Enabling.{after_enabling, expected_entries};
 use super::{FrequencySketch, sketch_capacity};
 use std::alloc::Allocator;
 
-/// What a cache holds when it asks for its table.
+/// The contents of a cache when it asks for its table.
 #[derive(Clone, Copy, Debug)]
 pub struct Load {
     /// The cache has a weigher.

@@ -87,7 +87,7 @@ impl<A: Allocator + Clone + Drop> State<A> {
         ensures holds { IsAtHand self.new.orders self.new.stage }
     {
         let Some(entry) = found else {
-            self.orders.rewrite_oldest();
+            self.orders.requeue_oldest_write();
             self.stage = Stage::ExpireWrite { turns: turns + 1 };
             return EntryChange::Stays;
         };

@@ -21,7 +21,7 @@ pub(crate) fn touch_ticket<A: Allocator + Clone + Drop>(
     ensures { orders_of orders.new ≡ used ticket (orders_of orders.old) }
 {
     if let Some(id) = orders.find_at(ticket, place) {
-        orders.use_node(id);
+        orders.touch(id);
     }
 }
 
@@ -47,7 +47,7 @@ pub(crate) fn touch_front<A: Allocator + Clone + Drop>(orders: &mut Orders<A>)
     ensures { IfSome (front_of orders.old) (λ t. orders_of orders.new ≡ used t (orders_of orders.old)) }
 {
     if let Some(id) = orders.front() {
-        orders.use_node(id);
+        orders.touch(id);
     }
 }
 
@@ -56,7 +56,7 @@ pub(crate) fn touch_front_both<A: Allocator + Clone + Drop>(orders: &mut Orders<
     ensures { IfSome (front_of orders.old) (λ t. orders_of orders.new ≡ renewed t (orders_of orders.old)) }
 {
     if let Some(id) = orders.front() {
-        orders.renew(id);
+        orders.touch_both(id);
     }
 }
 
@@ -75,7 +75,7 @@ fn send_front<A: Allocator + Clone + Drop>(orders: &mut Orders<A>)
     ensures { IsSent orders.old orders.new }
 {
     if let Some(id) = orders.front() {
-        orders.use_node(id);
+        orders.touch(id);
     }
 }
 
@@ -100,7 +100,7 @@ fn send_if_absent<A: Allocator + Clone + Drop>(orders: &mut Orders<A>, id: NodeI
     let next = orders.next(id);
     let is_present = orders.get(id).is_present;
     if !is_present {
-        orders.use_node(id);
+        orders.touch(id);
     }
     next
 }

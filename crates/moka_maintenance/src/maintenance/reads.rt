@@ -68,7 +68,7 @@ fn count_hashes<A: Allocator + Clone + Drop>(sketch: &mut FrequencySketch<A>, re
 }
 
 /// The node of a hit becomes the most recently used one. It is looked for at the place of its hint first.
-fn use_node<A: Allocator + Clone + Drop>(orders: &mut Orders<A>, logged: LoggedRead)
+fn touch_node<A: Allocator + Clone + Drop>(orders: &mut Orders<A>, logged: LoggedRead)
     ensures { orders_of orders.new ≡ used_by (orders_of orders.old) logged.read }
 {
     if let Read::Hit { ticket, .. } = logged.read {
@@ -81,7 +81,7 @@ fn use_nodes<A: Allocator + Clone + Drop>(orders: &mut Orders<A>, reads: &[Logge
     ensures { orders_of orders.new ≡ fold used_by (orders_of orders.old) (reads_of reads.now) }
 {
     for logged in reads {
-        use_node(orders, *logged);
+        touch_node(orders, *logged);
     }
 }
 

@@ -122,7 +122,7 @@ impl<A: Allocator + Clone + Drop> State<A> {
             return self.apply_first_upsert(settings, work, ticket, entry);
         };
         self.orders.recharge(id, entry.weight());
-        self.orders.renew(id);
+        self.orders.touch_both(id);
         self.stage = writes_or_on(work);
         EntryChange::UpsertDone
     }

@@ -13,8 +13,8 @@ use Rattle.moka_maintenance.proofs.maintenance.state.State.apply_upsert.Goals as
 pub returns-in_default-clause-holds : goal.returns-in_default-clause-holds
 returns-in_default-clause-holds g c = c.writes_or_on-self-inside.ensures.holds c.self.inside.orders
 
-pub renew-requires : goal.renew-requires
-renew-requires g c =
+pub touch_both-requires : goal.touch_both-requires
+touch_both-requires g c =
     let id = c.in-Some-find_at.id in
     let f = c.in-Some-find_at.ensures.found in
     subst (λ v. IsIn v.nodes id) (sym (c.recharge.ensures.step f.node f.stands))
@@ -31,8 +31,8 @@ returns-clause-step g c =
     let stands : lookup (nat_eq id) c.recharge.new.self.nodes ≡ Some m =
     ap (λ v. lookup (nat_eq id) v.nodes) (c.recharge.ensures.step f.node f.stands)
     ∙ (lookup-set id id m c.self.inside.orders.nodes (ap is_some f.stands) ∙ cond-true (nat_eq id id) _ _ (nat_eq-same id)) in
-    let orders : orders_of c.renew.new.self ≡ renewed c.args.ticket (recharged c.args.ticket e.weight old) =
-    c.renew.ensures.orders m stands
+    let orders : orders_of c.touch_both.new.self ≡ renewed c.args.ticket (recharged c.args.ticket e.weight old) =
+    c.touch_both.ensures.orders m stands
     ∙ (ap (renewed f.node.ticket) (c.recharge.ensures.orders f.node f.stands)
     ∙ (λ i. renewed (f.of_ticket i) (recharged (f.of_ticket i) (c.weight.ensures.value i) old))) in
     rw (← c.self.view_is, c.in-Some.is, f.charge) (
@@ -42,7 +42,7 @@ returns-clause-step g c =
         maintenance = record {
           orders = orders i;
           sketch = c.self.inside.sketch;
-          place = c.writes_or_on-self-inside-2.ensures.is c.renew.new.self.nodes i;
+          place = c.writes_or_on-self-inside-2.ensures.is c.touch_both.new.self.nodes i;
           moment = c.self.inside.moment;
           published = c.self.inside.published;
         };
@@ -50,4 +50,4 @@ returns-clause-step g c =
     )
 
 pub returns-clause-holds : goal.returns-clause-holds
-returns-clause-holds g c = c.writes_or_on-self-inside-2.ensures.holds c.renew.new.self
+returns-clause-holds g c = c.writes_or_on-self-inside-2.ensures.holds c.touch_both.new.self

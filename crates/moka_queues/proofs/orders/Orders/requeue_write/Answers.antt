@@ -5,7 +5,7 @@ use Rattle.moka_queues.specs.Kept.{with_write_last}
 use Rattle.moka_list.proofs.IdLemmas.{some_parts}
 use Rattle.moka_queues.proofs.ChangeLemmas.{seen, rewritten_orders, write_in}
 use Rattle.moka_queues.proofs.KeptLemmas.{IsKept-rewritten}
-use Rattle.moka_queues.proofs.orders.Orders.rewrite.Goals as goal
+use Rattle.moka_queues.proofs.orders.Orders.requeue_write.Goals as goal
 
 pub invariant_of-self : goal.invariant_of-self
 invariant_of-self g c =

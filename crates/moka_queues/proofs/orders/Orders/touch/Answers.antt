@@ -4,7 +4,7 @@ use Rattle.moka_list.specs.Nodes.{IsIn}
 use Rattle.moka_queues.proofs.ChangeLemmas.{moved_orders}
 use Rattle.moka_queues.proofs.HighWaterLemmas.{AreCovered-moved}
 use Rattle.moka_queues.proofs.KeptLemmas.{IsKept-moved}
-use Rattle.moka_queues.proofs.orders.Orders.use_node.Goals as goal
+use Rattle.moka_queues.proofs.orders.Orders.touch.Goals as goal
 
 pub invariant_of-self : goal.invariant_of-self
 invariant_of-self g c =

@@ -1,6 +1,6 @@
 use Rattle.moka_queues.proofs.ChangeLemmas.{front_items}
 use Rattle.moka_queues.proofs.KeptLemmas.{IsKept-oldest}
-use Rattle.moka_queues.proofs.orders.Orders.rewrite_oldest.Goals as goal
+use Rattle.moka_queues.proofs.orders.Orders.requeue_oldest_write.Goals as goal
 
 pub invariant_of-self : goal.invariant_of-self
 invariant_of-self g c =
