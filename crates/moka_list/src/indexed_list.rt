@@ -1,6 +1,6 @@
 //! A list whose elements are found by their hash: a chain with an index beside it.
 ghost use Rattle.std.specs.Prelude.{◌≡◌, ℕ, ◌+◌, ◌<◌, ◌≤◌, [], ◌∷◌, ◌++◌, ◌↔◌, nat_eq, length};
-ghost use Rattle.std.specs.Prelude.{IfSome, IsNone, IsSome, IsTrue, None, OnOk, Some};
+ghost use Rattle.std.specs.Prelude.{IfSome, IsNone, IsOk, IsSome, IsTrue, None, OnOk, Some};
 ghost use Rattle.std.specs.Fn.{FnOnceReturnsAtMut, FnReturnsAt};
 ghost use Rattle.std.specs.List.{IsDistinct};
 ghost use Rattle.std.specs.Map.{lookup, keys_of, remove_entry, set_value};
@@ -69,8 +69,34 @@ impl<T: Hashed, A: Allocator> IndexedList<T, A> {
         self.list.capacity()
     }
 
-    /// Reserves capacity for `additional` more elements. The index grows first, so a refusal of its memory leaves the list as it was.
+    /// Returns the number of elements that fit with no allocation.
+    pub fn room(&self) -> usize
+        ensures { result ≡ self.now.room }
+    {
+        let len = self.list.len();
+        let room = self.list.fits().saturating_sub(len);
+        if room <= self.index.ids().saturating_sub(len) {
+            return room;
+        }
+        0
+    }
+
+    /// Reserves capacity for `additional` more elements, if there is less.
+    #[inline]
     pub fn reserve_exact(&mut self, additional: usize) -> Result<(), OutOfMemory>
+        ensures ok { OnOk result (additional ≤ self.new.room) }
+        ensures had_room { additional ≤ self.old.room → IsOk result × (self.new ≡ self.old) }
+        ensures items { self.new.items ≡ self.old.items }
+    {
+        if additional <= self.room() {
+            return Ok(());
+        }
+        self.grow(additional)
+    }
+
+    /// Reserves capacity for `additional` more elements. The index grows first, so a refusal of its memory leaves the list as it was.
+    #[cold]
+    fn grow(&mut self, additional: usize) -> Result<(), OutOfMemory>
         ensures ok { OnOk result (additional ≤ self.new.room) }
         ensures items { self.new.items ≡ self.old.items }
     {
