@@ -17,4 +17,7 @@ pub use Rattle.moka_unsync.specs.PlainMap
 pub use Rattle.moka_unsync.specs.History
 pub use Rattle.moka_unsync.specs.Removal
 pub use Rattle.moka_unsync.specs.Excluded
+pub use Rattle.moka_unsync.specs.Told
+pub use Rattle.moka_unsync.specs.ToldCalls
+pub use Rattle.moka_unsync.specs.Notifying
 pub use Rattle.moka_unsync.specs.CacheLends

@@ -1,5 +1,6 @@
 //! Callers of the public types, each proved to meet a contract of its own, whose words all come from `mini_moka`.
-ghost use Rattle.std.specs.Prelude.{◌≡◌, ◌+◌, List, Some, None, Ok, IfOk, IfSome, IsTrue, Bool, false, map, reverse, slice_get};
+ghost use Rattle.std.specs.Prelude.{◌≡◌, ◌+◌, ◌-◌, ◌^◌, List, Some, None, Ok, IfOk, IfSome, IsTrue, Bool, false, map, min, reverse, slice_get};
+ghost use Rattle.std.specs.List.Sorted.{IsPermutation};
 ghost use Rattle.std.specs.Map.{values_of};
 ghost use Rattle.mini_moka.specs.Common.Keys.{keys_by};
 ghost use Rattle.mini_moka.specs.Common.Weight.{unit_weighs};
@@ -8,6 +9,7 @@ ghost use Rattle.mini_moka.specs.Unsync.CacheState.{new_cache};
 ghost use Rattle.mini_moka.specs.Unsync.History.{IsCurrent, Transition, exchanges};
 ghost use Rattle.mini_moka.specs.Unsync.Lookup.{is_contained};
 ghost use Rattle.mini_moka.specs.Unsync.Runs.{AreServed};
+ghost use Rattle.mini_moka.specs.Unsync.Told.{HearsAll, unplaced};
 ghost use Rattle.mini_moka.specs.Unsync.Iterate.{pairs_at};
 ghost use Rattle.mini_moka.specs.Sync.Consistent.{IsTrimmed};
 ghost use Rattle.mini_moka.specs.Sync.CoreCall.{IsAtRest, IsCall, entries_evicted};
@@ -23,6 +25,7 @@ ghost use Rattle.mini_moka.specs.declared.sync.engine.Call.TheVariants.{Sync};
 ghost use Rattle.mini_moka.specs.declared.sync.engine.Ticket.{Ticket};
 ghost use Rattle.mini_moka.specs.declared.sync.engine.Work.{Work};
 ghost use Rattle.mini_moka.specs.declared.sync.engine.Write.TheVariants.{Upsert};
+ghost use Rattle.mini_moka.specs.declared.unsync.Cause.TheVariants.{Explicit};
 ghost use Rattle.mini_moka.specs.Replay.{Replays};
 ghost use Rattle.mini_moka.specs.Grammar.{IsScript};
 ghost use Rattle.mini_moka.specs.Parsed.{script_of};
@@ -40,8 +43,8 @@ use mini_moka::sync::laws::{
     upserts_of_left_entries_are_dropped,
 };
 use mini_moka::sync::recorded::{Answer, NotRecorded, Record, SharedCall};
-use mini_moka::unsync::Cache;
 use mini_moka::unsync::history::{hits_are_current, runs_have_a_history};
+use mini_moka::unsync::{Cache, Cause, Listener, NotifyingCache};
 use mini_moka::{script, unsync};
 use std::alloc::Global;
 use std::hash::{BuildHasher, Hash};
@@ -87,6 +90,30 @@ pub fn later(now: Instant, nanos: u64) -> Option<Instant>
 {
     let nanos = now.nanos().checked_add(nanos)?;
     Some(Instant::from_nanos(nanos))
+}
+
+/// A listener that adds up the values that leave, as far as 64 bits go.
+#[derive(Drop)]
+pub struct Sum {
+    pub total: u64,
+}
+
+impl<K: Drop> Listener<K, u64> for Sum {
+    ghost hears = { λ old key value cause new. new.total ≡ min (old.total + value) (2 ^ 64 - 1) };
+
+    fn removed(&mut self, _key: K, value: u64, _cause: Cause) {
+        self.total = self.total.saturating_add(value);
+    }
+}
+
+/// Empties a cache. Its listener gets each entry, once.
+pub fn empty_out<K: Eq + Hash + Drop, V: Drop, L: Listener<K, V> + Drop>(
+    cache: &mut NotifyingCache<K, V, L>,
+)
+    ensures { (told : _) × HearsAll L.hears Explicit cache.old.listener told cache.new.listener
+        × IsPermutation (unplaced cache.old.cache.contents.entries) (unplaced told) }
+{
+    cache.invalidate_all();
 }
 
 /// The least recently used unexpired pair, copied.

@@ -3,7 +3,7 @@ use mini_moka::common::time::Instant;
 use mini_moka::common::{FixedState, Shared};
 use mini_moka::sync::engine::{Call, Core, Reply};
 use mini_moka::sync::recorded::Record;
-use mini_moka::unsync::Cache;
+use mini_moka::unsync::{Cache, NotifyingCache, Statistics};
 use mini_moka::{Error, unsync};
 use std::alloc::Global;
 use std::rc::Rc;
@@ -93,6 +93,32 @@ pub fn square_of_seven(alloc: Global) -> Result<[u64; 2], Error> {
     let square = cache.get_or_insert_with(7, now, || 7 * 7)?;
     let found = cache.peek(&7, now).copied().unwrap_or(0);
     Ok([square, found])
+}
+
+/// Counts why entries leave a cache of two. The causes are size, expiry, a call, another value, and rejection.
+pub fn counts_of_what_left(alloc: Global) -> Result<[u64; 5], Error> {
+    let mut cache: NotifyingCache<u64, u32, Statistics> = Cache::builder(alloc)
+        .max_capacity(2)
+        .time_to_live(Duration::from_secs(10))
+        .eviction_listener(Statistics::default())
+        .build()?;
+    let now = Instant::from_secs(0);
+    cache.insert(1, 1, now)?;
+    cache.insert(1, 2, now)?;
+    cache.insert(2, 1, now)?;
+    cache.insert(3, 1, now)?;
+    let _ = cache.get(&4, now);
+    cache.insert(4, 1, now)?;
+    cache.invalidate(&2, now);
+    let _ = cache.contains_key(&4, Instant::from_secs(10));
+    let counts = cache.listener();
+    Ok([
+        counts.size,
+        counts.expired,
+        counts.explicit,
+        counts.replaced,
+        counts.rejected,
+    ])
 }
 
 /// Returns the number of entries after a list of calls, which its last call asks for.

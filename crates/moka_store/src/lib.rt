@@ -3,4 +3,3 @@
 
 mod parts;
 pub mod store;
-mod writes;

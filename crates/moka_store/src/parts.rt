@@ -1,5 +1,6 @@
-// The three parts of the list of all entries: the first node of each, and their weights.
-ghost use Rattle.std.specs.Prelude.{◌≡◌, ◌≢◌, ◌<◌, ◌≤◌, ◌+◌, ◌-◌, ◌^◌, IfSome, None, Some, length, nat_eq};
+// The three parts of the list of all entries: the first node of each, and their weights; and the order of writing, which is kept if there is a time to live.
+ghost use Rattle.std.specs.Prelude.{◌≡◌, ◌≢◌, ◌<◌, ◌≤◌, ◌+◌, ◌-◌, ◌^◌, IfSome, None, Some, false, length, nat_eq, true};
+ghost use Rattle.moka_list.specs.IdList.{is_listed};
 ghost use Rattle.std.specs.List.{IsDistinct};
 ghost use Rattle.std.specs.Map.{keys_of, lookup, remove_entry, values_of};
 ghost use Rattle.moka_list.specs.Nodes.{IsIn, next_id};
@@ -8,8 +9,9 @@ ghost use Rattle.moka_unsync_model.specs.declared.entry.Part.TheVariants.{Probat
 ghost use Rattle.moka_unsync_model.specs.Contents.{InOrder, is_protected, is_window, protected_of};
 ghost use Rattle.moka_store.specs.Store.{is_of};
 ghost use Rattle.moka_store.specs.Nodes.{AreMarks, Demotes, IsBalanced, behind, latest_node, moved, passed, share, weights_of, with_mark};
+ghost use Rattle.moka_store.specs.Nodes.{write_added, write_last, write_left};
 
-use moka_list::chain::{Chain, NodeId};
+use moka_list::chain::{Chain, IdList, NodeId};
 use moka_unsync_model::entry::{Entry, Part};
 use std::alloc::Allocator;
 
@@ -92,18 +94,6 @@ impl Marks {
     }
 }
 
-/// Moves a node to the back, if it isn't there.
-#[inline(always)]
-fn to_back<K: Drop, V: Drop, A: Allocator>(entries: &mut Chain<Entry<K, V>, A>, id: NodeId)
-    requires { IsIn entries.old.items id }
-    ensures items { entries.new.items ≡ moved id None entries.old.items }
-    ensures unchanged { entries.new ≡ record entries.old { items = entries.new.items } }
-{
-    if entries.next(id).is_some() {
-        entries.move_to_back(id);
-    }
-}
-
 /// Makes a node the last of its part. The marks are those of the other nodes.
 #[inline(always)]
 pub(crate) fn settle<K: Drop, V: Drop, A: Allocator>(
@@ -122,7 +112,12 @@ pub(crate) fn settle<K: Drop, V: Drop, A: Allocator>(
 {
     match marks.join(id, part) {
         Some(next) => entries.move_before(id, next),
-        None => to_back(entries, id),
+        None => {
+            // A node at the back stays there.
+            if entries.next(id).is_some() {
+                entries.move_to_back(id);
+            }
+        }
     }
 }
 
@@ -268,4 +263,41 @@ fn demote_first<K: Drop, V: Drop, A: Allocator>(
     entry.part = Part::Probation;
     weights.protected -= u64::from(entry.weight);
     marks.late = entries.next(id);
+}
+
+/// Adds the write of a new node.
+#[inline(always)]
+pub(crate) fn add_write<A: Allocator>(writes: &mut IdList<A>, keeps_writes: bool, id: NodeId)
+    requires room { keeps_writes ≡ true → id < writes.old.capacity }
+    requires absent { is_listed writes.old.ids id ≡ false }
+    ensures ids { writes.new.ids ≡ write_added keeps_writes id writes.old.ids }
+    ensures capacity { writes.new.capacity ≡ writes.old.capacity }
+{
+    if keeps_writes {
+        writes.push_back(id);
+    }
+}
+
+/// Makes a node's write the last.
+#[inline(always)]
+pub(crate) fn write_again<A: Allocator>(writes: &mut IdList<A>, keeps_writes: bool, id: NodeId)
+    requires { keeps_writes ≡ true → is_listed writes.old.ids id ≡ true }
+    ensures ids { writes.new.ids ≡ write_last keeps_writes id writes.old.ids }
+    ensures capacity { writes.new.capacity ≡ writes.old.capacity }
+{
+    if keeps_writes {
+        writes.move_to_back(id);
+    }
+}
+
+/// Removes the write of a node.
+#[inline(always)]
+pub(crate) fn remove_write<A: Allocator>(writes: &mut IdList<A>, keeps_writes: bool, id: NodeId)
+    requires { keeps_writes ≡ true → is_listed writes.old.ids id ≡ true }
+    ensures ids { writes.new.ids ≡ write_left keeps_writes id writes.old.ids }
+    ensures capacity { writes.new.capacity ≡ writes.old.capacity }
+{
+    if keeps_writes {
+        writes.remove(id);
+    }
 }

@@ -1,7 +1,7 @@
 //! The entries of a cache: one list in order of use with its three parts, one in order of writing, and an index by hash. Only this module finds, adds,
 //! changes and removes entries.
 ghost use Rattle.std.specs.Prelude.{◌≡◌, ◌≤◌, ◌<◌, ◌+◌, ◌-◌, ◌^◌, ◌++◌, ◌==◌, ◌&&◌, ℕ, [], length, nat_eq};
-ghost use Rattle.std.specs.Prelude.{IfOk, IfSome, IsNone, IsOk, IsSome, None, OnOk, Some};
+ghost use Rattle.std.specs.Prelude.{IfOk, IfSome, IsNone, IsOk, IsSome, None, OnOk, Some, option_map};
 ghost use Rattle.std.specs.List.{IsDistinct};
 ghost use Rattle.std.specs.Map.{keys_of, lookup};
 ghost use Rattle.moka_list.specs.Nodes.{first_id, next_id};
@@ -14,8 +14,7 @@ ghost use Rattle.moka_store.specs.Nodes.{start_of};
 ghost use Rattle.moka_store.specs.Store.{AreCandidates, Enters, HasHash, IsFound, IsFront, IsFrontOf, IsOldest, Promotes, Removes, Replaces, Updates, Uses};
 ghost use Rattle.moka_store.specs.Store.{contents_of, entries_of, is_of, those_of};
 
-use crate::parts::{Marks, Weights, balance, is_of, settle};
-use crate::writes::{add_write, remove_write, write_again};
+use crate::parts::{Marks, Weights, add_write, balance, is_of, remove_write, settle, write_again};
 use moka_common::error::OutOfMemory;
 use moka_common::policy::Policy;
 use moka_common::time::Instant;
@@ -26,6 +25,7 @@ use moka_list::indexing::index_all;
 use moka_unsync_model::entry::{Entry, Part};
 use std::alloc::{AllocError, Allocator, Global};
 use std::marker::Model;
+use std::mem::replace;
 
 /// The entries of a cache. A look-up, an insert, a use and a removal take constant time on average.
 #[derive(Drop)]
@@ -267,20 +267,24 @@ impl<K: Eq + Drop, V: Drop, A: Allocator + Clone + Drop> Store<K, V, A> {
         balance(&mut self.entries, &mut self.marks, &mut self.weights, room);
     }
 
-    /// Replaces an entry's value, weight and moments, and keeps its key. That is an access, as in `touch`, and a write.
-    pub fn update(&mut self, id: NodeId, room: u64, update: Entry<K, V>)
+    /// Replaces an entry's value, weight and moments, and keeps its key. That is an access, as in `touch`, and a write. Returns the other key and the old
+    /// value.
+    pub fn update(&mut self, id: NodeId, room: u64, update: Entry<K, V>) -> (K, V)
         requires { IsSome (lookup (nat_eq id) self.old.nodes) }
-        ensures { Updates K.eq self.old id room update self.new }
+        ensures value { option_map (λ e. e.value) (lookup (nat_eq id) self.old.nodes) ≡ Some result.1 }
+        ensures key { result.0 ≡ update.key }
+        ensures step { Updates K.eq self.old id room update self.new }
     {
         self.marks.pass(&self.entries, id);
         let entry = self.entries.get_mut(id);
         let used = used_part(room, entry.part, update.weight);
         self.weights.take(entry.part, entry.weight);
         self.weights.add(used, update.weight);
-        rewrite(entry, used, update);
+        let left = rewrite(entry, used, update);
         settle(&mut self.entries, &mut self.marks, id, used);
         balance(&mut self.entries, &mut self.marks, &mut self.weights, room);
         write_again(&mut self.writes, self.keeps_writes, id);
+        left
     }
 
     /// Moves an entry to probation, as its most recently used one. That is no write.
@@ -312,13 +316,14 @@ impl<K: Eq + Drop, V: Drop, A: Allocator + Clone + Drop> Store<K, V, A> {
         self.index.add(id.number(), hash);
     }
 
-    /// Removes an entry and adds another in its node, as `remove` and `enter` would. It spares the allocation of a node and half of the relinking. There
-    /// must be no entry of the new key.
+    /// Removes an entry, returns it, and adds another in its node, as `take` and `enter` would. It spares the allocation of a node and half of the relinking.
+    /// There must be no entry of the new key.
     #[inline]
-    pub fn replace(&mut self, id: NodeId, entry: Entry<K, V>)
+    pub fn replace(&mut self, id: NodeId, entry: Entry<K, V>) -> Entry<K, V>
         requires stands { IsSome (lookup (nat_eq id) self.old.nodes) }
         requires absent { entry_at K.eq entry.key (entries_of self.old) ≡ None }
-        ensures { Replaces K.eq self.old id entry self.new }
+        ensures value { lookup (nat_eq id) self.old.nodes ≡ Some result }
+        ensures step { Replaces K.eq self.old id entry self.new }
     {
         let (hash, part) = (entry.hash, entry.part);
         self.marks.pass(&self.entries, id);
@@ -326,18 +331,11 @@ impl<K: Eq + Drop, V: Drop, A: Allocator + Clone + Drop> Store<K, V, A> {
         self.index.remove(id.number(), gone.hash);
         self.weights.take(gone.part, gone.weight);
         self.weights.add(part, entry.weight);
-        *gone = entry;
+        let gone = replace(gone, entry);
         settle(&mut self.entries, &mut self.marks, id, part);
         write_again(&mut self.writes, self.keeps_writes, id);
         self.index.add(id.number(), hash);
-    }
-
-    /// Removes an entry.
-    pub fn remove(&mut self, id: NodeId)
-        requires { IsSome (lookup (nat_eq id) self.old.nodes) }
-        ensures { Removes K.eq self.old id self.new }
-    {
-        drop(self.take(id));
+        gone
     }
 
     /// Removes an entry and returns it.
@@ -369,14 +367,16 @@ fn used_part(room: u64, part: Part, weight: u32) -> Part
     Part::Probation
 }
 
-/// Replaces an entry's value, weight, moments and part, and keeps its key.
+/// Replaces an entry's value, weight, moments and part, and keeps its key. Returns the other key and the old value.
 #[inline]
-fn rewrite<K: Drop, V: Drop>(entry: &mut Entry<K, V>, part: Part, update: Entry<K, V>)
-    ensures { entry.new ≡ record update { key = entry.old.key; hash = entry.old.hash; part = part } }
+fn rewrite<K: Drop, V: Drop>(entry: &mut Entry<K, V>, part: Part, update: Entry<K, V>) -> (K, V)
+    ensures entry { entry.new ≡ record update { key = entry.old.key; hash = entry.old.hash; part = part } }
+    ensures left { result ≡ (update.key, entry.old.value) }
 {
-    entry.value = update.value;
+    let value = replace(&mut entry.value, update.value);
     entry.weight = update.weight;
     entry.part = part;
     entry.accessed = update.accessed;
     entry.modified = update.modified;
+    (update.key, value)
 }

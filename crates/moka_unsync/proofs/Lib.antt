@@ -7,3 +7,5 @@ pub mod InsertLemmas
 pub mod CachedLemmas
 pub mod IterateLemmas
 pub mod RunLemmas
+pub mod LeavingLemmas
+pub mod UsedLemmas

@@ -16,6 +16,9 @@ pub use Rattle.moka_unsync_model.specs.PlainMap
 pub use Rattle.moka_unsync_model.specs.History
 pub use Rattle.moka_unsync_model.specs.Removal
 pub use Rattle.moka_unsync_model.specs.Excluded
+pub use Rattle.moka_unsync_model.specs.Told
+pub use Rattle.moka_unsync_model.specs.ToldCalls
+pub mod Notifying
 pub mod CacheLends
 -- inside
 pub mod Cached

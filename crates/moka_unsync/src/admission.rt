@@ -1,6 +1,6 @@
 // Admission of new entries by TinyLFU, size-aware as in Caffeine. A new entry first enters the window, if there is one; entries that leave the window are
 // the candidates for main.
-ghost use Rattle.std.specs.Prelude.{◌≡◌, ◌<◌, ◌≤◌, ◌-◌, ◌+◌, ◌^◌, ◌++◌, ◌∷◌, [], ℕ, All, IfSome, IsNone, List, None, Some, false, is_some, length};
+ghost use Rattle.std.specs.Prelude.{◌≡◌, ◌<◌, ◌≤◌, ◌-◌, ◌+◌, ◌^◌, ◌++◌, ◌∷◌, ◌⊎◌, ⊤, [], ℕ, All, IfSome, IsNone, List, None, Some, false, is_some, length};
 ghost use Rattle.moka_common.specs.Admission.{outvoted};
 ghost use Rattle.moka_common.specs.Prefix.{shortest_prefix};
 ghost use Rattle.moka_common.specs.Sketch.{estimate};
@@ -9,25 +9,31 @@ ghost use Rattle.moka_unsync_model.specs.declared.entry.Entry.{Entry as EntryVal
 ghost use Rattle.moka_unsync_model.specs.declared.entry.Part.TheVariants.{Probation, Window};
 ghost use Rattle.moka_unsync_model.specs.Insert.{after_admission, after_arrival, after_entering, after_entry};
 ghost use Rattle.moka_unsync_model.specs.Shares.{main_limit};
+ghost use Rattle.moka_unsync_model.specs.Told.{IsAbove, TellsPut, TellsWhatLeft, unplaced};
+ghost use Rattle.moka_unsync_model.specs.declared.listener.Cause.TheVariants.{Size};
+ghost use Rattle.std.specs.List.Sorted.{IsPermutation};
 ghost use Rattle.moka_unsync_model.specs.Upkeep.{least_recent};
 ghost use Rattle.moka_unsync_model.specs.Window.{after_candidate, after_candidates, excess, victims_of};
 ghost use Rattle.moka_store.specs.Store.{Continues, IsFront, IsFrontOf, contents_of, entries_of};
 ghost use Rattle.moka_unsync.specs.Cached.{IsPut};
 ghost use Rattle.moka_unsync.specs.Turns.{IsTurn, after_eviction_of, counted};
 
+use crate::leaving::leave;
 use moka_common::frequency_sketch::FrequencySketch;
 use moka_list::chain::NodeId;
 use moka_store::store::Store;
 use moka_unsync_model::entry::{Entry, Part};
+use moka_unsync_model::listener::{Cause, Listener};
 use moka_unsync_model::shares::PartLimits;
 use std::alloc::Allocator;
 
 /// Stores a new entry in place of its victims in main, or drops it if it is rejected. Returns whether it was stored.
-pub(crate) fn admit<K: Eq + Drop, V: Drop, A: Allocator + Clone + Drop>(
+pub(crate) fn admit<K: Eq + Drop, V: Drop, A: Allocator + Clone + Drop, L: Listener<K, V>>(
     store: &mut Store<K, V, A>,
     limit: Option<u64>,
     sketch: &FrequencySketch<A>,
     new: Entry<K, V>,
+    listener: &mut L,
 ) -> bool
     requires room { length store.old.nodes < store.old.capacity }
     requires absent { entry_at K.eq new.key (entries_of store.old) ≡ None }
@@ -36,11 +42,14 @@ pub(crate) fn admit<K: Eq + Drop, V: Drop, A: Allocator + Clone + Drop>(
         (victims_of limit sketch.now new (main_of (entries_of store.old))) (contents_of store.old) }
     ensures keeps { store.new.keeps_writes ≡ store.old.keeps_writes }
     ensures capacity { store.new.capacity ≡ store.old.capacity }
+    ensures told { TellsPut L.hears limit result new (entries_of store.old) (entries_of store.new) listener.old listener.new }
 {
     let Some(count) = victim_count(store, limit, sketch, &new) else {
+        let Entry { key, value, .. } = new;
+        listener.removed(key, value, Cause::Rejected);
         return false;
     };
-    enter_for(store, count, new);
+    enter_for(store, count, new, listener);
     true
 }
 
@@ -52,7 +61,8 @@ fn victim_count<K: Eq + Drop, V: Drop, A: Allocator + Clone + Drop>(
     sketch: &FrequencySketch<A>,
     new: &Entry<K, V>,
 ) -> Option<usize>
-    ensures { counted (main_of (entries_of store.now)) result ≡ victims_of limit sketch.now new.now (main_of (entries_of store.now)) }
+    ensures victims { counted (main_of (entries_of store.now)) result ≡ victims_of limit sketch.now new.now (main_of (entries_of store.now)) }
+    ensures above { (result ≡ Some 0) ⊎ IsAbove limit (total_weight (main_of (entries_of store.now)) + new.now.weight) }
 {
     let Some(limit) = limit else {
         return Some(0);
@@ -119,55 +129,64 @@ fn is_windowed<K: Drop, V: Drop>(entry: &Entry<K, V>) -> bool
 
 /// Evicts `count` LRU entries of main and stores the new one in the last one's node.
 #[inline(always)]
-fn enter_for<K: Eq + Drop, V: Drop, A: Allocator + Clone + Drop>(
+fn enter_for<K: Eq + Drop, V: Drop, A: Allocator + Clone + Drop, L: Listener<K, V>>(
     store: &mut Store<K, V, A>,
     count: usize,
     new: Entry<K, V>,
+    listener: &mut L,
 )
     requires room { length store.old.nodes < store.old.capacity }
     requires absent { entry_at K.eq new.key (entries_of store.old) ≡ None }
     ensures step { contents_of store.new ≡ after_arrival K.eq store.old.keeps_writes new (after_eviction_of K.eq count (contents_of store.old)) }
     ensures keeps { store.new.keeps_writes ≡ store.old.keeps_writes }
     ensures capacity { store.new.capacity ≡ store.old.capacity }
+    ensures told { TellsWhatLeft L.hears Size (λ e. 0 < count) (new ∷ entries_of store.old) (entries_of store.new) listener.old listener.new }
 {
     if count == 0 {
         store.enter(new);
         return;
     }
-    evict(store, count - 1);
+    evict(store, count - 1, listener);
     match main_front(store) {
-        Some(id) => store.replace(id, new),
+        Some(id) => {
+            let Entry { key, value, .. } = store.replace(id, new);
+            listener.removed(key, value, Cause::Size);
+        }
         None => store.enter(new),
     }
 }
 
 /// Evicts `count` LRU entries of main.
 #[inline(always)]
-fn evict<K: Eq + Drop, V: Drop, A: Allocator + Clone + Drop>(
+fn evict<K: Eq + Drop, V: Drop, A: Allocator + Clone + Drop, L: Listener<K, V>>(
     store: &mut Store<K, V, A>,
     count: usize,
+    listener: &mut L,
 )
     ensures step { (more : ℕ) → after_eviction_of K.eq (count + more) (contents_of store.old) ≡ after_eviction_of K.eq more (contents_of store.new) }
     ensures kept { Continues store.old store.new }
+    ensures told { TellsWhatLeft L.hears Size (λ e. 0 < count) (entries_of store.old) (entries_of store.new) listener.old listener.new }
 {
     let mut left = count;
-    while left > 0 && evict_front(store) {
+    while left > 0 && evict_front(store, listener) {
         left -= 1;
     }
 }
 
 /// Evicts main's least recently used entry, if there is one.
-fn evict_front<K: Eq + Drop, V: Drop, A: Allocator + Clone + Drop>(
+fn evict_front<K: Eq + Drop, V: Drop, A: Allocator + Clone + Drop, L: Listener<K, V>>(
     store: &mut Store<K, V, A>,
+    listener: &mut L,
 ) -> bool
     ensures turn { IsTurn (after_eviction_of K.eq)
         result (contents_of store.old) (contents_of store.new) }
     ensures kept { Continues store.old store.new }
+    ensures told { TellsWhatLeft L.hears Size (λ e. ⊤) (entries_of store.old) (entries_of store.new) listener.old listener.new }
 {
     let Some(id) = main_front(store) else {
         return false;
     };
-    store.remove(id);
+    leave(store, id, Cause::Size, listener);
     true
 }
 
@@ -189,11 +208,12 @@ fn main_front<K: Eq + Drop, V: Drop, A: Allocator + Clone + Drop>(
 /// Stores a new entry in the window. Then the window's least recently used entries move to main if they are admitted there, or leave the store, until its
 /// weight is within its share. Returns whether the new entry was stored.
 #[inline(always)]
-pub(crate) fn enter_window<K: Eq + Drop, V: Drop, A: Allocator + Clone + Drop>(
+pub(crate) fn enter_window<K: Eq + Drop, V: Drop, A: Allocator + Clone + Drop, L: Listener<K, V>>(
     store: &mut Store<K, V, A>,
     limits: &PartLimits,
     sketch: &FrequencySketch<A>,
     mut new: Entry<K, V>,
+    listener: &mut L,
 ) -> bool
     requires room { length store.old.nodes < store.old.capacity }
     requires absent { entry_at K.eq new.key (entries_of store.old) ≡ None }
@@ -203,6 +223,7 @@ pub(crate) fn enter_window<K: Eq + Drop, V: Drop, A: Allocator + Clone + Drop>(
     ensures step { contents_of store.new ≡ after_entering K.eq store.old.keeps_writes limits.now sketch.now new (contents_of store.old) }
     ensures keeps { store.new.keeps_writes ≡ store.old.keeps_writes }
     ensures capacity { store.new.capacity ≡ store.old.capacity }
+    ensures told { TellsPut L.hears (Some (main_limit limits.now)) result new (entries_of store.old) (entries_of store.new) listener.old listener.new }
 {
     let enough = excess(store, limits, new.weight);
     if enough == 0 {
@@ -213,10 +234,10 @@ pub(crate) fn enter_window<K: Eq + Drop, V: Drop, A: Allocator + Clone + Drop>(
     match last_candidate(store, enough) {
         Some(id) => {
             new.part = Part::Window;
-            judge_last(store, limits, sketch, id, new);
+            judge_last(store, limits, sketch, id, new, listener);
             true
         }
-        None => enter_judged(store, limits, sketch, enough, new),
+        None => enter_judged(store, limits, sketch, enough, new, listener),
     }
 }
 
@@ -238,12 +259,13 @@ fn last_candidate<K: Eq + Drop, V: Drop, A: Allocator + Clone + Drop>(
 /// Does the same if several entries are judged, or the new one is. The weight that has to leave the window is `enough`.
 #[cold]
 #[inline(never)]
-fn enter_judged<K: Eq + Drop, V: Drop, A: Allocator + Clone + Drop>(
+fn enter_judged<K: Eq + Drop, V: Drop, A: Allocator + Clone + Drop, L: Listener<K, V>>(
     store: &mut Store<K, V, A>,
     limits: &PartLimits,
     sketch: &FrequencySketch<A>,
     enough: u64,
     mut new: Entry<K, V>,
+    listener: &mut L,
 ) -> bool
     requires room { length store.old.nodes < store.old.capacity }
     requires absent { entry_at K.eq new.key (entries_of store.old) ≡ None }
@@ -254,10 +276,11 @@ fn enter_judged<K: Eq + Drop, V: Drop, A: Allocator + Clone + Drop>(
     ensures step { contents_of store.new ≡ after_entering K.eq store.old.keeps_writes limits.now sketch.now new (contents_of store.old) }
     ensures keeps { store.new.keeps_writes ≡ store.old.keeps_writes }
     ensures capacity { store.new.capacity ≡ store.old.capacity }
+    ensures told { TellsPut L.hears (Some (main_limit limits.now)) result new (entries_of store.old) (entries_of store.new) listener.old listener.new }
 {
-    if judge_candidates(store, limits, sketch, enough) > 0 {
+    if judge_candidates(store, limits, sketch, enough, listener) > 0 {
         // The new entry is the last candidate, so it comes to main or leaves without having stood in the window.
-        return admit(store, Some(main_limit(limits)), sketch, new);
+        return admit(store, Some(main_limit(limits)), sketch, new, listener);
     }
     new.part = Part::Window;
     store.enter(new);
@@ -288,16 +311,19 @@ fn excess<K: Eq + Drop, V: Drop, A: Allocator + Clone + Drop>(
 }
 
 /// Judges the window's entries, least recently used first, until `enough` weight has left the window. Returns how much is lacking then.
-fn judge_candidates<K: Eq + Drop, V: Drop, A: Allocator + Clone + Drop>(
+fn judge_candidates<K: Eq + Drop, V: Drop, A: Allocator + Clone + Drop, L: Listener<K, V>>(
     store: &mut Store<K, V, A>,
     limits: &PartLimits,
     sketch: &FrequencySketch<A>,
     enough: u64,
+    listener: &mut L,
 ) -> u64
     ensures value { result ≡ enough - total_weight (least_recent enough (window_of (entries_of store.old))) }
     ensures step { contents_of store.new ≡ after_candidates K.eq limits.now sketch.now (least_recent enough (window_of (entries_of store.old)))
         (contents_of store.old) }
     ensures kept { Continues store.old store.new }
+    ensures told { TellsWhatLeft L.hears Size (λ e. IsAbove (Some (main_limit limits.now)) (total_weight (entries_of store.old)))
+        (entries_of store.old) (entries_of store.new) listener.old listener.new }
 {
     let mut lacking = enough;
     while lacking > 0 {
@@ -305,41 +331,45 @@ fn judge_candidates<K: Eq + Drop, V: Drop, A: Allocator + Clone + Drop>(
             return lacking;
         };
         lacking = lacking.saturating_sub(u64::from(store.get(id).weight));
-        judge(store, limits, sketch, id);
+        judge(store, limits, sketch, id, listener);
     }
     lacking
 }
 
 /// Judges the window's least recently used entry: it moves to main in place of its victims, or leaves.
-fn judge<K: Eq + Drop, V: Drop, A: Allocator + Clone + Drop>(
+fn judge<K: Eq + Drop, V: Drop, A: Allocator + Clone + Drop, L: Listener<K, V>>(
     store: &mut Store<K, V, A>,
     limits: &PartLimits,
     sketch: &FrequencySketch<A>,
     id: NodeId,
+    listener: &mut L,
 )
     requires { IsFrontOf K.eq Window store.old id }
     ensures step { (front : IsFrontOf K.eq Window store.old id)
         × (contents_of store.new ≡ after_candidate K.eq limits.now sketch.now (contents_of store.old) front.entry)
         × (window_of (entries_of store.new) ≡ front.rest) }
     ensures kept { Continues store.old store.new }
+    ensures told { TellsWhatLeft L.hears Size (λ e. IsAbove (Some (main_limit limits.now)) (total_weight (entries_of store.old)))
+        (entries_of store.old) (entries_of store.new) listener.old listener.new }
 {
     match victim_count(store, Some(main_limit(limits)), sketch, store.get(id)) {
         Some(count) => {
-            evict(store, count);
+            evict(store, count, listener);
             promote_front(store);
         }
-        None => store.remove(id),
+        None => leave(store, id, Cause::Size, listener),
     }
 }
 
 /// Does the same and stores a new entry in the window, in the node of an entry that leaves, if one does.
 #[inline(always)]
-fn judge_last<K: Eq + Drop, V: Drop, A: Allocator + Clone + Drop>(
+fn judge_last<K: Eq + Drop, V: Drop, A: Allocator + Clone + Drop, L: Listener<K, V>>(
     store: &mut Store<K, V, A>,
     limits: &PartLimits,
     sketch: &FrequencySketch<A>,
     id: NodeId,
     new: Entry<K, V>,
+    listener: &mut L,
 )
     requires room { length store.old.nodes < store.old.capacity }
     requires absent { entry_at K.eq new.key (entries_of store.old) ≡ None }
@@ -350,14 +380,19 @@ fn judge_last<K: Eq + Drop, V: Drop, A: Allocator + Clone + Drop>(
         ≡ after_entry K.eq store.old.keeps_writes new (after_candidate K.eq limits.now sketch.now (contents_of store.old) front.entry)) }
     ensures keeps { store.new.keeps_writes ≡ store.old.keeps_writes }
     ensures capacity { store.new.capacity ≡ store.old.capacity }
+    ensures told { TellsWhatLeft L.hears Size (λ e. IsAbove (Some (main_limit limits.now)) (total_weight (entries_of store.old) + new.weight))
+        (new ∷ entries_of store.old) (entries_of store.new) listener.old listener.new }
 {
     match victim_count(store, Some(main_limit(limits)), sketch, store.get(id)) {
         Some(count) => {
             // The candidate is still the window's first entry after this.
-            enter_for(store, count, new);
+            enter_for(store, count, new, listener);
             promote_front(store);
         }
-        None => store.replace(id, new),
+        None => {
+            let Entry { key, value, .. } = store.replace(id, new);
+            listener.removed(key, value, Cause::Size);
+        }
     }
 }
 
@@ -366,6 +401,7 @@ fn judge_last<K: Eq + Drop, V: Drop, A: Allocator + Clone + Drop>(
 fn promote_front<K: Eq + Drop, V: Drop, A: Allocator + Clone + Drop>(store: &mut Store<K, V, A>)
     ensures step { (c : EntryValue K V) (ws : List (EntryValue K V)) → window_of (entries_of store.old) ≡ c ∷ ws
         → contents_of store.new ≡ after_moving K.eq (record c { part = Probation }) (contents_of store.old) }
+    ensures same { IsPermutation (unplaced (entries_of store.old)) (unplaced (entries_of store.new)) }
     ensures kept { Continues store.old store.new }
 {
     if let Some(id) = store.front_of(Part::Window) {

@@ -3,6 +3,7 @@ ghost use Rattle.std.specs.Prelude.{◌≡◌, true, None, Some, IfErr, IfOk};
 ghost use Rattle.moka_unsync.specs.Builder.{IsBuilt, new_builder, refusal_of};
 
 mod debug;
+mod notifying;
 
 use crate::cache::{Cache, Parts};
 use crate::part_limits::{default_shares, share_fault};
@@ -12,6 +13,7 @@ use moka_common::policy::Policy;
 use moka_common::settings::duration_fault;
 use moka_common::weigh::{UnitWeight, Weigh};
 use moka_unsync_model::shares::Shares;
+pub use notifying::NotifyingBuilder;
 use std::alloc::{Allocator, Global};
 use std::hash::{BuildHasher, Hash};
 use std::marker::{Model, PhantomData};
@@ -168,6 +170,20 @@ impl<K, V, W: Drop, A: Allocator + Clone + Drop> CacheBuilder<K, V, W, A> {
         } }
     {
         self.weigher_where(true, weigher)
+    }
+
+    /// Sets the listener, which gets each entry that leaves. It is set last.
+    ///
+    /// ```
+    /// let mut cache: NotifyingCache<u64, u32, Statistics> = Cache::builder(alloc)
+    ///     .max_capacity(100)
+    ///     .eviction_listener(Statistics::default())
+    ///     .build()?;
+    /// ```
+    pub fn eviction_listener<L: Drop>(self, listener: L) -> NotifyingBuilder<K, V, L, W, A>
+        ensures { result ≡ record { builder = self; listener = listener } }
+    {
+        NotifyingBuilder::new(self, listener)
     }
 
     /// A weigher for a program that learns only when it runs whether the capacity is a weight or a number of entries. Where `is_weighed` is false it is the

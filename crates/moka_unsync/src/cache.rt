@@ -15,13 +15,13 @@ ghost use Rattle.moka_unsync_model.specs.Invalidate.{AnswersInTurn, after_invali
 ghost use Rattle.moka_unsync_model.specs.Iterate.{pair_behind, pairs_at};
 ghost use Rattle.moka_unsync_model.specs.Shares.{default_shares};
 
+mod calls;
 mod debug;
 mod iter;
 
-use crate::admission::{admit, enter_window};
 use crate::builder::CacheBuilder;
+use crate::notifying_cache::NotifyingCache;
 use crate::part_limits::{protected_room, windowed_limits};
-use crate::removal::{clear, remove_key, remove_where, take_key};
 use crate::upkeep::Bounds;
 use crate::walk::next_unexpired;
 pub use iter::Iter;
@@ -33,7 +33,7 @@ use moka_common::policy::Policy;
 use moka_common::time::Instant;
 use moka_common::weigh::{UnitWeight, Weigh};
 use moka_store::store::Store;
-use moka_unsync_model::entry::{Entry, Part};
+use moka_unsync_model::listener::NoListener;
 use moka_unsync_model::shares::{PartLimits, Shares};
 use std::alloc::{Allocator, Global};
 use std::hash::{BuildHasher, Hash};
@@ -250,6 +250,20 @@ impl<
         })
     }
 
+    /// The hash of a key.
+    pub(crate) fn hash_of(&self, key: &K) -> u64
+        ensures { result ≡ (keys_by K.Hash S.BuildHasher S.Hasher.Hasher).hash_of self.now.settings.hash_state key.now }
+    {
+        self.hash_state.hash_one(key)
+    }
+
+    /// Makes it a cache that tells a listener of each entry that leaves.
+    pub fn with_listener<L: Drop>(self, listener: L) -> NotifyingCache<K, V, L, S, W, A>
+        ensures { result ≡ record { cache = self; listener = listener } }
+    {
+        NotifyingCache::new(self, listener)
+    }
+
     /// The limits of the cache.
     pub fn policy(&self) -> Policy
         ensures { result ≡ self.now.settings.policy }
@@ -278,65 +292,6 @@ impl<
         self.store.weight()
     }
 
-    /// Returns `true` if the key has an unexpired entry. It doesn't count as an access: no moment, place or popularity changes.
-    pub fn contains_key(&mut self, key: &K, now: Instant) -> bool
-        ensures value { result
-            ≡ is_contained (keys_by K.Hash S.BuildHasher S.Hasher.Hasher) self.old key.now now }
-        ensures step { self.new
-            ≡ after_look (keys_by K.Hash S.BuildHasher S.Hasher.Hasher) self.old now }
-    {
-        let hash = self.hash_state.hash_one(key);
-        self.contains_hashed(key, hash, now)
-    }
-
-    /// Tells if the key has an unexpired entry, as `contains_key` does, by the key's hash. An owner of many caches with one hash state hashes once.
-    pub fn contains_hashed(&mut self, key: &K, hash: u64, now: Instant) -> bool
-        requires { hash ≡ (keys_by K.Hash S.BuildHasher S.Hasher.Hasher).hash_of self.old.settings.hash_state key.now }
-        ensures value { result
-            ≡ is_contained (keys_by K.Hash S.BuildHasher S.Hasher.Hasher) self.old key.now now }
-        ensures step { self.new
-            ≡ after_look (keys_by K.Hash S.BuildHasher S.Hasher.Hasher) self.old now }
-    {
-        self.bounds.upkeep(&mut self.store, now);
-        match self.store.find(key, hash) {
-            Some(id) => !self.bounds.is_expired(self.store.get(id), now),
-            None => false,
-        }
-    }
-
-    /// Returns the value of the key's unexpired entry, if there is one. The key is counted, found or not.
-    pub fn get(&mut self, key: &K, now: Instant) -> Option<&V>
-        ensures* step { sem 𝓛 (ends_as K.row V.row S.row W.row A.row S.Hasher.row
-            K.Hash S.BuildHasher S.Hasher.Hasher A.Allocator A.Clone self.entry
-            (after_get (keys_by K.Hash S.BuildHasher S.Hasher.Hasher) self.old key.now now)) }
-        ensures value { option_copied result
-            ≡ found_by_get (keys_by K.Hash S.BuildHasher S.Hasher.Hasher) self.old key.now now }
-    {
-        let hash = self.hash_state.hash_one(key);
-        self.get_hashed(key, hash, now)
-    }
-
-    /// Returns the value of the key, as `get` does, by the key's hash.
-    pub fn get_hashed(&mut self, key: &K, hash: u64, now: Instant) -> Option<&V>
-        requires { hash ≡ (keys_by K.Hash S.BuildHasher S.Hasher.Hasher).hash_of self.old.settings.hash_state key.now }
-        ensures* step { sem 𝓛 (ends_as K.row V.row S.row W.row A.row S.Hasher.row
-            K.Hash S.BuildHasher S.Hasher.Hasher A.Allocator A.Clone self.entry
-            (after_get (keys_by K.Hash S.BuildHasher S.Hasher.Hasher) self.old key.now now)) }
-        ensures value { option_copied result
-            ≡ found_by_get (keys_by K.Hash S.BuildHasher S.Hasher.Hasher) self.old key.now now }
-    {
-        self.bounds.upkeep(&mut self.store, now);
-        // The index is asked first, so that the processor waits for it and for the sketch at once.
-        let candidates = self.store.candidates(hash);
-        self.sketch.increment(hash);
-        let id = self.store.find_among(candidates, key, hash)?;
-        if self.bounds.is_expired(self.store.get(id), now) {
-            return None;
-        }
-        self.store.touch(id, self.room, now);
-        Some(&self.store.get(id).value)
-    }
-
     /// Returns the value of the key's unexpired entry, if there is one. It doesn't count as an access, and removes nothing, so it still finds an entry that a
     /// `get` would first remove for the limit. It takes constant time on average.
     pub fn peek(&self, key: &K, now: Instant) -> Option<&V>
@@ -361,72 +316,13 @@ impl<
         Some(&entry.value)
     }
 
-    /// Removes the entry of the key, if there is one. What was counted of the key stays.
-    pub fn invalidate(&mut self, key: &K, now: Instant)
-        ensures step { self.new
-            ≡ after_invalidate (keys_by K.Hash S.BuildHasher S.Hasher.Hasher) self.old key.now now }
+    /// Returns the value of the key's entry, expired or not. The hash is the key's.
+    pub(crate) fn stored(&self, key: &K, hash: u64) -> Option<&V>
+        requires { hash ≡ (keys_by K.Hash S.BuildHasher S.Hasher.Hasher).hash_of self.now.settings.hash_state key.now }
+        ensures { option_copied result ≡ option_map (λ e. e.value) (entry_at K.eq key.now self.now.contents.entries) }
     {
-        let hash = self.hash_state.hash_one(key);
-        self.invalidate_hashed(key, hash, now);
-    }
-
-    /// Removes the entry of the key, as `invalidate` does, by the key's hash.
-    pub fn invalidate_hashed(&mut self, key: &K, hash: u64, now: Instant)
-        requires { hash ≡ (keys_by K.Hash S.BuildHasher S.Hasher.Hasher).hash_of self.old.settings.hash_state key.now }
-        ensures step { self.new
-            ≡ after_invalidate (keys_by K.Hash S.BuildHasher S.Hasher.Hasher) self.old key.now now }
-    {
-        self.bounds.upkeep(&mut self.store, now);
-        remove_key(&mut self.store, key, hash);
-    }
-
-    /// Removes the entry of the key, if there is one, and returns its value, unless it is expired. The value is moved out, so it needs no `Clone`.
-    ///
-    /// The answer is `None` where the key has no entry, and where its entry is expired and no call has removed it yet: that leaves too. The key is
-    /// not counted, and what was counted of it stays. It takes constant time on average, beside the batch that leaves first, and no memory, so it is
-    /// never refused.
-    pub fn remove(&mut self, key: &K, now: Instant) -> Option<V>
-        ensures value { result
-            ≡ found_by_get (keys_by K.Hash S.BuildHasher S.Hasher.Hasher) self.old key.now now }
-        ensures step { self.new
-            ≡ after_invalidate (keys_by K.Hash S.BuildHasher S.Hasher.Hasher) self.old key.now now }
-    {
-        let hash = self.hash_state.hash_one(key);
-        self.remove_hashed(key, hash, now)
-    }
-
-    /// Removes the entry of the key, as `remove` does, by the key's hash.
-    pub fn remove_hashed(&mut self, key: &K, hash: u64, now: Instant) -> Option<V>
-        requires { hash ≡ (keys_by K.Hash S.BuildHasher S.Hasher.Hasher).hash_of self.old.settings.hash_state key.now }
-        ensures value { result
-            ≡ found_by_get (keys_by K.Hash S.BuildHasher S.Hasher.Hasher) self.old key.now now }
-        ensures step { self.new
-            ≡ after_invalidate (keys_by K.Hash S.BuildHasher S.Hasher.Hasher) self.old key.now now }
-    {
-        self.bounds.upkeep(&mut self.store, now);
-        let entry = take_key(&mut self.store, key, hash)?;
-        if self.bounds.is_expired(&entry, now) {
-            return None;
-        }
-        Some(entry.value)
-    }
-
-    /// Removes all entries. What was counted of their keys stays, and so does the room. It takes time linear in the number of entries.
-    pub fn invalidate_all(&mut self)
-        ensures step { self.new ≡ after_invalidate_all self.old }
-    {
-        clear(&mut self.store);
-    }
-
-    /// Removes the entries at which the predicate answers `true`. It is called once at each entry, expired ones among them, in order of use, least
-    /// recently used first and those of the window last. What was counted of the keys stays. It takes time linear in the number of entries, and no memory.
-    pub fn invalidate_entries_if<F: FnMut(&K, &V) -> bool>(&mut self, predicate: F)
-        requires { F.IsAlwaysCallable predicate }
-        ensures step { (answers : List Bool)
-            × AnswersInTurn F.step predicate self.old.contents.entries answers
-            × (self.new ≡ after_invalidate_if (keys_by K.Hash S.BuildHasher S.Hasher.Hasher) self.old answers) }
-    {
-        remove_where(&mut self.store, predicate);
+        let id = self.store.find(key, hash)?;
+        Some(&self.store.get(id).value)
     }
 
     /// Returns an iterator over the unexpired pairs, in order of use, LRU first and the window last. It doesn't count as an access, and removes none.
@@ -473,146 +369,6 @@ impl<
     }
 }
 
-impl<
-    K: Eq + Hash + Drop,
-    V: Drop,
-    S: BuildHasher + Drop,
-    W: Weigh<K, V> + Drop,
-    A: Allocator + Clone + Drop,
-> Cache<K, V, S, W, A> {
-    /// Puts the value at the key, as the most recent entry in both orders. Where the key is there already, its entry keeps the first key object.
-    /// A new entry for which there is no room may be rejected by the admission policy, which is `Ok` as well. Where there is a window, older entries of it may
-    /// leave too.
-    ///
-    /// Memory is reserved first, for an update too, which may need none in the end. If it is refused, nothing was expired, evicted, weighed or stored, an entry
-    /// at the key keeps its value, and the key and value that were handed in are dropped. Otherwise the weigher is asked once.
-    pub fn insert(&mut self, key: K, value: V, now: Instant) -> Result<(), InsertError>
-        requires ready { W.ready self.old.weigher }
-        ensures step { OnOk result (IsInserted (keys_by K.Hash S.BuildHasher S.Hasher.Hasher)
-            W.weighs self.old key value now self.new) }
-        ensures err { OnErr result (IsRefused self.old self.new) }
-        ensures error { IfErr result (λ error. error ≡ InsertError.OutOfMemory) }
-        ensures ready { W.ready self.new.weigher }
-    {
-        let hash = self.hash_state.hash_one(&key);
-        self.insert_hashed(key, hash, value, now)
-    }
-
-    /// Puts the value at the key, as `insert` does, by the key's hash.
-    pub fn insert_hashed(
-        &mut self,
-        key: K,
-        hash: u64,
-        value: V,
-        now: Instant,
-    ) -> Result<(), InsertError>
-        requires hashed { hash ≡ (keys_by K.Hash S.BuildHasher S.Hasher.Hasher).hash_of self.old.settings.hash_state key }
-        requires ready { W.ready self.old.weigher }
-        ensures step { OnOk result (IsInserted (keys_by K.Hash S.BuildHasher S.Hasher.Hasher)
-            W.weighs self.old key value now self.new) }
-        ensures err { OnErr result (IsRefused self.old self.new) }
-        ensures error { IfErr result (λ error. error ≡ InsertError.OutOfMemory) }
-        ensures ready { W.ready self.new.weigher }
-    {
-        if self.store.reserve(1, self.most_entries).is_err() {
-            return Err(InsertError::OutOfMemory);
-        }
-        self.bounds.upkeep(&mut self.store, now);
-        let entry = Entry {
-            hash,
-            weight: self.weigher.weigh(&key, &value),
-            key,
-            value,
-            part: Part::Probation,
-            accessed: now,
-            modified: now,
-        };
-        match self.store.find(&entry.key, entry.hash) {
-            Some(id) => self.store.update(id, self.room, entry),
-            None => match &self.windowed {
-                Some(limits) => {
-                    if enter_window(&mut self.store, limits, &self.sketch, entry) {
-                        self.enable_sketch();
-                    }
-                }
-                None => {
-                    let limit = self.bounds.policy().max_capacity();
-                    if admit(&mut self.store, limit, &self.sketch, entry) {
-                        self.enable_sketch();
-                    }
-                }
-            },
-        }
-        Ok(())
-    }
-}
-
-impl<
-    K: Eq + Hash + Drop,
-    V: Clone + Drop,
-    S: BuildHasher + Drop,
-    W: Weigh<K, V> + Drop,
-    A: Allocator + Clone + Drop,
-> Cache<K, V, S, W, A> {
-    /// A clone of the key's value. Where the key has no unexpired entry, `make` is called, once, and what it gives is inserted, as by `insert`; it is
-    /// answered also where the admission policy rejects the entry. The key is counted, found or not, and its entry is used.
-    ///
-    /// ```
-    /// let square = cache.get_or_insert_with(7, now, || 7 * 7)?;
-    /// let found = cache.peek(&7, now).copied().unwrap_or(0);
-    /// ```
-    ///
-    /// It hashes the key once. Memory can be refused for the clone, or for room: then the key is counted and used, but nothing is inserted, and what was made
-    /// is dropped.
-    pub fn get_or_insert_with<F: FnOnce() -> V>(
-        &mut self,
-        key: K,
-        now: Instant,
-        make: F,
-    ) -> Result<V, InsertError>
-        requires ready { W.ready self.old.weigher }
-        requires make { found_by_get (keys_by K.Hash S.BuildHasher S.Hasher.Hasher) self.old key now ≡ None → F.pre make }
-        ensures ok { IfOk result (λ copy. (value : V) × V.is_clone value copy
-            × IsGotOrInserted (keys_by K.Hash S.BuildHasher S.Hasher.Hasher) self.old key now W.weighs (F.post make) value self.new) }
-        ensures err { OnErr result (((value : V) × (¬ (V.is_infallible value))
-            × (self.new ≡ after_get (keys_by K.Hash S.BuildHasher S.Hasher.Hasher) self.old key now))
-            ⊎ IsRefusedBehind (keys_by K.Hash S.BuildHasher S.Hasher.Hasher) self.old key now self.new) }
-        ensures error { IfErr result (λ error. error ≡ InsertError.OutOfMemory) }
-        ensures ready { W.ready self.new.weigher }
-    {
-        let hash = self.hash_state.hash_one(&key);
-        self.get_or_insert_hashed(key, hash, now, make)
-    }
-
-    /// Returns a clone of the value of the key, as `get_or_insert_with` does, by the key's hash.
-    pub fn get_or_insert_hashed<F: FnOnce() -> V>(
-        &mut self,
-        key: K,
-        hash: u64,
-        now: Instant,
-        make: F,
-    ) -> Result<V, InsertError>
-        requires hashed { hash ≡ (keys_by K.Hash S.BuildHasher S.Hasher.Hasher).hash_of self.old.settings.hash_state key }
-        requires ready { W.ready self.old.weigher }
-        requires make { found_by_get (keys_by K.Hash S.BuildHasher S.Hasher.Hasher) self.old key now ≡ None → F.pre make }
-        ensures ok { IfOk result (λ copy. (value : V) × V.is_clone value copy
-            × IsGotOrInserted (keys_by K.Hash S.BuildHasher S.Hasher.Hasher) self.old key now W.weighs (F.post make) value self.new) }
-        ensures err { OnErr result (((value : V) × (¬ (V.is_infallible value))
-            × (self.new ≡ after_get (keys_by K.Hash S.BuildHasher S.Hasher.Hasher) self.old key now))
-            ⊎ IsRefusedBehind (keys_by K.Hash S.BuildHasher S.Hasher.Hasher) self.old key now self.new) }
-        ensures error { IfErr result (λ error. error ≡ InsertError.OutOfMemory) }
-        ensures ready { W.ready self.new.weigher }
-    {
-        if let Some(found) = self.get_hashed(&key, hash, now) {
-            return copy_of(found);
-        }
-        let value = make();
-        let copy = copy_of(&value)?;
-        self.insert_hashed(key, hash, value, now)?;
-        Ok(copy)
-    }
-}
-
 /// The largest useful capacity of a store: the limit plus one candidate, or any number if entries have weights.
 fn most_entries(policy: Policy, is_weighed: bool) -> usize {
     if is_weighed {
@@ -622,18 +378,6 @@ fn most_entries(policy: Policy, is_weighed: bool) -> usize {
     usize::try_from(limit)
         .unwrap_or(usize::MAX)
         .saturating_add(1)
-}
-
-/// A clone of a value.
-fn copy_of<V: Clone>(value: &V) -> Result<V, InsertError>
-    ensures ok { IfOk result (λ copy. V.is_clone value.now copy) }
-    ensures err { OnErr result (¬ (V.is_infallible value.now)) }
-    ensures error { IfErr result (λ error. error ≡ InsertError.OutOfMemory) }
-{
-    match value.clone() {
-        Ok(copy) => Ok(copy),
-        Err(_) => Err(InsertError::OutOfMemory),
-    }
 }
 
 /// A store without entries, with this room.

@@ -1,24 +1,34 @@
 // Removals that the owner asks for: of a key, of all entries, and of those that a predicate chooses.
-ghost use Rattle.std.specs.Prelude.{◌≡◌, Bool, List};
+ghost use Rattle.std.specs.Prelude.{◌≡◌, ◌++◌, ⊤, Bool, List, option_to_list, true};
+ghost use Rattle.std.specs.List.Sorted.{IsPermutation};
 ghost use Rattle.moka_unsync_model.specs.Contents.{after_leaving, entry_at, entry_keys, no_contents, without};
 ghost use Rattle.moka_unsync_model.specs.Invalidate.{AnswersInTurn, chosen};
+ghost use Rattle.moka_unsync_model.specs.Told.{TellsWhatLeft};
+ghost use Rattle.moka_unsync_model.specs.declared.listener.Cause.TheVariants.{Explicit};
 ghost use Rattle.moka_store.specs.Store.{Continues, HasHash, contents_of, entries_of};
 
+use crate::leaving::leave;
 use moka_store::store::Store;
 use moka_unsync_model::entry::Entry;
+use moka_unsync_model::listener::{Cause, Listener};
 use std::alloc::Allocator;
 
 /// Removes the entry of the key, if there is one. The hash is the key's.
-pub(crate) fn remove_key<K: Eq + Drop, V: Drop, A: Allocator + Clone + Drop>(
+pub(crate) fn remove_key<K: Eq + Drop, V: Drop, A: Allocator + Clone + Drop, L: Listener<K, V>>(
     store: &mut Store<K, V, A>,
     key: &K,
     hash: u64,
+    listener: &mut L,
 )
     requires { HasHash K.eq store.old key.now hash }
     ensures step { contents_of store.new ≡ without K.eq (contents_of store.old) key.now }
     ensures kept { Continues store.old store.new }
+    ensures told { TellsWhatLeft L.hears Explicit (λ e. K.eq key.now e.key ≡ true) (entries_of store.old) (entries_of store.new)
+        listener.old listener.new }
 {
-    drop(take_key(store, key, hash));
+    if let Some(Entry { key, value, .. }) = take_key(store, key, hash) {
+        listener.removed(key, value, Cause::Explicit);
+    }
 }
 
 /// Takes out the entry of the key, expired or not, if there is one. The hash is the key's.
@@ -29,6 +39,7 @@ pub(crate) fn take_key<K: Eq + Drop, V: Drop, A: Allocator + Clone + Drop>(
 ) -> Option<Entry<K, V>>
     requires { HasHash K.eq store.old key.now hash }
     ensures value { result ≡ entry_at K.eq key.now (entries_of store.old) }
+    ensures left { IsPermutation (entries_of store.old) (option_to_list result ++ entries_of store.new) }
     ensures step { contents_of store.new ≡ without K.eq (contents_of store.old) key.now }
     ensures kept { Continues store.old store.new }
 {
@@ -37,12 +48,16 @@ pub(crate) fn take_key<K: Eq + Drop, V: Drop, A: Allocator + Clone + Drop>(
 }
 
 /// Removes all entries.
-pub(crate) fn clear<K: Eq + Drop, V: Drop, A: Allocator + Clone + Drop>(store: &mut Store<K, V, A>)
+pub(crate) fn clear<K: Eq + Drop, V: Drop, A: Allocator + Clone + Drop, L: Listener<K, V>>(
+    store: &mut Store<K, V, A>,
+    listener: &mut L,
+)
     ensures step { contents_of store.new ≡ no_contents }
     ensures kept { Continues store.old store.new }
+    ensures told { TellsWhatLeft L.hears Explicit (λ e. ⊤) (entries_of store.old) (entries_of store.new) listener.old listener.new }
 {
     while let Some(id) = store.front() {
-        store.remove(id);
+        leave(store, id, Cause::Explicit, listener);
     }
 }
 
@@ -52,18 +67,20 @@ pub(crate) fn remove_where<
     V: Drop,
     A: Allocator + Clone + Drop,
     F: FnMut(&K, &V) -> bool,
->(store: &mut Store<K, V, A>, mut predicate: F)
+    L: Listener<K, V>,
+>(store: &mut Store<K, V, A>, mut predicate: F, listener: &mut L)
     requires { F.IsAlwaysCallable predicate }
     ensures step { (answers : List Bool) × AnswersInTurn F.step predicate (entries_of store.old) answers
         × (contents_of store.new ≡ after_leaving K.eq (entry_keys (chosen answers (entries_of store.old))) (contents_of store.old)) }
     ensures kept { Continues store.old store.new }
+    ensures told { TellsWhatLeft L.hears Explicit (λ e. ⊤) (entries_of store.old) (entries_of store.new) listener.old listener.new }
 {
     let mut here = store.front();
     while let Some(id) = here {
         here = store.next(id);
         let entry = store.get(id);
         if predicate(&entry.key, &entry.value) {
-            store.remove(id);
+            leave(store, id, Cause::Explicit, listener);
         }
     }
 }

@@ -1,16 +1,20 @@
 // The work that each call does first: it removes expired entries, by write and then by use, and entries above the limit, in batches.
-ghost use Rattle.std.specs.Prelude.{◌≡◌, false};
+ghost use Rattle.std.specs.Prelude.{◌≡◌, ⊤, false, true};
 ghost use Rattle.moka_unsync_model.specs.declared.constants.TheConstants.{EVICTION_BATCH_SIZE};
 ghost use Rattle.moka_unsync_model.specs.Upkeep.{after_eviction, after_expiry, after_idle_expiry, after_live_expiry, after_upkeep, is_expired};
+ghost use Rattle.moka_unsync_model.specs.Told.{TellsUpkeep, TellsWhatLeft};
+ghost use Rattle.moka_unsync_model.specs.declared.listener.Cause.TheVariants.{Expired, Size};
 ghost use Rattle.moka_store.specs.Store.{Continues, contents_of, entries_of, is_of, those_of};
 ghost use Rattle.moka_unsync.specs.Turns.{IsTurn, after_idle_of};
 
+use crate::leaving::leave;
 use moka_common::limits::Limits;
 use moka_common::policy::Policy;
 use moka_common::time::Instant;
 use moka_store::store::Store;
 use moka_unsync_model::constants::EVICTION_BATCH_SIZE;
 use moka_unsync_model::entry::{Entry, Part};
+use moka_unsync_model::listener::{Cause, Listener};
 use std::alloc::Allocator;
 use std::marker::Model;
 
@@ -56,19 +60,21 @@ impl Bounds {
 
     /// Removes expired entries, and then entries above the limit. Each call does so first.
     #[inline(always)]
-    pub(crate) fn upkeep<K: Eq + Drop, V: Drop, A: Allocator + Clone + Drop>(
+    pub(crate) fn upkeep<K: Eq + Drop, V: Drop, A: Allocator + Clone + Drop, L: Listener<K, V>>(
         &self,
         store: &mut Store<K, V, A>,
         now: Instant,
+        listener: &mut L,
     )
         ensures step { contents_of store.new ≡ after_upkeep K.eq self.now now (contents_of store.old) }
         ensures kept { Continues store.old store.new }
+        ensures told { TellsUpkeep L.hears K.eq self.now now (contents_of store.old) listener.old listener.new }
     {
         if self.expires {
-            expire(store, &self.limits, now);
+            expire(store, &self.limits, now, listener);
         }
         if store.weight() > self.max_weight {
-            trim_to(store, self.max_weight);
+            trim_to(store, self.max_weight, listener);
         }
     }
 
@@ -82,47 +88,56 @@ impl Bounds {
 }
 
 /// Removes a batch by time to live and a batch by time to idle, if these are set.
-fn expire<K: Eq + Drop, V: Drop, A: Allocator + Clone + Drop>(
+fn expire<K: Eq + Drop, V: Drop, A: Allocator + Clone + Drop, L: Listener<K, V>>(
     store: &mut Store<K, V, A>,
     limits: &Limits,
     now: Instant,
+    listener: &mut L,
 )
     ensures step { contents_of store.new ≡ after_expiry K.eq limits.now now (contents_of store.old) }
     ensures kept { Continues store.old store.new }
+    ensures told { TellsWhatLeft L.hears Expired (λ e. is_expired limits.now now e ≡ true) (entries_of store.old) (entries_of store.new)
+        listener.old listener.new }
 {
     if limits.has_time_to_live() {
-        expire_by_write(store, limits, now);
+        expire_by_write(store, limits, now, listener);
     }
     if limits.has_time_to_idle() {
-        expire_by_use(store, limits, now);
+        expire_by_use(store, limits, now, listener);
     }
 }
 
 #[inline(never)]
-fn expire_by_write<K: Eq + Drop, V: Drop, A: Allocator + Clone + Drop>(
+fn expire_by_write<K: Eq + Drop, V: Drop, A: Allocator + Clone + Drop, L: Listener<K, V>>(
     store: &mut Store<K, V, A>,
     limits: &Limits,
     now: Instant,
+    listener: &mut L,
 )
     ensures step { contents_of store.new
         ≡ after_live_expiry K.eq limits.now now EVICTION_BATCH_SIZE (contents_of store.old) }
     ensures kept { Continues store.old store.new }
+    ensures told { TellsWhatLeft L.hears Expired (λ e. is_expired limits.now now e ≡ true) (entries_of store.old) (entries_of store.new)
+        listener.old listener.new }
 {
     let mut left = EVICTION_BATCH_SIZE;
-    while left > 0 && expire_oldest(store, limits, now) {
+    while left > 0 && expire_oldest(store, limits, now, listener) {
         left -= 1;
     }
 }
 
 /// Removes the least recently written entry if it is past its time to live.
-fn expire_oldest<K: Eq + Drop, V: Drop, A: Allocator + Clone + Drop>(
+fn expire_oldest<K: Eq + Drop, V: Drop, A: Allocator + Clone + Drop, L: Listener<K, V>>(
     store: &mut Store<K, V, A>,
     limits: &Limits,
     now: Instant,
+    listener: &mut L,
 ) -> bool
     ensures turn { IsTurn (after_live_expiry K.eq limits.now now)
         result (contents_of store.old) (contents_of store.new) }
     ensures kept { Continues store.old store.new }
+    ensures told { TellsWhatLeft L.hears Expired (λ e. is_expired limits.now now e ≡ true) (entries_of store.old) (entries_of store.new)
+        listener.old listener.new }
 {
     let Some(id) = store.oldest() else {
         return false;
@@ -130,57 +145,66 @@ fn expire_oldest<K: Eq + Drop, V: Drop, A: Allocator + Clone + Drop>(
     if !limits.has_lived(store.get(id).modified, now) {
         return false;
     }
-    store.remove(id);
+    leave(store, id, Cause::Expired, listener);
     true
 }
 
 /// Removes a batch of the window, one of probation and one of protected.
 #[inline(never)]
-fn expire_by_use<K: Eq + Drop, V: Drop, A: Allocator + Clone + Drop>(
+fn expire_by_use<K: Eq + Drop, V: Drop, A: Allocator + Clone + Drop, L: Listener<K, V>>(
     store: &mut Store<K, V, A>,
     limits: &Limits,
     now: Instant,
+    listener: &mut L,
 )
     ensures step { contents_of store.new
         ≡ after_idle_expiry K.eq limits.now now EVICTION_BATCH_SIZE (contents_of store.old) }
     ensures kept { Continues store.old store.new }
+    ensures told { TellsWhatLeft L.hears Expired (λ e. is_expired limits.now now e ≡ true) (entries_of store.old) (entries_of store.new)
+        listener.old listener.new }
 {
-    expire_part(store, Part::Window, limits, now);
-    expire_part(store, Part::Probation, limits, now);
-    expire_part(store, Part::Protected, limits, now);
+    expire_part(store, Part::Window, limits, now, listener);
+    expire_part(store, Part::Probation, limits, now, listener);
+    expire_part(store, Part::Protected, limits, now, listener);
 }
 
 /// Removes a batch of idle entries of a part.
-fn expire_part<K: Eq + Drop, V: Drop, A: Allocator + Clone + Drop>(
+fn expire_part<K: Eq + Drop, V: Drop, A: Allocator + Clone + Drop, L: Listener<K, V>>(
     store: &mut Store<K, V, A>,
     part: Part,
     limits: &Limits,
     now: Instant,
+    listener: &mut L,
 )
     ensures step { contents_of store.new
         ≡ after_idle_of K.eq part limits.now now EVICTION_BATCH_SIZE (contents_of store.old) }
     ensures others { (other : _) → is_of other part ≡ false
         → those_of other (entries_of store.new) ≡ those_of other (entries_of store.old) }
     ensures kept { Continues store.old store.new }
+    ensures told { TellsWhatLeft L.hears Expired (λ e. is_expired limits.now now e ≡ true) (entries_of store.old) (entries_of store.new)
+        listener.old listener.new }
 {
     let mut left = EVICTION_BATCH_SIZE;
-    while left > 0 && expire_front(store, part, limits, now) {
+    while left > 0 && expire_front(store, part, limits, now, listener) {
         left -= 1;
     }
 }
 
 /// Removes the least recently used entry of a part if it is past its time to idle.
-fn expire_front<K: Eq + Drop, V: Drop, A: Allocator + Clone + Drop>(
+fn expire_front<K: Eq + Drop, V: Drop, A: Allocator + Clone + Drop, L: Listener<K, V>>(
     store: &mut Store<K, V, A>,
     part: Part,
     limits: &Limits,
     now: Instant,
+    listener: &mut L,
 ) -> bool
     ensures turn { IsTurn (after_idle_of K.eq part limits.now now)
         result (contents_of store.old) (contents_of store.new) }
     ensures others { (other : _) → is_of other part ≡ false
         → those_of other (entries_of store.new) ≡ those_of other (entries_of store.old) }
     ensures kept { Continues store.old store.new }
+    ensures told { TellsWhatLeft L.hears Expired (λ e. is_expired limits.now now e ≡ true) (entries_of store.old) (entries_of store.new)
+        listener.old listener.new }
 {
     let Some(id) = store.front_of(part) else {
         return false;
@@ -188,35 +212,39 @@ fn expire_front<K: Eq + Drop, V: Drop, A: Allocator + Clone + Drop>(
     if !limits.is_idle(store.get(id).accessed, now) {
         return false;
     }
-    store.remove(id);
+    leave(store, id, Cause::Expired, listener);
     true
 }
 
 /// Removes a batch of the least recently used entries while the weight is above the limit.
 #[cold]
 #[inline(never)]
-fn trim_to<K: Eq + Drop, V: Drop, A: Allocator + Clone + Drop>(
+fn trim_to<K: Eq + Drop, V: Drop, A: Allocator + Clone + Drop, L: Listener<K, V>>(
     store: &mut Store<K, V, A>,
     limit: u64,
+    listener: &mut L,
 )
     ensures step { contents_of store.new
         ≡ after_eviction K.eq limit EVICTION_BATCH_SIZE (contents_of store.old) }
     ensures kept { Continues store.old store.new }
+    ensures told { TellsWhatLeft L.hears Size (λ e. ⊤) (entries_of store.old) (entries_of store.new) listener.old listener.new }
 {
     let mut left = EVICTION_BATCH_SIZE;
-    while left > 0 && trim_front(store, limit) {
+    while left > 0 && trim_front(store, limit, listener) {
         left -= 1;
     }
 }
 
 /// Removes the least recently used entry if the weight is above the limit.
-fn trim_front<K: Eq + Drop, V: Drop, A: Allocator + Clone + Drop>(
+fn trim_front<K: Eq + Drop, V: Drop, A: Allocator + Clone + Drop, L: Listener<K, V>>(
     store: &mut Store<K, V, A>,
     limit: u64,
+    listener: &mut L,
 ) -> bool
     ensures turn { IsTurn (after_eviction K.eq limit)
         result (contents_of store.old) (contents_of store.new) }
     ensures kept { Continues store.old store.new }
+    ensures told { TellsWhatLeft L.hears Size (λ e. ⊤) (entries_of store.old) (entries_of store.new) listener.old listener.new }
 {
     if store.weight() <= limit {
         return false;
@@ -224,7 +252,7 @@ fn trim_front<K: Eq + Drop, V: Drop, A: Allocator + Clone + Drop>(
     let Some(id) = store.front() else {
         return false;
     };
-    store.remove(id);
+    leave(store, id, Cause::Size, listener);
     true
 }
 

@@ -21,3 +21,4 @@ pub mod TiedLemmas
 pub mod CauseLemmas
 pub mod RemovalLemmas
 pub mod ExcludedLemmas
+pub mod ToldLemmas

@@ -15,3 +15,5 @@ pub mod PlainMap
 pub mod History
 pub mod Removal
 pub mod Excluded
+pub mod Told
+pub mod ToldCalls

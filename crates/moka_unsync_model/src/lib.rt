@@ -5,4 +5,5 @@ pub mod constants;
 pub mod entry;
 pub mod history;
 pub mod laws;
+pub mod listener;
 pub mod shares;

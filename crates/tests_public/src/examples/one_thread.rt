@@ -5,8 +5,8 @@ use mini_moka::unsync::{Cache, Call};
 use moka_examples::calling::{is_found_after, minute_cache, take_out};
 use moka_examples::pages::Pages;
 use moka_examples::uses::{
-    count_after_calls, found_within_ten_seconds, least_recently_used, left_of_64,
-    millis_after_noon, remember, square_of_seven, weight_in_bytes,
+    count_after_calls, counts_of_what_left, found_within_ten_seconds, least_recently_used,
+    left_of_64, millis_after_noon, remember, square_of_seven, weight_in_bytes,
 };
 use std::alloc::Global;
 use std::rc::Rc;
@@ -14,7 +14,7 @@ use std::test::Fail;
 use std::time::Clock;
 
 // What is remembered is found; a text is found until its time is over; what is invalidated is gone; the first pair is of the least recently used entry; a list
-// of calls is made in turn; a text weighs its bytes; and a square is made and found.
+// of calls is made in turn; a text weighs its bytes; a square is made and found; and entries leave for each cause.
 #[test]
 fn examples_for_one_thread_give_what_they_say(rt: HostRuntime) -> Result<(), Fail> {
     let alloc = rt.alloc();
@@ -28,6 +28,7 @@ fn examples_for_one_thread_give_what_they_say(rt: HostRuntime) -> Result<(), Fai
     assert_eq!(rt; found, (Some(1), (true, false), (true, true, 31)));
     assert_eq!(rt; (others, weight), ((Some(1), Some(1)), 5));
     assert_eq!(rt; square_of_seven(alloc)?, [49, 49]);
+    assert_eq!(rt; counts_of_what_left(alloc)?, [1, 1, 1, 1, 1]);
     assert_eq!(rt; millis_after_noon(), 43_201_500);
     Ok(())
 }

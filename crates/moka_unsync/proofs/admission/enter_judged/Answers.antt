@@ -1,12 +1,16 @@
-use Rattle.std.proofs.Common.{◌≡◌, ◌∙◌, ◌-◌, ◌<◌, None, Some, ap, arith, is_some, refl, subst, sym}
+use Rattle.std.proofs.Common.{◌≡◌, ◌∙◌, ◌+◌, ◌-◌, ◌<◌, None, Some, ap, arith, is_some, refl, subst, sym}
 use Rattle.moka_unsync_model.specs.Contents.{entry_at, main_of, total_weight, window_of}
 use Rattle.moka_unsync_model.specs.Insert.{after_admission, after_entry}
 use Rattle.moka_unsync_model.specs.Upkeep.{least_recent}
 use Rattle.moka_unsync_model.specs.Shares.{main_limit}
+use Rattle.moka_unsync_model.specs.Told.{IsAbove, TellsPut, TellsWhatLeft}
+use Rattle.moka_unsync_model.specs.declared.listener.Cause.TheVariants.{Size}
 use Rattle.moka_unsync_model.specs.Window.{after_candidates, victims_of}
 use Rattle.moka_unsync_model.proofs.EnteringLemmas.{absent-judged, after_judging, entering-is_judged, entering-is_kept, entering_excess}
 use Rattle.moka_unsync_model.proofs.EnteringLemmas.{excess_left, inside, outside, stands-arrived, stands-kept}
+use Rattle.moka_unsync_model.proofs.ToldLemmas.{also_for, also_there, and_moved}
 use Rattle.moka_store.specs.Store.{contents_of, entries_of}
+use Rattle.moka_unsync.proofs.LeavingLemmas.{above_more, entered_among, put_after}
 use Rattle.moka_unsync.proofs.WindowLemmas.{entered_last}
 use Rattle.moka_unsync.proofs.admission.enter_judged.Given.{Over}
 use Rattle.moka_unsync.proofs.admission.enter_judged.Goals.{After-admit, After-enter, After-judge_candidates}
@@ -104,3 +108,25 @@ returns-clause-step g c =
     ∙ sym (entering-is_kept g.K.PartialEq.eq g.met.K.Eq.laws c.args.store.now.keeps_writes c.args.limits.now c.args.sketch.now c.args.new
     (contents_of c.args.store.now) c.requires.absent c.requires.unwritten
     (sym (left_is g at.After-judge_candidates) ∙ grind (arith, c.if-judge_candidates-gt0.false))))
+
+-- the window's old entries were told of
+judged_told : (g : Over) (c : After-judge_candidates g)
+    → TellsWhatLeft g.L.Listener.hears Size (λ e. IsAbove (Some (main_limit c.args.limits.now)) (total_weight (entries_of c.args.store.now) + c.args.new.weight))
+    (entries_of c.args.store.now) (entries_of c.judge_candidates.new.store) c.args.listener.now c.judge_candidates.new.listener
+judged_told g c =
+    also_for (λ e above. above_more (Some (main_limit c.args.limits.now)) (total_weight (entries_of c.args.store.now)) _ (omega arith) above)
+    c.judge_candidates.ensures.told
+
+pub returns-then-judge_candidates-gt0-clause-told : goal.returns-then-judge_candidates-gt0-clause-told
+returns-then-judge_candidates-gt0-clause-told g c =
+    let at = goal.at.returns-then-judge_candidates-gt0-clause-told g c in
+    put_after (Some (main_limit c.args.limits.now)) c.admit.result c.args.new (entries_of c.args.store.now) (entries_of c.judge_candidates.new.store)
+    (entries_of c.admit.new.store) c.args.listener.now c.judge_candidates.new.listener c.admit.new.listener (judged_told g at.After-judge_candidates)
+    (subst (λ l. TellsPut g.L.Listener.hears (Some l) c.admit.result c.args.new (entries_of c.judge_candidates.new.store) (entries_of c.admit.new.store)
+    c.judge_candidates.new.listener c.admit.new.listener) c.main_limit.ensures c.admit.ensures.told)
+
+pub returns-clause-told : goal.returns-clause-told
+returns-clause-told g c =
+    let at = goal.at.returns-clause-told g c in
+    and_moved (also_there c.args.new (judged_told g at.After-judge_candidates))
+    (entered_among g.K.PartialEq.eq c.judge_candidates.new.store c.enter.new.self (inside c.args.new) c.enter.ensures)

@@ -3,7 +3,9 @@ use Rattle.moka_list.proofs.IdLemmas.{some_parts}
 use Rattle.moka_unsync_model.specs.Contents.{entry_at}
 use Rattle.moka_unsync_model.specs.Window.{after_candidate}
 use Rattle.moka_unsync_model.proofs.EnteringLemmas.{entering_excess, inside, stands-kept}
+use Rattle.moka_unsync_model.proofs.ToldLemmas.{and_moved, untold}
 use Rattle.moka_store.specs.Store.{contents_of, entries_of}
+use Rattle.moka_unsync.proofs.LeavingLemmas.{entered_among, placed}
 use Rattle.moka_unsync.proofs.WindowLemmas.{entered_last, entering_free, entering_last}
 use Rattle.moka_unsync.proofs.admission.enter_window.Goals as goal
 
@@ -40,3 +42,10 @@ returns-in-Some-clause-step g c =
     ∙ entering_last g.K.PartialEq.eq g.met.K.Eq.laws c.args.store.now.keeps_writes c.args.limits.now c.args.sketch.now c.args.new
     (contents_of c.args.store.now) c.requires.absent c.requires.unwritten f.entry f.rest f.first (omega (arith, some, is))
     (omega (arith, enough, is, ap (λ e. e.weight) own))
+
+pub returns-then-enough-eq0-clause-told : goal.returns-then-enough-eq0-clause-told
+returns-then-enough-eq0-clause-told g c =
+    and_moved untold (entered_among g.K.PartialEq.eq c.args.store.now c.enter.new.self (inside c.args.new) c.enter.ensures)
+
+pub returns-in-Some-clause-told : goal.returns-in-Some-clause-told
+returns-in-Some-clause-told g c = placed refl c.judge_last.ensures.told

@@ -1,4 +1,5 @@
-use Rattle.std.proofs.Common.{◌≡◌, ◌∙◌, ◌+◌, ◌-◌, ap, suc, arith}
+use Rattle.std.proofs.Common.{◌≡◌, ◌∙◌, ◌<◌, ◌+◌, ◌-◌, ap, refl, suc, arith}
+use Rattle.moka_unsync_model.proofs.ToldLemmas.{also_for, then_left, untold}
 use Rattle.moka_store.specs.Store.{contents_of}
 use Rattle.moka_unsync.specs.Turns.{after_eviction_of}
 use Rattle.moka_unsync.proofs.TurnLemmas.{continued}
@@ -6,7 +7,10 @@ use Rattle.moka_unsync.proofs.admission.evict.Goals as goal
 
 pub loop-left-preserved : goal.loop-left-preserved
 loop-left-preserved g c =
-    let done = c.if-evict_front.ensures {u = tt} in (
+    let done = c.if-evict_front.ensures {u = tt} in
+    let left = c.loop-left-test.true in
+    let most = c.loop-left.invariant.2 in
+    let some : 0 < c.args.count = omega (arith, left, most) in (
       λ more.
           let some = c.loop-left-test.true in
           let same : c.loop-left.left + more ≡ suc (c.loop-left.left - 1 + more) = omega (arith, some) in
@@ -14,4 +18,16 @@ loop-left-preserved g c =
           ∙ (ap (λ n. after_eviction_of g.K.PartialEq.eq n (contents_of c.loop-left.store)) same
           ∙ done.turn (c.loop-left.left - 1 + more)),
       continued c.loop-left.invariant.1 done.kept,
+      omega (arith, left, most),
+      then_left c.loop-left.invariant.3 (also_for (λ e there. some) done.told),
     )
+
+pub returns-else-evict_front-clause-told : goal.returns-else-evict_front-clause-told
+returns-else-evict_front-clause-told g c =
+    let left = c.loop-left-test.true in
+    let most = c.loop-left.invariant.2 in
+    let some : 0 < c.args.count = omega (arith, left, most) in
+    then_left c.loop-left.invariant.3 (also_for (λ e there. some) (c.if-evict_front.ensures {u = tt}).told)
+
+pub loop-left-init : goal.loop-left-init
+loop-left-init g c = (λ more. refl, record { keeps = refl; capacity = refl; fewer = omega arith }, omega arith, untold)

@@ -1,6 +1,7 @@
 use Rattle.std.proofs.Common.{◌≡◌, ◌∙◌, Bool, IfSome, false, true, of_calls, refl, subst, sym}
 use Rattle.moka_list.specs.Nodes.{IsIn}
 use Rattle.moka_unsync_model.specs.Invalidate.{AnswersAt}
+use Rattle.moka_unsync_model.proofs.ToldLemmas.{also_for, then_left, untold}
 use Rattle.moka_store.specs.Store.{contents_of}
 use Rattle.moka_list.proofs.WalkLemmas.{first_is_in, next_is_in}
 use Rattle.moka_unsync.proofs.RemovalLemmas.{IsStop, answered, fewer_from, fewer_left, next_remains, remaining_first, remaining_kept}
@@ -32,13 +33,14 @@ loop-here-init g c =
           subst (λ o. IfSome o (λ id. IsIn c.args.store.now.nodes id)) (sym c.front-here.ensures.first)
           (first_is_in c.args.store.now.nodes);
       kept = record { keeps = refl; capacity = refl; fewer = grind (Rattle.std.proofs.Common.arith) };
+      told = untold;
       remaining =
           remaining_first g.K.PartialEq.eq (goal.F-step g) c.args.predicate c.args.store.now c.front-here.result c.front-here.ensures.first;
     }
 
 pub loop-here-smaller-then-predicate : goal.loop-here-smaller-then-predicate
 loop-here-smaller-then-predicate g c =
-    fewer_left (at g (goal.at.loop-here-smaller-then-predicate g c).After-predicate) g.K.PartialEq.eq c.remove.new.self c.remove.ensures
+    fewer_left (at g (goal.at.loop-here-smaller-then-predicate g c).After-predicate) g.K.PartialEq.eq c.leave.new.store c.leave.ensures.step
 
 pub loop-here-preserved-then-predicate : goal.loop-here-preserved-then-predicate
 loop-here-preserved-then-predicate g c =
@@ -46,16 +48,17 @@ loop-here-preserved-then-predicate g c =
     let was = c.loop-here.invariant in
     record {
       callable = search of_calls;
-      stands = next_remains (at g asked) g.K.PartialEq.eq c.remove.new.self c.remove.ensures;
+      stands = next_remains (at g asked) g.K.PartialEq.eq c.leave.new.store c.leave.ensures.step;
       kept =
           record {
-            keeps = c.remove.ensures.kept.keeps ∙ was.kept.keeps;
-            capacity = c.remove.ensures.kept.capacity ∙ was.kept.capacity;
-            fewer = grind (Rattle.std.proofs.Common.arith, c.remove.ensures.kept.fewer, was.kept.fewer);
+            keeps = c.leave.ensures.step.kept.keeps ∙ was.kept.keeps;
+            capacity = c.leave.ensures.step.kept.capacity ∙ was.kept.capacity;
+            fewer = grind (Rattle.std.proofs.Common.arith, c.leave.ensures.step.kept.fewer, was.kept.fewer);
           };
+      told = then_left was.told (also_for (λ e there. tt) c.leave.ensures.told);
       remaining =
-          remaining_left g.K.PartialEq.eq (goal.F-step g) _ _ _ _ (at g asked) (told g asked true c.if-predicate.true) c.remove.new.self
-          c.remove.ensures was.remaining;
+          remaining_left g.K.PartialEq.eq (goal.F-step g) _ _ _ _ (at g asked) (told g asked true c.if-predicate.true) c.leave.new.store
+          c.leave.ensures.step was.remaining;
     }
 
 pub loop-here-smaller : goal.loop-here-smaller
@@ -71,6 +74,7 @@ loop-here-preserved g c =
           subst (λ o. IfSome o (λ j. IsIn c.loop-here.store.nodes j)) (sym c.next-here.ensures.value)
           (next_is_in c.in-Some.id c.loop-here.store.nodes);
       kept = was.kept;
+      told = was.told;
       remaining =
           remaining_kept g.K.PartialEq.eq (goal.F-step g) _ _ _ _ (at g asked) (told g asked false c.if-predicate.false) was.remaining;
     }

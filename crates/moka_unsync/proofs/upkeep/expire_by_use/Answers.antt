@@ -1,3 +1,4 @@
+use Rattle.moka_unsync_model.proofs.ToldLemmas.{then_left}
 use Rattle.std.proofs.Common.{◌∙◌, refl}
 use Rattle.moka_unsync_model.specs.Contents.{protected_of}
 use Rattle.moka_unsync_model.specs.declared.entry.Part.TheVariants.{Probation, Protected}
@@ -20,3 +21,6 @@ returns-clause-step g c =
     ((probation.ensures.others Protected refl ∙ window.ensures.others Protected refl) i) (probation.ensures.step i))
     ∙ (λ i. after_idle eq policy now EVICTION_BATCH_SIZE (protected_of (entries_of start))
     (after_idle eq policy now EVICTION_BATCH_SIZE (window.ensures.others Probation refl i) (window.ensures.step i))))
+
+pub returns-clause-told : goal.returns-clause-told
+returns-clause-told g c = then_left (then_left c.expire_part.ensures.told c.expire_part-2.ensures.told) c.expire_part-3.ensures.told

@@ -1,5 +1,6 @@
-use Rattle.std.proofs.Common.{◌≡◌, ◌-◌, ◌∙◌, suc, ap, sym, arith}
+use Rattle.std.proofs.Common.{◌≡◌, ◌-◌, ◌∙◌, suc, ap, refl, sym, arith}
 use Rattle.moka_unsync_model.specs.Upkeep.{after_live_expiry}
+use Rattle.moka_unsync_model.proofs.ToldLemmas.{then_left, untold}
 use Rattle.moka_store.specs.Store.{contents_of}
 use Rattle.moka_unsync.proofs.upkeep.expire_by_write.Goals as goal
 
@@ -11,4 +12,11 @@ loop-left-preserved g c =
       sym (c.if-expire_oldest.ensures.turn (c.loop-left.left - 1))
           ∙ ap (λ left. after_live_expiry g.K.PartialEq.eq c.args.limits.now c.args.now left (contents_of c.loop-left.store)) same ∙ was.0,
       record { keeps = kept.keeps ∙ was.1.keeps; capacity = kept.capacity ∙ was.1.capacity; fewer = omega arith },
+      then_left c.loop-left.invariant.2 c.if-expire_oldest.ensures.told,
     )
+
+pub returns-else-expire_oldest-clause-told : goal.returns-else-expire_oldest-clause-told
+returns-else-expire_oldest-clause-told g c = then_left c.loop-left.invariant.2 (c.if-expire_oldest.ensures).told
+
+pub loop-left-init : goal.loop-left-init
+loop-left-init g c = (refl, record { keeps = refl; capacity = refl; fewer = omega arith }, untold)

@@ -1,6 +1,9 @@
-use Rattle.std.proofs.Common.{◌≡◌, false}
+use Rattle.std.proofs.Common.{◌≡◌, false, true}
 use Rattle.moka_unsync_model.specs.declared.constants.TheConstants.{EVICTION_BATCH_SIZE}
 use Rattle.moka_unsync_model.specs.declared.entry.Part.{Part}
+use Rattle.moka_unsync_model.specs.Told.{TellsWhatLeft}
+use Rattle.moka_unsync_model.specs.Upkeep.{is_expired}
+use Rattle.moka_unsync_model.specs.declared.listener.Cause.TheVariants.{Expired}
 use Rattle.moka_store.specs.Store.{Continues, contents_of, entries_of, is_of, those_of}
 use Rattle.moka_unsync.specs.Turns.{after_idle_of}
 use Rattle.moka_unsync.proofs.upkeep.expire_part.Given as goal
@@ -9,6 +12,7 @@ abbrev pub invariant-loop-left : goal.invariant-loop-left
 invariant-loop-left g l =
     (after_idle_of g.K.PartialEq.eq l.part l.limits l.now l.left (contents_of l.store) ≡ after_idle_of g.K.PartialEq.eq l.part l.limits l.now
     EVICTION_BATCH_SIZE (contents_of l.fn.store)) × Continues l.fn.store l.store
+    × TellsWhatLeft g.L.Listener.hears Expired (λ e. is_expired l.limits l.now e ≡ true) (entries_of l.fn.store) (entries_of l.store) l.fn.listener l.listener
     × ((other : Part) → is_of other l.part ≡ false → those_of other (entries_of l.store) ≡ those_of other (entries_of l.fn.store))
 
 abbrev pub decreases-loop-left : goal.decreases-loop-left

@@ -1,7 +1,9 @@
-use Rattle.std.proofs.Common.{◌≡◌, ◌∙◌, ap, is_some, None, refl, subst, sym}
+use Rattle.std.proofs.Common.{◌≡◌, ◌∙◌, ℕ, List, ap, is_some, nat_eq, None, Some, refl, subst, sym}
+use Rattle.std.specs.Map.{lookup, remove_entry, set_value}
 use Rattle.moka_list.specs.HashIndex.{Adds, Removes as Unlists}
 use Rattle.moka_unsync_model.specs.Contents.{entry_at}
-use Rattle.moka_store.specs.Nodes.{written_under}
+use Rattle.moka_unsync_model.specs.declared.entry.Entry.{Entry}
+use Rattle.moka_store.specs.Nodes.{latest_node, written_under}
 use Rattle.moka_store.specs.Store.{entries_of}
 use Rattle.moka_store.proofs.ChangeLemmas.{fits, heavier, parts_lighter, set_here, set_marks, set_once, settled, writes_replaced}
 use Rattle.moka_store.proofs.StepLemmas.{replaces_is}
@@ -9,6 +11,16 @@ use Rattle.moka_store.proofs.StoreLemmas.{length-relisted, room-same, stored-rep
 use Rattle.moka_store.proofs.WeightLemmas.{share_all, share_protected, share_window}
 use Rattle.moka_store.proofs.WriteLemmas.{is_written}
 use Rattle.moka_store.proofs.store.Store.replace.Goals as goal
+
+-- where a node stands, by what was written to it
+its_place : {K V : Type 0} (id : ℕ) (nodes : List (ℕ × Entry K V)) (written e : Entry K V) → written ≡ e → (end : List (ℕ × Entry K V))
+    → ((y : Entry K V) → lookup (nat_eq id) (set_value (nat_eq id) nodes written) ≡ Some y
+    → end ≡ latest_node (id, y) (remove_entry (nat_eq id) (set_value (nat_eq id) nodes written)))
+    → (y : Entry K V) → lookup (nat_eq id) (set_value (nat_eq id) nodes e) ≡ Some y
+    → end ≡ latest_node (id, y) (remove_entry (nat_eq id) (set_value (nat_eq id) nodes e))
+its_place id nodes written e is end place =
+    subst (λ d. (y : _) → lookup (nat_eq id) (set_value (nat_eq id) nodes d) ≡ Some y
+    → end ≡ latest_node (id, y) (remove_entry (nat_eq id) (set_value (nat_eq id) nodes d))) is place
 
 pub take-requires-clause-all : goal.take-requires-clause-all
 take-requires-clause-all g c =
@@ -40,18 +52,18 @@ add-requires-clause-fits g c small =
 pub settle-requires-clause-once : goal.settle-requires-clause-once
 settle-requires-clause-once g c =
     let x = c.get_mut-gone.result.now in
-    set_once c.self.invariant.0 c.args.id x (c.args.entry) c.get_mut-gone.ensures.value
+    set_once c.self.invariant.0 c.args.id x c.replace-gone.new.dest c.get_mut-gone.ensures.value
 
 pub settle-requires-clause-here : goal.settle-requires-clause-here
 settle-requires-clause-here g c =
     let x = c.get_mut-gone.result.now in
-    let e = c.args.entry in
-    (e, set_here c.self.invariant.0 c.args.id x e c.get_mut-gone.ensures.value, refl)
+    let e = c.replace-gone.new.dest in
+    (e, set_here c.self.invariant.0 c.args.id x e c.get_mut-gone.ensures.value, ap (λ z. z.part) c.replace-gone.ensures.after)
 
 pub settle-requires-clause-marks : goal.settle-requires-clause-marks
 settle-requires-clause-marks g c =
     let x = c.get_mut-gone.result.now in
-    set_marks c.self.invariant.0 c.args.id x (c.args.entry) c.get_mut-gone.ensures.value
+    set_marks c.self.invariant.0 c.args.id x c.replace-gone.new.dest c.get_mut-gone.ensures.value
     c.pass.new.self c.pass.ensures
 
 pub write_again-requires : goal.write_again-requires
@@ -68,7 +80,9 @@ invariant_of-self g c =
     let x = c.get_mut-gone.result.now in
     let e = c.args.entry in
     let stood = c.get_mut-gone.ensures.value in
-    let moved = settled s c.args.id x e stood c.settle.new.entries.items c.settle.ensures.items in
+    let moved =
+    settled s c.args.id x e stood c.settle.new.entries.items
+    (its_place c.args.id c.self.inside.entries.items c.replace-gone.new.dest e c.replace-gone.ensures.after c.settle.new.entries.items c.settle.ensures.items) in
     let weighed =
     heavier s c.args.id x e stood c.take.new.self c.take.ensures e.part e.weight refl refl c.add.new.self c.add.ensures.value in
     let absent = subst (λ v. entry_at g.K.PartialEq.eq e.key (entries_of v) ≡ None) (sym c.self.view_is) c.requires.absent in
@@ -83,13 +97,15 @@ invariant_of-self g c =
           c.settle.ensures.marks weighed),
     )
 
-pub returns : goal.returns
-returns g c =
+pub returns-clause-step : goal.returns-clause-step
+returns-clause-step g c =
     let s = c.self.invariant.0 in
     let x = c.get_mut-gone.result.now in
     let e = c.args.entry in
     let stood = c.get_mut-gone.ensures.value in
-    let moved = settled s c.args.id x e stood c.settle.new.entries.items c.settle.ensures.items in
+    let moved =
+    settled s c.args.id x e stood c.settle.new.entries.items
+    (its_place c.args.id c.self.inside.entries.items c.replace-gone.new.dest e c.replace-gone.ensures.after c.settle.new.entries.items c.settle.ensures.items) in
     rw (← c.self.view_is)
     (replaces_is g.met.K.Eq.laws _ _ s.keyed c.args.id x stood refl refl e moved
     ((λ i. written_under c.settle.new.entries.items (c.write_again.ensures.ids i))

@@ -37,77 +37,77 @@ add-requires-clause-fits g c small =
 pub settle-requires-clause-once : goal.settle-requires-clause-once
 settle-requires-clause-once g c =
     let x = c.get_mut-entry.result.now in
-    set_once c.self.invariant.0 c.args.id x c.rewrite.new.entry c.get_mut-entry.ensures.value
+    set_once c.self.invariant.0 c.args.id x c.rewrite-left.new.entry c.get_mut-entry.ensures.value
 
 pub settle-requires-clause-here : goal.settle-requires-clause-here
 settle-requires-clause-here g c =
     let x = c.get_mut-entry.result.now in
-    let e = c.rewrite.new.entry in
-    (e, set_here c.self.invariant.0 c.args.id x e c.get_mut-entry.ensures.value, ap (λ z. z.part) c.rewrite.ensures)
+    let e = c.rewrite-left.new.entry in
+    (e, set_here c.self.invariant.0 c.args.id x e c.get_mut-entry.ensures.value, ap (λ z. z.part) c.rewrite-left.ensures.entry)
 
 pub settle-requires-clause-marks : goal.settle-requires-clause-marks
 settle-requires-clause-marks g c =
     let x = c.get_mut-entry.result.now in
-    set_marks c.self.invariant.0 c.args.id x c.rewrite.new.entry c.get_mut-entry.ensures.value c.pass.new.self c.pass.ensures
+    set_marks c.self.invariant.0 c.args.id x c.rewrite-left.new.entry c.get_mut-entry.ensures.value c.pass.new.self c.pass.ensures
 
 pub balance-requires-clause-once : goal.balance-requires-clause-once
 balance-requires-clause-once g c =
     let s = c.self.invariant.0 in
     let x = c.get_mut-entry.result.now in
-    let e = c.rewrite.new.entry in
+    let e = c.rewrite-left.new.entry in
     let stood = c.get_mut-entry.ensures.value in
     let weighed =
     heavier s c.args.id x e stood c.take.new.self c.take.ensures c.used_part-used.result c.args.update.weight
-    (sym (ap (λ z. z.part) c.rewrite.ensures)) (sym (ap (λ z. z.weight) c.rewrite.ensures)) c.add.new.self c.add.ensures.value in
-    let small = subst (λ z. z.weight < 2 ^ 32) (sym c.rewrite.ensures) c.add.ensures.small in
+    (sym (ap (λ z. z.part) c.rewrite-left.ensures.entry)) (sym (ap (λ z. z.weight) c.rewrite-left.ensures.entry)) c.add.new.self c.add.ensures.value in
+    let small = subst (λ z. z.weight < 2 ^ 32) (sym c.rewrite-left.ensures.entry) c.add.ensures.small in
     let after =
     stored-settled g.met.K.Eq.laws s c.args.id x e stood small c.settle.new.entries.items c.settle.ensures.items
-    c.settle.new.marks c.settle.ensures.marks c.add.new.self weighed (ap (λ z. z.key) c.rewrite.ensures) (ap (λ z. z.hash) c.rewrite.ensures) in
+    c.settle.new.marks c.settle.ensures.marks c.add.new.self weighed (ap (λ z. z.key) c.rewrite-left.ensures.entry) (ap (λ z. z.hash) c.rewrite-left.ensures.entry) in
     after.keyed.once
 
 pub balance-requires-clause-order : goal.balance-requires-clause-order
 balance-requires-clause-order g c =
     let s = c.self.invariant.0 in
     let x = c.get_mut-entry.result.now in
-    let e = c.rewrite.new.entry in
+    let e = c.rewrite-left.new.entry in
     let stood = c.get_mut-entry.ensures.value in
     let weighed =
     heavier s c.args.id x e stood c.take.new.self c.take.ensures c.used_part-used.result c.args.update.weight
-    (sym (ap (λ z. z.part) c.rewrite.ensures)) (sym (ap (λ z. z.weight) c.rewrite.ensures)) c.add.new.self c.add.ensures.value in
-    let small = subst (λ z. z.weight < 2 ^ 32) (sym c.rewrite.ensures) c.add.ensures.small in
+    (sym (ap (λ z. z.part) c.rewrite-left.ensures.entry)) (sym (ap (λ z. z.weight) c.rewrite-left.ensures.entry)) c.add.new.self c.add.ensures.value in
+    let small = subst (λ z. z.weight < 2 ^ 32) (sym c.rewrite-left.ensures.entry) c.add.ensures.small in
     let after =
     stored-settled g.met.K.Eq.laws s c.args.id x e stood small c.settle.new.entries.items c.settle.ensures.items
-    c.settle.new.marks c.settle.ensures.marks c.add.new.self weighed (ap (λ z. z.key) c.rewrite.ensures) (ap (λ z. z.hash) c.rewrite.ensures) in
+    c.settle.new.marks c.settle.ensures.marks c.add.new.self weighed (ap (λ z. z.key) c.rewrite-left.ensures.entry) (ap (λ z. z.hash) c.rewrite-left.ensures.entry) in
     after.order
 
 pub balance-requires-clause-weighed : goal.balance-requires-clause-weighed
 balance-requires-clause-weighed g c =
     let s = c.self.invariant.0 in
     let x = c.get_mut-entry.result.now in
-    let e = c.rewrite.new.entry in
+    let e = c.rewrite-left.new.entry in
     let stood = c.get_mut-entry.ensures.value in
     let weighed =
     heavier s c.args.id x e stood c.take.new.self c.take.ensures c.used_part-used.result c.args.update.weight
-    (sym (ap (λ z. z.part) c.rewrite.ensures)) (sym (ap (λ z. z.weight) c.rewrite.ensures)) c.add.new.self c.add.ensures.value in
-    let small = subst (λ z. z.weight < 2 ^ 32) (sym c.rewrite.ensures) c.add.ensures.small in
+    (sym (ap (λ z. z.part) c.rewrite-left.ensures.entry)) (sym (ap (λ z. z.weight) c.rewrite-left.ensures.entry)) c.add.new.self c.add.ensures.value in
+    let small = subst (λ z. z.weight < 2 ^ 32) (sym c.rewrite-left.ensures.entry) c.add.ensures.small in
     let after =
     stored-settled g.met.K.Eq.laws s c.args.id x e stood small c.settle.new.entries.items c.settle.ensures.items
-    c.settle.new.marks c.settle.ensures.marks c.add.new.self weighed (ap (λ z. z.key) c.rewrite.ensures) (ap (λ z. z.hash) c.rewrite.ensures) in
+    c.settle.new.marks c.settle.ensures.marks c.add.new.self weighed (ap (λ z. z.key) c.rewrite-left.ensures.entry) (ap (λ z. z.hash) c.rewrite-left.ensures.entry) in
     after.weighed
 
 pub invariant_of-self : goal.invariant_of-self
 invariant_of-self g c =
     let s = c.self.invariant.0 in
     let x = c.get_mut-entry.result.now in
-    let e = c.rewrite.new.entry in
+    let e = c.rewrite-left.new.entry in
     let stood = c.get_mut-entry.ensures.value in
     let weighed =
     heavier s c.args.id x e stood c.take.new.self c.take.ensures c.used_part-used.result c.args.update.weight
-    (sym (ap (λ z. z.part) c.rewrite.ensures)) (sym (ap (λ z. z.weight) c.rewrite.ensures)) c.add.new.self c.add.ensures.value in
-    let small = subst (λ z. z.weight < 2 ^ 32) (sym c.rewrite.ensures) c.add.ensures.small in
+    (sym (ap (λ z. z.part) c.rewrite-left.ensures.entry)) (sym (ap (λ z. z.weight) c.rewrite-left.ensures.entry)) c.add.new.self c.add.ensures.value in
+    let small = subst (λ z. z.weight < 2 ^ 32) (sym c.rewrite-left.ensures.entry) c.add.ensures.small in
     let after =
     stored-settled g.met.K.Eq.laws s c.args.id x e stood small c.settle.new.entries.items c.settle.ensures.items
-    c.settle.new.marks c.settle.ensures.marks c.add.new.self weighed (ap (λ z. z.key) c.rewrite.ensures) (ap (λ z. z.hash) c.rewrite.ensures) in (
+    c.settle.new.marks c.settle.ensures.marks c.add.new.self weighed (ap (λ z. z.key) c.rewrite-left.ensures.entry) (ap (λ z. z.hash) c.rewrite-left.ensures.entry) in (
       stored-written g.met.K.Eq.laws (stored-balanced g.met.K.Eq.laws after c.args.room c.balance.new.entries.items c.balance.new.marks
           c.balance.new.weights c.balance.ensures.step c.balance.ensures.marks c.balance.ensures.weighed) c.args.id
           (found_balanced s c.args.id x e stood c.args.room c.settle.new.entries.items c.balance.new.entries.items
@@ -121,16 +121,16 @@ invariant_of-self g c =
           c.settle.new.marks c.settle.ensures.marks c.add.new.self weighed),
     )
 
-pub returns : goal.returns
-returns g c =
+pub returns-clause-step : goal.returns-clause-step
+returns-clause-step g c =
     let s = c.self.invariant.0 in
     let x = c.get_mut-entry.result.now in
-    let e = c.rewrite.new.entry in
+    let e = c.rewrite-left.new.entry in
     let stood = c.get_mut-entry.ensures.value in
     let moved = settled s c.args.id x e stood c.settle.new.entries.items c.settle.ensures.items in
     rw (← c.self.view_is)
     (updates_is g.met.K.Eq.laws _ _ s.keyed c.args.id x stood refl refl c.args.room e c.settle.new.entries.items moved c.balance.ensures.step c.args.update
-    (c.rewrite.ensures ∙ (λ i. record c.args.update {
+    (c.rewrite-left.ensures.entry ∙ (λ i. record c.args.update {
       key = x.key;
       hash = x.hash;
       part = c.used_part-used.ensures i;
@@ -139,7 +139,7 @@ returns g c =
     ∙ (writes_last g.met.K.Eq.laws s c.args.id x e stood c.args.room c.settle.new.entries.items c.balance.new.entries.items moved c.balance.ensures.step
     ∙ (λ i. with_write c.self.inside.keeps_writes
     (writes_without g.K.PartialEq.eq x.key (written_under c.self.inside.entries.items c.self.inside.writes.ids))
-    (c.rewrite.ensures i).key (c.rewrite.ensures i).modified))))
+    (c.rewrite-left.ensures.entry i).key (c.rewrite-left.ensures.entry i).modified))))
 
 pub write_again-requires : goal.write_again-requires
 write_again-requires g c kept = is_written c.self.invariant.0.written c.args.id (ap is_some c.get_mut-entry.ensures.value) kept

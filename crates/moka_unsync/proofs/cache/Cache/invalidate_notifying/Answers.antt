@@ -1,7 +1,7 @@
 use Rattle.std.proofs.Common.{[], ◌∷◌, ◌≡◌, subst, sym}
 use Rattle.moka_common.specs.Keys.{keys_by}
 use Rattle.moka_unsync.proofs.CachedLemmas.{IsCached-leaving, IsCached-upkeep, has_hash}
-use Rattle.moka_unsync.proofs.cache.Cache.invalidate_hashed.Goals as goal
+use Rattle.moka_unsync.proofs.cache.Cache.invalidate_notifying.Goals as goal
 
 pub remove_key-requires : goal.remove_key-requires
 remove_key-requires g c =

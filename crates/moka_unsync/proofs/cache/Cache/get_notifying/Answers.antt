@@ -1,7 +1,7 @@
 use Rattle.std.proofs.Common.{◌≡◌, subst, sym}
 use Rattle.moka_common.specs.Keys.{keys_by}
 use Rattle.moka_unsync.proofs.CachedLemmas.{IsCached-touch, IsCached-upkeep, has_hash}
-use Rattle.moka_unsync.proofs.cache.Cache.get_hashed.Goals as goal
+use Rattle.moka_unsync.proofs.cache.Cache.get_notifying.Goals as goal
 
 pub find_among-requires-clause-hashed : goal.find_among-requires-clause-hashed
 find_among-requires-clause-hashed g c =

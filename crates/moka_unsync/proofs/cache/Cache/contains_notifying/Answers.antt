@@ -1,7 +1,7 @@
 use Rattle.std.proofs.Common.{◌≡◌, subst, sym}
 use Rattle.moka_common.specs.Keys.{keys_by}
 use Rattle.moka_unsync.proofs.CachedLemmas.{IsCached-upkeep, has_hash}
-use Rattle.moka_unsync.proofs.cache.Cache.contains_hashed.Goals as goal
+use Rattle.moka_unsync.proofs.cache.Cache.contains_notifying.Goals as goal
 
 pub find-requires : goal.find-requires
 find-requires g c =

@@ -2,7 +2,7 @@ use Rattle.moka_unsync_model.specs.Contents.{entry_keys}
 use Rattle.moka_unsync_model.specs.Invalidate.{chosen}
 use Rattle.moka_store.specs.Store.{entries_of}
 use Rattle.moka_unsync.proofs.CachedLemmas.{IsCached-leaving}
-use Rattle.moka_unsync.proofs.cache.Cache.invalidate_entries_if.Goals as goal
+use Rattle.moka_unsync.proofs.cache.Cache.invalidate_entries_if_notifying.Goals as goal
 
 pub invariant_of-self : goal.invariant_of-self
 invariant_of-self g c =
@@ -30,4 +30,5 @@ returns g c =
           capacity = c.remove_where.ensures.kept.capacity i;
         }),
       );
+      told = c.remove_where.ensures.told;
     })

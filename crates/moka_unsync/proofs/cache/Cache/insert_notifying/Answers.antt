@@ -1,4 +1,4 @@
-use Rattle.std.proofs.Common.{◌≡◌, ◌∙◌, ◌<◌, ◌≤◌, ◌+◌, ℕ, Bool, Option, None, Some, ap, arith, is_some, length, refl, rules, subst, sym, true}
+use Rattle.std.proofs.Common.{◌≡◌, ◌∙◌, ◌<◌, ◌≤◌, ◌+◌, ℕ, Bool, Option, None, Some, ap, arith, is_some, length, option_map, refl, rules, subst, sym, true, unwrap_or}
 use Rattle.moka_common.specs.Settings.{keeps_writes}
 use Rattle.moka_unsync_model.specs.CacheState.{CacheState}
 use Rattle.moka_unsync_model.specs.Contents.{entry_at, main_of}
@@ -15,9 +15,15 @@ use Rattle.moka_unsync_model.specs.Shares.{windowed_limits}
 use Rattle.moka_unsync.specs.Cached.{IsCached, IsPut}
 use Rattle.moka_unsync.proofs.CachedLemmas.{IsCached-put, IsCached-room, IsCached-update, IsCached-upkeep, has_hash, length-entries}
 use Rattle.moka_unsync.proofs.InsertLemmas.{insert_drops, insert_stays, insert_updates, kept, put_main, stays_main}
-use Rattle.moka_unsync.proofs.cache.Cache.insert_hashed.Given.{Over}
-use Rattle.moka_unsync.proofs.cache.Cache.insert_hashed.Goals.{After-upkeep, After-weigh}
-use Rattle.moka_unsync.proofs.cache.Cache.insert_hashed.Goals as goal
+use Rattle.moka_unsync_model.specs.declared.listener.Cause.TheVariants.{Replaced}
+use Rattle.moka_unsync_model.specs.Shares.{main_limit}
+use Rattle.moka_unsync_model.specs.Told.{TellsPut, TellsUpkeep}
+use Rattle.moka_unsync_model.specs.ToldCalls.{TellsInsert, main_max}
+use Rattle.moka_unsync_model.proofs.EnteringLemmas.{stands-arrived}
+use Rattle.moka_unsync.proofs.LeavingLemmas.{put_told, update_told}
+use Rattle.moka_unsync.proofs.cache.Cache.insert_notifying.Given.{Over}
+use Rattle.moka_unsync.proofs.cache.Cache.insert_notifying.Goals.{After-upkeep, After-weigh}
+use Rattle.moka_unsync.proofs.cache.Cache.insert_notifying.Goals as goal
 
 -- the hash is that of the key
 its_own : (g : Over) (c : After-upkeep g) → c.args.hash
@@ -36,9 +42,9 @@ find-requires g c =
 
 pub invariant_of-self-in-Some : goal.invariant_of-self-in-Some
 invariant_of-self-in-Some g c =
-    IsCached-update c.in-Some.id c.self.inside.room _ c.upkeep.new.store c.update.new.self
+    IsCached-update c.in-Some.id c.self.inside.room _ c.upkeep.new.store c.update-key.new.self
     (IsCached-upkeep c.args.now (IsCached-room c.self.invariant c.reserve.ensures.unchanged) c.upkeep.ensures.step c.upkeep.ensures.kept)
-    c.update.ensures
+    c.update-key.ensures.step
 
 -- the hash is that of the key once the weigher was asked
 put_own : (g : Over) (c : After-weigh g) → c.args.hash
@@ -212,7 +218,7 @@ returns-in-Some-clause-step g c =
     let is : contents_of mid ≡ kept eq cache new c.args.now true =
     c.upkeep.ensures.step ∙ ap (λ s. after_upkeep eq c.self.inside.bounds c.args.now (contents_of s)) c.reserve.ensures.unchanged in
     let keeps = c.upkeep.ensures.kept.keeps ∙ (ap (λ s. s.keeps_writes) c.reserve.ensures.unchanged ∙ c.self.invariant.keeps) in
-    let own = some_parts c.update.ensures.entry found.0 (sym c.update.ensures.stood ∙ found.1) in
+    let own = some_parts c.update-key.ensures.step.entry found.0 (sym c.update-key.ensures.step.stood ∙ found.1) in
     rw (← c.self.view_is)
     (record {
       weight = c.weigh.result;
@@ -225,10 +231,10 @@ returns-in-Some-clause-step g c =
       small = search rules;
       step =
           insert_updates eq cache new c.args.now true found.0 (subst (λ s. entry_at eq c.args.key s.entries ≡ Some found.0) is found.2)
-          (contents_of c.update.new.self) c.update.new.self.capacity
-          (c.update.ensures.contents
+          (contents_of c.update-key.new.self) c.update-key.new.self.capacity
+          (c.update-key.ensures.step.contents
           ∙ (λ i. after_update eq (keeps i) (c.self.invariant.room i) (own i) new (is i)))
-          (c.update.ensures.kept.capacity ∙ c.upkeep.ensures.kept.capacity);
+          (c.update-key.ensures.step.kept.capacity ∙ c.upkeep.ensures.kept.capacity);
     })
 
 pub returns-then-enter_window-clause-step : goal.returns-then-enter_window-clause-step
@@ -324,3 +330,124 @@ returns-else-admit-clause-step g c =
           (its_absence g at absent) (contents_of c.admit.new.store) c.admit.new.store.capacity c.admit.result
           (its_put g at c.admit.new.store c.admit.result put) (c.admit.ensures.capacity ∙ c.upkeep.ensures.kept.capacity) c.if-admit.false;
     })
+
+-- the cache as the call finds it
+abbrev its_start : (g : Over) (c : After-weigh g) → CacheState g.row.K.Denot g.row.V.Denot g.row.S.Denot g.row.W.Denot
+its_start g c = record {
+  settings = record { hash_state = c.self.inside.hash_state; policy = c.self.inside.bounds; is_weighed = c.self.inside.is_weighed };
+  shares = c.self.inside.shares;
+  weigher = c.self.inside.weigher;
+  contents = contents_of c.self.inside.store;
+  sketch = c.self.inside.sketch;
+  capacity = c.self.inside.store.capacity;
+}
+
+-- the listener was told of what upkeep removes
+its_upkeep : (g : Over) (c : After-weigh g) → TellsUpkeep g.L.Listener.hears g.K.PartialEq.eq c.self.inside.bounds c.args.now
+    (contents_of c.self.inside.store) c.args.listener.now c.upkeep.new.listener
+its_upkeep g c =
+    subst (λ s. TellsUpkeep g.L.Listener.hears g.K.PartialEq.eq c.self.inside.bounds c.args.now (contents_of s) c.args.listener.now c.upkeep.new.listener)
+    c.reserve.ensures.unchanged c.upkeep.ensures.told
+
+-- and of what leaves for the new entry
+its_told : (g : Over) (c : After-weigh g) (limit : Option ℕ) (stays : Bool) (new : CacheState g.row.K.Denot g.row.V.Denot g.row.S.Denot g.row.W.Denot)
+    (after : g.row.L.Denot) → limit ≡ main_max (windowed_limits c.self.inside.shares c.self.inside.bounds.max_capacity) c.self.inside.bounds.max_capacity
+    → entry_at g.K.PartialEq.eq c.args.key (entries_of c.upkeep.new.store) ≡ None
+    → stays ≡ is_some (entry_at g.K.PartialEq.eq c.args.key new.contents.entries)
+    → TellsPut g.L.Listener.hears limit stays (its_entry g c c.args.hash) (entries_of c.upkeep.new.store) new.contents.entries c.upkeep.new.listener after
+    → TellsInsert g.L.Listener.hears
+    (keys_by (record { eq = g.K.PartialEq.eq; hash_input = g.K.Hash.hash_input }) g.S.BuildHasher g.S.Hasher.Hasher) (its_start g c) c.args.now c.args.key
+    c.args.value new c.args.listener.now after
+its_told g c limit stays new after limited absent stands put =
+    let keys = keys_by (record { eq = g.K.PartialEq.eq; hash_input = g.K.Hash.hash_input }) g.S.BuildHasher g.S.Hasher.Hasher in
+    put_told g.L.Listener.hears keys (its_start g c) new c.args.now c.args.key c.args.value (contents_of c.upkeep.new.store) c.args.listener.now
+    c.upkeep.new.listener after (its_contents g c) (its_upkeep g c) c.weigh.result limit stays limited absent stands
+    (subst (λ h. TellsPut g.L.Listener.hears limit stays (its_entry g c h) (entries_of c.upkeep.new.store) new.contents.entries c.upkeep.new.listener after)
+    (put_own g c) put)
+
+-- the limit of main, where there is a window
+its_window : (g : Over) (c : After-weigh g) (limits : PartLimits) → c.self.inside.windowed ≡ Some limits
+    → Some (main_limit limits) ≡ main_max (windowed_limits c.self.inside.shares c.self.inside.bounds.max_capacity) c.self.inside.bounds.max_capacity
+its_window g c limits some =
+    ap (λ w. main_max w c.self.inside.bounds.max_capacity) (sym some ∙ c.self.invariant.windowed)
+
+-- and where there is none
+its_main : (g : Over) (c : After-weigh g) (max : Option ℕ) → c.self.inside.windowed ≡ None → max ≡ c.self.inside.bounds.max_capacity
+    → max ≡ main_max (windowed_limits c.self.inside.shares c.self.inside.bounds.max_capacity) c.self.inside.bounds.max_capacity
+its_main g c max none is =
+    is ∙ ap (λ w. main_max w c.self.inside.bounds.max_capacity) (sym none ∙ c.self.invariant.windowed)
+
+-- an entry that is judged without a window stays if it has victims or needs none
+its_stay : (g : Over) (c : After-weigh g) (put : Store g.row.K.Denot g.row.V.Denot) (stays : Bool) (max : Option ℕ)
+    → entry_at g.K.PartialEq.eq c.args.key (entries_of c.upkeep.new.store) ≡ None
+    → (contents_of put ≡ after_admission g.K.PartialEq.eq c.upkeep.new.store.keeps_writes (its_entry g c c.args.hash)
+    (victims_of max c.self.inside.sketch (its_entry g c c.args.hash) (main_of (entries_of c.upkeep.new.store))) (contents_of c.upkeep.new.store))
+    → stays ≡ is_some (victims_of max c.self.inside.sketch (its_entry g c c.args.hash) (main_of (entries_of c.upkeep.new.store)))
+    → stays ≡ is_some (entry_at g.K.PartialEq.eq c.args.key (entries_of put))
+its_stay g c put stays max absent step value =
+    let eq = g.K.PartialEq.eq in
+    let new = its_entry g c c.args.hash in
+    let old = c.upkeep.new.store in
+    value
+    ∙ sym (ap (λ s. is_some (entry_at eq c.args.key s.entries)) step
+    ∙ stands-arrived eq g.met.K.Eq.laws old.keeps_writes (record { all = 0; window = 0; protected = 0 }) c.self.inside.sketch new
+    (victims_of max c.self.inside.sketch new (main_of (entries_of old))) (contents_of old) absent)
+
+pub returns-in-Some-clause-told : goal.returns-in-Some-clause-told
+returns-in-Some-clause-told g c =
+    let at = (goal.at.returns-in-Some-clause-told g c).After-weigh in
+    let hears = g.L.Listener.hears in
+    let keys = keys_by (record { eq = g.K.PartialEq.eq; hash_input = g.K.Hash.hash_input }) g.S.BuildHasher g.S.Hasher.Hasher in
+    let found = (c.in-Some.ensures {u = tt}).found in
+    let left : c.update-key.result.1 ≡ found.0.value =
+    ap (λ o. unwrap_or o c.update-key.result.1) (sym c.update-key.ensures.value ∙ ap (λ o. option_map (λ e. e.value) o) found.1) in
+    rw (← c.self.view_is)
+    (update_told hears keys (its_start g at) _ c.args.now c.args.key c.args.value (contents_of c.upkeep.new.store) c.args.listener.now
+    c.upkeep.new.listener c.removed.new.self (its_contents g at) (its_upkeep g at) found.0 found.2
+    (subst (λ v. hears c.upkeep.new.listener c.args.key v Replaced c.removed.new.self) left
+    (subst (λ k. hears c.upkeep.new.listener k c.update-key.result.1 Replaced c.removed.new.self) c.update-key.ensures.key c.removed.ensures)))
+
+pub returns-then-enter_window-clause-told : goal.returns-then-enter_window-clause-told
+returns-then-enter_window-clause-told g c =
+    let at = (goal.at.returns-then-enter_window-clause-told g c).After-weigh in
+    let absent : entry_at g.K.PartialEq.eq c.args.key (entries_of c.upkeep.new.store) ≡ None = search rules in
+    let same : c.enable_sketch.new.self.contents.entries ≡ entries_of c.enter_window.new.store = ap (λ cache. cache.contents.entries) c.enable_sketch.ensures.1 in
+    rw (← c.self.view_is)
+    (its_told g at (Some (main_limit c.in-Some-windowed.limits)) c.enter_window.result c.enable_sketch.new.self c.enter_window.new.listener
+    (its_window g at c.in-Some-windowed.limits c.in-Some-windowed.is) absent
+    (c.enter_window.ensures.value ∙ ap (λ es. is_some (entry_at g.K.PartialEq.eq c.args.key es)) (sym same))
+    (subst (λ es. TellsPut g.L.Listener.hears (Some (main_limit c.in-Some-windowed.limits)) c.enter_window.result (its_entry g at c.args.hash)
+    (entries_of c.upkeep.new.store) es c.upkeep.new.listener c.enter_window.new.listener) (sym same) c.enter_window.ensures.told))
+
+pub returns-else-enter_window-clause-told : goal.returns-else-enter_window-clause-told
+returns-else-enter_window-clause-told g c =
+    let at = (goal.at.returns-else-enter_window-clause-told g c).After-weigh in
+    let absent : entry_at g.K.PartialEq.eq c.args.key (entries_of c.upkeep.new.store) ≡ None = search rules in
+    rw (← c.self.view_is)
+    (its_told g at (Some (main_limit c.in-Some-windowed.limits)) c.enter_window.result _ c.enter_window.new.listener
+    (its_window g at c.in-Some-windowed.limits c.in-Some-windowed.is) absent c.enter_window.ensures.value c.enter_window.ensures.told)
+
+pub returns-then-admit-clause-told : goal.returns-then-admit-clause-told
+returns-then-admit-clause-told g c =
+    let at = (goal.at.returns-then-admit-clause-told g c).After-weigh in
+    let absent : entry_at g.K.PartialEq.eq c.args.key (entries_of c.upkeep.new.store) ≡ None = search rules in
+    let max = c.max_capacity-limit.result in
+    let same : c.enable_sketch-then-admit.new.self.contents.entries ≡ entries_of c.admit.new.store =
+    ap (λ cache. cache.contents.entries) c.enable_sketch-then-admit.ensures.1 in
+    rw (← c.self.view_is)
+    (its_told g at max c.admit.result c.enable_sketch-then-admit.new.self c.admit.new.listener
+    (its_main g at max c.in-None-windowed.is (c.max_capacity-limit.ensures ∙ ap (λ p. p.max_capacity) c.policy.ensures)) absent
+    (its_stay g at c.admit.new.store c.admit.result max absent c.admit.ensures.step c.admit.ensures.value
+    ∙ ap (λ es. is_some (entry_at g.K.PartialEq.eq c.args.key es)) (sym same))
+    (subst (λ es. TellsPut g.L.Listener.hears max c.admit.result (its_entry g at c.args.hash) (entries_of c.upkeep.new.store) es c.upkeep.new.listener
+    c.admit.new.listener) (sym same) c.admit.ensures.told))
+
+pub returns-else-admit-clause-told : goal.returns-else-admit-clause-told
+returns-else-admit-clause-told g c =
+    let at = (goal.at.returns-else-admit-clause-told g c).After-weigh in
+    let absent : entry_at g.K.PartialEq.eq c.args.key (entries_of c.upkeep.new.store) ≡ None = search rules in
+    let max = c.max_capacity-limit.result in
+    rw (← c.self.view_is)
+    (its_told g at max c.admit.result _ c.admit.new.listener
+    (its_main g at max c.in-None-windowed.is (c.max_capacity-limit.ensures ∙ ap (λ p. p.max_capacity) c.policy.ensures)) absent
+    (its_stay g at c.admit.new.store c.admit.result max absent c.admit.ensures.step c.admit.ensures.value) c.admit.ensures.told)

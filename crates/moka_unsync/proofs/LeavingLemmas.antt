@@ -1,0 +1,214 @@
+-- Lemmas on entries of which a listener is told, and on those that come.
+use Rattle.std.proofs.Common.{◌≡◌, ◌⊎◌, ◌∙◌, ◌∷◌, ◌++◌, ◌<◌, ◌≤◌, ◌+◌, ◌-◌, ◌^◌, [], ℕ, Bool, true, false, List, Option, None, Some, nat_eq, ap, arith, inl, inr}
+use Rattle.std.proofs.Common.{is_some, refl, sym, subst, unwrap_or}
+use Rattle.std.specs.Prelude.{⊤}
+use Rattle.std.specs.Cmp.{IsEquivalence}
+use Rattle.std.specs.List.Sorted.{IsPermutation}
+use Rattle.std.specs.Map.{lookup}
+use Rattle.std.proofs.lemmas.Bool.{false≢true}
+use Rattle.std.proofs.lemmas.List.Sorted.{IsPermutation-cons, IsPermutation-middle, IsPermutation-refl, IsPermutation-trans, sum_by-IsPermutation}
+use Rattle.std.proofs.lemmas.List.Sums.{sum_by-append, sum_by-cons}
+use Rattle.moka_common.specs.Keys.{Keys}
+use Rattle.moka_common.specs.Policy.{Policy}
+use Rattle.moka_unsync_model.specs.declared.entry.Entry.{Entry}
+use Rattle.moka_unsync_model.specs.declared.entry.Part.{Part}
+use Rattle.moka_unsync_model.specs.declared.listener.Cause.{Cause}
+use Rattle.moka_unsync_model.specs.declared.listener.Cause.TheVariants.{Expired, Replaced, Size}
+use Rattle.moka_unsync_model.specs.CacheState.{CacheState, windowed}
+use Rattle.moka_unsync_model.specs.Contents.{Contents, entries_without, entry_at, main_of, total_weight, window_of, with_latest}
+use Rattle.moka_unsync_model.specs.Insert.{new_entry}
+use Rattle.moka_unsync_model.specs.ToldCalls.{TellsInsert, TellsNew, main_max}
+use Rattle.moka_unsync_model.specs.Told.{IsAbove, TellsPut, TellsUpkeep, TellsWhatLeft, partless, unplaced}
+use Rattle.moka_unsync_model.specs.Upkeep.{after_expiry, after_upkeep, is_expired}
+use Rattle.moka_unsync_model.proofs.ToldLemmas.{also_for, also_there, latest_among, moved_among, one_left, passing_among, then_left, unplaced_same}
+use Rattle.moka_unsync_model.proofs.WindowLemmas.{total-split}
+use Rattle.moka_store.specs.Store.{Enters, IsFront, IsFrontOf, Promotes, Replaces, Store, entries_of, is_of}
+
+module _ {K V : Type 0} (eq : K → K → Bool) (old new : Store K V) where
+  -- a new entry is one more
+  pub entered_among : (entry : Entry K V) → Enters eq old entry new → IsPermutation (unplaced (entry ∷ entries_of old)) (unplaced (entries_of new))
+  entered_among entry r =
+      unplaced_same (entry ∷ entries_of old) (entries_of new)
+      (subst (IsPermutation (entry ∷ entries_of old)) (sym (ap (λ c. c.entries) r.contents)) (latest_among entry (entries_of old)))
+
+  -- one that comes in place of another is one more, and the other is out
+  pub replaced_among : (id : ℕ) (entry e : Entry K V) → Replaces eq old id entry new → lookup (nat_eq id) old.nodes ≡ Some e
+      → IsPermutation (entries_of old) (e ∷ entries_without eq e.key (entries_of old))
+      → IsPermutation (unplaced (entry ∷ entries_of old)) (unplaced (e ∷ entries_of new))
+  replaced_among id entry e r stood among =
+      let others = entries_without eq e.key (entries_of old) in
+      let same : r.gone ≡ e = ap (λ o. unwrap_or o r.gone) (sym r.stood ∙ stood) in
+      let arrived : entries_of new ≡ with_latest entry others =
+      ap (λ c. c.entries) r.contents ∙ ap (λ x. with_latest entry (entries_without eq x.key (entries_of old))) same in
+      unplaced_same (entry ∷ entries_of old) (e ∷ entries_of new)
+      (subst (λ l. IsPermutation (entry ∷ entries_of old) (e ∷ l)) (sym arrived)
+      (IsPermutation-trans (entry ∷ entries_of old) (entry ∷ e ∷ others) (e ∷ with_latest entry others)
+      (IsPermutation-cons entry (entries_of old) (e ∷ others) among)
+      (IsPermutation-trans (entry ∷ e ∷ others) (e ∷ entry ∷ others) (e ∷ with_latest entry others)
+      (IsPermutation-middle (entry ∷ []) e others)
+      (IsPermutation-cons e (entry ∷ others) (with_latest entry others) (latest_among entry others)))))
+
+-- an entry gave way to a new one, and the listener got it
+pub gave_way : {L K V : Type 0} (hears : L → K → V → Cause → L → Type 0) (eq : K → K → Bool) (old new : Store K V) (id : ℕ)
+    (entry gone e : Entry K V) (before after : L) → Replaces eq old id entry new → lookup (nat_eq id) old.nodes ≡ Some gone
+    → hears before gone.key gone.value Size after → lookup (nat_eq id) old.nodes ≡ Some e
+    → IsPermutation (entries_of old) (e ∷ entries_without eq e.key (entries_of old))
+    → TellsWhatLeft hears Size (λ left. ⊤) (entry ∷ entries_of old) (entries_of new) before after
+gave_way hears eq old new id entry gone e before after step was heard stood among =
+    one_left hears Size (λ left. ⊤) (entry ∷ entries_of old) (entries_of new) e before after
+    (replaced_among eq old new id entry e step stood among)
+    (subst (λ x. hears before x.key x.value Size after) (ap (λ o. unwrap_or o gone) (sym was ∙ stood)) heard) tt
+
+-- ---- upkeep
+
+-- a weight above the largest that may be is above the limit, and there is a limit then
+pub is_above : (max : Option ℕ) (most weight : ℕ) → most ≡ unwrap_or max (2 ^ 64 - 1) → most < weight → weight < 2 ^ 64 → IsAbove max weight
+is_above None most weight is above small = absurd (grind (arith, is, above, small))
+is_above (Some limit) most weight is above small = subst (λ m. m < weight) is above
+
+module _ {L K V : Type 0} (hears : L → K → V → Cause → L → Type 0) (eq : K → K → Bool) (policy : Policy) (now : ℕ) where
+  -- what is expired was told of, and then what is above the limit
+  pub upkeep_told : (old then new : Contents K V) (before between after : L) → then ≡ after_expiry eq policy now old
+      → new ≡ after_upkeep eq policy now old
+      → TellsWhatLeft hears Expired (λ e. is_expired policy now e ≡ true) old.entries then.entries before between
+      → TellsWhatLeft hears Size (λ e. IsAbove policy.max_capacity (total_weight then.entries)) then.entries new.entries between after
+      → TellsUpkeep hears eq policy now old before after
+  upkeep_told old then new before between after expiry upkeep expired above =
+      record {
+        between = between;
+        expired = subst (λ c. TellsWhatLeft hears Expired (λ e. is_expired policy now e ≡ true) old.entries c.entries before between) expiry expired;
+        above =
+            subst (λ c. TellsWhatLeft hears Size (λ e. IsAbove policy.max_capacity (total_weight c.entries)) c.entries
+            (after_upkeep eq policy now old).entries between after) expiry
+            (subst (λ c. TellsWhatLeft hears Size (λ e. IsAbove policy.max_capacity (total_weight then.entries)) then.entries c.entries between after)
+            upkeep above);
+      }
+
+-- ---- no room for all
+
+-- more is above a limit too
+pub above_more : (limit : Option ℕ) (less more : ℕ) → less ≤ more → IsAbove limit less → IsAbove limit more
+above_more None less more le above = above
+above_more (Some limit) less more le above = omega (arith, le, above)
+
+-- a number of entries has to leave only if there is no room for all
+pub counted_above : (limit : Option ℕ) (count less more : ℕ) → (◌≡◌ {A = Option ℕ} (Some count) (Some 0)) ⊎ IsAbove limit less → less ≤ more → 0 < count → IsAbove limit more
+counted_above limit count less more (inl none) le some = absurd (grind (arith, some, ap (λ o. unwrap_or o 0) none))
+counted_above limit count less more (inr above) le some = above_more limit less more le above
+
+-- and an entry is rejected only then
+pub rejected_above : (limit : Option ℕ) (less more : ℕ) → (◌≡◌ {A = Option ℕ} None (Some 0)) ⊎ IsAbove limit less → less ≤ more → IsAbove limit more
+rejected_above limit less more (inl none) le = absurd (false≢true (ap is_some none))
+rejected_above limit less more (inr above) le = above_more limit less more le above
+
+module _ {K V : Type 0} where
+  -- main is no heavier than all
+  pub main_lighter : (weight : ℕ) (es : List (Entry K V)) → total_weight (main_of es) + weight ≤ total_weight es + weight
+  main_lighter weight es = let split = total-split es in omega (arith, split)
+
+  -- nor is it with an entry of the window
+  pub candidate_lighter : (e : Entry K V) (rest es : List (Entry K V)) → window_of es ≡ e ∷ rest → total_weight (main_of es) + e.weight ≤ total_weight es
+  candidate_lighter e rest es first =
+      let split = total-split es in
+      let window : total_weight (window_of es) ≡ e.weight + total_weight rest = ap total_weight first ∙ sum_by-cons (λ x. x.weight) e rest in
+      omega (arith, split, window)
+
+  -- parts weigh nothing
+  unplaced_weight : (es : List (Entry K V)) → total_weight (unplaced es) ≡ total_weight es
+  unplaced_weight [] = refl
+  unplaced_weight (e ∷ es) =
+      sum_by-cons (λ x. x.weight) (partless e) (unplaced es)
+      ∙ (ap (λ w. e.weight + w) (unplaced_weight es) ∙ sym (sum_by-cons (λ x. x.weight) e es))
+
+  -- what is left is no heavier
+  pub lighter : {L : Type 0} {hears : L → K → V → Cause → L → Type 0} {cause : Cause} {Reason : Entry K V → Type 0} {were are : List (Entry K V)} {a b : L}
+      → TellsWhatLeft hears cause Reason were are a b → total_weight are ≤ total_weight were
+  lighter {were = were} {are = are} t =
+      let whole = sum_by-IsPermutation (λ e. e.weight) (unplaced were) (unplaced are ++ unplaced t.told) t.each in
+      let parts = sum_by-append (λ e. e.weight) (unplaced are) (unplaced t.told) in
+      let before = unplaced_weight were in
+      let after = unplaced_weight are in
+      omega (arith, whole, parts, before, after)
+
+  -- the first of a part is one more than the entries of other keys
+  pub front_of_among : {eq : K → K → Bool} → IsEquivalence eq → (part : Part) (store : Store K V) (id : ℕ) (f : IsFrontOf eq part store id)
+      → IsPermutation (entries_of store) (f.entry ∷ entries_without eq f.entry.key (entries_of store))
+  front_of_among laws part store id f = passing_among laws (λ e. is_of part e.part) f.entry f.rest (entries_of store) f.first f.once
+
+  -- and so is the first of all
+  pub front_among : {eq : K → K → Bool} (store : Store K V) (id : ℕ) (f : IsFront eq store id)
+      → IsPermutation (entries_of store) (f.entry ∷ entries_without eq f.entry.key (entries_of store))
+  front_among {eq} store id f =
+      subst (λ l. IsPermutation l (f.entry ∷ entries_without eq f.entry.key (entries_of store))) (sym f.first)
+      (subst (λ l. IsPermutation (f.entry ∷ f.rest) (f.entry ∷ l)) (sym f.alone) (IsPermutation-refl (f.entry ∷ f.rest)))
+
+  -- a candidate that moves to main stays
+  pub promoted_among : {eq : K → K → Bool} → IsEquivalence eq → (part : Part) (old new : Store K V) (id : ℕ) (f : IsFrontOf eq part old id)
+      → Promotes eq old id new → IsPermutation (unplaced (entries_of old)) (unplaced (entries_of new))
+  promoted_among {eq} laws part old new id f r =
+      let same : r.entry ≡ f.entry = ap (λ o. unwrap_or o r.entry) (sym r.stood ∙ f.stands) in
+      let moved : entries_of new ≡ with_latest (partless f.entry) (entries_without eq f.entry.key (entries_of old)) =
+      ap (λ c. c.entries) r.contents ∙ ap (λ x. with_latest (partless x) (entries_without eq x.key (entries_of old))) same in
+      subst (λ l. IsPermutation (unplaced (entries_of old)) (unplaced l)) (sym moved)
+      (moved_among f.entry (entries_of old) (entries_without eq f.entry.key (entries_of old)) (front_of_among laws part old id f))
+
+-- ---- what a new entry removes
+
+module _ {L K V : Type 0} {hears : L → K → V → Cause → L → Type 0} where
+  -- it is the same entry in another part
+  pub placed : {cause : Cause} {Reason : Entry K V → Type 0} {were others are : List (Entry K V)} {a b : L} → unplaced were ≡ unplaced others
+      → TellsWhatLeft hears cause Reason were are a b → TellsWhatLeft hears cause Reason others are a b
+  placed {are = are} same t =
+      record { told = t.told; heard = t.heard; each = subst (λ l. IsPermutation l (unplaced are ++ unplaced t.told)) same t.each; reason = t.reason }
+
+  -- some have left before it was put
+  pub put_after : (limit : Option ℕ) (stays : Bool) (new : Entry K V) (were then are : List (Entry K V)) (a b c : L)
+      → TellsWhatLeft hears Size (λ e. IsAbove limit (total_weight were + new.weight)) were then a b → TellsPut hears limit stays new then are b c
+      → TellsPut hears limit stays new were are a c
+  put_after limit true new were then are a b c t u =
+      let le = lighter t in
+      let more : total_weight then + new.weight ≤ total_weight were + new.weight = omega (arith, le) in
+      then_left (also_there new t) (also_for (λ e above. above_more limit _ _ more above) u)
+  put_after limit false new were then are a b c t u =
+      let le = lighter t in
+      let more : total_weight then + new.weight ≤ total_weight were + new.weight = omega (arith, le) in
+      (u.0, then_left t (also_for (λ e above. above_more limit _ _ more above) u.1), u.2, above_more limit _ _ more u.3)
+
+-- ---- what an insert tells
+
+module _ {L K V S W : Type 0} (hears : L → K → V → Cause → L → Type 0) (keys : Keys K S) (old new : CacheState K V S W) (now : ℕ) (key : K) (value : V)
+    (were : Contents K V) (before between after : L) (upkeep : were ≡ after_upkeep keys.eq old.settings.policy now old.contents)
+    (told : TellsUpkeep hears keys.eq old.settings.policy now old.contents before between) where
+  -- at a key that is there the old value leaves
+  pub update_told : (there : Entry K V) → entry_at keys.eq key were.entries ≡ Some there → hears between key there.value Replaced after
+      → TellsInsert hears keys old now key value new before after
+  update_told there found heard =
+      record {
+        between = between;
+        upkeep = told;
+        put =
+            subst (λ o. TellsNew hears keys old now o key value new between after)
+            (sym (ap (λ c. entry_at keys.eq key c.entries) (sym upkeep) ∙ found)) heard;
+      }
+
+  -- and else entries give way to the new one, or it is not let in
+  pub put_told : (weight : ℕ) (limit : Option ℕ) (stays : Bool) → limit ≡ main_max (windowed old) old.settings.policy.max_capacity
+      → entry_at keys.eq key were.entries ≡ None → stays ≡ is_some (entry_at keys.eq key new.contents.entries)
+      → TellsPut hears limit stays (new_entry keys old.settings.hash_state key value weight now) were.entries new.contents.entries between after
+      → TellsInsert hears keys old now key value new before after
+  put_told weight limit stays limited absent stands put =
+      let entry = new_entry keys old.settings.hash_state key value weight now in
+      record {
+        between = between;
+        upkeep = told;
+        put =
+            subst (λ o. TellsNew hears keys old now o key value new between after)
+            (sym (ap (λ c. entry_at keys.eq key c.entries) (sym upkeep) ∙ absent)) (
+              weight,
+              subst (λ l. TellsPut hears l (is_some (entry_at keys.eq key new.contents.entries)) entry
+                  (after_upkeep keys.eq old.settings.policy now old.contents).entries new.contents.entries between after) limited
+                  (subst (λ b. TellsPut hears limit b entry (after_upkeep keys.eq old.settings.policy now old.contents).entries new.contents.entries
+                  between after) stands
+                  (subst (λ c. TellsPut hears limit stays entry c.entries new.contents.entries between after) upkeep put)),
+            );
+      }

@@ -1,0 +1,245 @@
+//! A cache for one thread that gives a listener each entry that leaves.
+ghost use Rattle.std.specs.Prelude.{◌≡◌, ◌⊎◌, ⊤, Bool, List, [], None, IfErr, IfOk, OnErr, OnOk, option_copied};
+ghost use Rattle.std.specs.Borrow.{sem};
+ghost use Rattle.moka_common.specs.Keys.{keys_by};
+ghost use Rattle.moka_unsync_model.specs.GetOrInsert.{IsGotOrInserted, IsRefusedBehind};
+ghost use Rattle.moka_unsync_model.specs.Insert.{IsInserted, IsRefused};
+ghost use Rattle.moka_unsync_model.specs.Invalidate.{AnswersInTurn, after_invalidate, after_invalidate_all, after_invalidate_if};
+ghost use Rattle.moka_unsync_model.specs.Lookup.{after_get, after_look, found_by_get, is_contained};
+ghost use Rattle.moka_unsync_model.specs.Told.{TellsWhatLeft};
+ghost use Rattle.moka_unsync_model.specs.ToldCalls.{TellsGot, TellsInsert, TellsInvalidate, TellsLook, TellsRemove};
+ghost use Rattle.moka_unsync_model.specs.declared.listener.Cause.TheVariants.{Explicit};
+
+use crate::cache::Cache;
+use moka_common::error::InsertError;
+use moka_common::hash::FixedState;
+use moka_common::time::Instant;
+use moka_common::weigh::{UnitWeight, Weigh};
+use moka_unsync_model::listener::Listener;
+use std::alloc::{Allocator, Global};
+use std::hash::{BuildHasher, Hash};
+use std::marker::Model;
+
+/// A cache with a listener, which gets each entry that leaves: within the call, once, with its cause.
+///
+/// ```
+/// let cache: Cache<u64, u32> = Cache::new(alloc, 10_000)?;
+/// let mut cache = cache.with_listener(Statistics::default());
+/// cache.insert(7, 1, now)?;
+/// cache.insert(7, 2, now)?;
+/// let replaced = cache.listener().replaced;
+/// ```
+///
+/// The listener doesn't get a value that `remove` returns, since the caller has it. Nor does it get the key and value of an insert that is refused memory:
+/// they never entered.
+/// A cache that is dropped tells nothing: `invalidate_all` does.
+#[derive(Drop)]
+pub struct NotifyingCache<
+    K: Eq + Hash + Drop,
+    V: Drop,
+    L: Drop,
+    S: BuildHasher + Drop = FixedState,
+    W: Drop = UnitWeight,
+    A: Allocator + Clone + Drop = Global,
+> {
+    cache: Cache<K, V, S, W, A>,
+    listener: L,
+}
+
+impl<
+    K: Eq + Hash + Drop,
+    V: Drop,
+    L: Drop,
+    S: BuildHasher + Drop,
+    W: Drop,
+    A: Allocator + Clone + Drop,
+> Model for NotifyingCache<K, V, L, S, W, A> {
+    ghost use Rattle.moka_unsync.specs.Notifying.{Notifying};
+
+    ghost Value = { Notifying K V S W L };
+
+    ghost view = { λ c. record { cache = c.cache; listener = c.listener } };
+}
+
+impl<
+    K: Eq + Hash + Drop,
+    V: Drop,
+    L: Drop,
+    S: BuildHasher + Drop,
+    W: Drop,
+    A: Allocator + Clone + Drop,
+> NotifyingCache<K, V, L, S, W, A> {
+    ghost use Rattle.moka_unsync.specs.CacheLends.{lends_listener};
+
+    /// A cache with a listener.
+    pub(crate) fn new(cache: Cache<K, V, S, W, A>, listener: L) -> Self
+        ensures { result ≡ record { cache = cache; listener = listener } }
+    {
+        NotifyingCache { cache, listener }
+    }
+
+    /// Returns the cache, for calls that remove nothing.
+    pub fn cache(&self) -> &Cache<K, V, S, W, A>
+        ensures { result.now ≡ self.now.cache }
+    {
+        &self.cache
+    }
+
+    /// Returns the listener.
+    pub fn listener(&self) -> &L
+        ensures { result.now ≡ self.now.listener }
+    {
+        &self.listener
+    }
+
+    /// Returns the listener, to change it or to take out what it has.
+    pub fn listener_mut(&mut self) -> &mut L
+        ensures* lends { sem 𝓛 (lends_listener K.row V.row L.row S.row W.row A.row S.Hasher.row
+            K.Hash S.BuildHasher S.Hasher.Hasher A.Allocator A.Clone self.entry self.old result) }
+        ensures value { result.now ≡ self.old.listener }
+    {
+        &mut self.listener
+    }
+
+    /// Takes the cache and the listener apart.
+    pub fn into_parts(self) -> (Cache<K, V, S, W, A>, L)
+        ensures { result ≡ (self.cache, self.listener) }
+    {
+        (self.cache, self.listener)
+    }
+}
+
+impl<
+    K: Eq + Hash + Drop,
+    V: Drop,
+    L: Listener<K, V> + Drop,
+    S: BuildHasher + Drop,
+    W: Drop,
+    A: Allocator + Clone + Drop,
+> NotifyingCache<K, V, L, S, W, A> {
+    ghost use Rattle.moka_unsync.specs.CacheLends.{notifying_ends_so};
+
+    /// Returns `true` if the key has an unexpired entry, as `Cache::contains_key` does.
+    pub fn contains_key(&mut self, key: &K, now: Instant) -> bool
+        ensures value { result ≡ is_contained (keys_by K.Hash S.BuildHasher S.Hasher.Hasher) self.old.cache key.now now }
+        ensures step { self.new.cache ≡ after_look (keys_by K.Hash S.BuildHasher S.Hasher.Hasher) self.old.cache now }
+        ensures told { TellsLook L.hears (keys_by K.Hash S.BuildHasher S.Hasher.Hasher) self.old.cache now self.old.listener self.new.listener }
+    {
+        let hash = self.cache.hash_of(key);
+        self.cache
+            .contains_notifying(key, hash, now, &mut self.listener)
+    }
+
+    /// Returns the value of the key's unexpired entry, as `Cache::get` does.
+    pub fn get(&mut self, key: &K, now: Instant) -> Option<&V>
+        ensures* step { sem 𝓛 (notifying_ends_so K.row V.row L.row S.row W.row A.row S.Hasher.row
+            K.Hash S.BuildHasher S.Hasher.Hasher A.Allocator A.Clone self.entry
+            (λ end. (end.cache ≡ after_get (keys_by K.Hash S.BuildHasher S.Hasher.Hasher) self.old.cache key.now now)
+            × TellsLook L.hears (keys_by K.Hash S.BuildHasher S.Hasher.Hasher) self.old.cache now self.old.listener end.listener)) }
+        ensures value { option_copied result ≡ found_by_get (keys_by K.Hash S.BuildHasher S.Hasher.Hasher) self.old.cache key.now now }
+    {
+        let hash = self.cache.hash_of(key);
+        self.cache
+            .get_notifying(key, hash, now, &mut self.listener)?;
+        self.cache.stored(key, hash)
+    }
+
+    /// Removes the entry of the key, as `Cache::invalidate` does.
+    pub fn invalidate(&mut self, key: &K, now: Instant)
+        ensures step { self.new.cache ≡ after_invalidate (keys_by K.Hash S.BuildHasher S.Hasher.Hasher) self.old.cache key.now now }
+        ensures told { TellsInvalidate L.hears (keys_by K.Hash S.BuildHasher S.Hasher.Hasher) self.old.cache now key.now self.old.listener self.new.listener }
+    {
+        let hash = self.cache.hash_of(key);
+        self.cache
+            .invalidate_notifying(key, hash, now, &mut self.listener);
+    }
+
+    /// Removes the entry of the key and returns its value, as `Cache::remove` does. The listener doesn't get a value that is returned.
+    pub fn remove(&mut self, key: &K, now: Instant) -> Option<V>
+        ensures value { result ≡ found_by_get (keys_by K.Hash S.BuildHasher S.Hasher.Hasher) self.old.cache key.now now }
+        ensures step { self.new.cache ≡ after_invalidate (keys_by K.Hash S.BuildHasher S.Hasher.Hasher) self.old.cache key.now now }
+        ensures told { TellsRemove L.hears (keys_by K.Hash S.BuildHasher S.Hasher.Hasher) self.old.cache now key.now self.old.listener self.new.listener }
+    {
+        let hash = self.cache.hash_of(key);
+        self.cache
+            .remove_notifying(key, hash, now, &mut self.listener)
+    }
+
+    /// Removes all entries, as `Cache::invalidate_all` does.
+    pub fn invalidate_all(&mut self)
+        ensures step { self.new.cache ≡ after_invalidate_all self.old.cache }
+        ensures told { TellsWhatLeft L.hears Explicit (λ e. ⊤) self.old.cache.contents.entries [] self.old.listener self.new.listener }
+    {
+        self.cache.invalidate_all_notifying(&mut self.listener);
+    }
+
+    /// Removes the entries that the predicate chooses, as `Cache::invalidate_entries_if` does.
+    pub fn invalidate_entries_if<F: FnMut(&K, &V) -> bool>(&mut self, predicate: F)
+        requires { F.IsAlwaysCallable predicate }
+        ensures step { (answers : List Bool)
+            × AnswersInTurn F.step predicate self.old.cache.contents.entries answers
+            × (self.new.cache ≡ after_invalidate_if (keys_by K.Hash S.BuildHasher S.Hasher.Hasher) self.old.cache answers) }
+        ensures told { TellsWhatLeft L.hears Explicit (λ e. ⊤) self.old.cache.contents.entries self.new.cache.contents.entries
+            self.old.listener self.new.listener }
+    {
+        self.cache
+            .invalidate_entries_if_notifying(predicate, &mut self.listener);
+    }
+}
+
+impl<
+    K: Eq + Hash + Drop,
+    V: Drop,
+    L: Listener<K, V> + Drop,
+    S: BuildHasher + Drop,
+    W: Weigh<K, V> + Drop,
+    A: Allocator + Clone + Drop,
+> NotifyingCache<K, V, L, S, W, A> {
+    /// Puts the value at the key, as `Cache::insert` does. If it replaces a value, the listener gets that with the key that was handed in.
+    pub fn insert(&mut self, key: K, value: V, now: Instant) -> Result<(), InsertError>
+        requires ready { W.ready self.old.cache.weigher }
+        ensures step { OnOk result (IsInserted (keys_by K.Hash S.BuildHasher S.Hasher.Hasher) W.weighs self.old.cache key value now self.new.cache) }
+        ensures err { OnErr result (IsRefused self.old.cache self.new.cache) }
+        ensures error { IfErr result (λ error. error ≡ InsertError.OutOfMemory) }
+        ensures ready { W.ready self.new.cache.weigher }
+        ensures told { OnOk result (TellsInsert L.hears (keys_by K.Hash S.BuildHasher S.Hasher.Hasher) self.old.cache now key value self.new.cache self.old.listener self.new.listener) }
+        ensures untold { OnErr result (self.new.listener ≡ self.old.listener) }
+    {
+        let hash = self.cache.hash_of(&key);
+        self.cache
+            .insert_notifying(key, hash, value, now, &mut self.listener)
+    }
+}
+
+impl<
+    K: Eq + Hash + Drop,
+    V: Clone + Drop,
+    L: Listener<K, V> + Drop,
+    S: BuildHasher + Drop,
+    W: Weigh<K, V> + Drop,
+    A: Allocator + Clone + Drop,
+> NotifyingCache<K, V, L, S, W, A> {
+    /// Returns a clone of the value of the key, as `Cache::get_or_insert_with` does. If the clone is refused, the listener doesn't get what was made.
+    pub fn get_or_insert_with<F: FnOnce() -> V>(
+        &mut self,
+        key: K,
+        now: Instant,
+        make: F,
+    ) -> Result<V, InsertError>
+        requires ready { W.ready self.old.cache.weigher }
+        requires make { found_by_get (keys_by K.Hash S.BuildHasher S.Hasher.Hasher) self.old.cache key now ≡ None → F.pre make }
+        ensures ok { IfOk result (λ copy. (value : V) × V.is_clone value copy
+            × IsGotOrInserted (keys_by K.Hash S.BuildHasher S.Hasher.Hasher) self.old.cache key now W.weighs (F.post make) value self.new.cache) }
+        ensures err { OnErr result (((value : V) × (¬ (V.is_infallible value)) × (self.new.cache ≡ after_get (keys_by K.Hash S.BuildHasher S.Hasher.Hasher) self.old.cache key now))
+            ⊎ IsRefusedBehind (keys_by K.Hash S.BuildHasher S.Hasher.Hasher) self.old.cache key now self.new.cache) }
+        ensures error { IfErr result (λ error. error ≡ InsertError.OutOfMemory) }
+        ensures ready { W.ready self.new.cache.weigher }
+        ensures told { OnOk result (TellsGot L.hears (keys_by K.Hash S.BuildHasher S.Hasher.Hasher) self.old.cache now (found_by_get (keys_by K.Hash S.BuildHasher S.Hasher.Hasher) self.old.cache key now) key self.new.cache
+            self.old.listener self.new.listener) }
+        ensures looked { OnErr result (TellsLook L.hears (keys_by K.Hash S.BuildHasher S.Hasher.Hasher) self.old.cache now self.old.listener self.new.listener) }
+    {
+        let hash = self.cache.hash_of(&key);
+        self.cache
+            .get_or_insert_notifying(key, hash, now, make, &mut self.listener)
+    }
+}
