@@ -15,6 +15,8 @@ mod housekeeper;
 #[cfg(test)]
 mod list;
 #[cfg(test)]
+mod listener;
+#[cfg(test)]
 mod shared;
 #[cfg(test)]
 mod shares;

@@ -2,10 +2,10 @@
 use moka_common::error::OutOfMemory;
 use moka_common::hash::FixedState;
 use moka_common::time::Instant;
-use moka_sync_model::published::Published;
 use moka_sync::builder::CacheBuilder;
 use moka_sync::cache::{Cache, ConcurrentCacheExt};
 use moka_sync::iter::Iter;
+use moka_sync_model::published::Published;
 use std::alloc::Global;
 use std::sync::Wait;
 use std::test::Fail;
