@@ -318,7 +318,7 @@ impl<K: Eq + Drop, V: Drop, A: Allocator + Clone + Drop> Store<K, V, A> {
 
     /// Removes an entry, returns it, and adds another in its node, as `take` and `enter` would. It spares the allocation of a node and half of the relinking.
     /// There must be no entry of the new key.
-    #[inline]
+    #[inline(always)]
     pub fn replace(&mut self, id: NodeId, entry: Entry<K, V>) -> Entry<K, V>
         requires stands { IsSome (lookup (nat_eq id) self.old.nodes) }
         requires absent { entry_at K.eq entry.key (entries_of self.old) ≡ None }
