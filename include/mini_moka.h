@@ -51,11 +51,12 @@ enum mini_moka_status {
     MINI_MOKA_TOO_SHORT = 6,     /* a buffer is shorter than what was found, whose length is written */
     MINI_MOKA_CHANGED = 7,       /* no walk was begun, or a call that may change the cache has ended it */
     MINI_MOKA_ZERO_DURATION = 8, /* a time to live or to idle is 0, so no entry would be found: nothing was opened. MINI_MOKA_UNLIMITED sets none */
+    MINI_MOKA_REJECTED = 9,      /* the call was made, and the full cache did not let the new entry in */
 };
 
-/* Returns true for each status but MINI_MOKA_DONE and MINI_MOKA_ABSENT. */
+/* Returns true for each status but MINI_MOKA_DONE, MINI_MOKA_ABSENT and MINI_MOKA_REJECTED. */
 static inline bool mini_moka_is_error(uint32_t status) {
-    return status > MINI_MOKA_ABSENT;
+    return status > MINI_MOKA_ABSENT && status != MINI_MOKA_REJECTED;
 }
 
 /* Returns the words of a status, for a message. */
@@ -70,6 +71,7 @@ static inline const char *mini_moka_status_text(uint32_t status) {
         "a buffer is too short",
         "no walk was begun, or a change has ended it",
         "a time to live or to idle is 0",
+        "the new entry was not let in",
     };
     return status < sizeof texts / sizeof *texts ? texts[status] : "an unknown status";
 }
@@ -99,7 +101,10 @@ struct mini_moka_settings {
 /* Opens a closed handle with a new cache. If memory is refused or a duration is 0, the handle stays closed. */
 uint32_t mini_moka_open(struct mini_moka *handle, const struct mini_moka_settings *settings);
 
-/* Puts a copy of the value at a copy of the key. If the cache is full, a new key may be rejected for one that is used more, which is MINI_MOKA_DONE too. */
+/*
+ * Puts a copy of the value at a copy of the key. If the cache is full, a new key may be rejected for one that is used more: MINI_MOKA_REJECTED, and the cache has
+ * no entry of the key. After MINI_MOKA_DONE it has one.
+ */
 uint32_t mini_moka_insert(struct mini_moka *handle, const void *key, size_t key_length, const void *value, size_t value_length, uint64_t now);
 
 /*

@@ -108,9 +108,9 @@ static void bytes_are_weighed(void) {
     CHECK(mini_moka_open(&cache, &weighed) == MINI_MOKA_DONE);
     CHECK(insert(&cache, "1234", "123456", 0) == MINI_MOKA_DONE && number_of(mini_moka_weight, &cache) == 10);
     CHECK(insert(&cache, "abcd", "abcdef", 0) == MINI_MOKA_DONE && number_of(mini_moka_weight, &cache) == 20);
-    CHECK(insert(&cache, "new", "", 0) == MINI_MOKA_DONE && contains(&cache, "new", 0) == MINI_MOKA_ABSENT);
-    CHECK(insert(&cache, "much", "123456789012345678901", 0) == MINI_MOKA_DONE && contains(&cache, "much", 0) == MINI_MOKA_ABSENT);
-    CHECK(number_of(mini_moka_count, &cache) == 2);
+    CHECK(insert(&cache, "new", "", 0) == MINI_MOKA_REJECTED && contains(&cache, "new", 0) == MINI_MOKA_ABSENT);
+    CHECK(insert(&cache, "much", "123456789012345678901", 0) == MINI_MOKA_REJECTED && contains(&cache, "much", 0) == MINI_MOKA_ABSENT);
+    CHECK(number_of(mini_moka_count, &cache) == 2 && !mini_moka_is_error(MINI_MOKA_REJECTED));
     CHECK(mini_moka_close(&cache) == MINI_MOKA_DONE);
 }
 
@@ -226,7 +226,7 @@ static void numbers_expire(void) {
     CHECK(mini_moka_close(&cache) == MINI_MOKA_DONE);
 }
 
-/* A cache stays within its capacity, and two handles are two caches. A key that is rejected is handed out all the same. */
+/* A cache stays within its capacity, and two handles are two caches. A value whose key is rejected is written all the same. */
 static void caches_are_bounded(void) {
     struct mini_moka first = {0}, second = {0};
     CHECK(mini_moka_u64_open(&first, &NUMBERS) == MINI_MOKA_DONE);
@@ -235,6 +235,10 @@ static void caches_are_bounded(void) {
         uint64_t value = BEFORE;
         CHECK(mini_moka_u64_get_or_insert(&first, key, key * key, key, &value) == MINI_MOKA_DONE && value == key * key);
         CHECK(number_of(mini_moka_count, &first) <= 10);
+    }
+    for (uint64_t key = 1000; key < 1100; key++) {
+        uint32_t status = mini_moka_u64_insert(&first, key, 0, key);
+        CHECK(mini_moka_u64_contains(&first, key, key) == (status == MINI_MOKA_REJECTED ? MINI_MOKA_ABSENT : status));
     }
     CHECK(number_of(mini_moka_count, &second) == 0);
     CHECK(mini_moka_close(&first) == MINI_MOKA_DONE);
@@ -293,20 +297,21 @@ static void durations_of_zero_are_refused(void) {
     numbers.time_to_live = numbers.time_to_idle = 1;
     CHECK(mini_moka_u64_open(&cache, &numbers) == MINI_MOKA_DONE && mini_moka_close(&cache) == MINI_MOKA_DONE);
     numbers.capacity = 0;
-    CHECK(mini_moka_u64_open(&cache, &numbers) == MINI_MOKA_DONE && mini_moka_u64_insert(&cache, 7, 49, 0) == MINI_MOKA_DONE);
+    CHECK(mini_moka_u64_open(&cache, &numbers) == MINI_MOKA_DONE && mini_moka_u64_insert(&cache, 7, 49, 0) == MINI_MOKA_REJECTED);
     numbers.time_to_live = 0;
     CHECK(mini_moka_u64_open(&cache, &numbers) == MINI_MOKA_ALREADY_OPEN);
     CHECK(mini_moka_u64_contains(&cache, 7, 0) == MINI_MOKA_ABSENT && mini_moka_close(&cache) == MINI_MOKA_DONE);
 }
 
-/* Each status has words of its own, and only the first two are of calls that were made. */
+/* Each status has words of its own, and three are of calls that were made. */
 static void statuses_have_texts(void) {
-    for (uint32_t status = 0; status <= MINI_MOKA_ZERO_DURATION + 1; status++) {
-        CHECK(mini_moka_is_error(status) == (status != MINI_MOKA_DONE && status != MINI_MOKA_ABSENT));
+    for (uint32_t status = 0; status <= MINI_MOKA_REJECTED + 1; status++) {
+        CHECK(mini_moka_is_error(status) == (status != MINI_MOKA_DONE && status != MINI_MOKA_ABSENT && status != MINI_MOKA_REJECTED));
         for (uint32_t other = 0; other < status; other++)
             CHECK(strcmp(mini_moka_status_text(status), mini_moka_status_text(other)) != 0);
     }
     CHECK(strcmp(mini_moka_status_text(MINI_MOKA_ZERO_DURATION), "a time to live or to idle is 0") == 0);
+    CHECK(strcmp(mini_moka_status_text(MINI_MOKA_REJECTED), "the new entry was not let in") == 0);
     CHECK(strcmp(mini_moka_status_text(UINT32_MAX), "an unknown status") == 0);
 }
 

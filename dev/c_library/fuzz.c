@@ -234,9 +234,14 @@ static void play_insert(struct model *model, uint64_t key) {
     uint32_t status = insert(model, key, version);
     if (is_refused(status))
         return;
-    require(status == MINI_MOKA_DONE, "an insert was not taken");
+    require(status == MINI_MOKA_DONE || (status == MINI_MOKA_REJECTED && model->capacity != MINI_MOKA_UNLIMITED), "an insert was not taken");
     model->inserts++;
     write_down(model, &model->keys[key], version);
+    /* A peek removes nothing, so it finds the entry if that was let in. */
+    allocations_left = -1;
+    uint32_t found = look_up(model, mini_moka_peek, mini_moka_u64_peek, key);
+    require(!is_look_up_refused(model, key, found) && is_found(found) == (status == MINI_MOKA_DONE), "another status of an insert");
+    model->keys[key].is_there = status == MINI_MOKA_DONE;
 }
 
 static void play_look_up(struct model *model, uint64_t key) {

@@ -1,11 +1,13 @@
 -- How a call on a handle of bytes tells what the call of its cache answers.
 use Rattle.std.specs.Prelude.{◌≡◌, ◌<◌, ◌⊎◌, ◌&&◌, ℕ, List, is_some, length, nat_le, Option, option_map, if◌then◌else◌}
+use Rattle.moka_unsync.specs.Contents.{entry_at}
 use Rattle.moka_unsync.specs.Insert.{IsInserted}
 use Rattle.moka_unsync.specs.Invalidate.{after_invalidate}
 use Rattle.moka_unsync.specs.Lookup.{after_get, after_look, found_by_get, found_by_peek, is_contained}
 use Rattle.mini_moka_c.specs.declared.cache.ByteCache.{ByteCache}
 use Rattle.mini_moka_c.specs.Buffer.{IsTaken, copied_to}
 use Rattle.mini_moka_c.specs.ByteKeys.{byte_keys, byte_weighs}
+use Rattle.mini_moka_c.specs.Inserted.{inserted_of, status_of}
 use Rattle.mini_moka_c.specs.declared.key.TheConstants.{SHORT_KEY}
 use Rattle.mini_moka_c.specs.declared.steps.Step.{Step}
 use Rattle.mini_moka_c.specs.declared.steps.Walk.TheVariants.{Ended}
@@ -23,10 +25,11 @@ TellsRefusal status old new = (status ≡ OUT_OF_MEMORY) × (new ≡ record old 
 abbrev pub TellsLongRefused : List ℕ → ℕ → ByteCache → ByteCache → Type 0
 TellsLongRefused key status old new = (SHORT_KEY < length key) × TellsRefusal status old new
 
--- the pair went in, and is counted; or memory was refused
+-- the pair was put, and is counted, and the status says if the key has an entry now; or memory was refused
 abbrev pub TellsBytesInsert : List ℕ → List ℕ → ℕ → ℕ → ByteCache → ByteCache → Type 0
 TellsBytesInsert key value now status old new =
-    ((status ≡ DONE) × IsInserted byte_keys byte_weighs old.cache key value now new.cache
+    ((status ≡ status_of (inserted_of (is_some (entry_at byte_keys.eq key new.cache.contents.entries))))
+    × IsInserted byte_keys byte_weighs old.cache key value now new.cache
     × (new.statistics ≡ with_calls with_insert old.cache new.cache old.statistics) × (new.walk ≡ Ended))
     ⊎ TellsRefusal status old new
 

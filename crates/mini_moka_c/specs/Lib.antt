@@ -1,5 +1,6 @@
 pub mod Weight
 pub mod Statistics
+pub mod Inserted
 pub mod Buffer
 pub mod ByteKeys
 pub mod Walk

@@ -1,6 +1,7 @@
 -- How a call on a handle of numbers tells what the call of its cache answers.
 use Rattle.std.specs.Prelude.{◌≡◌, ◌⊎◌, ℕ, is_some, Option, Some, None}
 use Rattle.moka_common.specs.Weight.{unit_weighs}
+use Rattle.moka_unsync.specs.Contents.{entry_at}
 use Rattle.moka_unsync.specs.Insert.{IsInserted, IsRefused}
 use Rattle.moka_unsync.specs.Invalidate.{after_invalidate}
 use Rattle.moka_unsync.specs.Lookup.{after_get, after_look, found_by_get, found_by_peek, is_contained}
@@ -10,6 +11,7 @@ use Rattle.mini_moka_c.specs.declared.steps.NumberStep.TheVariants as step
 use Rattle.mini_moka_c.specs.declared.steps.Walk.TheVariants.{Ended}
 use Rattle.mini_moka_c.specs.declared.constants.TheConstants.{ABSENT, CHANGED, DONE, OUT_OF_MEMORY}
 use Rattle.mini_moka_c.specs.Calls.{TellsTruth}
+use Rattle.mini_moka_c.specs.Inserted.{inserted_of, status_of}
 use Rattle.mini_moka_c.specs.NumberKeys.{number_keys}
 use Rattle.mini_moka_c.specs.NumberWalk.{met_after, next_pair, step_of, walk_after}
 use Rattle.mini_moka_c.specs.Statistics.{with_calls, with_get, with_insert}
@@ -41,10 +43,11 @@ abbrev pub TellsFound : Option ℕ → ℕ → ℕ → Type 0
 TellsFound (Some value) status written = (status ≡ DONE) × (written ≡ value)
 TellsFound None status written = status ≡ ABSENT
 
--- the pair went in, or memory was refused
+-- the pair was put, and the status says if the key has an entry now; or memory was refused
 abbrev pub TellsInsert : ℕ → ℕ → ℕ → ℕ → NumberCache → NumberCache → Type 0
 TellsInsert key value now status old new =
-    ((status ≡ DONE) × IsNumberInsert key value now old new) ⊎ ((status ≡ OUT_OF_MEMORY) × IsNumberRefusal old new)
+    ((status ≡ status_of (inserted_of (is_some (entry_at number_keys.eq key new.cache.contents.entries)))) × IsNumberInsert key value now old new)
+    ⊎ ((status ≡ OUT_OF_MEMORY) × IsNumberRefusal old new)
 
 -- what a get finds
 abbrev pub TellsGet : ℕ → ℕ → ℕ → ℕ → NumberCache → NumberCache → Type 0
@@ -74,8 +77,9 @@ TellsRemove key now status written old new =
 abbrev pub TellsGotOrInserted : ℕ → ℕ → ℕ → ℕ → ℕ → NumberCache → NumberCache → Type 0
 TellsGotOrInserted key otherwise now status written old new =
     ((status ≡ DONE) × IsNumberGet key now (Some written) old new)
-    ⊎ ((missed : NumberCache) × IsNumberGet key now None old missed × TellsInsert key otherwise now status missed new
-    × (status ≡ DONE → written ≡ otherwise))
+    ⊎ ((missed : NumberCache) × IsNumberGet key now None old missed
+    × (((status ≡ DONE) × (written ≡ otherwise) × IsNumberInsert key otherwise now missed new)
+    ⊎ ((status ≡ OUT_OF_MEMORY) × IsNumberRefusal missed new)))
 
 -- a walk has ended, each entry was met, or the next one is written
 abbrev pub TellsStep : NumberStep → ℕ → ℕ → ℕ → Type 0

@@ -45,7 +45,7 @@ fn kept_of(alloc: Global, settings: &ByteSettings) -> Result<Box<Kept>, u32>
     Box::new(alloc, Kept::Bytes(cache)).map_err(|_| OUT_OF_MEMORY)
 }
 
-/// Inserts a copy of the key and the value. The admission policy may reject a new entry that exceeds the capacity, which is `DONE` as well.
+/// Inserts a copy of the key and the value. If a new entry exceeds the capacity, the admission policy may reject it: `REJECTED`.
 #[unsafe(no_mangle)]
 pub extern "C" fn mini_moka_insert(
     alloc: Global,
@@ -58,7 +58,7 @@ pub extern "C" fn mini_moka_insert(
 {
     match handle.bytes() {
         Ok(bytes) => match bytes.insert(alloc, key, value, Instant::from_nanos(now)) {
-            Ok(()) => DONE,
+            Ok(inserted) => inserted.status(),
             Err(_) => OUT_OF_MEMORY,
         },
         Err(status) => status,

@@ -2,15 +2,18 @@
 ghost use Rattle.std.specs.Prelude.{◌≡◌, ◌<◌, length, nat_le, IfErr, IfOk, is_some, None, OnErr, OnOk, option_copied, option_map};
 ghost use Rattle.std.specs.Map.Iter.{deref_pair};
 ghost use Rattle.moka_unsync.specs.Builder.{IsBuilt, refusal_of};
+ghost use Rattle.moka_unsync.specs.Contents.{entry_at};
 ghost use Rattle.moka_unsync.specs.Insert.{IsInserted};
 ghost use Rattle.moka_unsync.specs.Invalidate.{after_invalidate, after_invalidate_all};
 ghost use Rattle.moka_unsync.specs.Lookup.{after_get, after_look, found_by_get, found_by_peek, is_contained};
 ghost use Rattle.mini_moka_c.specs.Buffer.{IsTaken, copied_to};
 ghost use Rattle.mini_moka_c.specs.ByteKeys.{byte_keys, byte_weighs};
+ghost use Rattle.mini_moka_c.specs.Inserted.{inserted_of};
 ghost use Rattle.mini_moka_c.specs.Walk.{IsLong, fitting, met_after, next_pair, step_of, walk_after};
 ghost use Rattle.mini_moka_c.specs.declared.steps.Walk.TheVariants.{AtStart, Ended};
 ghost use Rattle.mini_moka_c.specs.Statistics.{no_statistics, with_calls, with_get, with_insert, with_left};
 
+use crate::inserted::Inserted;
 use crate::key::{Key, SHORT_KEY};
 use crate::seed::Seed;
 use crate::statistics::Statistics;
@@ -59,15 +62,16 @@ impl ByteCache {
         })
     }
 
-    /// Puts a copy of the value at a copy of the key, as `Cache::insert` does. If memory is refused, for the copies or for room, no entry changes and a walk goes
-    /// on.
+    /// Puts a copy of the value at a copy of the key, as `Cache::insert` does, and returns whether it was let in. If memory is refused, for the copies or for
+    /// room, no entry changes and a walk goes on.
     pub fn insert(
         &mut self,
         alloc: Global,
         key: &[u8],
         value: &[u8],
         now: Instant,
-    ) -> Result<(), InsertError>
+    ) -> Result<Inserted, InsertError>
+        ensures answer { IfOk result (λ inserted. inserted ≡ inserted_of (is_some (entry_at byte_keys.eq key.now self.new.cache.contents.entries))) }
         ensures step { OnOk result (IsInserted byte_keys byte_weighs self.old.cache key.now value.now now self.new.cache) }
         ensures counts { OnOk result (self.new.statistics
             ≡ with_calls with_insert self.old.cache self.new.cache self.old.statistics) }
@@ -77,11 +81,14 @@ impl ByteCache {
     {
         let (key, value) = copies(alloc, key, value)?;
         let before = self.cache.entry_count();
-        self.cache.insert(key, value, now)?;
+        let hash = self.cache.hash_of(&key);
+        let mut inserted = Inserted::Stored;
+        self.cache
+            .insert_notifying(key, hash, value, now, &mut inserted)?;
         self.walk = Walk::Ended;
         self.statistics.count_insert();
         self.statistics.count_left(before, self.cache.entry_count());
-        Ok(())
+        Ok(inserted)
     }
 
     /// Looks the key up as `Cache::get` does. It copies the value to the beginning of the buffer, if it fits, and answers its length.

@@ -18,6 +18,8 @@ pub const TOO_SHORT: u32 = 6;
 pub const CHANGED: u32 = 7;
 /// A time to live or to idle is 0, so no entry would ever be found: nothing was done.
 pub const ZERO_DURATION: u32 = 8;
+/// The call was made, and the admission policy did not let the new entry in.
+pub const REJECTED: u32 = 9;
 
 /// The capacity or the duration of a cache that has none. No clock reaches it: as nanoseconds it is more than 584 years.
 pub const UNLIMITED: u64 = u64::MAX;

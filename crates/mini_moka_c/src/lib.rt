@@ -7,6 +7,7 @@ mod bytes;
 pub mod cache;
 pub mod constants;
 mod handle;
+pub mod inserted;
 pub mod key;
 pub mod number_cache;
 mod numbers;

@@ -1,15 +1,18 @@
 //! A cache of numbers.
-ghost use Rattle.std.specs.Prelude.{◌≡◌, IfErr, IfOk, None, OnErr, OnOk, option_map};
+ghost use Rattle.std.specs.Prelude.{◌≡◌, IfErr, IfOk, is_some, None, OnErr, OnOk, option_map};
 ghost use Rattle.std.specs.Map.Iter.{deref_pair};
 ghost use Rattle.moka_unsync.specs.Builder.{IsBuilt, refusal_of};
+ghost use Rattle.moka_unsync.specs.Contents.{entry_at};
 ghost use Rattle.moka_unsync.specs.Invalidate.{after_invalidate, after_invalidate_all};
 ghost use Rattle.moka_unsync.specs.Lookup.{after_look, found_by_get, found_by_peek, is_contained};
 ghost use Rattle.mini_moka_c.specs.declared.steps.Walk.TheVariants.{AtStart, Ended};
+ghost use Rattle.mini_moka_c.specs.Inserted.{inserted_of};
 ghost use Rattle.mini_moka_c.specs.NumberCalls.{IsNumberGet, IsNumberInsert, IsNumberRefusal};
 ghost use Rattle.mini_moka_c.specs.NumberKeys.{number_keys};
 ghost use Rattle.mini_moka_c.specs.NumberWalk.{met_after, next_pair, step_of, walk_after};
 ghost use Rattle.mini_moka_c.specs.Statistics.{no_statistics, with_calls};
 
+use crate::inserted::Inserted;
 use crate::statistics::Statistics;
 use crate::steps::{NumberStep, Walk};
 use moka_common::error::{BuildError, InsertError};
@@ -43,18 +46,22 @@ impl NumberCache {
         })
     }
 
-    /// Puts the value at the key, as `Cache::insert` does. If memory is refused, no entry changes and a walk goes on.
-    pub fn insert(&mut self, key: u64, value: u64, now: Instant) -> Result<(), InsertError>
+    /// Puts the value at the key, as `Cache::insert` does, and returns whether it was let in. If memory is refused, no entry changes and a walk goes on.
+    pub fn insert(&mut self, key: u64, value: u64, now: Instant) -> Result<Inserted, InsertError>
+        ensures answer { IfOk result (λ inserted. inserted ≡ inserted_of (is_some (entry_at number_keys.eq key self.new.cache.contents.entries))) }
         ensures step { OnOk result (IsNumberInsert key value now self.old self.new) }
         ensures refused { OnErr result (IsNumberRefusal self.old self.new) }
         ensures error { IfErr result (λ error. error ≡ InsertError.OutOfMemory) }
     {
         let before = self.cache.entry_count();
-        self.cache.insert(key, value, now)?;
+        let hash = self.cache.hash_of(&key);
+        let mut inserted = Inserted::Stored;
+        self.cache
+            .insert_notifying(key, hash, value, now, &mut inserted)?;
         self.walk = Walk::Ended;
         self.statistics.count_insert();
         self.statistics.count_left(before, self.cache.entry_count());
-        Ok(())
+        Ok(inserted)
     }
 
     /// Looks the key up as `Cache::get` does.

@@ -50,14 +50,14 @@ fn kept_of(alloc: Global, settings: &NumberSettings) -> Result<Box<Kept>, u32>
     Box::new(alloc, Kept::Numbers(cache)).map_err(|_| OUT_OF_MEMORY)
 }
 
-/// Inserts the key and the value. The admission policy may reject a new entry that exceeds the capacity, which is `DONE` as well.
+/// Inserts the key and the value. If a new entry exceeds the capacity, the admission policy may reject it: `REJECTED`.
 #[unsafe(no_mangle)]
 pub extern "C" fn mini_moka_u64_insert(handle: &mut Handle, key: u64, value: u64, now: u64) -> u32
     ensures { OnOpen handle.old.value result handle.new.value (OnNumbers result (TellsInsert key value now result)) }
 {
     match handle.numbers() {
         Ok(numbers) => match numbers.insert(key, value, Instant::from_nanos(now)) {
-            Ok(()) => DONE,
+            Ok(inserted) => inserted.status(),
             Err(_) => OUT_OF_MEMORY,
         },
         Err(status) => status,
@@ -121,7 +121,7 @@ pub extern "C" fn mini_moka_u64_get_or_insert(
                 return DONE;
             }
             match numbers.insert(key, otherwise, now) {
-                Ok(()) => {
+                Ok(_) => {
                     *value = otherwise;
                     DONE
                 }

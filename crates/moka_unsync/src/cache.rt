@@ -250,8 +250,8 @@ impl<
         })
     }
 
-    /// The hash of a key.
-    pub(crate) fn hash_of(&self, key: &K) -> u64
+    /// Returns the hash of a key, for the calls that take one.
+    pub fn hash_of(&self, key: &K) -> u64
         ensures { result ≡ (keys_by K.Hash S.BuildHasher S.Hasher.Hasher).hash_of self.now.settings.hash_state key.now }
     {
         self.hash_state.hash_one(key)

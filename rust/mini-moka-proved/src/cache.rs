@@ -3,7 +3,7 @@
 use crate::builder::Builder;
 use crate::clock::{nanoseconds, Clock};
 use crate::error::OutOfMemory;
-use crate::handle::{Bytes, Handle, Look, Settings, Statistics, Step};
+use crate::handle::{Bytes, Handle, Inserted, Look, Settings, Statistics, Step};
 use std::fmt;
 use std::iter::FusedIterator;
 use std::time::Duration;
@@ -291,7 +291,16 @@ impl Cache {
     }
 
     /// Puts a copy of the value at a copy of the key. A full cache may reject a new key for one that
-    /// is used more, which is `Ok` too.
+    /// is used more: [`Inserted::Rejected`].
+    ///
+    /// ```
+    /// use mini_moka_proved::{Cache, Inserted};
+    ///
+    /// let mut cache = Cache::new(1)?;
+    /// assert_eq!(cache.insert("first", "kept")?, Inserted::Stored);
+    /// assert_eq!(cache.insert("second", "unknown")?, Inserted::Rejected);
+    /// # Ok::<(), mini_moka_proved::OutOfMemory>(())
+    /// ```
     ///
     /// # Errors
     ///
@@ -301,7 +310,7 @@ impl Cache {
         &mut self,
         key: impl AsRef<[u8]>,
         value: impl AsRef<[u8]>,
-    ) -> Result<(), OutOfMemory> {
+    ) -> Result<Inserted, OutOfMemory> {
         self.insert_at(key, value, self.now())
     }
 
@@ -315,7 +324,7 @@ impl Cache {
         key: impl AsRef<[u8]>,
         value: impl AsRef<[u8]>,
         now: Duration,
-    ) -> Result<(), OutOfMemory> {
+    ) -> Result<Inserted, OutOfMemory> {
         self.handle
             .insert(key.as_ref(), value.as_ref(), nanoseconds(now))
     }

@@ -23,6 +23,7 @@ const DONE: u32 = 0;
 const ABSENT: u32 = 1;
 const OUT_OF_MEMORY: u32 = 4;
 const TOO_SHORT: u32 = 6;
+const REJECTED: u32 = 9;
 
 /// The header's `struct mini_moka`.
 #[repr(C)]
@@ -66,6 +67,16 @@ pub struct Statistics {
     /// Net decrease of the entries in gets, in `contains_key` and in inserts. An entry that an
     /// insert replaces by its own is no decrease.
     pub evictions: u64,
+}
+
+/// The answer of an insert.
+#[derive(Clone, Copy, Debug, PartialEq, Eq, Hash)]
+pub enum Inserted {
+    /// The value is in the cache.
+    Stored,
+    /// The cache was full, and the new key is used less than the entries that would have had to
+    /// leave for it. The cache has no entry of the key.
+    Rejected,
 }
 
 /// A look-up of bytes: `mini_moka_get`, `mini_moka_peek` or `mini_moka_remove`.
@@ -296,7 +307,12 @@ impl Handle<Bytes> {
     }
 
     /// Puts a copy of the value at a copy of the key.
-    pub(crate) fn insert(&self, key: &[u8], value: &[u8], now: u64) -> Result<(), OutOfMemory> {
+    pub(crate) fn insert(
+        &self,
+        key: &[u8],
+        value: &[u8],
+        now: u64,
+    ) -> Result<Inserted, OutOfMemory> {
         // SAFETY: `at` leads to a handle as the rule wants it. Both slices have as many bytes as
         // are passed on, their pointers are never null, and the library only reads them.
         let status = unsafe {
@@ -309,7 +325,7 @@ impl Handle<Bytes> {
                 now,
             )
         };
-        written(status)
+        inserted(status)
     }
 
     /// Looks the key up, which counts as an access.
@@ -459,10 +475,10 @@ impl Handle<Numbers> {
     }
 
     /// Puts the value at the key.
-    pub(crate) fn insert(&self, key: u64, value: u64, now: u64) -> Result<(), OutOfMemory> {
+    pub(crate) fn insert(&self, key: u64, value: u64, now: u64) -> Result<Inserted, OutOfMemory> {
         // SAFETY: `at` leads to a handle as the rule wants it, and there is no other pointer.
         let status = unsafe { mini_moka_u64_insert(self.at(), key, value, now) };
-        written(status)
+        inserted(status)
     }
 
     /// Looks the key up, which counts as an access.
@@ -535,6 +551,14 @@ fn written(status: u32) -> Result<(), OutOfMemory> {
         OUT_OF_MEMORY => Err(OutOfMemory),
         other => unexpected(other),
     }
+}
+
+/// Reads the status of an insert.
+fn inserted(status: u32) -> Result<Inserted, OutOfMemory> {
+    if status == REJECTED {
+        return Ok(Inserted::Rejected);
+    }
+    written(status).map(|()| Inserted::Stored)
 }
 
 /// Reads the status of a look-up that takes no memory.

@@ -37,7 +37,7 @@ pub mod sync;
 pub use builder::{Builder, NumberBuilder};
 pub use cache::{Cache, Iter};
 pub use error::{BuildError, OutOfMemory};
-pub use handle::Statistics;
+pub use handle::{Inserted, Statistics};
 pub use numbers::{NumberCache, NumberIter};
 
 /// Runs the examples of the README as tests.

@@ -3,7 +3,7 @@
 use crate::builder::NumberBuilder;
 use crate::clock::{nanoseconds, Clock};
 use crate::error::OutOfMemory;
-use crate::handle::{Handle, NumberSettings, Numbers, Statistics};
+use crate::handle::{Handle, Inserted, NumberSettings, Numbers, Statistics};
 use std::fmt;
 use std::iter::FusedIterator;
 use std::time::Duration;
@@ -159,13 +159,13 @@ impl NumberCache {
         Ok(value)
     }
 
-    /// Puts the value at the key. A full cache may reject a new key for one that is used more, which
-    /// is `Ok` too.
+    /// Puts the value at the key. A full cache may reject a new key for one that is used more:
+    /// [`Inserted::Rejected`].
     ///
     /// # Errors
     ///
     /// [`OutOfMemory`] if memory is refused. Then no entry was written.
-    pub fn insert(&mut self, key: u64, value: u64) -> Result<(), OutOfMemory> {
+    pub fn insert(&mut self, key: u64, value: u64) -> Result<Inserted, OutOfMemory> {
         self.insert_at(key, value, self.now())
     }
 
@@ -174,7 +174,12 @@ impl NumberCache {
     /// # Errors
     ///
     /// Those of [`insert`](Self::insert).
-    pub fn insert_at(&mut self, key: u64, value: u64, now: Duration) -> Result<(), OutOfMemory> {
+    pub fn insert_at(
+        &mut self,
+        key: u64,
+        value: u64,
+        now: Duration,
+    ) -> Result<Inserted, OutOfMemory> {
         self.handle.insert(key, value, nanoseconds(now))
     }
 

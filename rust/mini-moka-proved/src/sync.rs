@@ -6,7 +6,7 @@
 use crate::builder;
 use crate::clock::Clock;
 use crate::error::{BuildError, OutOfMemory};
-use crate::handle::Statistics;
+use crate::handle::{Inserted, Statistics};
 use std::fmt;
 use std::iter::FusedIterator;
 use std::sync::{Arc, Mutex, MutexGuard, PoisonError};
@@ -239,7 +239,7 @@ impl Cache {
     }
 
     /// Puts a copy of the value at a copy of the key. A full segment may reject a new key for one
-    /// that is used more, which is `Ok` too.
+    /// that is used more: [`Inserted::Rejected`].
     ///
     /// # Errors
     ///
@@ -248,7 +248,7 @@ impl Cache {
         &self,
         key: impl AsRef<[u8]>,
         value: impl AsRef<[u8]>,
-    ) -> Result<(), OutOfMemory> {
+    ) -> Result<Inserted, OutOfMemory> {
         self.insert_at(key, value, self.now())
     }
 
@@ -262,7 +262,7 @@ impl Cache {
         key: impl AsRef<[u8]>,
         value: impl AsRef<[u8]>,
         now: Duration,
-    ) -> Result<(), OutOfMemory> {
+    ) -> Result<Inserted, OutOfMemory> {
         let key = key.as_ref();
         self.segment(key).insert_at(key, value, now)
     }

@@ -1,6 +1,6 @@
 //! The cache of bytes, call by call.
 
-use mini_moka_proved::{BuildError, Cache, Statistics};
+use mini_moka_proved::{BuildError, Cache, Inserted, Statistics};
 use std::thread::sleep;
 use std::time::Duration;
 
@@ -190,8 +190,11 @@ fn an_entry_above_the_capacity_is_rejected() {
         .weigh_bytes()
         .build()
         .unwrap();
+    assert_eq!(cache.insert(b"small", b"1234"), Ok(Inserted::Stored));
+    assert_eq!(cache.insert(b"large", b"12345"), Ok(Inserted::Rejected));
+    // An update is stored, even above the capacity.
+    assert_eq!(cache.insert(b"small", b"12345"), Ok(Inserted::Stored));
     cache.insert(b"small", b"1234").unwrap();
-    cache.insert(b"large", b"12345").unwrap();
     assert!(cache.contains_key(b"small"));
     assert!(!cache.contains_key(b"large"));
 }

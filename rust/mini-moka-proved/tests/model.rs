@@ -1,6 +1,6 @@
 //! Random calls beside a map that does the same.
 
-use mini_moka_proved::{Cache, NumberCache};
+use mini_moka_proved::{Cache, Inserted, NumberCache};
 use std::collections::HashMap;
 use std::time::Duration;
 
@@ -95,7 +95,7 @@ fn compare_a_call(random: &mut Random, cache: &mut Cache, model: &mut Model, nan
     match random.below(10) {
         0..=2 => {
             let value = random.value();
-            cache.insert_at(&key, &value, now).unwrap();
+            assert_eq!(cache.insert_at(&key, &value, now), Ok(Inserted::Stored));
             model.insert(&key, &value, nanoseconds);
         }
         3 | 4 => assert_eq!(cache.get_at(&key, now), model.get(&key, nanoseconds)),
@@ -176,7 +176,10 @@ fn a_full_cache_finds_nothing_but_what_was_last_written() {
                 found += 1;
             }
             if random.below(2) == 0 {
-                cache.insert(key, &value).unwrap();
+                match cache.insert(key, &value).unwrap() {
+                    Inserted::Stored => assert_eq!(cache.peek(key), Some(value.clone())),
+                    Inserted::Rejected => assert_eq!(cache.peek(key), None),
+                }
                 map.insert(key, value);
             }
             assert!(cache.len() as u64 <= capacity);

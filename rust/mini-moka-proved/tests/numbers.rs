@@ -1,6 +1,6 @@
 //! The cache of numbers, call by call.
 
-use mini_moka_proved::{BuildError, NumberCache, Statistics};
+use mini_moka_proved::{BuildError, Inserted, NumberCache, Statistics};
 use std::time::Duration;
 
 const SECOND: Duration = Duration::from_secs(1);
@@ -94,6 +94,15 @@ fn a_made_value_is_returned_also_where_it_is_rejected() {
     assert_eq!(cache.get_or_insert_at(7, 49, SECOND), Ok(49));
     assert_eq!(cache.get_or_insert_with_at(7, || 50, SECOND), Ok(50));
     assert_eq!(cache.len(), 0);
+}
+
+#[test]
+fn a_rejected_entry_is_told() {
+    let mut cache = NumberCache::new(1).unwrap();
+    assert_eq!(cache.insert(7, 49), Ok(Inserted::Stored));
+    assert_eq!(cache.insert(7, 50), Ok(Inserted::Stored));
+    assert_eq!(cache.insert(8, 64), Ok(Inserted::Rejected));
+    assert!(cache.contains_key(7) && !cache.contains_key(8));
 }
 
 #[test]
