@@ -166,12 +166,19 @@ uint32_t mini_moka_u64_get_or_insert(struct mini_moka *handle, uint64_t key, uin
 
 /* ---- either kind */
 
-/* Counts of the calls of a handle since it was opened. Each count stays at its greatest value once it has reached that. */
+/*
+ * Counts of the calls of a handle since it was opened, and of the entries that left. Each count stays at its greatest value once it has reached that. Until then
+ * inserts - updates - rejections is evictions + expirations + removals and the number of entries.
+ */
 struct mini_moka_statistics {
-    uint64_t hits;      /* gets that found a value */
-    uint64_t misses;    /* gets that found none */
-    uint64_t inserts;   /* inserts that were taken, at a new key or at one that was there */
-    uint64_t evictions; /* net decrease of the entries in gets, look-ups and inserts; an entry that an insert replaces by its own is no decrease */
+    uint64_t hits;        /* gets that found a value */
+    uint64_t misses;      /* gets that found none */
+    uint64_t inserts;     /* inserts that were not refused memory: MINI_MOKA_DONE or MINI_MOKA_REJECTED */
+    uint64_t updates;     /* inserts that gave a key another value */
+    uint64_t rejections;  /* new entries that the full cache did not let in */
+    uint64_t evictions;   /* entries that left for the capacity */
+    uint64_t expirations; /* expired entries that left */
+    uint64_t removals;    /* entries that a call removed */
 };
 
 /* Closes the handle and frees its cache. Closing a closed one returns MINI_MOKA_CLOSED. */

@@ -228,17 +228,23 @@ static inline uint32_t mini_moka_segments_weight(struct mini_moka_segments *all,
 }
 
 static inline uint32_t mini_moka_segments_statistics(struct mini_moka_segments *all, struct mini_moka_statistics *statistics) {
-    struct mini_moka_statistics whole = {0, 0, 0, 0};
+    struct mini_moka_statistics whole;
+    memset(&whole, 0, sizeof whole);
     if (all->segments == NULL)
         return MINI_MOKA_CLOSED;
     for (size_t i = 0; i < all->count; i++) {
-        struct mini_moka_statistics part = {0, 0, 0, 0};
+        struct mini_moka_statistics part;
+        memset(&part, 0, sizeof part);
         pthread_mutex_lock(&all->segments[i].in.lock);
         mini_moka_segments_unlock(&all->segments[i], mini_moka_statistics(&all->segments[i].in.cache, &part));
         whole.hits = mini_moka_segments_add(whole.hits, part.hits);
         whole.misses = mini_moka_segments_add(whole.misses, part.misses);
         whole.inserts = mini_moka_segments_add(whole.inserts, part.inserts);
+        whole.updates = mini_moka_segments_add(whole.updates, part.updates);
+        whole.rejections = mini_moka_segments_add(whole.rejections, part.rejections);
         whole.evictions = mini_moka_segments_add(whole.evictions, part.evictions);
+        whole.expirations = mini_moka_segments_add(whole.expirations, part.expirations);
+        whole.removals = mini_moka_segments_add(whole.removals, part.removals);
     }
     *statistics = whole;
     return MINI_MOKA_DONE;

@@ -114,23 +114,29 @@ static void bytes_are_weighed(void) {
     CHECK(mini_moka_close(&cache) == MINI_MOKA_DONE);
 }
 
-/* Two hits, a miss, two inserts, and an entry that expires. */
+/* Returns true if nothing was counted. */
+static bool nothing_was_counted(struct mini_moka *cache) {
+    struct mini_moka_statistics met, none;
+    memset(&none, 0, sizeof none);
+    return mini_moka_statistics(cache, &met) == MINI_MOKA_DONE && memcmp(&met, &none, sizeof met) == 0;
+}
+
+/* Two hits, a miss, two inserts, one of them an update, and an entry that expires. */
 static void calls_are_counted(void) {
     struct mini_moka cache = {0};
     struct mini_moka_settings settings = BYTES;
-    struct mini_moka_statistics met = {BEFORE, BEFORE, BEFORE, BEFORE};
+    struct mini_moka_statistics met;
     settings.time_to_live = 20;
-    CHECK(mini_moka_open(&cache, &settings) == MINI_MOKA_DONE);
-    CHECK(mini_moka_statistics(&cache, &met) == MINI_MOKA_DONE && met.hits + met.misses + met.inserts + met.evictions == 0);
+    CHECK(mini_moka_open(&cache, &settings) == MINI_MOKA_DONE && nothing_was_counted(&cache));
     CHECK(insert(&cache, "a", "apple", 0) == MINI_MOKA_DONE && insert(&cache, "a", "pear", 0) == MINI_MOKA_DONE);
     CHECK(finds(mini_moka_get, &cache, "a", 19, MINI_MOKA_DONE, "pear") && finds(mini_moka_get, &cache, "a", 19, MINI_MOKA_DONE, "pear"));
     CHECK(finds(mini_moka_peek, &cache, "a", 19, MINI_MOKA_DONE, "pear"));
     CHECK(finds(mini_moka_get, &cache, "a", 20, MINI_MOKA_ABSENT, NULL));
     CHECK(mini_moka_statistics(&cache, &met) == MINI_MOKA_DONE);
-    CHECK(met.hits == 2 && met.misses == 1 && met.inserts == 2 && met.evictions == 1);
+    CHECK(met.hits == 2 && met.misses == 1 && met.inserts == 2 && met.updates == 1 && met.expirations == 1);
+    CHECK(met.rejections == 0 && met.evictions == 0 && met.removals == 0);
     CHECK(mini_moka_close(&cache) == MINI_MOKA_DONE);
-    CHECK(mini_moka_open(&cache, &settings) == MINI_MOKA_DONE);
-    CHECK(mini_moka_statistics(&cache, &met) == MINI_MOKA_DONE && met.hits + met.misses + met.inserts + met.evictions == 0);
+    CHECK(mini_moka_open(&cache, &settings) == MINI_MOKA_DONE && nothing_was_counted(&cache));
     CHECK(mini_moka_close(&cache) == MINI_MOKA_DONE);
 }
 
@@ -264,19 +270,24 @@ static void walks_meet_each_number(void) {
     CHECK(mini_moka_close(&cache) == MINI_MOKA_DONE);
 }
 
-/* A hit and two misses, of which one inserts, two inserts in all, and two entries that expire. */
+/* A hit and two misses, of which one inserts, two inserts in all, two entries that expire, and then one that is rejected and two that are removed. */
 static void calls_of_numbers_are_counted(void) {
     struct mini_moka cache = {0};
     struct mini_moka_u64_settings settings = NUMBERS;
-    struct mini_moka_statistics met = {BEFORE, BEFORE, BEFORE, BEFORE};
+    struct mini_moka_statistics met;
     uint64_t value = BEFORE;
     settings.time_to_live = 20;
+    settings.capacity = 2;
     CHECK(mini_moka_u64_open(&cache, &settings) == MINI_MOKA_DONE && mini_moka_u64_insert(&cache, 7, 49, 0) == MINI_MOKA_DONE);
     CHECK(mini_moka_u64_get(&cache, 7, 1, &value) == MINI_MOKA_DONE && mini_moka_u64_get(&cache, 8, 1, &value) == MINI_MOKA_ABSENT);
     CHECK(mini_moka_u64_get_or_insert(&cache, 8, 64, 1, &value) == MINI_MOKA_DONE && value == 64);
     CHECK(mini_moka_u64_contains(&cache, 8, 30) == MINI_MOKA_ABSENT);
     CHECK(mini_moka_statistics(&cache, &met) == MINI_MOKA_DONE);
-    CHECK(met.hits == 1 && met.misses == 2 && met.inserts == 2 && met.evictions == 2);
+    CHECK(met.hits == 1 && met.misses == 2 && met.inserts == 2 && met.expirations == 2 && met.updates + met.rejections + met.evictions + met.removals == 0);
+    CHECK(mini_moka_u64_insert(&cache, 1, 1, 30) == MINI_MOKA_DONE && mini_moka_u64_insert(&cache, 2, 4, 30) == MINI_MOKA_DONE);
+    CHECK(mini_moka_u64_insert(&cache, 3, 9, 30) == MINI_MOKA_REJECTED && mini_moka_u64_remove(&cache, 1, 30, &value) == MINI_MOKA_DONE);
+    CHECK(mini_moka_invalidate_all(&cache) == MINI_MOKA_DONE && mini_moka_statistics(&cache, &met) == MINI_MOKA_DONE);
+    CHECK(met.inserts == 5 && met.rejections == 1 && met.removals == 2 && met.updates + met.evictions == 0);
     CHECK(mini_moka_close(&cache) == MINI_MOKA_DONE);
 }
 
@@ -353,9 +364,9 @@ static void numbers_answer(struct mini_moka *cache, uint32_t status) {
 /* A closed handle answers that it is, one of the other kind too, and nothing is done. */
 static void calls_are_refused(void) {
     struct mini_moka cache = {0};
-    struct mini_moka_statistics met = {BEFORE, BEFORE, BEFORE, BEFORE};
+    struct mini_moka_statistics met = {.hits = BEFORE, .removals = BEFORE};
     uint64_t number = BEFORE;
-    CHECK(mini_moka_statistics(&cache, &met) == MINI_MOKA_CLOSED && met.hits == BEFORE && met.evictions == BEFORE);
+    CHECK(mini_moka_statistics(&cache, &met) == MINI_MOKA_CLOSED && met.hits == BEFORE && met.removals == BEFORE);
     CHECK(mini_moka_walk(&cache) == MINI_MOKA_CLOSED);
     bytes_answer(&cache, MINI_MOKA_CLOSED);
     numbers_answer(&cache, MINI_MOKA_CLOSED);

@@ -70,7 +70,7 @@ struct model {
     bool is_bytes, is_weighed;
     uint64_t capacity, time_to_live, time_to_idle, now, versions;
     struct known keys[KEYS];
-    uint64_t hits, misses, inserts;
+    uint64_t hits, misses, inserts, rejections;
     size_t longest_key; /* of those that were looked up, for which the handle has memory */
 };
 
@@ -236,6 +236,7 @@ static void play_insert(struct model *model, uint64_t key) {
         return;
     require(status == MINI_MOKA_DONE || (status == MINI_MOKA_REJECTED && model->capacity != MINI_MOKA_UNLIMITED), "an insert was not taken");
     model->inserts++;
+    model->rejections += status == MINI_MOKA_REJECTED;
     write_down(model, &model->keys[key], version);
     /* A peek removes nothing, so it finds the entry if that was let in. */
     allocations_left = -1;
@@ -316,6 +317,11 @@ static void play_counts(struct model *model) {
     struct mini_moka_statistics met;
     require(mini_moka_statistics(&model->cache, &met) == MINI_MOKA_DONE, "statistics are there");
     require(met.hits == model->hits && met.misses == model->misses && met.inserts == model->inserts, "other statistics");
+    /* A get or insert doesn't tell that its entry was rejected. */
+    require(model->is_bytes ? met.rejections == model->rejections : met.rejections >= model->rejections, "another number of rejections");
+    require(met.inserts - met.updates - met.rejections == met.evictions + met.expirations + met.removals + count, "statistics that don't add up");
+    require(model->capacity != MINI_MOKA_UNLIMITED || met.evictions + met.rejections == 0, "evictions without a capacity");
+    require(model->time_to_live != MINI_MOKA_UNLIMITED || model->time_to_idle != MINI_MOKA_UNLIMITED || met.expirations == 0, "expirations without a duration");
 }
 
 /* An insert that is refused memory doesn't end a walk. */

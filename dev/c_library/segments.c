@@ -50,7 +50,8 @@ static void calls_answer(void) {
     CHECK(mini_moka_segments_remove(&cache, "a", 1, 0, buffer, ROOM, &length) == MINI_MOKA_DONE);
     CHECK(mini_moka_segments_get(&cache, "a", 1, 0, buffer, ROOM, &length) == MINI_MOKA_ABSENT);
     CHECK(mini_moka_segments_invalidate(&cache, "", 0, 0) == MINI_MOKA_DONE && number_of(&cache, mini_moka_segments_count) == 0);
-    CHECK(mini_moka_segments_statistics(&cache, &met) == MINI_MOKA_DONE && met.hits == 1 && met.misses == 1 && met.inserts == 2 && met.evictions == 0);
+    CHECK(mini_moka_segments_statistics(&cache, &met) == MINI_MOKA_DONE && met.hits == 1 && met.misses == 1 && met.inserts == 2);
+    CHECK(met.removals == 2 && met.updates + met.rejections + met.evictions + met.expirations == 0);
     CHECK(mini_moka_segments_close(&cache) == MINI_MOKA_DONE && mini_moka_segments_close(&cache) == MINI_MOKA_CLOSED);
 }
 

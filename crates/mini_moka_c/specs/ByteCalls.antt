@@ -5,7 +5,7 @@ use Rattle.moka_unsync.specs.Insert.{IsInserted}
 use Rattle.moka_unsync.specs.Invalidate.{after_invalidate}
 use Rattle.moka_unsync.specs.Lookup.{after_get, after_look, found_by_get, found_by_peek, is_contained}
 use Rattle.mini_moka_c.specs.declared.cache.ByteCache.{ByteCache}
-use Rattle.mini_moka_c.specs.Buffer.{IsTaken, copied_to}
+use Rattle.mini_moka_c.specs.Buffer.{IsTaken, copied_to, is_longer}
 use Rattle.mini_moka_c.specs.ByteKeys.{byte_keys, byte_weighs}
 use Rattle.mini_moka_c.specs.Inserted.{inserted_of, status_of}
 use Rattle.mini_moka_c.specs.declared.key.TheConstants.{SHORT_KEY}
@@ -13,7 +13,7 @@ use Rattle.mini_moka_c.specs.declared.steps.Step.{Step}
 use Rattle.mini_moka_c.specs.declared.steps.Walk.TheVariants.{Ended}
 use Rattle.mini_moka_c.specs.declared.steps.Step.TheVariants as step
 use Rattle.mini_moka_c.specs.Walk.{BytePair, IsLong, fitting, met_after, next_pair, step_of, walk_after}
-use Rattle.mini_moka_c.specs.Statistics.{with_calls, with_get, with_insert}
+use Rattle.mini_moka_c.specs.Statistics.{with_get, with_insertion, with_invalidation, with_taken, with_upkeep}
 use Rattle.mini_moka_c.specs.declared.constants.TheConstants.{ABSENT, CHANGED, DONE, OUT_OF_MEMORY, TOO_SHORT}
 use Rattle.mini_moka_c.specs.Calls.{TellsLength, TellsTruth}
 
@@ -30,7 +30,7 @@ abbrev pub TellsBytesInsert : List ℕ → List ℕ → ℕ → ℕ → ByteCach
 TellsBytesInsert key value now status old new =
     ((status ≡ status_of (inserted_of (is_some (entry_at byte_keys.eq key new.cache.contents.entries))))
     × IsInserted byte_keys byte_weighs old.cache key value now new.cache
-    × (new.statistics ≡ with_calls with_insert old.cache new.cache old.statistics) × (new.walk ≡ Ended))
+    × (new.statistics ≡ with_insertion byte_keys old.cache now key new.cache old.statistics) × (new.walk ≡ Ended))
     ⊎ TellsRefusal status old new
 
 -- what was found is told by its length, and copied where the buffer is long enough
@@ -43,7 +43,7 @@ abbrev pub TellsBytesGet : List ℕ → ℕ → List ℕ → ℕ → List ℕ �
 TellsBytesGet key now buffer status filled written old new =
     (TellsBytesFound (found_by_get byte_keys old.cache key now) buffer status filled written
     × (new.cache ≡ after_get byte_keys old.cache key now)
-    × (new.statistics ≡ with_calls (with_get (is_some (found_by_get byte_keys old.cache key now))) old.cache new.cache old.statistics)
+    × (new.statistics ≡ with_get (is_some (found_by_get byte_keys old.cache key now)) (with_upkeep byte_keys old.cache now old.statistics))
     × (new.walk ≡ Ended))
     ⊎ TellsLongRefused key status old new
 
@@ -58,20 +58,23 @@ TellsBytesPeek key now buffer status filled written old new =
 abbrev pub TellsBytesLook : List ℕ → ℕ → ℕ → ByteCache → ByteCache → Type 0
 TellsBytesLook key now status old new =
     (TellsTruth (is_contained byte_keys old.cache key now) status × (new.cache ≡ after_look byte_keys old.cache now)
-    × (new.statistics ≡ with_calls (λ counts. counts) old.cache new.cache old.statistics) × (new.walk ≡ Ended))
+    × (new.statistics ≡ with_upkeep byte_keys old.cache now old.statistics) × (new.walk ≡ Ended))
     ⊎ TellsLongRefused key status old new
 
 -- what a removal finds, unless it is longer than the buffer and stays
 abbrev pub TellsBytesRemove : List ℕ → ℕ → List ℕ → ℕ → List ℕ → ℕ → ByteCache → ByteCache → Type 0
 TellsBytesRemove key now buffer status filled written old new =
     ((told : Option ℕ) × TellsLength told (length buffer) status written × IsTaken old.cache key now buffer new.cache filled told
-    × (new.statistics ≡ old.statistics) × (new.walk ≡ Ended))
+    × (new.statistics
+    ≡ with_taken byte_keys old.cache now (is_longer (found_by_peek byte_keys old.cache key now) buffer) key old.statistics)
+    × (new.walk ≡ Ended))
     ⊎ TellsLongRefused key status old new
 
 -- the entry of the key left
 abbrev pub TellsInvalidate : List ℕ → ℕ → ℕ → ByteCache → ByteCache → Type 0
 TellsInvalidate key now status old new =
-    ((status ≡ DONE) × (new.cache ≡ after_invalidate byte_keys old.cache key now) × (new.statistics ≡ old.statistics) × (new.walk ≡ Ended))
+    ((status ≡ DONE) × (new.cache ≡ after_invalidate byte_keys old.cache key now)
+    × (new.statistics ≡ with_invalidation byte_keys old.cache now key old.statistics) × (new.walk ≡ Ended))
     ⊎ TellsLongRefused key status old new
 
 -- a walk has ended, each entry was met, or the lengths of the next one are written, and whether buffers of these lengths have it is told

@@ -8,6 +8,7 @@ use Rattle.mini_moka_c.specs.declared.constants.TheConstants.{ABSENT, CLOSED, DO
 use Rattle.mini_moka_c.specs.declared.handle.Kept.{Kept}
 use Rattle.mini_moka_c.specs.declared.handle.Kept.TheVariants.{Bytes, Numbers}
 use Rattle.mini_moka_c.specs.declared.number_cache.NumberCache.{NumberCache}
+use Rattle.mini_moka_c.specs.Statistics.{with_clearing}
 use Rattle.mini_moka_c.specs.declared.statistics.Statistics.{Statistics}
 
 -- a closed handle answers that it is closed, and stays so; an open one stays open, and what it keeps becomes this of that
@@ -42,8 +43,14 @@ weight_of (Bytes bytes) = weighted_size bytes.cache.contents.entries
 
 -- what is kept once all entries have left, which ends a walk
 abbrev pub emptied : Kept → Kept
-emptied (Numbers numbers) = Numbers (record numbers { cache = after_invalidate_all numbers.cache; walk = Ended })
-emptied (Bytes bytes) = Bytes (record bytes { cache = after_invalidate_all bytes.cache; walk = Ended })
+emptied (Numbers numbers) =
+    Numbers (record numbers {
+      cache = after_invalidate_all numbers.cache;
+      statistics = with_clearing numbers.cache numbers.statistics;
+      walk = Ended;
+    })
+emptied (Bytes bytes) =
+    Bytes (record bytes { cache = after_invalidate_all bytes.cache; statistics = with_clearing bytes.cache bytes.statistics; walk = Ended })
 
 -- what is kept once a walk was begun
 abbrev pub walking : Kept → Kept

@@ -14,7 +14,7 @@ use Rattle.mini_moka_c.specs.Calls.{TellsTruth}
 use Rattle.mini_moka_c.specs.Inserted.{inserted_of, status_of}
 use Rattle.mini_moka_c.specs.NumberKeys.{number_keys}
 use Rattle.mini_moka_c.specs.NumberWalk.{met_after, next_pair, step_of, walk_after}
-use Rattle.mini_moka_c.specs.Statistics.{with_calls, with_get, with_insert}
+use Rattle.mini_moka_c.specs.Statistics.{with_get, with_insertion, with_invalidation, with_remove, with_upkeep}
 
 -- what a weigher of numbers answers
 abbrev pub weighs_one : {W : Type 0} → W → ℕ → ℕ → ℕ → W → Type 0
@@ -23,7 +23,7 @@ weighs_one before key value weight after = unit_weighs key value weight × (afte
 -- the pair goes into the cache at a moment, each entry weighing the same, and is counted
 pub record IsNumberInsert (key value now : ℕ) (old new : NumberCache) : Type 0 where
   pub step : IsInserted number_keys weighs_one old.cache key value now new.cache
-  pub counts : new.statistics ≡ with_calls with_insert old.cache new.cache old.statistics
+  pub counts : new.statistics ≡ with_insertion number_keys old.cache now key new.cache old.statistics
   pub walk : new.walk ≡ Ended
 
 -- there was no room for one more entry: all are as they were, nothing is counted, and a walk stands where it stood
@@ -35,7 +35,7 @@ pub record IsNumberRefusal (old new : NumberCache) : Type 0 where
 pub record IsNumberGet (key now : ℕ) (found : Option ℕ) (old new : NumberCache) : Type 0 where
   pub value : found ≡ found_by_get number_keys old.cache key now
   pub step : new.cache ≡ after_get number_keys old.cache key now
-  pub counts : new.statistics ≡ with_calls (with_get (is_some found)) old.cache new.cache old.statistics
+  pub counts : new.statistics ≡ with_get (is_some found) (with_upkeep number_keys old.cache now old.statistics)
   pub walk : new.walk ≡ Ended
 
 -- a value was found and is written, or none was
@@ -62,16 +62,30 @@ TellsPeek key now status written old new = TellsFound (found_by_peek number_keys
 abbrev pub TellsLook : ℕ → ℕ → ℕ → NumberCache → NumberCache → Type 0
 TellsLook key now status old new =
     TellsTruth (is_contained number_keys old.cache key now) status × (new.cache ≡ after_look number_keys old.cache now)
-    × (new.statistics ≡ with_calls (λ counts. counts) old.cache new.cache old.statistics) × (new.walk ≡ Ended)
+    × (new.statistics ≡ with_upkeep number_keys old.cache now old.statistics) × (new.walk ≡ Ended)
 
 -- the entry of the key left
 abbrev pub without : ℕ → ℕ → NumberCache → NumberCache
-without key now old = record old { cache = after_invalidate number_keys old.cache key now; walk = Ended }
+without key now old =
+    record old {
+      cache = after_invalidate number_keys old.cache key now;
+      statistics = with_invalidation number_keys old.cache now key old.statistics;
+      walk = Ended;
+    }
+
+-- the entry of the key was taken
+abbrev pub taken : ℕ → ℕ → NumberCache → NumberCache
+taken key now old =
+    record old {
+      cache = after_invalidate number_keys old.cache key now;
+      statistics = with_remove number_keys old.cache now key old.statistics;
+      walk = Ended;
+    }
 
 -- what a removal finds
 abbrev pub TellsRemove : ℕ → ℕ → ℕ → ℕ → NumberCache → NumberCache → Type 0
 TellsRemove key now status written old new =
-    TellsFound (found_by_get number_keys old.cache key now) status written × (new ≡ without key now old)
+    TellsFound (found_by_get number_keys old.cache key now) status written × (new ≡ taken key now old)
 
 -- a get found the value that is written; or it found none, and this one was inserted behind it, or was refused memory
 abbrev pub TellsGotOrInserted : ℕ → ℕ → ℕ → ℕ → ℕ → NumberCache → NumberCache → Type 0

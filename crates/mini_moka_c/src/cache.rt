@@ -6,14 +6,14 @@ ghost use Rattle.moka_unsync.specs.Contents.{entry_at};
 ghost use Rattle.moka_unsync.specs.Insert.{IsInserted};
 ghost use Rattle.moka_unsync.specs.Invalidate.{after_invalidate, after_invalidate_all};
 ghost use Rattle.moka_unsync.specs.Lookup.{after_get, after_look, found_by_get, found_by_peek, is_contained};
-ghost use Rattle.mini_moka_c.specs.Buffer.{IsTaken, copied_to};
+ghost use Rattle.mini_moka_c.specs.Buffer.{IsTaken, copied_to, is_longer};
 ghost use Rattle.mini_moka_c.specs.ByteKeys.{byte_keys, byte_weighs};
 ghost use Rattle.mini_moka_c.specs.Inserted.{inserted_of};
 ghost use Rattle.mini_moka_c.specs.Walk.{IsLong, fitting, met_after, next_pair, step_of, walk_after};
 ghost use Rattle.mini_moka_c.specs.declared.steps.Walk.TheVariants.{AtStart, Ended};
-ghost use Rattle.mini_moka_c.specs.Statistics.{no_statistics, with_calls, with_get, with_insert, with_left};
+ghost use Rattle.mini_moka_c.specs.Statistics.{no_statistics, with_clearing, with_get, with_insertion, with_invalidation, with_taken, with_upkeep};
 
-use crate::inserted::Inserted;
+use crate::inserted::{Inserted, Insertion};
 use crate::key::{Key, SHORT_KEY};
 use crate::seed::Seed;
 use crate::statistics::Statistics;
@@ -73,22 +73,23 @@ impl ByteCache {
     ) -> Result<Inserted, InsertError>
         ensures answer { IfOk result (λ inserted. inserted ≡ inserted_of (is_some (entry_at byte_keys.eq key.now self.new.cache.contents.entries))) }
         ensures step { OnOk result (IsInserted byte_keys byte_weighs self.old.cache key.now value.now now self.new.cache) }
-        ensures counts { OnOk result (self.new.statistics
-            ≡ with_calls with_insert self.old.cache self.new.cache self.old.statistics) }
+        ensures counts { OnOk result (self.new.statistics ≡ with_insertion byte_keys self.old.cache now key.now self.new.cache self.old.statistics) }
         ensures walk { OnOk result (self.new.walk ≡ Ended) }
         ensures refused { OnErr result (self.new ≡ record self.old { cache = record self.old.cache { capacity = self.new.cache.capacity } }) }
         ensures error { IfErr result (λ error. error ≡ InsertError.OutOfMemory) }
     {
         let (key, value) = copies(alloc, key, value)?;
-        let before = self.cache.entry_count();
         let hash = self.cache.hash_of(&key);
-        let mut inserted = Inserted::Stored;
+        let mut insertion = Insertion {
+            statistics: self.statistics,
+            inserted: Inserted::Stored,
+        };
         self.cache
-            .insert_notifying(key, hash, value, now, &mut inserted)?;
+            .insert_notifying(key, hash, value, now, &mut insertion)?;
         self.walk = Walk::Ended;
+        self.statistics = insertion.statistics;
         self.statistics.count_insert();
-        self.statistics.count_left(before, self.cache.entry_count());
-        Ok(inserted)
+        Ok(insertion.inserted)
     }
 
     /// Looks the key up as `Cache::get` does. It copies the value to the beginning of the buffer, if it fits, and answers its length.
@@ -102,17 +103,19 @@ impl ByteCache {
         ensures copied { OnOk result (buffer.new ≡ copied_to buffer.old (found_by_get byte_keys self.old.cache key.now now)) }
         ensures step { OnOk result (self.new.cache ≡ after_get byte_keys self.old.cache key.now now) }
         ensures counts { OnOk result (self.new.statistics
-            ≡ with_calls (with_get (is_some (found_by_get byte_keys self.old.cache key.now now))) self.old.cache self.new.cache self.old.statistics) }
+            ≡ with_get (is_some (found_by_get byte_keys self.old.cache key.now now)) (with_upkeep byte_keys self.old.cache now self.old.statistics)) }
         ensures walk { OnOk result (self.new.walk ≡ Ended) }
         ensures refused { OnErr result ((self.new ≡ self.old) × (buffer.new ≡ buffer.old)) }
         ensures short { OnErr result (SHORT_KEY < length key.now) }
     {
         self.sought.set(key)?;
         self.walk = Walk::Ended;
-        let before = self.cache.entry_count();
-        let found = copied(self.cache.get(&self.sought, now), buffer);
+        let hash = self.cache.hash_of(&self.sought);
+        let value = self
+            .cache
+            .get_notifying(&self.sought, hash, now, &mut self.statistics);
+        let found = copied(value, buffer);
         self.statistics.count_get(found.is_some());
-        self.statistics.count_left(before, self.cache.entry_count());
         Ok(found)
     }
 
@@ -137,17 +140,18 @@ impl ByteCache {
     pub fn contains(&mut self, key: &[u8], now: Instant) -> Result<bool, OutOfMemory>
         ensures value { IfOk result (λ there. there ≡ is_contained byte_keys self.old.cache key.now now) }
         ensures step { OnOk result (self.new.cache ≡ after_look byte_keys self.old.cache now) }
-        ensures counts { OnOk result (self.new.statistics ≡ with_calls (λ counts. counts) self.old.cache self.new.cache self.old.statistics) }
+        ensures counts { OnOk result (self.new.statistics ≡ with_upkeep byte_keys self.old.cache now self.old.statistics) }
         ensures walk { OnOk result (self.new.walk ≡ Ended) }
         ensures refused { OnErr result (self.new ≡ self.old) }
         ensures short { OnErr result (SHORT_KEY < length key.now) }
     {
         self.sought.set(key)?;
         self.walk = Walk::Ended;
-        let before = self.cache.entry_count();
-        let is_there = self.cache.contains_key(&self.sought, now);
-        self.statistics.count_left(before, self.cache.entry_count());
-        Ok(is_there)
+        let hash = self.cache.hash_of(&self.sought);
+        Ok(
+            self.cache
+                .contains_notifying(&self.sought, hash, now, &mut self.statistics),
+        )
     }
 
     /// Removes the entry of the key, as `Cache::remove` does, and returns the length of its value, which it copies as `get` does. An entry whose value is
@@ -161,7 +165,8 @@ impl ByteCache {
         ensures step { IfOk result (IsTaken self.old.cache key.now now buffer.old self.new.cache buffer.new) }
         ensures walk { OnOk result (self.new.walk ≡ Ended) }
         ensures refused { OnErr result ((self.new ≡ self.old) × (buffer.new ≡ buffer.old)) }
-        ensures counts { self.new.statistics ≡ self.old.statistics }
+        ensures counts { OnOk result (self.new.statistics
+            ≡ with_taken byte_keys self.old.cache now (is_longer (found_by_peek byte_keys self.old.cache key.now now) buffer.old) key.now self.old.statistics) }
         ensures short { OnErr result (SHORT_KEY < length key.now) }
     {
         self.sought.set(key)?;
@@ -172,7 +177,11 @@ impl ByteCache {
                 return Ok(Some(length));
             }
         }
-        let value = self.cache.remove(&self.sought, now);
+        let hash = self.cache.hash_of(&self.sought);
+        let value = self
+            .cache
+            .remove_notifying(&self.sought, hash, now, &mut self.statistics);
+        self.statistics.count_removal(value.is_some());
         Ok(copied(value.as_ref(), buffer))
     }
 
@@ -181,21 +190,27 @@ impl ByteCache {
         ensures step { OnOk result (self.new.cache ≡ after_invalidate byte_keys self.old.cache key.now now) }
         ensures walk { OnOk result (self.new.walk ≡ Ended) }
         ensures refused { OnErr result (self.new ≡ self.old) }
-        ensures counts { self.new.statistics ≡ self.old.statistics }
+        ensures counts { OnOk result (self.new.statistics ≡ with_invalidation byte_keys self.old.cache now key.now self.old.statistics) }
         ensures short { OnErr result (SHORT_KEY < length key.now) }
     {
         self.sought.set(key)?;
         self.walk = Walk::Ended;
-        self.cache.invalidate(&self.sought, now);
+        let hash = self.cache.hash_of(&self.sought);
+        self.cache
+            .invalidate_notifying(&self.sought, hash, now, &mut self.statistics);
         Ok(())
     }
 
     /// Removes all entries.
     pub fn invalidate_all(&mut self)
-        ensures { self.new ≡ record self.old { cache = after_invalidate_all self.old.cache; walk = Ended } }
+        ensures { self.new ≡ record self.old {
+          cache = after_invalidate_all self.old.cache;
+          statistics = with_clearing self.old.cache self.old.statistics;
+          walk = Ended;
+        } }
     {
         self.walk = Walk::Ended;
-        self.cache.invalidate_all();
+        self.cache.invalidate_all_notifying(&mut self.statistics);
     }
 
     /// Begins a walk through the unexpired entries, in the order of `Cache::iter`. Each call that may change the cache ends it, unless it is refused memory: all

@@ -10,9 +10,9 @@ ghost use Rattle.mini_moka_c.specs.Inserted.{inserted_of};
 ghost use Rattle.mini_moka_c.specs.NumberCalls.{IsNumberGet, IsNumberInsert, IsNumberRefusal};
 ghost use Rattle.mini_moka_c.specs.NumberKeys.{number_keys};
 ghost use Rattle.mini_moka_c.specs.NumberWalk.{met_after, next_pair, step_of, walk_after};
-ghost use Rattle.mini_moka_c.specs.Statistics.{no_statistics, with_calls};
+ghost use Rattle.mini_moka_c.specs.Statistics.{no_statistics, with_clearing, with_invalidation, with_remove, with_upkeep};
 
-use crate::inserted::Inserted;
+use crate::inserted::{Inserted, Insertion};
 use crate::statistics::Statistics;
 use crate::steps::{NumberStep, Walk};
 use moka_common::error::{BuildError, InsertError};
@@ -53,15 +53,17 @@ impl NumberCache {
         ensures refused { OnErr result (IsNumberRefusal self.old self.new) }
         ensures error { IfErr result (λ error. error ≡ InsertError.OutOfMemory) }
     {
-        let before = self.cache.entry_count();
         let hash = self.cache.hash_of(&key);
-        let mut inserted = Inserted::Stored;
+        let mut insertion = Insertion {
+            statistics: self.statistics,
+            inserted: Inserted::Stored,
+        };
         self.cache
-            .insert_notifying(key, hash, value, now, &mut inserted)?;
+            .insert_notifying(key, hash, value, now, &mut insertion)?;
         self.walk = Walk::Ended;
+        self.statistics = insertion.statistics;
         self.statistics.count_insert();
-        self.statistics.count_left(before, self.cache.entry_count());
-        Ok(inserted)
+        Ok(insertion.inserted)
     }
 
     /// Looks the key up as `Cache::get` does.
@@ -69,10 +71,12 @@ impl NumberCache {
         ensures { IsNumberGet key now result self.old self.new }
     {
         self.walk = Walk::Ended;
-        let before = self.cache.entry_count();
-        let found = self.cache.get(&key, now).copied();
+        let hash = self.cache.hash_of(&key);
+        let value = self
+            .cache
+            .get_notifying(&key, hash, now, &mut self.statistics);
+        let found = value.copied();
         self.statistics.count_get(found.is_some());
-        self.statistics.count_left(before, self.cache.entry_count());
         found
     }
 
@@ -87,39 +91,57 @@ impl NumberCache {
     pub fn contains(&mut self, key: u64, now: Instant) -> bool
         ensures value { result ≡ is_contained number_keys self.old.cache key now }
         ensures step { self.new.cache ≡ after_look number_keys self.old.cache now }
-        ensures counts { self.new.statistics ≡ with_calls (λ counts. counts) self.old.cache self.new.cache self.old.statistics }
+        ensures counts { self.new.statistics ≡ with_upkeep number_keys self.old.cache now self.old.statistics }
         ensures walk { self.new.walk ≡ Ended }
     {
         self.walk = Walk::Ended;
-        let before = self.cache.entry_count();
-        let is_there = self.cache.contains_key(&key, now);
-        self.statistics.count_left(before, self.cache.entry_count());
-        is_there
+        let hash = self.cache.hash_of(&key);
+        self.cache
+            .contains_notifying(&key, hash, now, &mut self.statistics)
     }
 
     /// Removes the entry of the key, as `Cache::remove` does, and returns its value.
     pub fn remove(&mut self, key: u64, now: Instant) -> Option<u64>
         ensures value { result ≡ found_by_get number_keys self.old.cache key now }
-        ensures step { self.new ≡ record self.old { cache = after_invalidate number_keys self.old.cache key now; walk = Ended } }
+        ensures step { self.new ≡ record self.old {
+          cache = after_invalidate number_keys self.old.cache key now;
+          statistics = with_remove number_keys self.old.cache now key self.old.statistics;
+          walk = Ended;
+        } }
     {
         self.walk = Walk::Ended;
-        self.cache.remove(&key, now)
+        let hash = self.cache.hash_of(&key);
+        let value = self
+            .cache
+            .remove_notifying(&key, hash, now, &mut self.statistics);
+        self.statistics.count_removal(value.is_some());
+        value
     }
 
     /// Removes the entry of the key, if there is one.
     pub fn invalidate(&mut self, key: u64, now: Instant)
-        ensures { self.new ≡ record self.old { cache = after_invalidate number_keys self.old.cache key now; walk = Ended } }
+        ensures { self.new ≡ record self.old {
+          cache = after_invalidate number_keys self.old.cache key now;
+          statistics = with_invalidation number_keys self.old.cache now key self.old.statistics;
+          walk = Ended;
+        } }
     {
         self.walk = Walk::Ended;
-        self.cache.invalidate(&key, now);
+        let hash = self.cache.hash_of(&key);
+        self.cache
+            .invalidate_notifying(&key, hash, now, &mut self.statistics);
     }
 
     /// Removes all entries.
     pub fn invalidate_all(&mut self)
-        ensures { self.new ≡ record self.old { cache = after_invalidate_all self.old.cache; walk = Ended } }
+        ensures { self.new ≡ record self.old {
+          cache = after_invalidate_all self.old.cache;
+          statistics = with_clearing self.old.cache self.old.statistics;
+          walk = Ended;
+        } }
     {
         self.walk = Walk::Ended;
-        self.cache.invalidate_all();
+        self.cache.invalidate_all_notifying(&mut self.statistics);
     }
 
     /// Begins a walk through the unexpired entries, in the order of `Cache::iter`. Each call that may change the cache ends it, unless it is refused memory: all

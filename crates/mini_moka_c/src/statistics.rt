@@ -1,8 +1,10 @@
-//! What the calls of a cache have met.
+//! Counts of calls, and of the entries that leave.
 ghost use Rattle.std.specs.Prelude.{◌≡◌, true, false};
-ghost use Rattle.mini_moka_c.specs.Statistics.{no_statistics, with_get, with_insert, with_left};
+ghost use Rattle.mini_moka_c.specs.Statistics.{no_statistics, with_get, with_insert, with_one, with_removal};
 
-/// Counts of calls since the cache was made. Each stays at `u64::MAX` once it has reached that.
+use moka_unsync_model::listener::{Cause, Listener};
+
+/// Counts of calls since the cache was made, and of what left it. Each stays at `u64::MAX` once it has reached that.
 #[repr(C)]
 #[derive(Clone, Copy, Drop)]
 pub struct Statistics {
@@ -10,11 +12,18 @@ pub struct Statistics {
     pub hits: u64,
     /// Gets that found none.
     pub misses: u64,
-    /// Inserts that were taken, at a new key or at one that was there.
+    /// Inserts that weren't refused memory: of new entries, let in or not, and updates.
     pub inserts: u64,
-    /// By how many the entries became fewer in calls that asked for no removal: gets, looks and inserts. An entry that gives way to the one that its call
-    /// inserts makes them no fewer.
+    /// Inserts that gave a key another value.
+    pub updates: u64,
+    /// New entries that the admission policy did not let in.
+    pub rejections: u64,
+    /// Entries that left for the capacity.
     pub evictions: u64,
+    /// Expired entries that left.
+    pub expirations: u64,
+    /// Entries that a call removed.
+    pub removals: u64,
 }
 
 impl Statistics {
@@ -26,7 +35,11 @@ impl Statistics {
             hits: 0,
             misses: 0,
             inserts: 0,
+            updates: 0,
+            rejections: 0,
             evictions: 0,
+            expirations: 0,
+            removals: 0,
         }
     }
 
@@ -41,17 +54,40 @@ impl Statistics {
         }
     }
 
-    /// Counts an insert that was taken.
+    /// Counts an insert that wasn't refused memory.
     pub(crate) fn count_insert(&mut self)
         ensures { self.new ≡ with_insert self.old }
     {
         self.inserts = self.inserts.saturating_add(1);
     }
 
-    /// Counts by how many the entries became fewer in a call.
-    pub(crate) fn count_left(&mut self, before: u64, after: u64)
-        ensures { self.new ≡ with_left before after self.old }
+    /// Counts a removal, if it returned a value. Its listener doesn't get that.
+    pub(crate) fn count_removal(&mut self, is_found: bool)
+        ensures { self.new ≡ with_removal is_found self.old }
     {
-        self.evictions = self.evictions.saturating_add(before.saturating_sub(after));
+        if is_found {
+            self.removals = self.removals.saturating_add(1);
+        }
+    }
+
+    /// Counts an entry that left.
+    pub(crate) fn count_leaving(&mut self, cause: Cause)
+        ensures { self.new ≡ with_one cause self.old }
+    {
+        match cause {
+            Cause::Size => self.evictions = self.evictions.saturating_add(1),
+            Cause::Expired => self.expirations = self.expirations.saturating_add(1),
+            Cause::Explicit => self.removals = self.removals.saturating_add(1),
+            Cause::Replaced => self.updates = self.updates.saturating_add(1),
+            Cause::Rejected => self.rejections = self.rejections.saturating_add(1),
+        }
+    }
+}
+
+impl<K: Drop, V: Drop> Listener<K, V> for Statistics {
+    ghost hears = { λ old key value cause new. new ≡ with_one cause old };
+
+    fn removed(&mut self, _key: K, _value: V, cause: Cause) {
+        self.count_leaving(cause);
     }
 }

@@ -53,8 +53,11 @@ pub(crate) struct NumberSettings {
 }
 
 // The header's `struct mini_moka_statistics`.
-/// Counts of the calls of a cache since it was built. Each stays at `u64::MAX` once it has reached
-/// that.
+/// Counts of the calls of a cache since it was built, and of the entries that left. Each stays at
+/// `u64::MAX` once it has reached that.
+///
+/// Until then `inserts - updates - rejections` is `evictions + expirations + removals` and the
+/// number of entries.
 #[repr(C)]
 #[derive(Clone, Copy, Debug, Default, PartialEq, Eq)]
 pub struct Statistics {
@@ -62,11 +65,18 @@ pub struct Statistics {
     pub hits: u64,
     /// Gets that found none.
     pub misses: u64,
-    /// Inserts that were taken, at a new key or at one that was there.
+    /// Inserts that were not refused memory: of new entries, let in or not, and updates.
     pub inserts: u64,
-    /// Net decrease of the entries in gets, in `contains_key` and in inserts. An entry that an
-    /// insert replaces by its own is no decrease.
+    /// Inserts that gave a key another value.
+    pub updates: u64,
+    /// New entries that the full cache did not let in.
+    pub rejections: u64,
+    /// Entries that left for the capacity.
     pub evictions: u64,
+    /// Expired entries that left.
+    pub expirations: u64,
+    /// Entries that a call removed.
+    pub removals: u64,
 }
 
 /// The answer of an insert.

@@ -376,7 +376,11 @@ impl Cache {
                 hits: sum.hits.saturating_add(one.hits),
                 misses: sum.misses.saturating_add(one.misses),
                 inserts: sum.inserts.saturating_add(one.inserts),
+                updates: sum.updates.saturating_add(one.updates),
+                rejections: sum.rejections.saturating_add(one.rejections),
                 evictions: sum.evictions.saturating_add(one.evictions),
+                expirations: sum.expirations.saturating_add(one.expirations),
+                removals: sum.removals.saturating_add(one.removals),
             },
         )
     }

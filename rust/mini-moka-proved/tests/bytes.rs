@@ -242,7 +242,33 @@ fn statistics_count_gets_and_inserts_and_what_leaves() {
         hits: 2,
         misses: 1,
         inserts: 4,
-        evictions: 2,
+        updates: 1,
+        expirations: 2,
+        removals: 1,
+        ..Statistics::default()
+    };
+    assert_eq!(cache.statistics(), expected);
+}
+
+#[test]
+fn statistics_count_what_leaves_by_cause() {
+    let mut cache = Cache::new(1).unwrap();
+    cache.insert(b"kept", b"value").unwrap();
+    cache.insert(b"new", b"value").unwrap();
+    for _ in 0..4 {
+        assert_eq!(cache.get(b"new"), None);
+    }
+    assert_eq!(cache.insert(b"new", b"value"), Ok(Inserted::Stored));
+    cache.invalidate(b"new").unwrap();
+    cache.insert(b"kept", b"value").unwrap();
+    cache.clear();
+    let expected = Statistics {
+        misses: 4,
+        inserts: 4,
+        rejections: 1,
+        evictions: 1,
+        removals: 2,
+        ..Statistics::default()
     };
     assert_eq!(cache.statistics(), expected);
 }

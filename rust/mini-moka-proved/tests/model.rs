@@ -187,6 +187,10 @@ fn a_full_cache_finds_nothing_but_what_was_last_written() {
         assert_eq!(cache.len() as u64, capacity);
         assert_eq!(cache.statistics().hits, found);
         assert!(found > 1000);
+        let counts = cache.statistics();
+        let entered = counts.inserts - counts.updates - counts.rejections;
+        assert_eq!(entered, counts.evictions + capacity);
+        assert!(counts.rejections + counts.evictions > 1000);
     }
 }
 

@@ -174,7 +174,9 @@ fn statistics_count_gets_and_inserts_and_what_leaves() {
         hits: 2,
         misses: 2,
         inserts: 2,
-        evictions: 1,
+        expirations: 1,
+        removals: 1,
+        ..Statistics::default()
     };
     assert_eq!(cache.statistics(), expected);
 }

@@ -1,0 +1,8 @@
+use Rattle.mini_moka_c.specs.NumberKeys.{number_keys}
+use Rattle.mini_moka_c.proofs.StatisticsLemmas.{look_counted}
+use Rattle.mini_moka_c.proofs.number_cache.NumberCache.contains.Goals as goal
+
+pub returns-clause-counts : goal.returns-clause-counts
+returns-clause-counts c =
+    let old = c.args.self.now in
+    look_counted number_keys old.cache c.args.now old.statistics c.contains_notifying.new.listener c.contains_notifying.ensures.told
