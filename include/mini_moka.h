@@ -36,7 +36,7 @@ extern "C" {
 #endif
 
 /* The version of this header and of its library. */
-#define MINI_MOKA_VERSION "0.11.0"
+#define MINI_MOKA_VERSION "0.12.0"
 
 /* The capacity or the duration of a cache that has none. */
 #define MINI_MOKA_UNLIMITED UINT64_MAX
