@@ -78,11 +78,11 @@ impl Plays for OnCore {
         hash_state: S,
     ) -> Result<Outcome, PlayError> {
         if settings.is_weighed {
-            let core = Core::of_parts(alloc, parts_of(settings, hash_state, WeighsItsValue))?;
+            let core = Core::from_parts(alloc, parts_of(settings, hash_state, WeighsItsValue))?;
             let mut traced = OnHeap { core, alloc };
             return play(&mut traced, settings, operations);
         }
-        let core = Core::of_parts(alloc, parts_of(settings, hash_state, UnitWeight))?;
+        let core = Core::from_parts(alloc, parts_of(settings, hash_state, UnitWeight))?;
         let mut traced = OnHeap { core, alloc };
         play(&mut traced, settings, operations)
     }

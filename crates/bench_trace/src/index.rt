@@ -26,7 +26,7 @@ pub extern "C" fn bench_trace_index(
         return UNKNOWN_KIND;
     }
     let mut index = HashIndex::new(alloc);
-    if index.clear_for(hashes.len()).is_err() {
+    if index.reset(hashes.len()).is_err() {
         return OUT_OF_MEMORY;
     }
     fill(&mut index, hashes);

@@ -11,7 +11,7 @@ use Rattle.moka_common.proofs.SketchLemmas.{next_power_within}
 use Rattle.moka_common.specs.Sketch.{IsSketch, Table, after_increment, aged, ages, estimate, estimate_in, grows_in, incremented_counters}
 use Rattle.moka_common.specs.Sketch.{odd_count, with_count}
 use Rattle.moka_common.specs.SketchCapacity.{after_ensure_capacity, new_table, sample_size_for, table_len, table_len_for}
-use Rattle.moka_common.specs.Cells.{counters_of, places_of, unpacked, table_of, IsPacked, IsTablePacked}
+use Rattle.moka_common.specs.Cells.{counters_of, slot_count, unpacked, table_of, IsPacked, IsTablePacked}
 
 -- what `is_empty` says where it answers no
 pub not_empty : (empty : Bool) (n : ℕ) → empty ≡ eqb n 0 → empty ≡ false → 0 < n
@@ -25,9 +25,9 @@ unpacked_on (group ∷ groups) sample size h = refl
 
 -- what is read of the groups is the estimate
 pub estimate_read : (groups now : List ℕ) (sample size hash least : ℕ) → 0 < length groups → now ≡ groups →
-    least ≡ estimate_in (places_of now) (counters_of now) hash → least ≡ estimate (unpacked groups sample size) hash
+    least ≡ estimate_in (slot_count now) (counters_of now) hash → least ≡ estimate (unpacked groups sample size) hash
 estimate_read groups now sample size hash least on same read =
-    read ∙ ap (λ gs. estimate_in (places_of gs) (counters_of gs) hash) same
+    read ∙ ap (λ gs. estimate_in (slot_count gs) (counters_of gs) hash) same
     ∙ ap (λ s. estimate s hash) (sym (unpacked_on groups sample size on))
 
 -- a table of these parts
@@ -39,7 +39,7 @@ same_table : (p q sample y z : ℕ) (cs ds : List ℕ) → p ≡ q → y ≡ z �
 same_table p q sample y z cs ds e f h = ap (λ n. table n sample y cs) e ∙ ap (λ n. table q sample n cs) f ∙ ap (λ xs. table q sample z xs) h
 
 -- a sketch has the places of its groups
-pub table_len-unpacked : (groups : List ℕ) (sample size : ℕ) → table_len (unpacked groups sample size) ≡ places_of groups
+pub table_len-unpacked : (groups : List ℕ) (sample size : ℕ) → table_len (unpacked groups sample size) ≡ slot_count groups
 table_len-unpacked [] sample size = refl
 table_len-unpacked (group ∷ groups) sample size = refl
 
@@ -104,21 +104,21 @@ after_on groups sample size hash on = ap (λ s. after_increment s hash) (unpacke
 pub record IsCounted (groups new : List ℕ) (hash : ℕ) (grew : Bool) : Type 0 where
   pub on : 0 < length groups
   pub len : length new ≡ length groups
-  pub counters : counters_of new ≡ incremented_counters (places_of groups) (counters_of groups) hash
-  pub grew_is : grew ≡ grows_in (places_of groups) (counters_of groups) hash
+  pub counters : counters_of new ≡ incremented_counters (slot_count groups) (counters_of groups) hash
+  pub grew_is : grew ≡ grows_in (slot_count groups) (counters_of groups) hash
 
 -- what the code's calls say of the slice, said of the groups
 pub counted_groups : (groups now new : List ℕ) (n hash : ℕ) (empty grew : Bool) → empty ≡ eqb n 0 → empty ≡ false → now ≡ groups →
-    length now ≡ n → length new ≡ length now → counters_of new ≡ incremented_counters (places_of now) (counters_of now) hash →
-    grew ≡ grows_in (places_of now) (counters_of now) hash → IsCounted groups new hash grew
+    length now ≡ n → length new ≡ length now → counters_of new ≡ incremented_counters (slot_count now) (counters_of now) hash →
+    grew ≡ grows_in (slot_count now) (counters_of now) hash → IsCounted groups new hash grew
 counted_groups groups now new n hash empty grew is some same len new_len counters grew_is =
     let here : 0 < n = not_empty empty n is some in
     let count : length now ≡ length groups = ap length same in
     record {
       on = omega arith;
       len = new_len ∙ count;
-      counters = counters ∙ ap (λ gs. incremented_counters (places_of gs) (counters_of gs) hash) same;
-      grew_is = grew_is ∙ ap (λ gs. grows_in (places_of gs) (counters_of gs) hash) same;
+      counters = counters ∙ ap (λ gs. incremented_counters (slot_count gs) (counters_of gs) hash) same;
+      grew_is = grew_is ∙ ap (λ gs. grows_in (slot_count gs) (counters_of gs) hash) same;
     }
 
 module _ (groups new : List ℕ) (sample size hash : ℕ) (grew : Bool) (made : IsCounted groups new hash grew) where
@@ -134,11 +134,11 @@ module _ (groups new : List ℕ) (sample size hash : ℕ) (grew : Bool) (made : 
   pub counted_calm : (n : ℕ) → n ≡ from_bool grew → size + n < sample →
       unpacked new sample (size + n) ≡ after_increment (unpacked groups sample size) hash
   counted_calm n is room =
-      let more : n ≡ from_bool (grows_in (places_of groups) (counters_of groups) hash) = is ∙ ap from_bool made.grew_is in
-      let calm : ages before hash ≡ false = calm_by (grows_in (places_of groups) (counters_of groups) hash) n sample size more room in
-      let grows : size + n ≡ (with_count before hash).size = size_by (grows_in (places_of groups) (counters_of groups) hash) n size more in
+      let more : n ≡ from_bool (grows_in (slot_count groups) (counters_of groups) hash) = is ∙ ap from_bool made.grew_is in
+      let calm : ages before hash ≡ false = calm_by (grows_in (slot_count groups) (counters_of groups) hash) n sample size more room in
+      let grows : size + n ≡ (with_count before hash).size = size_by (grows_in (slot_count groups) (counters_of groups) hash) n size more in
       unpacked_on new sample (size + n) there
-      ∙ ap Some (same_table (places_of new) (places_of groups) sample (size + n) _ (counters_of new) _ (ap (λ n. n / 4) made.len) grows made.counters)
+      ∙ ap Some (same_table (slot_count new) (slot_count groups) sample (size + n) _ (counters_of new) _ (ap (λ n. n / 4) made.len) grows made.counters)
       ∙ ap (λ b. counted_by b before hash) (sym calm)
       ∙ sym (after_on groups sample size hash made.on)
 
@@ -147,16 +147,16 @@ module _ (groups new : List ℕ) (sample size hash : ℕ) (grew : Bool) (made : 
       counters_of old ≡ map (λ c. c / 2) (counters_of new) → odd ≡ odd_count (counters_of new) →
       unpacked old sample ((size + n) / 2 - odd / 4) ≡ after_increment (unpacked groups sample size) hash
   counted_aged old n odd is below full same halved odd_is =
-      let more : n ≡ from_bool (grows_in (places_of groups) (counters_of groups) hash) = is ∙ ap from_bool made.grew_is in
+      let more : n ≡ from_bool (grows_in (slot_count groups) (counters_of groups) hash) = is ∙ ap from_bool made.grew_is in
       let on : 0 < length groups = made.on in
       let still : 0 < length old = omega arith in
-      let due : ages before hash ≡ true = due_by (grows_in (places_of groups) (counters_of groups) hash) n sample size more below full in
-      let grows : size + n ≡ (with_count before hash).size = size_by (grows_in (places_of groups) (counters_of groups) hash) n size more in
+      let due : ages before hash ≡ true = due_by (grows_in (slot_count groups) (counters_of groups) hash) n sample size more below full in
+      let grows : size + n ≡ (with_count before hash).size = size_by (grows_in (slot_count groups) (counters_of groups) hash) n size more in
       let left : (size + n) / 2 - odd / 4 ≡ (aged (with_count before hash)).size =
       ap (λ k. (size + n) / 2 - k / 4) (odd_is ∙ ap odd_count made.counters)
       ∙ ap (λ k. k / 2 - odd_count (with_count before hash).counters / 4) grows in
       unpacked_on old sample _ still
-      ∙ ap Some (same_table (places_of old) (places_of groups) sample _ _ (counters_of old) _ (ap (λ n. n / 4) same) left
+      ∙ ap Some (same_table (slot_count old) (slot_count groups) sample _ _ (counters_of old) _ (ap (λ n. n / 4) same) left
       (halved ∙ ap (map (λ c. c / 2)) made.counters))
       ∙ ap (λ b. counted_by b before hash) (sym due)
       ∙ sym (after_on groups sample size hash made.on)
@@ -176,14 +176,14 @@ abbrev pub new_groups : ℕ → List ℕ
 new_groups cap = replicate (GROUPS_PER_WORD * table_len_for cap) 0
 
 -- they are those of its places
-new_places : (cap : ℕ) → places_of (new_groups cap) ≡ table_len_for cap
+new_places : (cap : ℕ) → slot_count (new_groups cap) ≡ table_len_for cap
 new_places cap =
     let len : length (new_groups cap) ≡ 4 * table_len_for cap = length-replicate (4 * table_len_for cap) 0 in omega arith
 
 -- what holds of the groups of a new table
 pub new_packed : (cap : ℕ) → IsPacked (new_groups cap) (sample_size_for cap) 0
 new_packed cap = λ _.
-    let places : places_of (new_groups cap) ≡ table_len_for cap = new_places cap in
+    let places : slot_count (new_groups cap) ≡ table_len_for cap = new_places cap in
     record {
       whole = rw places (length-replicate (4 * table_len_for cap) 0);
       power = (32 - leading_zeros w32 (min cap MAX_TABLE_LEN - 1), places);

@@ -24,12 +24,12 @@ abbrev pub halved_group : ℕ → ℕ
 halved_group group = bit_and (group / 2) 0x7777
 
 -- how many places the groups make
-abbrev pub places_of : List ℕ → ℕ
-places_of groups = length groups / GROUPS_PER_WORD
+abbrev pub slot_count : List ℕ → ℕ
+slot_count groups = length groups / GROUPS_PER_WORD
 
 -- the table of these groups
 abbrev pub table_of : List ℕ → ℕ → ℕ → Table
-table_of groups sample size = record { places = places_of groups; sample = sample; size = size; counters = counters_of groups }
+table_of groups sample size = record { places = slot_count groups; sample = sample; size = size; counters = counters_of groups }
 
 -- the sketch of these groups: with none it is off
 abbrev pub unpacked : List ℕ → ℕ → ℕ → Option Table
@@ -38,9 +38,9 @@ unpacked (group ∷ groups) sample size = Some (table_of (group ∷ groups) samp
 
 -- what holds of the groups of a table
 pub record IsTablePacked (groups : List ℕ) (sample size : ℕ) : Type 0 where
-  pub whole : length groups ≡ GROUPS_PER_WORD * places_of groups
-  pub power : IsPowerOfTwo (places_of groups)
-  pub within : places_of groups ≤ MAX_TABLE_LEN
+  pub whole : length groups ≡ GROUPS_PER_WORD * slot_count groups
+  pub power : IsPowerOfTwo (slot_count groups)
+  pub within : slot_count groups ≤ MAX_TABLE_LEN
   pub sampled : size < sample
 
 -- what holds of the groups of a sketch

@@ -73,7 +73,7 @@ impl Limits {
 
     /// Returns `true` if the time to live has passed since an entry's last write. It has passed from its last moment on.
     #[inline]
-    pub fn has_lived(&self, modified: Instant, now: Instant) -> bool
+    pub fn is_past_ttl(&self, modified: Instant, now: Instant) -> bool
         ensures { result ≡ live_expired (live_nanos self.now) modified now }
     {
         match self.live {

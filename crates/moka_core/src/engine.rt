@@ -84,7 +84,7 @@ impl<K: Eq + Hash + Drop, V: Drop, S: BuildHasher + Drop, A: Allocator + Clone +
             weigher: UnitWeight,
             capacity: 0,
         };
-        Ok(Core::of_parts(alloc, parts)?)
+        Ok(Core::from_parts(alloc, parts)?)
     }
 }
 
@@ -96,13 +96,13 @@ impl<
     A: Allocator + Clone + Drop,
 > Core<K, V, S, W, A> {
     /// A core of these parts, with nothing done to it.
-    pub fn of_parts(alloc: A, parts: CoreParts<S, W>) -> Result<Self, OutOfMemory>
+    pub fn from_parts(alloc: A, parts: CoreParts<S, W>) -> Result<Self, OutOfMemory>
         ensures state { IfOk result (λ core. core.state ≡ new_core
             (record { hash_state = parts.hash_state; policy = parts.policy; is_weighed = parts.is_weighed }) 0) }
         ensures weigher { IfOk result (λ core. core.weigher ≡ parts.weigher) }
     {
         Ok(Core {
-            machine: Machine::of_parts(alloc, parts)?,
+            machine: Machine::from_parts(alloc, parts)?,
         })
     }
 

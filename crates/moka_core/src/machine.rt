@@ -87,7 +87,7 @@ impl<
     A: Allocator + Clone + Drop,
 > Machine<K, V, S, W, A> {
     /// A machine of these parts, with nothing done to it.
-    pub fn of_parts(alloc: A, parts: CoreParts<S, W>) -> Result<Self, OutOfMemory>
+    pub fn from_parts(alloc: A, parts: CoreParts<S, W>) -> Result<Self, OutOfMemory>
         ensures state { IfOk result (λ machine. machine.state ≡ new_core
             (record { hash_state = parts.hash_state; policy = parts.policy; is_weighed = parts.is_weighed }) 0) }
         ensures weigher { IfOk result (λ machine. machine.weigher ≡ parts.weigher) }

@@ -1,4 +1,4 @@
-//! A cache kept in a struct, with a weigher of its own and by a running clock. The README shows it.
+//! A cache kept in a struct, with a weigher of its own and by a running clock..
 ghost use Rattle.std.specs.Prelude.{◌≡◌, ◌^◌, ◌-◌, min, ⊤};
 ghost use Rattle.std.specs.String.{string_len};
 

@@ -1,4 +1,4 @@
-//! The examples of the README, proved to be safe and to return: they have no contracts.
+//! Small programs on each kind of cache, proved to be safe and to return: they have no contracts.
 use mini_moka::common::time::Instant;
 use mini_moka::common::{FixedState, Shared};
 use mini_moka::sync::engine::{Call, Core, Reply};

@@ -73,7 +73,7 @@ impl<A: Allocator + Clone + Drop> WriteQueue<A> {
         ensures rest { self.new ≡ record { log = drop (length taken.new) self.old.log; at_hand = length taken.new } }
     {
         let before = self.log.len();
-        taken.refill(&mut self.log, wanted);
+        taken.take_batch(&mut self.log, wanted);
         self.at_hand = before - self.log.len();
     }
 

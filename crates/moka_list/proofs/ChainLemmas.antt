@@ -72,7 +72,7 @@ module _ {T : Type 0} (element : ℕ → Option T) (following preceding : ℕ �
       → (ahead behind : ℕ → ℕ) → ((q : ℕ) → ahead q ≡ cond (nat_eq last q) id (cond (nat_eq id q) NONE (following q)))
       → ((q : ℕ) → behind q ≡ cond (nat_eq NONE q) id (cond (nat_eq id q) last (preceding q)))
       → IsThreaded element_new ahead behind (es ++ (id, x) ∷ [])
-  threaded-pushed x absent place here kept last last_is ahead behind forward back =
+  threaded-pushed x absent slot here kept last last_is ahead behind forward back =
       let l = last_is ∙ h.prev NONE in
       record {
         elements = λ q. elim (cases_Bool (nat_eq id q)) [
@@ -85,12 +85,12 @@ module _ {T : Type 0} (element : ℕ → Option T) (following preceding : ℕ �
         ];
         next = λ q.
             forward q ∙ (λ i. cond (nat_eq (l i) q) id (cond (nat_eq id q) NONE (h.next q i)))
-            ∙ sym (follower-push NONE NONE id q x es (ne_comm id NONE place) h.end h.apart h.end absent);
+            ∙ sym (follower-push NONE NONE id q x es (ne_comm id NONE slot) h.end h.apart h.end absent);
         prev = λ q.
             back q ∙ (λ i. cond (nat_eq NONE q) id (cond (nat_eq id q) (l i) (h.prev q i)))
-            ∙ sym (preceder-push NONE NONE id q x es place h.end absent);
+            ∙ sym (preceder-push NONE NONE id q x es slot h.end absent);
         apart = AreApart-push id x es h.apart absent;
-        end = lookup-push NONE id x es absent ∙ cond-false (nat_eq id NONE) (Some x) (lookup (nat_eq NONE) es) place ∙ h.end;
+        end = lookup-push NONE id x es absent ∙ cond-false (nat_eq id NONE) (Some x) (lookup (nat_eq NONE) es) slot ∙ h.end;
       }
 
   -- a new node is right before another, once it is linked there
@@ -99,7 +99,7 @@ module _ {T : Type 0} (element : ℕ → Option T) (following preceding : ℕ �
       → ((q : ℕ) → ahead q ≡ cond (nat_eq (preceding next) q) id (cond (nat_eq id q) next (following q)))
       → ((q : ℕ) → behind q ≡ cond (nat_eq next q) id (cond (nat_eq id q) (preceding next) (preceding q)))
       → IsThreaded element_new ahead behind (inserted next (id, x) es)
-  threaded-inserted x next absent place found here kept ahead behind forward back =
+  threaded-inserted x next absent slot found here kept ahead behind forward back =
       record {
         elements = λ q. elim (cases_Bool (nat_eq id q)) [
           | inl same ↦
@@ -111,13 +111,13 @@ module _ {T : Type 0} (element : ℕ → Option T) (following preceding : ℕ �
         ];
         next = λ q.
             forward q ∙ (λ i. cond (nat_eq (h.prev next i) q) id (cond (nat_eq id q) next (h.next q i)))
-            ∙ sym (follower-inserted NONE NONE id next q x es (ne_comm id NONE place) h.end h.apart absent found);
+            ∙ sym (follower-inserted NONE NONE id next q x es (ne_comm id NONE slot) h.end h.apart absent found);
         prev = λ q.
             back q ∙ (λ i. cond (nat_eq next q) id (cond (nat_eq id q) (h.prev next i) (h.prev q i)))
             ∙ sym (preceder-inserted NONE NONE id next q x es absent found);
         apart = AreApart-inserted next id x es h.apart absent;
         end = lookup-inserted NONE next id x es absent
-            ∙ cond-false (nat_eq id NONE) (Some x) (lookup (nat_eq NONE) es) place ∙ h.end;
+            ∙ cond-false (nat_eq id NONE) (Some x) (lookup (nat_eq NONE) es) slot ∙ h.end;
       }
 
   -- a node has another element
@@ -197,19 +197,19 @@ module _ {T A : Type 0} (slots : Slab T) (links : LinkTable A) where
     pub IsChained-items_of : IsChained slots links (items_of slots links)
     IsChained-items_of = subst (IsChained slots links) (sym items_of-chained) h
 
-    -- a place of the list has links
-    place_from : (q : ℕ) → IsSome (lookup (nat_eq q) es) ⊎ (NONE ≡ q) → IsPlace links q
-    place_from q (inl found) = inl (h.linked q (ap is_some (h.threaded.elements q) ∙ found))
-    place_from q (inr end) = inr end
+    -- a slot of the list has links
+    slot_from : (q : ℕ) → IsSome (lookup (nat_eq q) es) ⊎ (NONE ≡ q) → IsPlace links q
+    slot_from q (inl found) = inl (h.linked q (ap is_some (h.threaded.elements q) ∙ found))
+    slot_from q (inr end) = inr end
 
     pub prev_place : (id : ℕ) → IsSome (lookup (nat_eq id) es) → IsPlace links (prev_at links id)
-    prev_place id found = rw (h.threaded.prev id) (place_from _ (preceder_place NONE NONE es id found))
+    prev_place id found = rw (h.threaded.prev id) (slot_from _ (preceder_place NONE NONE es id found))
 
     pub next_place : (id : ℕ) → IsPlace links (next_at links id)
-    next_place id = rw (h.threaded.next id) (place_from _ (follower_place NONE NONE es id))
+    next_place id = rw (h.threaded.next id) (slot_from _ (follower_place NONE NONE es id))
 
     pub tail_place : IsPlace links links.last
-    tail_place = rw (last_is ∙ h.threaded.prev NONE) (place_from _ (last_place NONE NONE es))
+    tail_place = rw (last_is ∙ h.threaded.prev NONE) (slot_from _ (last_place NONE NONE es))
 
 -- the list has lost a node
 pub chained-unlinked : {T A : Type 0} (slots slots_new : Slab T) (links links_new : LinkTable A) (es : List (ℕ × T)) (id : ℕ) (x : T)
@@ -236,10 +236,10 @@ pub chained-pushed : {T A : Type 0} (slots slots_new : Slab T) (links links_new 
     → slab_len slots_new ≤ slots_new.capacity → id < length links.links.items → LinkedBack links links_new id
     → length links_new.links.items ≡ length links.links.items → IsChained slots_new links_new (es ++ (id, x) ∷ [])
 chained-pushed slots slots_new links links_new es id x h was u len fits within step links_len =
-    let place : nat_eq id NONE ≡ false = Rattle.std.proofs.lemmas.Bool.ne_eqb id NONE (λ same. omega (arith, same, within, h.numbered)) in
+    let slot : nat_eq id NONE ≡ false = Rattle.std.proofs.lemmas.Bool.ne_eqb id NONE (λ same. omega (arith, same, within, h.numbered)) in
     record {
       threaded = threaded-pushed (get slots) (next_at links) (prev_at links) es h.threaded (get slots_new) id x
-          (sym (h.threaded.elements id) ∙ was) place u.changed (λ q other. other_kept slots slots_new id q (Some x) u other)
+          (sym (h.threaded.elements id) ∙ was) slot u.changed (λ q other. other_kept slots slots_new id q (Some x) u other)
           links.last (last_is slots links es h) (next_at links_new) (prev_at links_new) step.next step.prev;
       linked = λ q found. elim (cases_Bool (nat_eq id q)) [
         | inl same ↦ subst (λ n. q < n) (sym links_len) (subst (λ k. k < length links.links.items) (eqb-true id q same) within)
@@ -264,7 +264,7 @@ without_node slots links mid es id x h at out =
     (cond-true (nat_eq id id) None (get slots id) (nat_eq-same id)) (λ q other. cond-false (nat_eq id q) None (get slots q) other)
     (next_at mid) (prev_at mid) out.next out.prev
 
--- once a node is taken out, the places of the rest have links still
+-- once a node is taken out, the slots of the rest have links still
 mid_place : {T A : Type 0} (slots : Slab T) (links mid : LinkTable A) (es : List (ℕ × T)) (id : ℕ) → IsChained slots links es
     → length mid.links.items ≡ length links.links.items → (q : ℕ)
     → IsSome (lookup (nat_eq q) (remove_entry (nat_eq id) es)) ⊎ (NONE ≡ q) → IsPlace mid q

@@ -104,15 +104,15 @@ chosen_first (suc k) bits (id ∷ ids) some few long =
 pub bit_small : (p bits : ℕ) → p ≤ bits → bits < 2 ^ 64 → 1 * p % 2 ^ 64 ≡ p
 bit_small p bits least few = ap (λ n. n % 2 ^ 64) (omega arith) ∙ mod-eq_of_lt (omega arith)
 
--- the lowest of some places of a group, as bits, and what is left without it
-pub record TakesFirst (bits : ℕ) (ids : List ℕ) (place : ℕ) : Type 0 where
-  pub within : place < 10
-  pub least : 2 ^ place ≤ bits
-  pub set : bit_at bits place ≡ 1
-  pub is : chosen bits ids ≡ get_or ids place 0 ∷ chosen (bits - 2 ^ place) ids
-  pub rest : (other : ℕ) → bit_at (bits - 2 ^ place) other ≡ 1 → bit_at bits other ≡ 1
+-- the lowest of some slots of a group, as bits, and what is left without it
+pub record TakesFirst (bits : ℕ) (ids : List ℕ) (slot : ℕ) : Type 0 where
+  pub within : slot < 10
+  pub least : 2 ^ slot ≤ bits
+  pub set : bit_at bits slot ≡ 1
+  pub is : chosen bits ids ≡ get_or ids slot 0 ∷ chosen (bits - 2 ^ slot) ids
+  pub rest : (other : ℕ) → bit_at (bits - 2 ^ slot) other ≡ 1 → bit_at bits other ≡ 1
 
--- the trailing zeros of some places of a group say which is the lowest
+-- the trailing zeros of some slots of a group say which is the lowest
 pub takes_first : (bits : ℕ) (ids : List ℕ) → length ids ≡ 10 → 0 < bits → bits < 1024 → TakesFirst bits ids (count_trailing_zeros 64 bits)
 takes_first bits ids len some few =
     let first = chosen_first 64 bits ids some (subst (λ n. bits < 2 ^ n) (sym len) few) (omega arith) in
@@ -125,6 +125,6 @@ takes_first bits ids len some few =
       rest = first.rest;
     }
 
--- which places they are tells it, whatever the ids
+-- which slots they are tells it, whatever the ids
 pub lowest : (bits : ℕ) → 0 < bits → bits < 1024 → TakesFirst bits (replicate 10 0) (count_trailing_zeros 64 bits)
 lowest bits some few = takes_first bits (replicate 10 0) refl some few

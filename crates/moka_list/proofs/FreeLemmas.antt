@@ -1,4 +1,4 @@
--- That a table with room for one more id has a free place.
+-- That a table with room for one more id has a free slot.
 use Rattle.std.proofs.Common.{◌≡◌, ◌≢◌, ◌⊎◌, ℕ, zero, suc, ◌+◌, ◌*◌, ◌/◌, ◌%◌, ◌^◌, ◌<◌, ◌≤◌, Bool, true, false, nat_eq, List, [], ◌∷◌, length}
 use Rattle.std.proofs.Common.{refl, sym, ap, subst, ◌∙◌, inl, inr, arith}
 use Rattle.std.specs.Int.{bit_at}
@@ -9,7 +9,7 @@ use Rattle.std.proofs.lemmas.List.{get_or_past}
 use Rattle.std.proofs.lemmas.Map.Steps.{length-le_from_distinct_below}
 use Rattle.std.proofs.lemmas.Nat.Bits.{bit_at-zero}
 use Rattle.moka_list.specs.declared.group.Group.{Group}
-use Rattle.moka_list.specs.HashIndex.{group_at, is_candidate, places_with}
+use Rattle.moka_list.specs.HashIndex.{group_at, is_candidate, slots_with}
 use Rattle.moka_list.specs.Probed.{IsProbed, id_at, is_free, passes, tally}
 use Rattle.moka_list.proofs.StandsLemmas.{bit_with, cell_below, shown, under_candidate}
 use Rattle.moka_list.proofs.StepLemmas.{bit_of, free_passes}
@@ -28,7 +28,7 @@ unfolding IsDistinct
 distinct_none = tt
 
 module _ (groups : List Group) where
-  -- the places below a number have a free one among them, or none
+  -- the slots below a number have a free one among them, or none
   free_or_taken : (n : ℕ) → ((cell : ℕ) × (cell < n) × (is_free groups cell ≡ true)) ⊎ ((cell : ℕ) → cell < n → is_free groups cell ≡ false)
   free_or_taken zero = inr (λ cell low. absurd (omega arith))
   free_or_taken (suc n) =
@@ -45,7 +45,7 @@ module _ (groups : List Group) where
             ]
       ]
 
-  -- the ids at the places below a number
+  -- the ids at the slots below a number
   abbrev ids_below : ℕ → List ℕ
   ids_below zero = []
   ids_below (suc n) = id_at groups n ∷ ids_below n
@@ -54,7 +54,7 @@ module _ (groups : List Group) where
   length-ids_below zero = refl
   length-ids_below (suc n) = ap suc (length-ids_below n)
 
-  -- an id among them stands at one of these places
+  -- an id among them stands at one of these slots
   among_ids_below : (id n : ℕ) → list_any (nat_eq id) (ids_below n) ≡ true → (cell : ℕ) × (cell < n) × (id ≡ id_at groups cell)
   among_ids_below id zero found = absurd (false≢true found)
   among_ids_below id (suc n) found =
@@ -76,7 +76,7 @@ module _ (groups : List Group) where
         let same : n ≡ there.0 = once n there.0 (taken n (omega arith)) (taken there.0 (omega arith)) there.2 in absurd (omega arith)))
         (distinct-ids_below n (λ cell low. taken cell (omega arith)))
 
-    -- where an id below the room doesn't stand, one of as many places as there is room for is free
+    -- where an id below the room doesn't stand, one of as many slots as there is room for is free
     free_below : (ids id : ℕ) → ((cell : ℕ) → is_free groups cell ≡ false → id_at groups cell < ids) → id < ids
         → ((cell : ℕ) → is_free groups cell ≡ false → id ≡ id_at groups cell → ⊥) → (cell : ℕ) × (cell < ids) × (is_free groups cell ≡ true)
     free_below ids id below room absent =
@@ -99,7 +99,7 @@ module _ (groups : List Group) where
               absurd (omega arith)
         ]
 
--- an id that is a candidate of no hash finds a free place
+-- an id that is a candidate of no hash finds a free slot
 pub free_cell : (groups : List Group) (ids id : ℕ) (far : Bool) → IsProbed groups ids far → id < ids
     → ((hash : ℕ) → is_candidate (shown groups ids far) hash id ≡ false)
     → (cell : ℕ) × (cell < 10 * length groups) × (is_free groups cell ≡ true)
@@ -116,7 +116,7 @@ free_cell groups ids id far probed room absent =
 -- and so a group that has one
 pub free_some : (groups : List Group) (ids id : ℕ) (far : Bool) → IsProbed groups ids far → id < ids
     → ((hash : ℕ) → is_candidate (shown groups ids far) hash id ≡ false)
-    → (at : ℕ) × (at < length groups) × (places_with (group_at groups at) 0 ≢ 0)
+    → (at : ℕ) × (at < length groups) × (slots_with (group_at groups at) 0 ≢ 0)
 free_some groups ids id far probed room absent =
     let found = free_cell groups ids id far probed room absent in
     let cell = found.0 in let q = cell / 10 in let k = cell % 10 in
@@ -160,7 +160,7 @@ tally_fewer test at (suc n) within fails =
     one_more true count n low = omega arith
     one_more false count n low = omega arith
 
--- where a place is free, each group can count one more
+-- where a slot is free, each group can count one more
 pub passed_fits : (groups : List Group) (ids cell : ℕ) (far : Bool) → IsProbed groups ids far → cell < 10 * length groups
     → is_free groups cell ≡ true → (at : ℕ) → (group_at groups at).passed + 1 < 2 ^ 32
 passed_fits groups ids cell far probed inside free at =

@@ -23,7 +23,7 @@ nat_eq_comm a b = grind (arith, nat_tests)
 pub ne_comm : (a b : ℕ) → nat_eq a b ≡ false → nat_eq b a ≡ false
 ne_comm a b h = nat_eq_comm b a ∙ h
 
--- two tests of one number that don't both pass change places
+-- two tests of one number that don't both pass change slots
 pub cond_swap : {X : Type 0} (a b : Bool) (x y z : X) → (a ≡ true → b ≡ true → x ≡ y) → cond a x (cond b y z) ≡ cond b y (cond a x z)
 cond_swap true true x y z h = h refl refl
 cond_swap true false x y z h = refl

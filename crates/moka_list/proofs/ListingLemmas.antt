@@ -114,21 +114,21 @@ module _ {A : Type 0} (links : LinkTable A) where
         ∙ walked (follower NONE NONE (marked ids) NONE) ids
         (leads_from NONE ids h.threaded.apart h.threaded.end (λ q _. h.threaded.next q))
 
-    -- a place of the list has links
-    place_from : (q : ℕ) → IsIn (marked ids) q ⊎ (NONE ≡ q) → IsPlace links q
-    place_from q (inl found) = inl (h.linked q found)
-    place_from q (inr end) = inr end
+    -- a slot of the list has links
+    slot_from : (q : ℕ) → IsIn (marked ids) q ⊎ (NONE ≡ q) → IsPlace links q
+    slot_from q (inl found) = inl (h.linked q found)
+    slot_from q (inr end) = inr end
 
     pub prev_place : (id : ℕ) → IsIn (marked ids) id → IsPlace links (prev_at links id)
-    prev_place id found = rw (h.threaded.prev id) (place_from _ (preceder_place NONE NONE (marked ids) id found))
+    prev_place id found = rw (h.threaded.prev id) (slot_from _ (preceder_place NONE NONE (marked ids) id found))
 
     pub next_place : (id : ℕ) → IsPlace links (next_at links id)
-    next_place id = rw (h.threaded.next id) (place_from _ (follower_place NONE NONE (marked ids) id))
+    next_place id = rw (h.threaded.next id) (slot_from _ (follower_place NONE NONE (marked ids) id))
 
     pub tail_place : IsPlace links links.last
     tail_place =
         rw (sym (cond-true (nat_eq NONE NONE) links.last (links_at links.links.items NONE).prev (nat_eq-same NONE)) ∙ h.threaded.prev NONE)
-        (place_from _ (last_place NONE NONE (marked ids)))
+        (slot_from _ (last_place NONE NONE (marked ids)))
 
 -- a table that shows these ids
 abbrev pub Lists : {A : Type 0} → LinkTable A → ℕ → List ℕ → Type 0
@@ -189,12 +189,12 @@ module _ {A : Type 0} {links new : LinkTable A} {ids : List ℕ} (h : IsListing 
       let at = marked-absent ids id absent in
       let es = marked ids in
       let same = marked-push ids id in
-      let place : nat_eq id NONE ≡ false = apart id (omega (arith, below, h.numbered)) in
+      let slot : nat_eq id NONE ≡ false = apart id (omega (arith, below, h.numbered)) in
       let last : links.last ≡ prev_at links NONE =
       sym (cond-true (nat_eq NONE NONE) links.last (links_at links.links.items NONE).prev (nat_eq-same NONE)) in
       let whole : IsThreaded (λ q. lookup (nat_eq q) (es ++ (id, tt) ∷ [])) (next_at new) (prev_at new) (es ++ (id, tt) ∷ []) =
       threaded-pushed (λ q. lookup (nat_eq q) es) (next_at links) (prev_at links) es h.threaded
-      (λ q. lookup (nat_eq q) (es ++ (id, tt) ∷ [])) id tt at place
+      (λ q. lookup (nat_eq q) (es ++ (id, tt) ∷ [])) id tt at slot
       (lookup-push id id tt es at ∙ cond-true (nat_eq id id) _ _ (nat_eq-same id))
       (λ q other. lookup-push q id tt es at ∙ cond-false (nat_eq id q) (Some tt) (lookup (nat_eq q) es) other)
       links.last last (next_at new) (prev_at new) step.next step.prev in

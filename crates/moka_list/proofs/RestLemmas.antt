@@ -8,7 +8,7 @@ use Rattle.moka_list.specs.declared.group.Group.{Group}
 use Rattle.std.proofs.lemmas.Nat.{div_below}
 use Rattle.std.proofs.Math.Nat.{mod-lt, mul_comm, mul-lt-mul_of_pos_right}
 use Rattle.moka_list.specs.declared.constants.TheConstants.{FAR, SPREAD}
-use Rattle.moka_list.specs.HashIndex.{home_of, after, chosen, ends_at, group_at, places_of, rest_of, tagged}
+use Rattle.moka_list.specs.HashIndex.{home_group, after, chosen, ends_at, group_at, slots_of, rest_of, tagged}
 use Rattle.moka_list.proofs.ChosenLemmas.{TakesFirst, bit_small, chosen_none, takes_first}
 
 nowhere : Group
@@ -19,14 +19,14 @@ module _ (groups : List Group) (tag : ℕ) (far : Bool) where
   later_on left distance at =
       if ends_at (group_at groups at) far then [] else tagged groups tag far left (distance + 1) (after (length groups) at)
 
-  -- the lowest of the places that are left comes first
-  first_of : (left distance at bits place : ℕ) (group : Group) → ((d : Group) → group ≡ get_or groups at d)
-      → TakesFirst bits group.ids place
-      → rest_of groups tag far left distance at bits ≡ get_or group.ids place 0 ∷ rest_of groups tag far left distance at (bits - 2 ^ place)
+  -- the lowest of the slots that are left comes first
+  first_of : (left distance at bits slot : ℕ) (group : Group) → ((d : Group) → group ≡ get_or groups at d)
+      → TakesFirst bits group.ids slot
+      → rest_of groups tag far left distance at bits ≡ get_or group.ids slot 0 ∷ rest_of groups tag far left distance at (bits - 2 ^ slot)
   unfolding later_on nowhere
-  first_of left distance at bits place group is takes =
+  first_of left distance at bits slot group is takes =
       subst (λ g. chosen bits g.ids ++ later_on left distance at
-      ≡ get_or group.ids place 0 ∷ (chosen (bits - 2 ^ place) g.ids ++ later_on left distance at)) (is nowhere)
+      ≡ get_or group.ids slot 0 ∷ (chosen (bits - 2 ^ slot) g.ids ++ later_on left distance at)) (is nowhere)
       (ap (λ xs. xs ++ later_on left distance at) takes.is)
 
   -- by its trailing zeros, as the code takes it out
@@ -36,13 +36,13 @@ module _ (groups : List Group) (tag : ℕ) (far : Bool) where
       ≡ get_or group.ids (count_trailing_zeros 64 bits) 0
       ∷ rest_of groups tag far left distance at (bits - 1 * 2 ^ count_trailing_zeros 64 bits % 2 ^ 64)
   yields left distance at bits group is len some few =
-      let place = count_trailing_zeros 64 bits in
+      let slot = count_trailing_zeros 64 bits in
       let takes = takes_first bits group.ids len some few in
-      first_of left distance at bits place group is takes
-      ∙ ap (λ p. get_or group.ids place 0 ∷ rest_of groups tag far left distance at (bits - p))
-      (sym (bit_small (2 ^ place) bits takes.least (omega (arith, few))))
+      first_of left distance at bits slot group is takes
+      ∙ ap (λ p. get_or group.ids slot 0 ∷ rest_of groups tag far left distance at (bits - p))
+      (sym (bit_small (2 ^ slot) bits takes.least (omega (arith, few))))
 
-  -- none is left where there is no place and the search ends, or the group is the last
+  -- none is left where there is no slot and the search ends, or the group is the last
   pub none_of : (left distance at : ℕ) → (ends_at (group_at groups at) far ≡ true) ⊎ (left ≡ 0) → rest_of groups tag far left distance at 0 ≡ []
   unfolding later_on
   none_of left distance at end =
@@ -58,10 +58,10 @@ module _ (groups : List Group) (tag : ℕ) (far : Bool) where
             ]
       ])
 
-  -- where there is no place and the search goes on, it does in the group after
+  -- where there is no slot and the search goes on, it does in the group after
   pub next_of : (left distance at : ℕ) → ends_at (group_at groups at) far ≡ false → left ≢ 0
       → rest_of groups tag far (left - 1) (distance + 1) (after (length groups) at)
-      (places_of (group_at groups (after (length groups) at)) tag (min (distance + 1) FAR))
+      (slots_of (group_at groups (after (length groups) at)) tag (min (distance + 1) FAR))
       ≡ rest_of groups tag far left distance at 0
   unfolding later_on
   next_of left distance at goes some =
@@ -74,7 +74,7 @@ module _ (groups : List Group) (tag : ℕ) (far : Bool) where
 
   -- the rest of a whole search
   pub rest_whole : (at : ℕ) → length groups ≢ 0
-      → rest_of groups tag far (length groups - 1) 0 at (places_of (group_at groups at) tag 0) ≡ tagged groups tag far (length groups) 0 at
+      → rest_of groups tag far (length groups - 1) 0 at (slots_of (group_at groups at) tag 0) ≡ tagged groups tag far (length groups) 0 at
   rest_whole at some =
       ap (λ n. tagged groups tag far n 0 at) whole
     where
@@ -82,8 +82,8 @@ module _ (groups : List Group) (tag : ℕ) (far : Bool) where
       whole = omega (arith, some)
 
 -- each home is in the table
-pub home_below : (groups hash : ℕ) → 0 < groups → home_of groups hash < groups
-unfolding home_of
+pub home_below : (groups hash : ℕ) → 0 < groups → home_group groups hash < groups
+unfolding home_group
 home_below groups hash some =
     div_below (hash * SPREAD % 2 ^ 64 * groups) (2 ^ 64) groups (omega arith)
     (below (hash * SPREAD % 2 ^ 64) groups (mod-lt (hash * SPREAD) (omega arith)) some)
@@ -92,22 +92,22 @@ home_below groups hash some =
     below h n bound some = subst (λ m. h * n < m) (mul_comm (2 ^ 64) n) (mul-lt-mul_of_pos_right bound some)
 
 -- where no home is in the table, it has no groups
-pub tagged_nowhere : (groups : List Group) (tag : ℕ) (far : Bool) (at hash : ℕ) → length groups ≤ home_of (length groups) hash
+pub tagged_nowhere : (groups : List Group) (tag : ℕ) (far : Bool) (at hash : ℕ) → length groups ≤ home_group (length groups) hash
     → tagged groups tag far (length groups) 0 at ≡ []
 tagged_nowhere groups tag far at hash past =
     elim (cases_eq (length groups) 0) [
       | inl none ↦ ap (λ n. tagged groups tag far n 0 at) none
       | inr some ↦
           let positive : 0 < length groups = omega (arith, some) in
-          let inside : home_of (length groups) hash < length groups = home_below (length groups) hash positive in absurd (omega arith)
+          let inside : home_group (length groups) hash < length groups = home_below (length groups) hash positive in absurd (omega arith)
     ]
 
 -- and none is left
-pub none_left : (groups hash : ℕ) → groups ≤ home_of groups hash → groups - 1 ≡ 0
+pub none_left : (groups hash : ℕ) → groups ≤ home_group groups hash → groups - 1 ≡ 0
 none_left groups hash past =
     elim (cases_eq groups 0) [
       | inl none ↦ ap (λ n. n - 1) none
       | inr some ↦
           let positive : 0 < groups = omega (arith, some) in
-          let inside : home_of groups hash < groups = home_below groups hash positive in absurd (omega arith)
+          let inside : home_group groups hash < groups = home_below groups hash positive in absurd (omega arith)
     ]

@@ -11,13 +11,13 @@ use Rattle.std.proofs.lemmas.List.{get_or-map, get_or-replicate, get_or_past, le
 use Rattle.std.proofs.lemmas.List.Folds.{list_any-append}
 use Rattle.std.proofs.lemmas.Nat.Bits.{bit_at-suc, bit_at_lowest, bit_at_and, bit_at_cat_high, bit_at_cat_low}
 use Rattle.std.proofs.lemmas.Simd.{bit_mask_l, get_or-chunk, length-chunk}
-use Rattle.moka_list.specs.declared.constants.TheConstants.{FAR, PLACES}
+use Rattle.moka_list.specs.declared.constants.TheConstants.{FAR, SLOTS}
 use Rattle.moka_list.specs.declared.group.Group.{Group}
 use Rattle.std.proofs.lemmas.Bool.{le-leb, lt-leb, lt-ltb}
 use Rattle.moka_list.specs.Probed.{AreShaped, FREE, IsProbed, IsUnder, distance_at, id_at, is_among, is_free, passes, steps, tag_at, tally}
 use Rattle.moka_list.proofs.RestLemmas.{home_below}
-use Rattle.moka_list.specs.HashIndex.{HashIndex, after, candidates, chosen, ends_at, group_at, home_of, is_candidate, places_at, places_of}
-use Rattle.moka_list.specs.HashIndex.{places_with, tag_of, tagged}
+use Rattle.moka_list.specs.HashIndex.{HashIndex, after, candidates, chosen, ends_at, group_at, home_group, is_candidate, slots_at, slots_of}
+use Rattle.moka_list.specs.HashIndex.{slots_with, tag_of, tagged}
 
 -- ---- bits
 
@@ -46,16 +46,16 @@ bit_marks marks y k within =
     ∙ ap bit_if (get_or-map (λ mark. nat_eq mark y) marks k 0 false within)
 
 module _ (group : Group) (shape : length group.marks ≡ 20) where
-  pub bit_with : (tag k : ℕ) → k < 10 → bit_at (places_with group tag) k ≡ bit_if (nat_eq (get_or group.marks k 0) tag)
-  unfolding places_with
+  pub bit_with : (tag k : ℕ) → k < 10 → bit_at (slots_with group tag) k ≡ bit_if (nat_eq (get_or group.marks k 0) tag)
+  unfolding slots_with
   bit_with tag k low =
       let len : length (chunk 0 16 group.marks) ≡ 16 = length-chunk 0 16 group.marks (omega (arith, shape)) in
       bit_low (mask_l (map (λ mark. nat_eq mark tag) (chunk 0 16 group.marks))) k low
       ∙ bit_marks (chunk 0 16 group.marks) tag k (omega arith)
       ∙ ap (λ m. bit_if (nat_eq m tag)) (get_or-chunk 0 16 group.marks k 0 (omega arith) ∙ ap (λ j. get_or group.marks j 0) (omega arith))
 
-  bit_distance : (distance k : ℕ) → k < 10 → bit_at (places_at group distance) k ≡ bit_if (nat_eq (get_or group.marks (10 + k) 0) distance)
-  unfolding places_at
+  bit_distance : (distance k : ℕ) → k < 10 → bit_at (slots_at group distance) k ≡ bit_if (nat_eq (get_or group.marks (10 + k) 0) distance)
+  unfolding slots_at
   bit_distance distance k low =
       let half = chunk 4 16 group.marks in
       let len4 : length half ≡ 16 = length-chunk 4 16 group.marks (omega (arith, shape)) in
@@ -66,15 +66,15 @@ module _ (group : Group) (shape : length group.marks ≡ 20) where
       (get_or-chunk 0 16 half (6 + k) 0 (omega arith) ∙ get_or-chunk 4 16 group.marks (0 + (6 + k)) 0 (omega arith)
       ∙ ap (λ j. get_or group.marks j 0) (omega arith))
 
-  -- the places of a tag and a distance are those whose marks are these
-  pub place_marks : (tag distance k : ℕ) → k < 10 → bit_at (places_of group tag distance) k ≡ 1
+  -- the slots of a tag and a distance are those whose marks are these
+  pub place_marks : (tag distance k : ℕ) → k < 10 → bit_at (slots_of group tag distance) k ≡ 1
       → (get_or group.marks k 0 ≡ tag) × (get_or group.marks (10 + k) 0 ≡ distance)
-  unfolding places_of
+  unfolding slots_of
   place_marks tag distance k low set =
       let both : min (bit_if (nat_eq (get_or group.marks k 0) tag)) (bit_if (nat_eq (get_or group.marks (10 + k) 0) distance)) ≡ 1 =
       ap (λ b. min b (bit_if (nat_eq (get_or group.marks (10 + k) 0) distance))) (sym (bit_with tag k low))
-      ∙ ap (min (bit_at (places_with group tag) k)) (sym (bit_distance distance k low))
-      ∙ sym (bit_at_and (places_with group tag) (places_at group distance) k) ∙ set in
+      ∙ ap (min (bit_at (slots_with group tag) k)) (sym (bit_distance distance k low))
+      ∙ sym (bit_at_and (slots_with group tag) (slots_at group distance) k) ∙ set in
       let parts = both_set (nat_eq (get_or group.marks k 0) tag) (nat_eq (get_or group.marks (10 + k) 0) distance) both in
       (eqb-true (get_or group.marks k 0) tag parts.0, eqb-true (get_or group.marks (10 + k) 0) distance parts.1)
     where
@@ -84,11 +84,11 @@ module _ (group : Group) (shape : length group.marks ≡ 20) where
       both_set false b set = absurd (omega (arith, set))
 
   pub marks_place : (tag distance k : ℕ) → k < 10 → get_or group.marks k 0 ≡ tag → get_or group.marks (10 + k) 0 ≡ distance
-      → bit_at (places_of group tag distance) k ≡ 1
-  unfolding places_of
+      → bit_at (slots_of group tag distance) k ≡ 1
+  unfolding slots_of
   marks_place tag distance k low is_tag is_distance =
-      bit_at_and (places_with group tag) (places_at group distance) k
-      ∙ ap (λ b. min b (bit_at (places_at group distance) k)) (bit_with tag k low ∙ ap bit_if (eq-eqb (get_or group.marks k 0) tag is_tag))
+      bit_at_and (slots_with group tag) (slots_at group distance) k
+      ∙ ap (λ b. min b (bit_at (slots_at group distance) k)) (bit_with tag k low ∙ ap bit_if (eq-eqb (get_or group.marks k 0) tag is_tag))
       ∙ ap (min 1) (bit_distance distance k low ∙ ap bit_if (eq-eqb (get_or group.marks (10 + k) 0) distance is_distance))
 
 -- ---- the ids whose bits are set
@@ -138,13 +138,13 @@ module _ (groups : List Group) (tag : ℕ) (far : Bool) (id : ℕ) where
   -- the id is one of those that a step of a search yields
   abbrev pub Yields : ℕ → ℕ → Type 0
   Yields distance at =
-      list_any (nat_eq id) (chosen (places_of (group_at groups at) tag (min distance FAR)) (group_at groups at).ids) ≡ true
+      list_any (nat_eq id) (chosen (slots_of (group_at groups at) tag (min distance FAR)) (group_at groups at).ids) ≡ true
 
   pub search_yields : (left distance at : ℕ) → list_any (nat_eq id) (tagged groups tag far left distance at) ≡ true
       → (s : ℕ) × (s < left) × Yields (distance + s) (walk (length groups) at s)
   search_yields zero distance at found = absurd (false≢true found)
   search_yields (suc left) distance at found =
-      let here = chosen (places_of (group_at groups at) tag (min distance FAR)) (group_at groups at).ids in
+      let here = chosen (slots_of (group_at groups at) tag (min distance FAR)) (group_at groups at).ids in
       let later = tagged groups tag far left (distance + 1) (after (length groups) at) in
       let rest = if ends_at (group_at groups at) far then [] else later in
       elim (or_cases (list_any (nat_eq id) here) (list_any (nat_eq id) rest) (sym (list_any-append (nat_eq id) here rest) ∙ found)) [
@@ -166,13 +166,13 @@ module _ (groups : List Group) (tag : ℕ) (far : Bool) (id : ℕ) where
       → Yields (distance + s) (walk (length groups) at s) → list_any (nat_eq id) (tagged groups tag far left distance at) ≡ true
   yields_search zero distance at s within goes yields = absurd (omega arith)
   yields_search (suc left) distance at zero within goes yields =
-      let here = chosen (places_of (group_at groups at) tag (min distance FAR)) (group_at groups at).ids in
+      let here = chosen (slots_of (group_at groups at) tag (min distance FAR)) (group_at groups at).ids in
       let later = tagged groups tag far left (distance + 1) (after (length groups) at) in
       let rest = if ends_at (group_at groups at) far then [] else later in
       list_any-append (nat_eq id) here rest
       ∙ or_left (list_any (nat_eq id) here) (list_any (nat_eq id) rest) (subst (λ a. Yields a at) (omega arith) yields)
   yields_search (suc left) distance at (suc s) within goes yields =
-      let here = chosen (places_of (group_at groups at) tag (min distance FAR)) (group_at groups at).ids in
+      let here = chosen (slots_of (group_at groups at) tag (min distance FAR)) (group_at groups at).ids in
       let later = tagged groups tag far left (distance + 1) (after (length groups) at) in
       let rest = if ends_at (group_at groups at) far then [] else later in
       list_any-append (nat_eq id) here rest
@@ -306,21 +306,21 @@ tag_some groups hash = omega arith
 pub cell_group : (q k : ℕ) → k < 10 → (q * 10 + k) / 10 ≡ q
 cell_group q k low = omega arith
 
-pub cell_place : (q k : ℕ) → k < 10 → (q * 10 + k) % 10 ≡ k
-cell_place q k low = omega arith
+pub cell_slot : (q k : ℕ) → k < 10 → (q * 10 + k) % 10 ≡ k
+cell_slot q k low = omega arith
 
--- an id at a place that a step of a search yields stands under the hash
+-- an id at a slot that a step of a search yields stands under the hash
 pub found_under : (groups : List Group) (hash s k : ℕ) → AreShaped groups → s < length groups → k < 10
-    → bit_at (places_of (group_at groups (walk (length groups) (home_of (length groups) hash) s)) (tag_of (length groups) hash) (min s FAR)) k ≡ 1
-    → IsUnder groups hash (walk (length groups) (home_of (length groups) hash) s * 10 + k)
+    → bit_at (slots_of (group_at groups (walk (length groups) (home_group (length groups) hash) s)) (tag_of (length groups) hash) (min s FAR)) k ≡ 1
+    → IsUnder groups hash (walk (length groups) (home_group (length groups) hash) s * 10 + k)
 found_under groups hash s k shaped short low set =
-    let n = length groups in let home = home_of n hash in let tag = tag_of n hash in
+    let n = length groups in let home = home_group n hash in let tag = tag_of n hash in
     let inside : home < n = home_below n hash (omega arith) in
     let q = walk n home s in
     let below : q < n = walk_below n home s inside short in
     let marks = place_marks (group_at groups q) (shaped q below).0 tag (min s FAR) k low set in
     let group : (q * 10 + k) / 10 ≡ q = cell_group q k low in
-    let spot : (q * 10 + k) % 10 ≡ k = cell_place q k low in
+    let spot : (q * 10 + k) % 10 ≡ k = cell_slot q k low in
     let is_tag : tag_at groups (q * 10 + k) ≡ tag =
     ap (λ g. get_or (group_at groups g).marks ((q * 10 + k) % 10) 0) group ∙ ap (λ j. get_or (group_at groups q).marks j 0) spot ∙ marks.0 in
     let led : steps n home q ≡ s - 0 = steps_walk n home 0 s inside short (omega arith) in
@@ -338,40 +338,40 @@ found_under groups hash s k shaped short low set =
 pub id_found : (groups : List Group) (q k : ℕ) → k < 10 → id_at groups (q * 10 + k) ≡ get_or (group_at groups q).ids k 0
 id_found groups q k low =
     ap (λ g. get_or (group_at groups g).ids ((q * 10 + k) % 10) 0) (cell_group q k low)
-    ∙ ap (λ j. get_or (group_at groups q).ids j 0) (cell_place q k low)
+    ∙ ap (λ j. get_or (group_at groups q).ids j 0) (cell_slot q k low)
 
 -- a candidate of a hash stands under it
 pub candidate_under : (groups : List Group) (ids : ℕ) (far : Bool) (hash id : ℕ) → AreShaped groups
     → is_candidate (shown groups ids far) hash id ≡ true → (cell : ℕ) × IsUnder groups hash cell × (id_at groups cell ≡ id)
 candidate_under groups ids far hash id shaped found =
-    let n = length groups in let home = home_of n hash in let tag = tag_of n hash in
+    let n = length groups in let home = home_group n hash in let tag = tag_of n hash in
     let step = search_yields groups tag far id n 0 home found in
     let s = step.0 in
     let short : s < n = step.1 in
     let q = walk n home s in
     let below : q < n = walk_below n home s (home_below n hash (omega arith)) short in
-    let place = chosen_stands id (places_of (group_at groups q) tag (min (0 + s) FAR)) (group_at groups q).ids step.2 in
-    let k = place.0 in
-    let low : k < 10 = subst (λ l. k < l) (shaped q below).1 place.1 in
+    let slot = chosen_stands id (slots_of (group_at groups q) tag (min (0 + s) FAR)) (group_at groups q).ids step.2 in
+    let k = slot.0 in
+    let low : k < 10 = subst (λ l. k < l) (shaped q below).1 slot.1 in
     let is_s : 0 + s ≡ s = omega arith in (
       q * 10 + k,
       found_under groups hash s k shaped short low
-          (subst (λ t. bit_at (places_of (group_at groups q) tag (min t FAR)) k ≡ 1) is_s place.2),
-      id_found groups q k low ∙ place.3,
+          (subst (λ t. bit_at (slots_of (group_at groups q) tag (min t FAR)) k ≡ 1) is_s slot.2),
+      id_found groups q k low ∙ slot.3,
     )
 
 -- what passes a group on its way is counted there
 pub passes_way : (groups : List Group) (at cell : ℕ) → is_free groups cell ≡ false → distance_at groups cell ≢ FAR
-    → 0 < steps (length groups) at (cell / PLACES) → steps (length groups) at (cell / PLACES) ≤ distance_at groups cell → passes groups at cell ≡ true
+    → 0 < steps (length groups) at (cell / SLOTS) → steps (length groups) at (cell / SLOTS) ≤ distance_at groups cell → passes groups at cell ≡ true
 passes_way groups at cell taken near some upto =
-    let way = steps (length groups) at (cell / PLACES) in
+    let way = steps (length groups) at (cell / SLOTS) in
     cond-false (is_free groups cell) _ _ taken ∙ cond-false (nat_eq (distance_at groups cell) FAR) _ _ (ne_eqb (distance_at groups cell) FAR near)
     ∙ cond-true (nat_lt 0 way) _ _ (lt-ltb 0 way some) ∙ le-leb way (distance_at groups cell) upto
 
 -- a search goes on to what stands under its hash
 goes_on : (groups : List Group) (ids : ℕ) (far : Bool) (hash cell : ℕ) → IsProbed groups ids far → IsUnder groups hash cell
-    → (home s t : ℕ) → home ≡ home_of (length groups) hash → home < length groups → s ≡ steps (length groups) home (cell / PLACES)
-    → s < length groups → walk (length groups) home s ≡ cell / PLACES → t < s
+    → (home s t : ℕ) → home ≡ home_group (length groups) hash → home < length groups → s ≡ steps (length groups) home (cell / SLOTS)
+    → s < length groups → walk (length groups) home s ≡ cell / SLOTS → t < s
     → ends_at (group_at groups (walk (length groups) home t)) far ≡ false
 goes_on groups ids far hash cell probed under home s t is_home inside is_s short led before =
     let n = length groups in let g = walk n home t in
@@ -380,15 +380,15 @@ goes_on groups ids far hash cell probed under home s t is_home inside is_s short
           cond-true far false (nat_eq (group_at groups g).passed 0) (probed.says_far cell under.taken farther)
       | inr near ↦
           let low : g < n = walk_below n home t inside (omega arith) in
-          let way : steps n g (cell / PLACES) ≡ s - t =
+          let way : steps n g (cell / SLOTS) ≡ s - t =
           ap (steps n g) (sym led) ∙ steps_walk n home t s inside short (omega arith) in
           let distance : distance_at groups cell ≡ min s FAR =
-          under.is_distance ∙ ap (λ h. min (steps n h (cell / PLACES)) FAR) (sym is_home) ∙ ap (λ w. min w FAR) (sym is_s) in
+          under.is_distance ∙ ap (λ h. min (steps n h (cell / SLOTS)) FAR) (sym is_home) ∙ ap (λ w. min w FAR) (sym is_s) in
           let counts : passes groups g cell ≡ true = passes_way groups g cell under.taken near (omega arith) (omega (arith, near)) in
-          let some : 0 < tally (passes groups g) (PLACES * n) = tally_some (passes groups g) cell (PLACES * n) under.inside counts in
-          let is : (group_at groups g).passed ≡ tally (passes groups g) (PLACES * n) = probed.counted g low in
+          let some : 0 < tally (passes groups g) (SLOTS * n) = tally_some (passes groups g) cell (SLOTS * n) under.inside counts in
+          let is : (group_at groups g).passed ≡ tally (passes groups g) (SLOTS * n) = probed.counted g low in
           let not_none : nat_eq (group_at groups g).passed 0 ≡ false =
-          ne_eqb (group_at groups g).passed 0 (λ none. let zero_count : tally (passes groups g) (PLACES * n) ≡ 0 = sym is ∙ none in absurd (omega arith)) in
+          ne_eqb (group_at groups g).passed 0 (λ none. let zero_count : tally (passes groups g) (SLOTS * n) ≡ 0 = sym is ∙ none in absurd (omega arith)) in
           goes_near far (group_at groups g).passed not_none
     ]
   where
@@ -402,16 +402,16 @@ cell_below c n within = omega arith
 -- what stands under a hash is among the ids that a step of a search for it yields
 pub under_among : (groups : List Group) (hash cell : ℕ) → AreShaped groups → IsUnder groups hash cell
     → is_among (id_at groups cell)
-    (places_of (group_at groups (cell / 10)) (tag_of (length groups) hash)
-    (min (steps (length groups) (home_of (length groups) hash) (cell / 10)) FAR))
+    (slots_of (group_at groups (cell / 10)) (tag_of (length groups) hash)
+    (min (steps (length groups) (home_group (length groups) hash) (cell / 10)) FAR))
     (group_at groups (cell / 10)).ids ≡ true
 under_among groups hash cell shaped under =
     let n = length groups in let tag = tag_of n hash in let q = cell / 10 in let k = cell % 10 in
-    let s = steps n (home_of n hash) q in
+    let s = steps n (home_group n hash) q in
     let within : cell < 10 * n = under.inside in
     let low : k < 10 = omega arith in
     let shape = shaped q (cell_below cell n within) in
-    stands_chosen (id_at groups cell) (places_of (group_at groups q) tag (min s FAR)) k (group_at groups q).ids
+    stands_chosen (id_at groups cell) (slots_of (group_at groups q) tag (min s FAR)) k (group_at groups q).ids
     (subst (λ l. k < l) (sym shape.1) low)
     (marks_place (group_at groups q) shape.0 tag (min s FAR) k low under.is_tag under.is_distance) refl
 
@@ -419,7 +419,7 @@ under_among groups hash cell shaped under =
 pub under_candidate : (groups : List Group) (ids : ℕ) (far : Bool) (hash cell : ℕ) → IsProbed groups ids far → IsUnder groups hash cell
     → is_candidate (shown groups ids far) hash (id_at groups cell) ≡ true
 under_candidate groups ids far hash cell probed under =
-    let n = length groups in let home = home_of n hash in let tag = tag_of n hash in let id = id_at groups cell in
+    let n = length groups in let home = home_group n hash in let tag = tag_of n hash in let id = id_at groups cell in
     let within : cell < 10 * n = under.inside in
     let q = cell / 10 in
     let below : q < n = cell_below cell n within in
@@ -430,8 +430,8 @@ under_candidate groups ids far hash cell probed under =
     let is_s : s ≡ 0 + s = omega arith in
     yields_search groups tag far id n 0 home s short
     (λ t before. goes_on groups ids far hash cell probed under home s t refl inside refl short led before)
-    (subst (λ g. is_among id (places_of (group_at groups g) tag (min (0 + s) FAR)) (group_at groups g).ids ≡ true) (sym led)
-    (subst (λ t. is_among id (places_of (group_at groups q) tag (min t FAR)) (group_at groups q).ids ≡ true) is_s
+    (subst (λ g. is_among id (slots_of (group_at groups g) tag (min (0 + s) FAR)) (group_at groups g).ids ≡ true) (sym led)
+    (subst (λ t. is_among id (slots_of (group_at groups q) tag (min t FAR)) (group_at groups q).ids ≡ true) is_s
     (under_among groups hash cell probed.shaped under)))
 
 -- ---- a table without ids

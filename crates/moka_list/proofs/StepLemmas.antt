@@ -3,9 +3,9 @@ use Rattle.std.proofs.Common.{◌≡◌, ◌≢◌, ℕ, ◌+◌, ◌*◌, ◌/�
 use Rattle.std.proofs.Common.{refl, sym, ap, subst, ◌∙◌, arith, zero, suc, inl, inr}
 use Rattle.std.specs.Prelude.{if◌then◌else◌, min}
 use Rattle.std.proofs.lemmas.Bool.{cases_eq, cond-true, eq-eqb, false≢true, false_from_ne_true}
-use Rattle.moka_list.specs.declared.constants.TheConstants.{FAR, PLACES, SHARE}
+use Rattle.moka_list.specs.declared.constants.TheConstants.{FAR, SLOTS, SHARE}
 use Rattle.moka_list.specs.declared.group.Group.{Group}
-use Rattle.moka_list.specs.HashIndex.{Adds, Removes, group_at, home_of, is_candidate, tag_of}
+use Rattle.moka_list.specs.HashIndex.{Adds, Removes, group_at, home_group, is_candidate, tag_of}
 use Rattle.moka_list.specs.Probed.{AreShaped, IsProbed, IsUnder, SameBut, distance_at, id_at, is_free, passes, passing, steps, tag_at, tally}
 use Rattle.moka_list.proofs.StandsLemmas.{candidate_under, shown, under_candidate}
 
@@ -28,14 +28,14 @@ pub under_still : (old new : List Group) (cell hash other : ℕ) → SameBut old
     → IsUnder new hash other
 under_still old new cell hash other same differs under =
     record {
-      inside = subst (λ n. other < PLACES * n) (sym same.len) under.inside;
+      inside = subst (λ n. other < SLOTS * n) (sym same.len) under.inside;
       taken = ap (λ t. nat_eq t 0) (same.tags other differs) ∙ under.taken;
       is_tag = same.tags other differs ∙ under.is_tag ∙ ap (λ n. tag_of n hash) (sym same.len);
       is_distance = same.distances other differs ∙ under.is_distance
-          ∙ ap (λ n. min (steps n (home_of n hash) (other / PLACES)) FAR) (sym same.len);
+          ∙ ap (λ n. min (steps n (home_group n hash) (other / SLOTS)) FAR) (sym same.len);
     }
 
--- a candidate stays one, if it isn't what stands at the place
+-- a candidate stays one, if it isn't what stands at the slot
 candidate_still : (old new : List Group) (ids : ℕ) (far far_then : Bool) (cell hash id : ℕ) → IsProbed old ids far
     → IsProbed new ids far_then → SameBut old cell new → (is_free old cell ≡ false → id_at old cell ≡ id → ⊥)
     → is_candidate (shown old ids far) hash id ≡ true → is_candidate (shown new ids far_then) hash id ≡ true
@@ -108,9 +108,9 @@ tally_more one two at (suc n) within not_yet same =
 
 passes_still : (old new : List Group) (cell at k : ℕ) → SameBut old cell new → k ≢ cell → passes new at k ≡ passes old at k
 passes_still old new cell at k same differs =
-    ap (λ t. passing t (distance_at new k) (steps (length new) at (k / PLACES))) (same.tags k differs)
-    ∙ ap (λ a. passing (tag_at old k) a (steps (length new) at (k / PLACES))) (same.distances k differs)
-    ∙ ap (λ n. passing (tag_at old k) (distance_at old k) (steps n at (k / PLACES))) same.len
+    ap (λ t. passing t (distance_at new k) (steps (length new) at (k / SLOTS))) (same.tags k differs)
+    ∙ ap (λ a. passing (tag_at old k) a (steps (length new) at (k / SLOTS))) (same.distances k differs)
+    ∙ ap (λ n. passing (tag_at old k) (distance_at old k) (steps n at (k / SLOTS))) same.len
 
 pub free_passes : (groups : List Group) (at cell : ℕ) → is_free groups cell ≡ true → passes groups at cell ≡ false
 free_passes groups at cell free =
@@ -126,7 +126,7 @@ pub lies_added : (old new : List Group) (ids : ℕ) (far far_then : Bool) (cell 
 lies_added old new ids far far_then cell hash id before same free under is room absent shaped counts says still =
     record {
       room = subst (λ n. ids ≤ SHARE * n) (sym same.len) before.room;
-      most = subst (λ n. PLACES * n < 2 ^ 32) (sym same.len) before.most;
+      most = subst (λ n. SLOTS * n < 2 ^ 32) (sym same.len) before.most;
       shaped = shaped;
       once = λ one two taken_one taken_two alike.
           elim (cases_eq one cell) [
@@ -160,10 +160,10 @@ lies_added old new ids far far_then cell hash id before same free under is room 
       counted = λ at within.
           let low : at < length old = subst (λ n. at < n) same.len within in
           counts at within ∙ ap (λ p. p + bit_of (passes new at cell)) (before.counted at low)
-          ∙ sym (tally_more (passes old at) (passes new at) cell (PLACES * length old)
-          (subst (λ n. cell < PLACES * n) same.len under.inside) (free_passes old at cell free)
+          ∙ sym (tally_more (passes old at) (passes new at) cell (SLOTS * length old)
+          (subst (λ n. cell < SLOTS * n) same.len under.inside) (free_passes old at cell free)
           (λ k differs. passes_still old new cell at k same differs))
-          ∙ ap (λ n. tally (passes new at) (PLACES * n)) (sym same.len);
+          ∙ ap (λ n. tally (passes new at) (SLOTS * n)) (sym same.len);
       says_far = λ c taken farther.
           elim (cases_eq c cell) [
             | inl here ↦ says (sym (ap (distance_at new) here) ∙ farther)
@@ -181,12 +181,12 @@ lies_added old new ids far far_then cell hash id before same free under is room 
         (under_candidate old ids far hashed.0 c before hashed.1))
 
 pub lies_removed : (old new : List Group) (ids : ℕ) (far : Bool) (cell : ℕ) → IsProbed old ids far → SameBut old cell new
-    → cell < PLACES * length old → is_free new cell ≡ true → AreShaped new
+    → cell < SLOTS * length old → is_free new cell ≡ true → AreShaped new
     → ((at : ℕ) → at < length new → (group_at old at).passed ≡ (group_at new at).passed + bit_of (passes old at cell)) → IsProbed new ids far
 lies_removed old new ids far cell before same inside free shaped counts =
     record {
       room = subst (λ n. ids ≤ SHARE * n) (sym same.len) before.room;
-      most = subst (λ n. PLACES * n < 2 ^ 32) (sym same.len) before.most;
+      most = subst (λ n. SLOTS * n < 2 ^ 32) (sym same.len) before.most;
       shaped = shaped;
       once = λ one two taken_one taken_two alike.
           before.once one two (was_taken one taken_one) (was_taken two taken_two)
@@ -196,14 +196,14 @@ lies_removed old new ids far cell before same inside free shaped counts =
           let was = before.hashed c (was_taken c taken) in (was.0, under_still old new cell was.0 c same (not_there c taken) was.1);
       counted = λ at within.
           let low : at < length old = subst (λ n. at < n) same.len within in
-          let was : (group_at old at).passed ≡ tally (passes old at) (PLACES * length old) = before.counted at low in
+          let was : (group_at old at).passed ≡ tally (passes old at) (SLOTS * length old) = before.counted at low in
           let change : (group_at old at).passed ≡ (group_at new at).passed + bit_of (passes old at cell) = counts at within in
-          let more : tally (passes old at) (PLACES * length old) ≡ tally (passes new at) (PLACES * length old) + bit_of (passes old at cell) =
-          tally_more (passes new at) (passes old at) cell (PLACES * length old) inside (free_passes new at cell free)
+          let more : tally (passes old at) (SLOTS * length old) ≡ tally (passes new at) (SLOTS * length old) + bit_of (passes old at cell) =
+          tally_more (passes new at) (passes old at) cell (SLOTS * length old) inside (free_passes new at cell free)
           (λ k differs. sym (passes_still old new cell at k same differs)) in
-          let now : (group_at new at).passed ≡ tally (passes new at) (PLACES * length old) =
-          cancel (group_at new at).passed (tally (passes new at) (PLACES * length old)) (bit_of (passes old at cell)) (sym change ∙ was ∙ more) in
-          now ∙ ap (λ n. tally (passes new at) (PLACES * n)) (sym same.len);
+          let now : (group_at new at).passed ≡ tally (passes new at) (SLOTS * length old) =
+          cancel (group_at new at).passed (tally (passes new at) (SLOTS * length old)) (bit_of (passes old at cell)) (sym change ∙ was ∙ more) in
+          now ∙ ap (λ n. tally (passes new at) (SLOTS * n)) (sym same.len);
       says_far = λ c taken farther.
           before.says_far c (was_taken c taken) (sym (same.distances c (not_there c taken)) ∙ farther);
     }

@@ -1,11 +1,11 @@
--- The whole of a change: a place written, and the groups on the way counted.
+-- The whole of a change: a slot written, and the groups on the way counted.
 use Rattle.std.proofs.Common.{◌≡◌, ℕ, ◌+◌, ◌-◌, ◌*◌, ◌/◌, ◌%◌, ◌^◌, ◌<◌, ◌≤◌, Bool, true, false, nat_eq, List, length, get_or}
 use Rattle.std.proofs.Common.{refl, sym, ap, subst, ◌∙◌, inl, inr, arith}
 use Rattle.std.specs.Prelude.{if◌then◌else◌, min, nat_lt, slice_set}
 use Rattle.std.proofs.lemmas.Bool.{cases_eq, cases_lt, cases_order, cond-false, cond-true, false≢true, le-leb, le-ltb, lt-leb, lt-ltb, ne_eqb}
-use Rattle.moka_list.specs.declared.constants.TheConstants.{FAR, PLACES}
+use Rattle.moka_list.specs.declared.constants.TheConstants.{FAR, SLOTS}
 use Rattle.moka_list.specs.declared.group.Group.{Group}
-use Rattle.moka_list.specs.HashIndex.{Adds, Removes, group_at, home_of, is_candidate, tag_of}
+use Rattle.moka_list.specs.HashIndex.{Adds, Removes, group_at, home_group, is_candidate, tag_of}
 use Rattle.moka_list.specs.Probed.{AreShaped, CountsWay, IsProbed, IsUnder, SameBut, distance_at, id_at, is_free, passes, passing}
 use Rattle.moka_list.specs.Probed.{steps, tag_at, tally, without}
 use Rattle.moka_list.proofs.FreeLemmas.{passed_fits}
@@ -31,7 +31,7 @@ steps_back n from to inside low some =
           ]
     ]
 
--- from a group on the way to a place so many steps are left, and from any other more than the whole way
+-- from a group on the way to a slot so many steps are left, and from any other more than the whole way
 pub record Leads (distance passed left : ℕ) : Type 0 where
   pub before : passed ≤ distance → left ≡ distance - passed
   pub after : distance < passed → distance < left
@@ -81,7 +81,7 @@ passing_far tag left = both (nat_eq tag 0)
     both true = refl
     both false = refl
 
--- ---- counts change no place
+-- ---- counts change no slot
 
 same_counted : (old mid new : List Group) (cell : ℕ) → SameBut old cell mid → length new ≡ length mid
     → ((at : ℕ) → (group_at new at).marks ≡ (group_at mid at).marks) → ((at : ℕ) → (group_at new at).ids ≡ (group_at mid at).ids)
@@ -109,7 +109,7 @@ pub record IsAdded (old : List Group) (ids : ℕ) (far : Bool) (id hash : ℕ) (
 
 module _ (old : List Group) (ids : ℕ) (far : Bool) (id hash cell : ℕ) (probed : IsProbed old ids far) (room : id < ids)
     (absent : (other : ℕ) → is_candidate (shown old ids far) other id ≡ false) (mid : List Group)
-    (puts : Puts old cell (tag_of (length old) hash) (min (steps (length old) (home_of (length old) hash) (cell / 10)) FAR) id mid) where
+    (puts : Puts old cell (tag_of (length old) hash) (min (steps (length old) (home_group (length old) hash) (cell / 10)) FAR) id mid) where
   -- what was put stands under its hash, also in a table that differs from it in counts alone
   under_new : (new : List Group) → length new ≡ length mid → ((at : ℕ) → (group_at new at).marks ≡ (group_at mid at).marks)
       → IsUnder new hash cell
@@ -118,17 +118,17 @@ module _ (old : List Group) (ids : ℕ) (far : Bool) (id hash cell : ℕ) (probe
       let same : length new ≡ n = len ∙ puts.same.len in
       let tag : tag_at new cell ≡ tag_of n hash = ap (λ m. get_or m (cell % 10) 0) (marks (cell / 10)) ∙ puts.is_tag in
       record {
-        inside = subst (λ m. cell < PLACES * m) (sym same) puts.inside;
+        inside = subst (λ m. cell < SLOTS * m) (sym same) puts.inside;
         taken = ne_eqb (tag_at new cell) 0 (λ none.
             let some : 0 < tag_of n hash = tag_some n hash in let zero_tag : tag_of n hash ≡ 0 = sym tag ∙ none in absurd (omega arith));
         is_tag = tag ∙ ap (λ m. tag_of m hash) (sym same);
         is_distance = ap (λ m. get_or m (10 + cell % 10) 0) (marks (cell / 10)) ∙ puts.is_distance
-            ∙ ap (λ m. min (steps m (home_of m hash) (cell / 10)) FAR) (sym same);
+            ∙ ap (λ m. min (steps m (home_group m hash) (cell / 10)) FAR) (sym same);
       }
 
-  pub added_far : 255 ≤ steps (length old) (home_of (length old) hash) (cell / 10) → IsAdded old ids far id hash mid true
+  pub added_far : 255 ≤ steps (length old) (home_group (length old) hash) (cell / 10) → IsAdded old ids far id hash mid true
   added_far farther =
-      let n = length old in let distance = steps n (home_of n hash) (cell / 10) in
+      let n = length old in let distance = steps n (home_group n hash) (cell / 10) in
       let under = under_new mid refl (λ at. refl) in
       let is_far : distance_at mid cell ≡ 255 = puts.is_distance ∙ whole distance farther in
       let lies =
@@ -148,7 +148,7 @@ module _ (old : List Group) (ids : ℕ) (far : Bool) (id hash cell : ℕ) (probe
       none_more count true is = absurd (false≢true (sym is))
       none_more count false is = omega arith
 
-  pub added_near : (new : List Group) (home distance : ℕ) → home ≡ home_of (length old) hash → distance ≡ steps (length old) home (cell / 10) → distance < 255
+  pub added_near : (new : List Group) (home distance : ℕ) → home ≡ home_group (length old) hash → distance ≡ steps (length old) home (cell / 10) → distance < 255
       → CountsWay mid home distance new → IsAdded old ids far id hash new far
   added_near new home distance is_home is_distance near counts =
       let n = length old in let at = cell / 10 in
@@ -160,7 +160,7 @@ module _ (old : List Group) (ids : ℕ) (far : Bool) (id hash cell : ℕ) (probe
       let is_id : id_at new cell ≡ id = ap (λ m. get_or m (cell % 10) 0) (counts.ids (cell / 10)) ∙ puts.is_id in
       let distance_new : distance_at new cell ≡ distance =
       ap (λ m. get_or m (10 + cell % 10) 0) (counts.marks (cell / 10)) ∙ puts.is_distance
-      ∙ whole (steps n (home_of n hash) at) distance (is_distance ∙ ap (λ h. steps n h at) is_home) near in
+      ∙ whole (steps n (home_group n hash) at) distance (is_distance ∙ ap (λ h. steps n h at) is_home) near in
       let some_tag : 0 < tag_at new cell =
       subst (λ t. 0 < t) (sym (ap (λ m. get_or m (cell % 10) 0) (counts.marks (cell / 10)) ∙ puts.is_tag)) (tag_some n hash) in
       let lies =
@@ -198,9 +198,9 @@ pub record IsRemoved (old : List Group) (ids : ℕ) (far : Bool) (id : ℕ) (new
 
 module _ (old : List Group) (ids : ℕ) (far : Bool) (id hash cell : ℕ) (probed : IsProbed old ids far) (under : IsUnder old hash cell)
     (is_id : id_at old cell ≡ id) (mid : List Group) (frees : Frees old cell mid) where
-  pub removed_far : 255 ≤ steps (length old) (home_of (length old) hash) (cell / 10) → IsRemoved old ids far id mid
+  pub removed_far : 255 ≤ steps (length old) (home_group (length old) hash) (cell / 10) → IsRemoved old ids far id mid
   removed_far farther =
-      let n = length old in let distance = steps n (home_of n hash) (cell / 10) in
+      let n = length old in let distance = steps n (home_group n hash) (cell / 10) in
       let is_far : distance_at old cell ≡ 255 = under.is_distance ∙ whole distance farther in
       let lies =
       lies_removed old mid ids far cell probed frees.same under.inside frees.free frees.shaped
@@ -217,7 +217,7 @@ module _ (old : List Group) (ids : ℕ) (far : Bool) (id hash cell : ℕ) (probe
       none_more count true is = absurd (false≢true (sym is))
       none_more count false is = omega arith
 
-  module _ (home distance : ℕ) (is_home : home ≡ home_of (length old) hash)
+  module _ (home distance : ℕ) (is_home : home ≡ home_group (length old) hash)
       (is_distance : distance ≡ steps (length old) home (cell / 10)) (near : distance < 255) where
     passed_by : (g : ℕ) → g < length old → passes old g cell ≡ nat_lt (steps (length old) home g) distance
     passed_by g there =
@@ -226,7 +226,7 @@ module _ (old : List Group) (ids : ℕ) (far : Bool) (id hash cell : ℕ) (probe
         let inside : home < n = subst (λ h. h < n) (sym is_home) (home_below n hash positive) in
         let low : at < n = cell_below cell n under.inside in
         let distance_old : distance_at old cell ≡ distance =
-        under.is_distance ∙ whole (steps n (home_of n hash) at) distance (is_distance ∙ ap (λ h. steps n h at) is_home) near in
+        under.is_distance ∙ whole (steps n (home_group n hash) at) distance (is_distance ∙ ap (λ h. steps n h at) is_home) near in
         let some_tag : 0 < tag_at old cell = subst (λ t. 0 < t) (sym under.is_tag) (tag_some n hash) in
         ap (λ a. passing (tag_at old cell) a (steps n g at)) distance_old
         ∙ passing_is (tag_at old cell) distance (steps n home g) (steps n g at) some_tag near
@@ -269,18 +269,18 @@ module _ (old : List Group) (ids : ℕ) (far : Bool) (id hash cell : ℕ) (probe
 
 -- a group at a distance from the home of a hash
 pub record IsWay (groups : List Group) (hash home at distance : ℕ) : Type 0 where
-  pub is_home : home ≡ home_of (length groups) hash
+  pub is_home : home ≡ home_group (length groups) hash
   pub inside : at < length groups
   pub is_distance : distance ≡ steps (length groups) home at
 
-cell_distance : (groups : List Group) (hash home at distance place : ℕ) → IsWay groups hash home at distance → place < 10
-    → distance ≡ steps (length groups) home ((at * 10 + place) / 10)
-cell_distance groups hash home at distance place way low = way.is_distance ∙ ap (steps (length groups) home) (sym (cell_group at place low))
+cell_distance : (groups : List Group) (hash home at distance slot : ℕ) → IsWay groups hash home at distance → slot < 10
+    → distance ≡ steps (length groups) home ((at * 10 + slot) / 10)
+cell_distance groups hash home at distance slot way low = way.is_distance ∙ ap (steps (length groups) home) (sym (cell_group at slot low))
 
-cell_far : (groups : List Group) (hash home at distance place : ℕ) → IsWay groups hash home at distance → place < 10
-    → distance ≡ steps (length groups) (home_of (length groups) hash) ((at * 10 + place) / 10)
-cell_far groups hash home at distance place way low =
-    cell_distance groups hash home at distance place way low ∙ ap (λ h. steps (length groups) h ((at * 10 + place) / 10)) way.is_home
+cell_far : (groups : List Group) (hash home at distance slot : ℕ) → IsWay groups hash home at distance → slot < 10
+    → distance ≡ steps (length groups) (home_group (length groups) hash) ((at * 10 + slot) / 10)
+cell_far groups hash home at distance slot way low =
+    cell_distance groups hash home at distance slot way low ∙ ap (λ h. steps (length groups) h ((at * 10 + slot) / 10)) way.is_home
 
 -- an id is put in a group, and the groups on its way can be counted
 pub record IsPut (old : List Group) (ids : ℕ) (far : Bool) (id hash home distance : ℕ) (mid : List Group) : Type 0 where
@@ -294,9 +294,9 @@ pub is_put : (old mid : List Group) (ids : ℕ) (far : Bool) (id hash home at di
     → IsProbed old ids far → id < ids → ((other : ℕ) → is_candidate (shown old ids far) other id ≡ false)
     → tag ≡ tag_of (length old) hash → PutsIn old at tag (min distance FAR) id mid → IsPut old ids far id hash home distance mid
 is_put old mid ids far id hash home at distance tag way probed room absent is_tag put =
-    let n = length old in let place = put.place in let cell = at * 10 + place in
-    let put_way : Puts old cell (tag_of n hash) (min (steps n (home_of n hash) (cell / 10)) FAR) id mid =
-    subst (λ w. Puts old cell (tag_of n hash) (min w FAR) id mid) (cell_far old hash home at distance place way put.within)
+    let n = length old in let slot = put.slot in let cell = at * 10 + slot in
+    let put_way : Puts old cell (tag_of n hash) (min (steps n (home_group n hash) (cell / 10)) FAR) id mid =
+    subst (λ w. Puts old cell (tag_of n hash) (min w FAR) id mid) (cell_far old hash home at distance slot way put.within)
     (subst (λ t. Puts old cell t (min distance FAR) id mid) is_tag (puts old mid at tag (min distance FAR) id way.inside probed.shaped put)) in
     let positive : 0 < n = omega (arith, way.inside) in
     record {
@@ -307,13 +307,13 @@ is_put old mid ids far id hash home at distance tag way probed room absent is_ta
           subst (λ p. p + 1 < 2 ^ 32) (sym (put_way.passed g)) (passed_fits old ids cell far probed put_way.inside put.free g);
       if_far = λ farther.
           added_far old ids far id hash cell probed room absent mid put_way
-          (subst (λ w. 255 ≤ w) (cell_far old hash home at distance place way put.within) farther);
+          (subst (λ w. 255 ≤ w) (cell_far old hash home at distance slot way put.within) farther);
       if_near = λ new near counts.
           added_near old ids far id hash cell probed room absent mid put_way new home distance way.is_home
-          (cell_distance old hash home at distance place way put.within) near counts;
+          (cell_distance old hash home at distance slot way put.within) near counts;
     }
 
--- a place is freed, and the groups on the way of its id can take their counts back
+-- a slot is freed, and the groups on the way of its id can take their counts back
 pub record IsTaken (old : List Group) (ids : ℕ) (far : Bool) (id home distance : ℕ) (mid : List Group) : Type 0 where
   pub len : length mid ≡ length old
   pub near : distance < length old
@@ -321,13 +321,13 @@ pub record IsTaken (old : List Group) (ids : ℕ) (far : Bool) (id home distance
   pub if_far : FAR ≤ distance → IsRemoved old ids far id mid
   pub if_near : (new : List Group) → distance < FAR → CountsWay new home distance mid → IsRemoved old ids far id new
 
-pub is_taken : (old mid : List Group) (ids : ℕ) (far : Bool) (id hash home at distance place : ℕ) → IsWay old hash home at distance
-    → IsProbed old ids far → place < 10 → IsUnder old hash (at * 10 + place) → id_at old (at * 10 + place) ≡ id
-    → mid ≡ slice_set old at (without (group_at old at) place) → IsTaken old ids far id home distance mid
-is_taken old mid ids far id hash home at distance place way probed low under is_id is =
-    let n = length old in let cell = at * 10 + place in
-    let free = frees old mid at place way.inside low probed.shaped is in
-    let is_distance = cell_distance old hash home at distance place way low in
+pub is_taken : (old mid : List Group) (ids : ℕ) (far : Bool) (id hash home at distance slot : ℕ) → IsWay old hash home at distance
+    → IsProbed old ids far → slot < 10 → IsUnder old hash (at * 10 + slot) → id_at old (at * 10 + slot) ≡ id
+    → mid ≡ slice_set old at (without (group_at old at) slot) → IsTaken old ids far id home distance mid
+is_taken old mid ids far id hash home at distance slot way probed low under is_id is =
+    let n = length old in let cell = at * 10 + slot in
+    let free = frees old mid at slot way.inside low probed.shaped is in
+    let is_distance = cell_distance old hash home at distance slot way low in
     let positive : 0 < n = omega (arith, way.inside) in
     record {
       len = free.same.len;
@@ -336,7 +336,7 @@ is_taken old mid ids far id hash home at distance place way probed low under is_
       counted = λ near. counted_way old ids far id hash cell probed under is_id mid free home distance way.is_home is_distance near;
       if_far = λ farther.
           removed_far old ids far id hash cell probed under is_id mid free
-          (subst (λ w. 255 ≤ w) (cell_far old hash home at distance place way low) farther);
+          (subst (λ w. 255 ≤ w) (cell_far old hash home at distance slot way low) farther);
       if_near = λ new near counts.
           removed_near old ids far id hash cell probed under is_id mid free home distance way.is_home is_distance near new counts;
     }

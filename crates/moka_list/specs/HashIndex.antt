@@ -18,8 +18,8 @@ abbrev pub groups_of : ℕ → ℕ
 groups_of ids = ids / SHARE + 1
 
 -- the group at which a search for a hash starts, in a table of so many groups
-unfoldable pub home_of : ℕ → ℕ → ℕ
-home_of groups hash = hash * SPREAD % 2 ^ 64 * groups / 2 ^ 64
+unfoldable pub home_group : ℕ → ℕ → ℕ
+home_group groups hash = hash * SPREAD % 2 ^ 64 * groups / 2 ^ 64
 
 -- the tag of a hash, which is never 0: the eight bits that follow those of its home
 unfoldable pub tag_of : ℕ → ℕ → ℕ
@@ -29,21 +29,21 @@ tag_of groups hash = max (hash * SPREAD % 2 ^ 64 * groups / 2 ^ 56 % 256) 1
 abbrev pub after : ℕ → ℕ → ℕ
 after groups at = if nat_eq (at + 1) groups then 0 else at + 1
 
--- the group at a place; past the table's end there are none
+-- the group at a position; past the table's end there are none
 abbrev pub group_at : List Group → ℕ → Group
 group_at groups at = slice_index_or groups at (record { marks = []; passed = 0; ids = [] })
 
--- which places of a group have a tag, as bits
-unfoldable pub places_with : Group → ℕ → ℕ
-places_with group tag = mask_l (map (λ mark. nat_eq mark tag) (chunk 0 16 group.marks)) % 1024
+-- which slots of a group have a tag, as bits
+unfoldable pub slots_with : Group → ℕ → ℕ
+slots_with group tag = mask_l (map (λ mark. nat_eq mark tag) (chunk 0 16 group.marks)) % 1024
 
--- which places of a group have a distance, as bits
-unfoldable pub places_at : Group → ℕ → ℕ
-places_at group distance = mask_l (map (λ mark. nat_eq mark distance) (chunk 0 16 (chunk 4 16 group.marks))) / 2 ^ 6
+-- which slots of a group have a distance, as bits
+unfoldable pub slots_at : Group → ℕ → ℕ
+slots_at group distance = mask_l (map (λ mark. nat_eq mark distance) (chunk 0 16 (chunk 4 16 group.marks))) / 2 ^ 6
 
 -- which have both
-unfoldable pub places_of : Group → ℕ → ℕ → ℕ
-places_of group tag distance = bit_and (places_with group tag) (places_at group distance)
+unfoldable pub slots_of : Group → ℕ → ℕ → ℕ
+slots_of group tag distance = bit_and (slots_with group tag) (slots_at group distance)
 
 -- those of the ids whose bits are set
 abbrev pub chosen : ℕ → List ℕ → List ℕ
@@ -58,10 +58,10 @@ ends_at group far = if far then false else nat_eq group.passed 0
 abbrev pub tagged : List Group → ℕ → Bool → ℕ → ℕ → ℕ → List ℕ
 tagged groups tag far zero distance at = []
 tagged groups tag far (suc left) distance at =
-    chosen (places_of (group_at groups at) tag (min distance FAR)) (group_at groups at).ids
+    chosen (slots_of (group_at groups at) tag (min distance FAR)) (group_at groups at).ids
     ++ (if ends_at (group_at groups at) far then [] else tagged groups tag far left (distance + 1) (after (length groups) at))
 
--- the same if these places of the first group are left, as bits, and so many groups after it
+-- the same if these slots of the first group are left, as bits, and so many groups after it
 abbrev pub rest_of : List Group → ℕ → Bool → ℕ → ℕ → ℕ → ℕ → List ℕ
 rest_of groups tag far left distance at bits =
     chosen bits (group_at groups at).ids
@@ -70,7 +70,7 @@ rest_of groups tag far left distance at bits =
 -- the ids that may have this hash
 abbrev pub candidates : HashIndex → ℕ → List ℕ
 candidates index hash =
-    tagged index.groups (tag_of (length index.groups) hash) index.far (length index.groups) 0 (home_of (length index.groups) hash)
+    tagged index.groups (tag_of (length index.groups) hash) index.far (length index.groups) 0 (home_group (length index.groups) hash)
 
 -- the id is one of them
 abbrev pub is_candidate : HashIndex → ℕ → ℕ → Bool

@@ -1,16 +1,16 @@
-// A group of places for ids, and where a hash belongs.
+// A group of slots for ids, and where a hash belongs.
 ghost use Rattle.std.specs.Prelude.{◌≡◌, ◌<◌, ◌≤◌, false, min, IfNone, IfSome};
-ghost use Rattle.moka_list.specs.HashIndex.{after, groups_of, home_of, places_of, places_with, tag_of};
+ghost use Rattle.moka_list.specs.HashIndex.{after, groups_of, home_group, slots_of, slots_with, tag_of};
 ghost use Rattle.moka_list.specs.Probed.{FREE, HasAt, is_among, with_id, without};
-ghost use Rattle.moka_list.specs.declared.constants.TheConstants.{FAR, MOST_IDS, PLACES};
+ghost use Rattle.moka_list.specs.declared.constants.TheConstants.{FAR, MAX_IDS, SLOTS};
 
-use crate::constants::{FAR, PLACES, SHARE, SPREAD};
+use crate::constants::{FAR, SHARE, SLOTS, SPREAD};
 use std::simd::prelude::*;
 
-/// Ten places for ids, in 64 bytes.
+/// Ten slots for ids, in 64 bytes.
 #[derive(Clone, Copy, Drop)]
 pub struct Group {
-    /// The tag of each place, or 0 if it is free, and then the distance of each. A distance is the number of groups from an id's home to this one, or `FAR`.
+    /// The tag of each slot, or 0 if it is free, and then the distance of each. A distance is the number of groups from an id's home to this one, or `FAR`.
     pub(crate) marks: [u8; 20],
     /// The number of ids that passed this full group on the way from their home. An id `FAR` groups from its home isn't counted.
     pub(crate) passed: u32,
@@ -29,9 +29,9 @@ impl Group {
         }
     }
 
-    /// The free places, as bits.
-    pub(crate) fn free_places(&self) -> u64
-        ensures places { result ≡ places_with self.now 0 }
+    /// The free slots, as bits.
+    pub(crate) fn free_slots(&self) -> u64
+        ensures slots { result ≡ slots_with self.now 0 }
         ensures bound { result < 1024 }
     {
         u8x16::from_slice(&self.marks)
@@ -40,10 +40,10 @@ impl Group {
             % 1024
     }
 
-    /// The places with `tag` and `distance`, as bits.
+    /// The slots with `tag` and `distance`, as bits.
     #[inline(always)]
-    pub(crate) fn places_of(&self, tag: u8, distance: usize) -> u64
-        ensures places { result ≡ places_of self.now tag (min distance FAR) }
+    pub(crate) fn slots_of(&self, tag: u8, distance: usize) -> u64
+        ensures slots { result ≡ slots_of self.now tag (min distance FAR) }
         ensures bound { result < 1024 }
     {
         let distance = distance.min(FAR) as u8;
@@ -52,45 +52,45 @@ impl Group {
         tagged.to_bitmask() % 1024 & distant.to_bitmask() >> 6
     }
 
-    /// The place of `id`, if it stands here with `tag` and `distance`.
-    pub(crate) fn place_of(&self, tag: u8, distance: usize, id: u32) -> Option<usize>
+    /// The slot of `id`, if it stands here with `tag` and `distance`.
+    pub(crate) fn slot_of(&self, tag: u8, distance: usize, id: u32) -> Option<usize>
         ensures some { IfSome result (HasAt self.now tag (min distance FAR) id) }
-        ensures none { IfNone result (is_among id (places_of self.now tag (min distance FAR)) self.now.ids ≡ false) }
+        ensures none { IfNone result (is_among id (slots_of self.now tag (min distance FAR)) self.now.ids ≡ false) }
     {
-        let mut found = self.places_of(tag, distance);
+        let mut found = self.slots_of(tag, distance);
         while found != 0 {
-            let place = found.trailing_zeros() as usize;
-            if self.ids[place] == id {
-                return Some(place);
+            let slot = found.trailing_zeros() as usize;
+            if self.ids[slot] == id {
+                return Some(slot);
             }
-            found -= 1 << place;
+            found -= 1 << slot;
         }
         None
     }
 
-    /// Puts `id` at `place`.
-    pub(crate) fn put(&mut self, place: usize, tag: u8, distance: usize, id: u32)
-        requires { place < PLACES }
-        ensures { self.new ≡ with_id self.old place tag (min distance FAR) id }
+    /// Puts `id` at `slot`.
+    pub(crate) fn put(&mut self, slot: usize, tag: u8, distance: usize, id: u32)
+        requires { slot < SLOTS }
+        ensures { self.new ≡ with_id self.old slot tag (min distance FAR) id }
     {
-        self.marks[place] = tag;
-        self.marks[PLACES + place] = distance.min(FAR) as u8;
-        self.ids[place] = id;
+        self.marks[slot] = tag;
+        self.marks[SLOTS + slot] = distance.min(FAR) as u8;
+        self.ids[slot] = id;
     }
 
-    /// Frees `place`.
-    pub(crate) fn clear(&mut self, place: usize)
-        requires { place < PLACES }
-        ensures { self.new ≡ without self.old place }
+    /// Frees `slot`.
+    pub(crate) fn clear(&mut self, slot: usize)
+        requires { slot < SLOTS }
+        ensures { self.new ≡ without self.old slot }
     {
-        self.marks[place] = 0;
+        self.marks[slot] = 0;
     }
 }
 
 /// The number of groups of a table with room for `ids` ids.
 #[inline]
 pub(crate) fn groups_of(ids: usize) -> usize
-    requires { ids ≤ MOST_IDS }
+    requires { ids ≤ MAX_IDS }
     ensures { result ≡ groups_of ids }
 {
     ids / SHARE + 1
@@ -99,7 +99,7 @@ pub(crate) fn groups_of(ids: usize) -> usize
 /// The group at which a search for `hash` starts, and the tag of `hash`, which is never 0.
 #[inline(always)]
 pub(crate) fn probe_of(groups: usize, hash: u64) -> (usize, u8)
-    ensures home { result.0 ≡ home_of groups hash }
+    ensures home { result.0 ≡ home_group groups hash }
     ensures tag { result.1 ≡ tag_of groups hash }
 {
     let spread = u128::from(hash.wrapping_mul(SPREAD)) * groups as u128;

@@ -1,26 +1,26 @@
-//! An index from hashes to ids, by open addressing over groups of ten places. It keeps eight bits of each hash beside the id, so that its
+//! An index from hashes to ids, by open addressing over groups of ten slots. It keeps eight bits of each hash beside the id, so that its
 //! owner, which has the hash and the key of each id, is seldom asked in vain.
 ghost use Rattle.std.specs.Prelude.{◌≡◌, ℕ, ◌<◌, ◌≤◌, [], false, true, max, IsOk, OnOk, OnErr};
 ghost use Rattle.std.specs.Iterator.{YieldsFirst};
 ghost use Rattle.moka_list.specs.HashIndex.{candidates, is_candidate, Adds, FindsFirst, Removes};
 ghost use Rattle.moka_list.specs.IdList.{is_listed};
 
-use crate::constants::{FAR, MOST_IDS};
+use crate::constants::{FAR, MAX_IDS};
 use crate::group::{Group, after, groups_of, probe_of};
-use crate::table::{count, free_place, place_of, refill, take_back};
+use crate::table::{count, fill_free, first_free, slot_of, take_back};
 use moka_common::error::OutOfMemory;
 use std::alloc::{Allocator, Global};
 use std::marker::Model;
 
 /// An index from hashes to ids.
 ///
-/// The table has a group of ten places for every five ids. An id stands in the first group with a free place, from its hash's home on, and
+/// The table has a group of ten slots for every five ids. An id stands in the first group with a free slot, from its hash's home on, and
 /// each group that it passed counts it. A search ends at a group that no id has passed, or after one round.
 #[derive(Drop)]
 pub struct HashIndex<A: Allocator = Global> {
     groups: Vec<Group, A>,
     ids: usize,
-    /// Since the last `clear_for`, an id was put `FAR` groups from its home or more. No group counts it, so each search goes all the way round.
+    /// Since the last `reset`, an id was put `FAR` groups from its home or more. No group counts it, so each search goes all the way round.
     far: bool,
 }
 
@@ -59,8 +59,8 @@ impl<A: Allocator> HashIndex<A> {
     /// only a part.
     ///
     /// This is the only call that takes memory, and only for more room than there was: about 13 bytes an id. It is refused for more than
-    /// `MOST_IDS` ids.
-    pub fn clear_for(&mut self, ids: usize) -> Result<(), OutOfMemory>
+    /// `MAX_IDS` ids.
+    pub fn reset(&mut self, ids: usize) -> Result<(), OutOfMemory>
         ensures empty { OnOk result ((hash : ℕ) → candidates self.new hash ≡ []) }
         ensures room { OnOk result (self.new.ids ≡ max self.old.ids ids) }
         ensures succeeds { ids ≤ self.old.ids → IsOk result }
@@ -68,16 +68,16 @@ impl<A: Allocator> HashIndex<A> {
     {
         let len = self.groups.len();
         if ids <= self.ids {
-            refill(&mut self.groups, len);
+            fill_free(&mut self.groups, len);
             self.far = false;
             return Ok(());
         }
-        if ids > MOST_IDS {
+        if ids > MAX_IDS {
             return Err(OutOfMemory);
         }
         let longer = groups_of(ids);
         self.groups.reserve_exact(longer.saturating_sub(len))?;
-        refill(&mut self.groups, longer);
+        fill_free(&mut self.groups, longer);
         self.ids = ids;
         self.far = false;
         Ok(())
@@ -99,7 +99,7 @@ impl<A: Allocator> HashIndex<A> {
         let len = self.groups.len();
         let (at, tag) = probe_of(len, hash);
         let found = match self.groups.get(at) {
-            Some(group) => group.places_of(tag, 0),
+            Some(group) => group.slots_of(tag, 0),
             None => 0,
         };
         Candidates {
@@ -120,8 +120,8 @@ impl<A: Allocator> HashIndex<A> {
         ensures step { Adds self.old id hash self.new }
     {
         let (home, tag) = probe_of(self.groups.len(), hash);
-        let (at, distance, place) = free_place(&self.groups, home);
-        self.groups[at].put(place, tag, distance, id as u32);
+        let (at, distance, slot) = first_free(&self.groups, home);
+        self.groups[at].put(slot, tag, distance, id as u32);
         if distance < FAR {
             count(&mut self.groups, home, distance);
         } else {
@@ -134,8 +134,8 @@ impl<A: Allocator> HashIndex<A> {
         requires { is_candidate self.old hash id ≡ true }
         ensures step { Removes self.old id self.new }
     {
-        let (home, at, distance, place) = place_of(&self.groups, hash, id as u32);
-        self.groups[at].clear(place);
+        let (home, at, distance, slot) = slot_of(&self.groups, hash, id as u32);
+        self.groups[at].clear(slot);
         if distance < FAR {
             take_back(&mut self.groups, home, distance);
         }
@@ -151,7 +151,7 @@ pub struct Candidates<'a> {
     /// The number of groups from the home to this one.
     pub(crate) distance: usize,
     pub(crate) far: bool,
-    /// The places of this group that are left, as bits.
+    /// The slots of this group that are left, as bits.
     pub(crate) found: u64,
     /// The number of groups that are left after this one.
     pub(crate) left: usize,
@@ -190,9 +190,9 @@ impl<'a> Candidates<'a> {
     {
         while let Some(group) = self.groups.get(self.at) {
             if self.found != 0 {
-                let place = self.found.trailing_zeros() as usize;
-                self.found -= 1 << place;
-                return Some(group.ids[place] as usize);
+                let slot = self.found.trailing_zeros() as usize;
+                self.found -= 1 << slot;
+                return Some(group.ids[slot] as usize);
             }
             // A search ends at a group that no id has passed. If `far`, some ids may be counted by no group, so none ends early.
             if self.left == 0 || !self.far && group.passed == 0 {
@@ -201,7 +201,7 @@ impl<'a> Candidates<'a> {
             self.left -= 1;
             self.distance += 1;
             self.at = after(self.groups.len(), self.at);
-            self.found = self.groups[self.at].places_of(self.tag, self.distance);
+            self.found = self.groups[self.at].slots_of(self.tag, self.distance);
         }
         None
     }

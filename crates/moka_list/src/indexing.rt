@@ -28,7 +28,7 @@ pub fn index_all<T: Hashed, A: Allocator>(
     if ids <= index.ids() {
         return Ok(());
     }
-    index.clear_for(ids)?;
+    index.reset(ids)?;
     add_all(index, list);
     Ok(())
 }

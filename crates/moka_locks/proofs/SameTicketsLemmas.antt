@@ -25,7 +25,7 @@ use Rattle.moka_sync_model.specs.Turn.Plan.{Plan, Alone, AtReads, AtWrites, AtEn
 use Rattle.moka_sync_model.specs.Turn.Apply.{after_present_upsert, after_upsert}
 use Rattle.moka_sync_model.specs.Turn.Admission.{absent_of, after_entering, after_removing, after_scan, after_verdict, after_victim}
 use Rattle.moka_sync_model.specs.Turn.Admission.{is_admitted, next_seen}
-use Rattle.moka_sync_model.specs.Turn.Expiry.{access_front, after_eviction, after_front, after_pass, eviction_front, is_out_of_use, is_outlived}
+use Rattle.moka_sync_model.specs.Turn.Expiry.{access_front, after_eviction, after_front, after_pass, eviction_front, is_past_tti_or_hidden, is_past_ttl_or_hidden}
 use Rattle.moka_sync_model.specs.Turn.Expiry.{write_front}
 use Rattle.moka_sync_model.specs.Turn.Turn.{after_read_taken, after_write_taken, turn_at}
 use Rattle.moka_sync_model.proofs.OrdersLemmas.{ChangesNode-recharged, ChangesNode-without, Reorders, Reorders-all_used, Reorders-renewed}
@@ -211,13 +211,13 @@ module _ (K V : Type 0) where
     at_place valid_after refused (place.MoreWrites round) m same = λ log. same
     at_place valid_after refused (place.ExpireWrite turns) m same =
         passed (write_front settings turns m.orders) (place.ExpireAccess 0)
-        (after_front (is_outlived settings valid_after m.moment) rewritten (place.ExpireWrite (turns + 1)) (place.ExpireAccess 0)) m same
-        (at_front (is_outlived settings valid_after m.moment) rewritten (place.ExpireWrite (turns + 1)) (place.ExpireAccess 0) m same
+        (after_front (is_past_ttl_or_hidden settings valid_after m.moment) rewritten (place.ExpireWrite (turns + 1)) (place.ExpireAccess 0)) m same
+        (at_front (is_past_ttl_or_hidden settings valid_after m.moment) rewritten (place.ExpireWrite (turns + 1)) (place.ExpireAccess 0) m same
         (λ t. Reorders-rewritten t m.orders))
     at_place valid_after refused (place.ExpireAccess turns) m same =
         passed (access_front settings valid_after turns m.orders) (place.Evict 0)
-        (after_front (is_out_of_use settings valid_after m.moment) used (place.ExpireAccess (turns + 1)) (place.Evict 0)) m same
-        (at_front (is_out_of_use settings valid_after m.moment) used (place.ExpireAccess (turns + 1)) (place.Evict 0) m same
+        (after_front (is_past_tti_or_hidden settings valid_after m.moment) used (place.ExpireAccess (turns + 1)) (place.Evict 0)) m same
+        (at_front (is_past_tti_or_hidden settings valid_after m.moment) used (place.ExpireAccess (turns + 1)) (place.Evict 0) m same
         (λ t. Reorders-used t m.orders))
     at_place valid_after refused (place.Evict turns) m same =
         passed (eviction_front settings turns m.orders) (place.Publish turns) (after_eviction turns) m same (evicted turns m same)

@@ -82,7 +82,7 @@ pub oldest_orders : {items : List (ℕ × Node)} (d : Deque Ticket) {total : ℕ
     record { access = access_of items; write = values_of (after_move_front_to_back d).items }
     ≡ rewritten t (record { access = access_of items; write = values_of d.items }))
 oldest_orders {items = items} d s =
-    by (Rattle.std.specs.Prelude.slice_get (values_of d.items) 0) (Rattle.moka_queues.proofs.KeptLemmas.written-oldest s)
+    by (Rattle.std.specs.Prelude.slice_get (values_of d.items) 0) (Rattle.moka_queues.proofs.KeptLemmas.written-oldest_write s)
   where
     by : (o : Option Ticket) → Rattle.std.specs.Prelude.IfSome o (λ t.
         values_of (Rattle.std.specs.Option.option_map_or (λ w. moved_to_back w d.items)

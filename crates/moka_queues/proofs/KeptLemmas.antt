@@ -552,9 +552,9 @@ module _ {items : List (ℕ × Node)} {writes : List (ℕ × Ticket)} {total : �
           (ap is_some (charge_found s node.0 node.1 node.2 write))
 
   -- at the back, it leaves what holds of the lists
-  pub IsKept-oldest : IsKept items
+  pub IsKept-oldest_write : IsKept items
       (Rattle.std.specs.Option.option_map_or (λ w. moved_to_back w writes) (Rattle.moka_list.specs.Nodes.first_id writes) writes) total
-  IsKept-oldest = by writes refl
+  IsKept-oldest_write = by writes refl
     where
       by : (ws : List (ℕ × Ticket)) → ws ≡ writes → IsKept items
           (Rattle.std.specs.Option.option_map_or (λ w. moved_to_back w writes) (Rattle.moka_list.specs.Nodes.first_id ws) writes) total
@@ -563,10 +563,10 @@ module _ {items : List (ℕ × Node)} {writes : List (ℕ × Ticket)} {total : �
           IsKept-rewritten s w.0 w.1 (ap (lookup (nat_eq w.0)) (sym is) ∙ cond-true (nat_eq w.0 w.0) _ _ (nat_eq-same w.0))
 
   -- and is its ticket at the back
-  pub written-oldest : Rattle.std.specs.Prelude.IfSome (slice_get (values_of writes) 0) (λ t.
+  pub written-oldest_write : Rattle.std.specs.Prelude.IfSome (slice_get (values_of writes) 0) (λ t.
       values_of (Rattle.std.specs.Option.option_map_or (λ w. moved_to_back w writes) (Rattle.moka_list.specs.Nodes.first_id writes) writes)
       ≡ Rattle.moka_sync_model.specs.Ticket.moved_to_back (λ u. u) t (values_of writes))
-  written-oldest = by writes refl
+  written-oldest_write = by writes refl
     where
       by : (ws : List (ℕ × Ticket)) → ws ≡ writes → Rattle.std.specs.Prelude.IfSome (slice_get (values_of ws) 0) (λ t.
           values_of (Rattle.std.specs.Option.option_map_or (λ w. moved_to_back w writes) (Rattle.moka_list.specs.Nodes.first_id ws) writes)

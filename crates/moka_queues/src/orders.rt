@@ -164,7 +164,7 @@ impl<A: Allocator + Clone + Drop> Orders<A> {
     }
 
     /// Returns the ticket that was written the longest ago.
-    pub fn oldest(&self) -> Option<Ticket>
+    pub fn oldest_write(&self) -> Option<Ticket>
         ensures value { result ≡ slice_get self.now.written 0 }
         ensures stands { IfSome result (λ t. IsSome (charge_of t (orders_of self.now))) }
     {

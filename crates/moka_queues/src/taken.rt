@@ -56,7 +56,7 @@ impl TakenWrites {
     }
 
     /// Takes the first writes out of their log, up to `wanted` and up to 16. All that were taken before must be applied.
-    pub fn refill<A: Allocator + Drop>(&mut self, log: &mut WriteLog<A>, wanted: usize)
+    pub fn take_batch<A: Allocator + Drop>(&mut self, log: &mut WriteLog<A>, wanted: usize)
         requires { self.old ≡ [] }
         ensures count { length self.new ≡ min (min wanted 16) (length log.old) }
         ensures taken { self.new ≡ take (length self.new) log.old }

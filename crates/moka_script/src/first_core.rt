@@ -43,7 +43,7 @@ pub(crate) fn first_core<A: Allocator + Clone + Drop, W: Drop>(
         weigher,
         capacity: WRITE_LOG_SIZE.div_ceil(SHARDS),
     };
-    let core = Core::of_parts(alloc, parts)?;
+    let core = Core::from_parts(alloc, parts)?;
     Ok(core.with_first_ticket(options.tickets.unwrap_or(0)))
 }
 

@@ -31,7 +31,7 @@ use std::hash::{BuildHasher, Hash};
 use std::marker::Model;
 
 /// Fewest entries that a growth adds, so that a small shard seldom grows.
-const LEAST_GROWTH: usize = 4;
+const MIN_GROWTH: usize = 4;
 
 /// One shard of the map. It gives out the ticket numbers of its entries.
 #[derive(Drop)]
@@ -88,7 +88,7 @@ impl<K: Eq + Hash + Drop, V: Drop, S: BuildHasher + Drop, A: Allocator + Clone +
     {
         let slots = Slab::with_capacity(alloc.clone()?, capacity)?;
         let mut index = HashIndex::new(alloc);
-        index.clear_for(slots.capacity())?;
+        index.reset(slots.capacity())?;
         Ok(Shard {
             number,
             next_number,
@@ -515,11 +515,11 @@ fn make_room<K: Drop, V: Drop, A: Allocator + Clone + Drop>(
     ensures ids { OnOk result (slots.new.capacity ≤ index.new.ids) }
 {
     if slots.len() == slots.capacity() {
-        slots.reserve_exact((slots.capacity() / 4).max(LEAST_GROWTH))?;
+        slots.reserve_exact((slots.capacity() / 4).max(MIN_GROWTH))?;
     }
     let ids = slots.capacity();
     if index.ids() < ids {
-        index.clear_for(ids)?;
+        index.reset(ids)?;
         add_all(index, slots);
     }
     Ok(())

@@ -96,7 +96,7 @@ impl Marks {
 
 /// Makes a node the last of its part. The marks are those of the other nodes.
 #[inline(always)]
-pub(crate) fn settle<K: Drop, V: Drop, A: Allocator>(
+pub(crate) fn attach<K: Drop, V: Drop, A: Allocator>(
     entries: &mut Chain<Entry<K, V>, A>,
     marks: &mut Marks,
     id: NodeId,

@@ -14,12 +14,12 @@ ghost use Rattle.moka_store.specs.Nodes.{start_of};
 ghost use Rattle.moka_store.specs.Store.{AreCandidates, Enters, HasHash, IsFound, IsFront, IsFrontOf, IsOldest, Promotes, Removes, Replaces, Updates, Uses};
 ghost use Rattle.moka_store.specs.Store.{contents_of, entries_of, is_of, those_of};
 
-use crate::parts::{Marks, Weights, add_write, balance, is_of, remove_write, settle, write_again};
+use crate::parts::{Marks, Weights, add_write, attach, balance, is_of, remove_write, write_again};
 use moka_common::error::OutOfMemory;
 use moka_common::policy::Policy;
 use moka_common::time::Instant;
 use moka_list::chain::{Chain, IdList, Iter, NodeId};
-use moka_list::constants::MOST_IDS;
+use moka_list::constants::MAX_IDS;
 use moka_list::hash_index::{Candidates, HashIndex};
 use moka_list::indexing::index_all;
 use moka_unsync_model::entry::{Entry, Part};
@@ -100,7 +100,7 @@ impl<K: Eq + Drop, V: Drop, A: Allocator + Clone + Drop> Store<K, V, A> {
         self.ready = 0;
         let needed = len.saturating_add(additional);
         if needed > ids {
-            let target = needed.max(most.min(ids.saturating_mul(2)).min(MOST_IDS));
+            let target = needed.max(most.min(ids.saturating_mul(2)).min(MAX_IDS));
             index_all(&mut self.index, &self.entries, target)?;
             self.entries.reserve_exact(additional.max(target - len))?;
         } else {
@@ -242,7 +242,7 @@ impl<K: Eq + Drop, V: Drop, A: Allocator + Clone + Drop> Store<K, V, A> {
     }
 
     /// Returns the node of the least recently written entry.
-    pub fn oldest(&self) -> Option<NodeId>
+    pub fn oldest_write(&self) -> Option<NodeId>
         ensures found { IfSome result (λ id. IsOldest K.eq self.now id) }
         ensures absent { IsNone result → self.now.written ≡ [] }
     {
@@ -263,7 +263,7 @@ impl<K: Eq + Drop, V: Drop, A: Allocator + Clone + Drop> Store<K, V, A> {
         entry.accessed = now;
         entry.part = used;
         self.weights.shift(part, used, weight);
-        settle(&mut self.entries, &mut self.marks, id, used);
+        attach(&mut self.entries, &mut self.marks, id, used);
         balance(&mut self.entries, &mut self.marks, &mut self.weights, room);
     }
 
@@ -281,7 +281,7 @@ impl<K: Eq + Drop, V: Drop, A: Allocator + Clone + Drop> Store<K, V, A> {
         self.weights.take(entry.part, entry.weight);
         self.weights.add(used, update.weight);
         let left = rewrite(entry, used, update);
-        settle(&mut self.entries, &mut self.marks, id, used);
+        attach(&mut self.entries, &mut self.marks, id, used);
         balance(&mut self.entries, &mut self.marks, &mut self.weights, room);
         write_again(&mut self.writes, self.keeps_writes, id);
         left
@@ -298,12 +298,12 @@ impl<K: Eq + Drop, V: Drop, A: Allocator + Clone + Drop> Store<K, V, A> {
         let (part, weight) = (entry.part, entry.weight);
         entry.part = Part::Probation;
         self.weights.shift(part, Part::Probation, weight);
-        settle(&mut self.entries, &mut self.marks, id, Part::Probation);
+        attach(&mut self.entries, &mut self.marks, id, Part::Probation);
     }
 
     /// Adds an entry as the most recent of its part and in the order of writing. There must be capacity, and no entry of its key.
     #[inline]
-    pub fn enter(&mut self, entry: Entry<K, V>)
+    pub fn push(&mut self, entry: Entry<K, V>)
         requires room { length self.old.nodes < self.old.capacity }
         requires absent { entry_at K.eq entry.key (entries_of self.old) ≡ None }
         ensures { Enters K.eq self.old entry self.new }
@@ -311,12 +311,12 @@ impl<K: Eq + Drop, V: Drop, A: Allocator + Clone + Drop> Store<K, V, A> {
         let (hash, part) = (entry.hash, entry.part);
         self.weights.add(part, entry.weight);
         let id = self.entries.push_reserved(entry);
-        settle(&mut self.entries, &mut self.marks, id, part);
+        attach(&mut self.entries, &mut self.marks, id, part);
         add_write(&mut self.writes, self.keeps_writes, id);
         self.index.add(id.number(), hash);
     }
 
-    /// Removes an entry, returns it, and adds another in its node, as `take` and `enter` would. It spares the allocation of a node and half of the relinking.
+    /// Removes an entry, returns it, and adds another in its node, as `take` and `push` would. It spares the allocation of a node and half of the relinking.
     /// There must be no entry of the new key.
     #[inline(always)]
     pub fn replace(&mut self, id: NodeId, entry: Entry<K, V>) -> Entry<K, V>
@@ -332,7 +332,7 @@ impl<K: Eq + Drop, V: Drop, A: Allocator + Clone + Drop> Store<K, V, A> {
         self.weights.take(gone.part, gone.weight);
         self.weights.add(part, entry.weight);
         let gone = replace(gone, entry);
-        settle(&mut self.entries, &mut self.marks, id, part);
+        attach(&mut self.entries, &mut self.marks, id, part);
         write_again(&mut self.writes, self.keeps_writes, id);
         self.index.add(id.number(), hash);
         gone

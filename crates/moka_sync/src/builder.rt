@@ -228,7 +228,7 @@ impl<K: Eq + Hash + Drop, V: Drop, W: Drop, A: Allocator + Clone + Drop, P> Cach
         ensures err { IfErr result (λ error. error ≡ refusal_of self) }
     {
         let (alloc, parts) = self.parts(hash_state)?;
-        Ok(Core::of_parts(alloc, parts)?)
+        Ok(Core::from_parts(alloc, parts)?)
     }
 }
 
@@ -261,7 +261,7 @@ impl<
         ensures err { IfErr result (λ error. error ≡ refusal_of self) }
     {
         let (alloc, parts) = self.parts(hash_state)?;
-        Ok(Cache::of_parts(alloc, parts, None)?)
+        Ok(Cache::from_parts(alloc, parts, None)?)
     }
 
     /// The cache, with this hash state, and a pass for its published counts. It is refused as `build_with_hasher` is.
@@ -278,7 +278,7 @@ impl<
         let (alloc, parts) = self.parts(hash_state)?;
         let mut publisher = Publisher::new(&alloc).map_err(|_| OutOfMemory)?;
         let pass = publisher.pass();
-        let cache = Cache::of_parts(alloc, parts, Some(publisher))?;
+        let cache = Cache::from_parts(alloc, parts, Some(publisher))?;
         Ok((cache, pass))
     }
 }

@@ -172,7 +172,7 @@ impl<
     A: Allocator + Clone + Drop,
 > Cache<K, V, S, P, W, A> {
     /// A cache of these parts, with nothing done to it, and its publisher, if there is one.
-    pub(crate) fn of_parts(
+    pub(crate) fn from_parts(
         alloc: A,
         parts: CoreParts<S, W>,
         publisher: Option<Publisher<A>>,

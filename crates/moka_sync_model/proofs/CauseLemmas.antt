@@ -25,7 +25,7 @@ use Rattle.moka_sync_model.specs.Turn.Plan.{after_plan}
 use Rattle.moka_sync_model.specs.Turn.Apply.{after_hit, after_upsert, after_present_upsert}
 use Rattle.moka_sync_model.specs.Turn.Admission.{is_admitted, next_seen, removing_or_enter, after_victim, after_entering, after_verdict}
 use Rattle.moka_sync_model.specs.Turn.Admission.{after_scan, after_removing}
-use Rattle.moka_sync_model.specs.Turn.Expiry.{first_if, is_outlived, is_out_of_use, after_front, after_eviction, write_front, access_front}
+use Rattle.moka_sync_model.specs.Turn.Expiry.{first_if, is_past_ttl_or_hidden, is_past_tti_or_hidden, after_front, after_eviction, write_front, access_front}
 use Rattle.moka_sync_model.specs.Turn.Expiry.{eviction_front, after_pass}
 use Rattle.moka_sync_model.specs.Turn.Turn.{turn_at}
 use Rattle.moka_sync_model.specs.declared.event.Event.{Event}
@@ -275,7 +275,7 @@ module _ {K V S : Type 0} (keys : Keys K S) (core : CoreState K V S) (good : Are
   turn_cause refused (place.ExpireWrite turns) is gone =
       let both =
       front_leaves (write_front core.settings turns core.maintenance.orders)
-      (is_outlived core.settings core.valid_after core.maintenance.moment) rewritten (place.ExpireWrite (turns + 1))
+      (is_past_ttl_or_hidden core.settings core.valid_after core.maintenance.moment) rewritten (place.ExpireWrite (turns + 1))
       (place.ExpireAccess 0) gone in
       record {
         first =
@@ -286,7 +286,7 @@ module _ {K V S : Type 0} (keys : Keys K S) (core : CoreState K V S) (good : Are
   turn_cause refused (place.ExpireAccess turns) is gone =
       let both =
       front_leaves (access_front core.settings core.valid_after turns core.maintenance.orders)
-      (is_out_of_use core.settings core.valid_after core.maintenance.moment) used (place.ExpireAccess (turns + 1)) (place.Evict 0)
+      (is_past_tti_or_hidden core.settings core.valid_after core.maintenance.moment) used (place.ExpireAccess (turns + 1)) (place.Evict 0)
       gone in
       record {
         first =

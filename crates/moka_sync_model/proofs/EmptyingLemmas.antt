@@ -22,8 +22,8 @@ use Rattle.moka_sync_model.specs.Turn.Plan.{Outcome, Plan, Alone, AtReads, AtWri
 use Rattle.moka_sync_model.specs.Turn.Apply.{after_upsert, after_present_upsert}
 use Rattle.moka_sync_model.specs.Turn.Admission.{is_admitted, next_seen, removing_or_enter, after_victim, after_entering, after_verdict}
 use Rattle.moka_sync_model.specs.Turn.Admission.{after_scan, after_removing}
-use Rattle.moka_sync_model.specs.Turn.Expiry.{after_front, after_eviction, after_pass, write_front, access_front, eviction_front, is_outlived}
-use Rattle.moka_sync_model.specs.Turn.Expiry.{is_out_of_use}
+use Rattle.moka_sync_model.specs.Turn.Expiry.{after_front, after_eviction, after_pass, write_front, access_front, eviction_front, is_past_ttl_or_hidden}
+use Rattle.moka_sync_model.specs.Turn.Expiry.{is_past_tti_or_hidden}
 use Rattle.moka_sync_model.specs.Turn.Turn.{after_more_reads, after_more_writes, after_read_taken, after_write_taken, turn_at, after_turn}
 use Rattle.moka_sync_model.specs.Consistent.{AreEntriesConsistent, IsTrimmed}
 use Rattle.moka_sync_model.specs.Emptying.{evicting, Empties}
@@ -200,11 +200,11 @@ module _ {K V S : Type 0} (keys : Keys K S) (core : CoreState K V S) (good : Are
   empties_at refused (place.ExpireWrite turns) is busy h =
       front_empties (place.ExpireWrite turns) (place.ExpireWrite (turns + 1)) (place.ExpireAccess 0) (λ o. (omega (arith, h.0), h.1, h.2))
       (λ o. (omega (arith, h.0), h.1, h.2))
-      (is_outlived core.settings core.valid_after m.moment) rewritten (write_front core.settings turns m.orders)
+      (is_past_ttl_or_hidden core.settings core.valid_after m.moment) rewritten (write_front core.settings turns m.orders)
   empties_at refused (place.ExpireAccess turns) is busy h =
       front_empties (place.ExpireAccess turns) (place.ExpireAccess (turns + 1)) (place.Evict 0) (λ o. (omega (arith, h.0), h.1, h.2))
       (λ o. (omega (arith, h.0), h.1, h.2))
-      (is_out_of_use core.settings core.valid_after m.moment) used (access_front core.settings core.valid_after turns m.orders)
+      (is_past_tti_or_hidden core.settings core.valid_after m.moment) used (access_front core.settings core.valid_after turns m.orders)
   empties_at refused (place.Evict turns) is busy h = evict_empties h.1 h.2 turns h.0 (eviction_front core.settings turns m.orders)
   empties_at refused (place.Publish turns) is busy h =
       let same : turns ≡ n + 0 = omega (arith, h.0) in

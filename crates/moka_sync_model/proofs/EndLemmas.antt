@@ -26,8 +26,8 @@ use Rattle.moka_sync_model.specs.Turn.Plan.{Outcome, Plan, after_plan}
 use Rattle.moka_sync_model.specs.Turn.Apply.{no_tally, after_upsert, after_present_upsert}
 use Rattle.moka_sync_model.specs.Turn.Admission.{tickets_of, absent_of, is_decided, is_admitted, next_if, next_seen, removing_or_enter}
 use Rattle.moka_sync_model.specs.Turn.Admission.{after_victim, after_entering, after_verdict, after_scan, after_removing}
-use Rattle.moka_sync_model.specs.Turn.Expiry.{after_front, after_eviction, after_pass, write_front, access_front, eviction_front, is_outlived}
-use Rattle.moka_sync_model.specs.Turn.Expiry.{is_out_of_use}
+use Rattle.moka_sync_model.specs.Turn.Expiry.{after_front, after_eviction, after_pass, write_front, access_front, eviction_front, is_past_ttl_or_hidden}
+use Rattle.moka_sync_model.specs.Turn.Expiry.{is_past_tti_or_hidden}
 use Rattle.moka_sync_model.specs.Turn.Turn.{after_more_reads, after_more_writes, after_read_taken, after_write_taken, turn_at, after_turn}
 use Rattle.moka_sync_model.specs.Consistent.{AreEntriesConsistent, Begins}
 use Rattle.moka_sync_model.specs.TurnsLeft.{turns_left, place_turns, write_cost, nodes_to_come, round_turns}
@@ -274,7 +274,7 @@ module _ {K V S : Type 0} (keys : Keys K S) (core : CoreState K V S) (good : Are
       by : (front : Option Ticket) → write_front core.settings turns m.orders ≡ front
           → FallsBy (place.ExpireWrite turns)
           (after_pass front (place.ExpireAccess 0)
-          (after_front (is_outlived core.settings core.valid_after m.moment) rewritten (place.ExpireWrite (turns + 1))
+          (after_front (is_past_ttl_or_hidden core.settings core.valid_after m.moment) rewritten (place.ExpireWrite (turns + 1))
           (place.ExpireAccess 0)) m)
       by None is =
           to_place reads writes nodes nodes (place.ExpireWrite turns) (place.ExpireAccess 0) (omega arith) (omega arith) (omega arith) tt
@@ -284,13 +284,13 @@ module _ {K V S : Type 0} (keys : Keys K S) (core : CoreState K V S) (good : Are
           (and_parts (keeps_writes core.settings.policy) (ltb turns SYNC_BATCH_SIZE) (first_is _ m.orders.write t is).0).1 in
           front_falls (place.ExpireWrite turns) (place.ExpireWrite (turns + 1)) (place.ExpireAccess 0) refl refl tt tt
           (λ n e f. omega (arith, below)) (λ n e f. omega arith)
-          (is_outlived core.settings core.valid_after m.moment) rewritten (λ t o. refl) t (entry_of t core.entries)
+          (is_past_ttl_or_hidden core.settings core.valid_after m.moment) rewritten (λ t o. refl) t (entry_of t core.entries)
   falls_at refused (place.ExpireAccess turns) is busy round = by (access_front core.settings core.valid_after turns m.orders) refl
     where
       by : (front : Option Ticket) → access_front core.settings core.valid_after turns m.orders ≡ front
           → FallsBy (place.ExpireAccess turns)
           (after_pass front (place.Evict 0)
-          (after_front (is_out_of_use core.settings core.valid_after m.moment) used (place.ExpireAccess (turns + 1)) (place.Evict 0)) m)
+          (after_front (is_past_tti_or_hidden core.settings core.valid_after m.moment) used (place.ExpireAccess (turns + 1)) (place.Evict 0)) m)
       by None is = to_place reads writes nodes nodes (place.ExpireAccess turns) (place.Evict 0) (omega arith) (omega arith) (omega arith) tt
       by (Some t) is =
           let below =
@@ -299,7 +299,7 @@ module _ {K V S : Type 0} (keys : Keys K S) (core : CoreState K V S) (good : Are
           (first_is _ (map (λ (n : Node). n.ticket) m.orders.access) t is).0).1 in
           front_falls (place.ExpireAccess turns) (place.ExpireAccess (turns + 1)) (place.Evict 0) refl refl tt tt
           (λ n e f. omega (arith, below)) (λ n e f. omega arith)
-          (is_out_of_use core.settings core.valid_after m.moment) used nodes-used t (entry_of t core.entries)
+          (is_past_tti_or_hidden core.settings core.valid_after m.moment) used nodes-used t (entry_of t core.entries)
   falls_at refused (place.Evict turns) is busy round = by (eviction_front core.settings turns m.orders) refl
     where
       by : (front : Option Ticket) → eviction_front core.settings turns m.orders ≡ front

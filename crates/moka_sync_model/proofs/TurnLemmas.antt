@@ -10,7 +10,7 @@ use Rattle.moka_sync_model.specs.declared.at_hand.Work.{Work}
 use Rattle.moka_sync_model.specs.Place.{Place, held}
 use Rattle.moka_sync_model.specs.CoreState.{CoreState, Maintenance}
 use Rattle.moka_sync_model.specs.Turn.Plan.{reads_or_on, writes_or_on, after_plan}
-use Rattle.moka_sync_model.specs.Turn.Expiry.{is_outlived, is_out_of_use, write_front, access_front}
+use Rattle.moka_sync_model.specs.Turn.Expiry.{is_past_ttl_or_hidden, is_past_tti_or_hidden, write_front, access_front}
 use Rattle.moka_common.specs.Enabling.{after_enabling}
 use Rattle.moka_sync_model.specs.Turn.Turn.{load_of, after_more_reads, after_more_writes, next_published, turn_at, after_turn}
 use Rattle.moka_sync_model.specs.Consistent.{AreEntriesConsistent, Fits}
@@ -91,12 +91,12 @@ module _ {K V S : Type 0} (keys : Keys K S) (core : CoreState K V S) (good : Are
   at_place refused (place.ExpireWrite turns) is =
       consistent_pass keys core good (place.ExpireWrite turns) (place.ExpireWrite (turns + 1)) (place.ExpireAccess 0) is refl refl refl
       (λ o. tt) tt
-      (is_outlived core.settings core.valid_after core.maintenance.moment) rewritten Reorders-rewritten
+      (is_past_ttl_or_hidden core.settings core.valid_after core.maintenance.moment) rewritten Reorders-rewritten
       (write_front core.settings turns core.maintenance.orders)
   at_place refused (place.ExpireAccess turns) is =
       consistent_pass keys core good (place.ExpireAccess turns) (place.ExpireAccess (turns + 1)) (place.Evict 0) is refl refl refl
       (λ o. tt) (omega arith)
-      (is_out_of_use core.settings core.valid_after core.maintenance.moment) used Reorders-used
+      (is_past_tti_or_hidden core.settings core.valid_after core.maintenance.moment) used Reorders-used
       (access_front core.settings core.valid_after turns core.maintenance.orders)
   at_place refused (place.Evict turns) is = consistent_eviction keys core good turns is
   at_place refused (place.Publish turns) is =

@@ -12,7 +12,7 @@ use Rattle.moka_sync_model.specs.declared.at_hand.Tally.{Tally}
 use Rattle.moka_sync_model.specs.Place.{Place, Seen}
 use Rattle.moka_sync_model.specs.CoreState.{CoreState}
 use Rattle.moka_sync_model.specs.Turn.Admission.{is_admitted, next_seen}
-use Rattle.moka_sync_model.specs.Turn.Expiry.{is_outlived, is_out_of_use}
+use Rattle.moka_sync_model.specs.Turn.Expiry.{is_past_ttl_or_hidden, is_past_tti_or_hidden}
 use Rattle.moka_sync_model.specs.declared.event.Event.{Event}
 use Rattle.moka_sync_model.specs.declared.event.Event.TheVariants.{Invalidate, Take, Turn}
 use Rattle.moka_sync_model.specs.Consistent.{outstanding}
@@ -25,12 +25,12 @@ module _ {K V S : Type 0} (core : CoreState K V S) (e : Entry K V) where
   -- its write is too long ago, and was the first of its order
   pub record IsOutlived : Type 0 where
     pub first : StandsFirst e.ticket core.maintenance.orders.write
-    pub over : is_outlived core.settings core.valid_after core.maintenance.moment e ≡ true
+    pub over : is_past_ttl_or_hidden core.settings core.valid_after core.maintenance.moment e ≡ true
 
   -- its use is too long ago, and was the first of its order
   pub record IsIdle : Type 0 where
     pub first : StandsFirst e.ticket (map (λ n. n.ticket) core.maintenance.orders.access)
-    pub over : is_out_of_use core.settings core.valid_after core.maintenance.moment e ≡ true
+    pub over : is_past_tti_or_hidden core.settings core.valid_after core.maintenance.moment e ≡ true
 
   -- it gives way to a candidate that was admitted, whose scan saw it present
   pub record IsVictim (c : Candidate) (tally : Tally) (left : List Seen) : Type 0 where

@@ -168,7 +168,7 @@ impl<K: Drop, V: Drop, A: Allocator + Drop> Entry<K, V, A> {
     {
         let limits = settings.limits();
         limits.is_idle(self.accessed, now)
-            || limits.has_lived(self.modified, now)
+            || limits.is_past_ttl(self.modified, now)
             || self.accessed < valid_after
             || self.modified < valid_after
     }

@@ -22,12 +22,12 @@ use Rattle.moka_unsync.proofs.TurnLemmas.{left_is, take_none, take_none_of}
 
 module _ {X : Type 0} (weight votes_of : X → ℕ) where
   -- some entries were seen; as much is lacking of the weight, and as many votes are against the candidate
-  pub record IsWalk (enough : ℕ) (all rest : List X) (count lacking votes : ℕ) : Type 0 where
+  pub record IsWalk (enough : ℕ) (all rest : List X) (count shortfall victims_frequency : ℕ) : Type 0 where
     pub seen : List X
     pub parts : all ≡ seen ++ rest
     pub number : count ≡ length seen
-    pub prefix : shortest_prefix weight enough all ≡ option_map (λ p. seen ++ p) (shortest_prefix weight lacking rest)
-    pub sum : votes ≡ sum_by votes_of seen
+    pub prefix : shortest_prefix weight enough all ≡ option_map (λ p. seen ++ p) (shortest_prefix weight shortfall rest)
+    pub sum : victims_frequency ≡ sum_by votes_of seen
 
   same_option : (o : Option (List X)) → o ≡ option_map (λ p. [] ++ p) o
   same_option None = refl
@@ -45,29 +45,29 @@ module _ {X : Type 0} (weight votes_of : X → ℕ) where
   length-push : (xs : List X) (x : X) → length (xs ++ x ∷ []) ≡ length xs + 1
   length-push xs x = length_push xs x
 
-  first_of : (lacking : ℕ) (x : X) (rest : List X) → 0 < lacking
-      → shortest_prefix weight lacking (x ∷ rest) ≡ option_map (λ p. x ∷ p) (shortest_prefix weight (lacking - weight x) rest)
+  first_of : (shortfall : ℕ) (x : X) (rest : List X) → 0 < shortfall
+      → shortest_prefix weight shortfall (x ∷ rest) ≡ option_map (λ p. x ∷ p) (shortest_prefix weight (shortfall - weight x) rest)
   first_of zero x rest h = absurd (grind (arith, h))
   first_of (suc n) x rest h = refl
 
-  pub walk_step : (enough : ℕ) (all : List X) (x : X) (rest : List X) (count lacking votes : ℕ)
-      → IsWalk enough all (x ∷ rest) count lacking votes → 0 < lacking
-      → IsWalk enough all rest (count + 1) (lacking - weight x) (votes + votes_of x)
-  walk_step enough all x rest count lacking votes w h =
+  pub walk_step : (enough : ℕ) (all : List X) (x : X) (rest : List X) (count shortfall victims_frequency : ℕ)
+      → IsWalk enough all (x ∷ rest) count shortfall victims_frequency → 0 < shortfall
+      → IsWalk enough all rest (count + 1) (shortfall - weight x) (victims_frequency + votes_of x)
+  walk_step enough all x rest count shortfall victims_frequency w h =
       record {
         seen = w.seen ++ x ∷ [];
         parts = w.parts ∙ sym (append_assoc w.seen (x ∷ []) rest);
         number = ap (λ n. n + 1) w.number ∙ sym (length-push w.seen x);
         prefix =
-            w.prefix ∙ (ap (option_map (λ p. w.seen ++ p)) (first_of lacking x rest h)
-            ∙ longer w.seen x (shortest_prefix weight (lacking - weight x) rest));
+            w.prefix ∙ (ap (option_map (λ p. w.seen ++ p)) (first_of shortfall x rest h)
+            ∙ longer w.seen x (shortest_prefix weight (shortfall - weight x) rest));
         sum = ap (λ n. n + votes_of x) w.sum ∙ sym (sum_by_push votes_of w.seen x);
       }
 
   -- as many entries as were counted are among all
-  pub walk_counts : (enough : ℕ) (all : List X) (x : X) (rest : List X) (count lacking votes : ℕ)
-      → IsWalk enough all (x ∷ rest) count lacking votes → count < length all
-  walk_counts enough all x rest count lacking votes w = rw (w.number, w.parts) (shorter w.seen)
+  pub walk_counts : (enough : ℕ) (all : List X) (x : X) (rest : List X) (count shortfall victims_frequency : ℕ)
+      → IsWalk enough all (x ∷ rest) count shortfall victims_frequency → count < length all
+  walk_counts enough all x rest count shortfall victims_frequency w = rw (w.number, w.parts) (shorter w.seen)
     where
       shorter : (xs : List X) → length xs < length (xs ++ x ∷ rest)
       shorter [] = grind (arith)
@@ -81,29 +81,29 @@ module _ {X : Type 0} (weight votes_of : X → ℕ) where
   taken (x ∷ seen) rest = ap (λ l. x ∷ l) (taken seen rest)
 
   -- enough was seen, and the candidate has more votes
-  pub walk_enough : (candidate enough : ℕ) (all rest : List X) (count lacking votes : ℕ) → IsWalk enough all rest count lacking votes
-      → lacking ≡ 0 → votes < candidate → counted all (Some count) ≡ outvoted weight votes_of candidate (shortest_prefix weight enough all)
-  walk_enough candidate enough all rest count lacking votes w none above =
+  pub walk_enough : (candidate enough : ℕ) (all rest : List X) (count shortfall victims_frequency : ℕ) → IsWalk enough all rest count shortfall victims_frequency
+      → shortfall ≡ 0 → victims_frequency < candidate → counted all (Some count) ≡ outvoted weight votes_of candidate (shortest_prefix weight enough all)
+  walk_enough candidate enough all rest count shortfall victims_frequency w none above =
       ap Some (ap (λ n. take n all) w.number ∙ (ap (take (length w.seen)) w.parts ∙ taken w.seen rest))
       ∙ sym (ap (outvoted weight votes_of candidate) (w.prefix
       ∙ (ap (λ n. option_map (λ p. w.seen ++ p) (shortest_prefix weight n rest)) none ∙ ap Some (append-nil w.seen)))
       ∙ cond-true (nat_lt (sum_by votes_of w.seen) candidate) (Some w.seen) None (lt-ltb (sum_by votes_of w.seen) candidate (subst (λ v. v < candidate) w.sum above)))
 
   -- all were seen, and not enough
-  pub walk_short : (candidate enough : ℕ) (all : List X) (count lacking votes : ℕ) → IsWalk enough all [] count lacking votes → 0 < lacking
+  pub walk_short : (candidate enough : ℕ) (all : List X) (count shortfall victims_frequency : ℕ) → IsWalk enough all [] count shortfall victims_frequency → 0 < shortfall
       → None ≡ outvoted weight votes_of candidate (shortest_prefix weight enough all)
-  walk_short candidate enough all count lacking votes w some =
-      sym (ap (outvoted weight votes_of candidate) (w.prefix ∙ ap (option_map (λ p. w.seen ++ p)) (nothing lacking some)))
+  walk_short candidate enough all count shortfall victims_frequency w some =
+      sym (ap (outvoted weight votes_of candidate) (w.prefix ∙ ap (option_map (λ p. w.seen ++ p)) (nothing shortfall some)))
     where
       nothing : (n : ℕ) → 0 < n → shortest_prefix weight n [] ≡ None
       nothing zero h = absurd (grind (arith, h))
       nothing (suc n) h = refl
 
   -- the votes against the candidate are as many already
-  pub walk_lost : (candidate enough : ℕ) (all rest : List X) (count lacking votes : ℕ) → IsWalk enough all rest count lacking votes
-      → candidate ≤ votes → None ≡ outvoted weight votes_of candidate (shortest_prefix weight enough all)
-  walk_lost candidate enough all rest count lacking votes w many =
-      sym (ap (outvoted weight votes_of candidate) w.prefix ∙ by (shortest_prefix weight lacking rest))
+  pub walk_lost : (candidate enough : ℕ) (all rest : List X) (count shortfall victims_frequency : ℕ) → IsWalk enough all rest count shortfall victims_frequency
+      → candidate ≤ victims_frequency → None ≡ outvoted weight votes_of candidate (shortest_prefix weight enough all)
+  walk_lost candidate enough all rest count shortfall victims_frequency w many =
+      sym (ap (outvoted weight votes_of candidate) w.prefix ∙ by (shortest_prefix weight shortfall rest))
     where
       by : (o : Option (List X)) → outvoted weight votes_of candidate (option_map (λ p. w.seen ++ p) o) ≡ None
       by None = refl
@@ -116,8 +116,8 @@ module _ {X : Type 0} (weight votes_of : X → ℕ) where
 module _ {K V : Type 0} where
   -- a walk through main has the rest of main before it, and then the window
   abbrev pub IsMainWalk : (Entry K V → ℕ) → ℕ → List (Entry K V) → List (Entry K V) → ℕ → ℕ → ℕ → Type 0
-  IsMainWalk votes_of enough all rest count lacking votes =
-      (ahead : List (Entry K V)) × (rest ≡ ahead ++ window_of all) × IsWalk (λ e. e.weight) votes_of enough (main_of all) ahead count lacking votes
+  IsMainWalk votes_of enough all rest count shortfall victims_frequency =
+      (ahead : List (Entry K V)) × (rest ≡ ahead ++ window_of all) × IsWalk (λ e. e.weight) votes_of enough (main_of all) ahead count shortfall victims_frequency
 
   pub main_start : (votes_of : Entry K V → ℕ) (enough : ℕ) (all : List (Entry K V)) → all ≡ main_of all ++ window_of all
       → IsMainWalk votes_of enough all all 0 enough 0
@@ -139,15 +139,15 @@ module _ {K V : Type 0} where
   head-is : (x y : Entry K V) (xs ys : List (Entry K V)) → x ∷ xs ≡ y ∷ ys → x ≡ y
   head-is x y xs ys h = ap (λ l. unwrap_or (Rattle.std.specs.Prelude.slice_get l 0) x) h
 
-  module _ (votes_of : Entry K V → ℕ) (enough : ℕ) (all rest : List (Entry K V)) (victim : Entry K V) (count lacking votes : ℕ)
-      (w : IsMainWalk votes_of enough all (victim ∷ rest) count lacking votes) where
+  module _ (votes_of : Entry K V → ℕ) (enough : ℕ) (all rest : List (Entry K V)) (victim : Entry K V) (count shortfall victims_frequency : ℕ)
+      (w : IsMainWalk votes_of enough all (victim ∷ rest) count shortfall victims_frequency) where
     -- where the next one is of the window, main is at its end
-    pub main_over : is_window victim.part ≡ true → IsWalk (λ e. e.weight) votes_of enough (main_of all) [] count lacking votes
+    pub main_over : is_window victim.part ≡ true → IsWalk (λ e. e.weight) votes_of enough (main_of all) [] count shortfall victims_frequency
     main_over flag = by w.0 w.1 w.2
       where
         by : (ahead : List (Entry K V)) → victim ∷ rest ≡ ahead ++ window_of all
-            → IsWalk (λ e. e.weight) votes_of enough (main_of all) ahead count lacking votes
-            → IsWalk (λ e. e.weight) votes_of enough (main_of all) [] count lacking votes
+            → IsWalk (λ e. e.weight) votes_of enough (main_of all) ahead count shortfall victims_frequency
+            → IsWalk (λ e. e.weight) votes_of enough (main_of all) [] count shortfall victims_frequency
         by [] parts walk = walk
         by (e ∷ ahead) parts walk =
             absurd (false≢true (sym (of_main walk.seen e ahead
@@ -157,13 +157,13 @@ module _ {K V : Type 0} where
     -- and else it goes on
     pub main_next : is_window victim.part ≡ false
         → (ahead : List (Entry K V)) × (rest ≡ ahead ++ window_of all)
-        × IsWalk (λ e. e.weight) votes_of enough (main_of all) (victim ∷ ahead) count lacking votes
+        × IsWalk (λ e. e.weight) votes_of enough (main_of all) (victim ∷ ahead) count shortfall victims_frequency
     main_next main = by w.0 w.1 w.2
       where
         by : (ahead : List (Entry K V)) → victim ∷ rest ≡ ahead ++ window_of all
-            → IsWalk (λ e. e.weight) votes_of enough (main_of all) ahead count lacking votes
+            → IsWalk (λ e. e.weight) votes_of enough (main_of all) ahead count shortfall victims_frequency
             → (ahead : List (Entry K V)) × (rest ≡ ahead ++ window_of all)
-            × IsWalk (λ e. e.weight) votes_of enough (main_of all) (victim ∷ ahead) count lacking votes
+            × IsWalk (λ e. e.weight) votes_of enough (main_of all) (victim ∷ ahead) count shortfall victims_frequency
         by [] parts walk =
             let windowed = filter_passes (λ e. is_window e.part) all in
             absurd (false≢true (sym main
@@ -172,17 +172,17 @@ module _ {K V : Type 0} where
             let same = head-is victim e rest (ahead ++ window_of all) parts in (
               ahead,
               ap (λ l. Rattle.std.specs.Prelude.drop 1 l) parts,
-              subst (λ x. IsWalk (λ e. e.weight) votes_of enough (main_of all) (x ∷ ahead) count lacking votes) (sym same) walk,
+              subst (λ x. IsWalk (λ e. e.weight) votes_of enough (main_of all) (x ∷ ahead) count shortfall victims_frequency) (sym same) walk,
             )
 
   -- where nothing is ahead, main is over too
-  pub main_end : (votes_of : Entry K V → ℕ) (enough : ℕ) (all : List (Entry K V)) (count lacking votes : ℕ)
-      → IsMainWalk votes_of enough all [] count lacking votes → IsWalk (λ e. e.weight) votes_of enough (main_of all) [] count lacking votes
-  main_end votes_of enough all count lacking votes w = by w.0 w.1 w.2
+  pub main_end : (votes_of : Entry K V → ℕ) (enough : ℕ) (all : List (Entry K V)) (count shortfall victims_frequency : ℕ)
+      → IsMainWalk votes_of enough all [] count shortfall victims_frequency → IsWalk (λ e. e.weight) votes_of enough (main_of all) [] count shortfall victims_frequency
+  main_end votes_of enough all count shortfall victims_frequency w = by w.0 w.1 w.2
     where
       by : (ahead : List (Entry K V)) → [] ≡ ahead ++ window_of all
-          → IsWalk (λ e. e.weight) votes_of enough (main_of all) ahead count lacking votes
-          → IsWalk (λ e. e.weight) votes_of enough (main_of all) [] count lacking votes
+          → IsWalk (λ e. e.weight) votes_of enough (main_of all) ahead count shortfall victims_frequency
+          → IsWalk (λ e. e.weight) votes_of enough (main_of all) [] count shortfall victims_frequency
       by [] parts walk = walk
       by (e ∷ ahead) parts walk = absurd (false≢true (ap (λ l. Rattle.std.specs.Prelude.is_some (Rattle.std.specs.Prelude.slice_get l 0)) parts))
 

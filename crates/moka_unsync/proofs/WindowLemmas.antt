@@ -39,24 +39,24 @@ module _ {K V : Type 0} where
 
   -- ---- one after another
 
-  module _ (eq : K → K → Bool) (limits : PartLimits) (sketch : Option Table) (old new : Store K V) (id lacking : ℕ) (f : IsFrontOf eq Window old id)
-      (above : 0 < lacking) (judged : contents_of new ≡ after_candidate eq limits sketch (contents_of old) f.entry)
+  module _ (eq : K → K → Bool) (limits : PartLimits) (sketch : Option Table) (old new : Store K V) (id shortfall : ℕ) (f : IsFrontOf eq Window old id)
+      (above : 0 < shortfall) (judged : contents_of new ≡ after_candidate eq limits sketch (contents_of old) f.entry)
       (rest : window_of (entries_of new) ≡ f.rest) where
     -- the candidates that are left
-    pub next_candidates : after_candidates eq limits sketch (least_recent (lacking - f.entry.weight) (window_of (entries_of new))) (contents_of new)
-        ≡ after_candidates eq limits sketch (least_recent lacking (window_of (entries_of old))) (contents_of old)
+    pub next_candidates : after_candidates eq limits sketch (least_recent (shortfall - f.entry.weight) (window_of (entries_of new))) (contents_of new)
+        ≡ after_candidates eq limits sketch (least_recent shortfall (window_of (entries_of old))) (contents_of old)
     next_candidates =
-        ap (λ l. after_candidates eq limits sketch (least_recent (lacking - f.entry.weight) l) (contents_of new)) rest
-        ∙ (ap (after_candidates eq limits sketch (least_recent (lacking - f.entry.weight) f.rest)) judged
+        ap (λ l. after_candidates eq limits sketch (least_recent (shortfall - f.entry.weight) l) (contents_of new)) rest
+        ∙ (ap (after_candidates eq limits sketch (least_recent (shortfall - f.entry.weight) f.rest)) judged
         ∙ sym (ap (λ l. after_candidates eq limits sketch l (contents_of old))
-        (ap (least_recent lacking) f.first ∙ least_recent-cons lacking f.entry f.rest above)))
+        (ap (least_recent shortfall) f.first ∙ least_recent-cons shortfall f.entry f.rest above)))
 
     -- and what they will lack
-    pub next_lacking : lacking - f.entry.weight - total_weight (least_recent (lacking - f.entry.weight) (window_of (entries_of new)))
-        ≡ lacking - total_weight (least_recent lacking (window_of (entries_of old)))
-    next_lacking =
-        ap (λ l. lacking - f.entry.weight - total_weight (least_recent (lacking - f.entry.weight) l)) rest
-        ∙ sym (ap (λ l. lacking - total_weight (least_recent lacking l)) f.first ∙ lacking-cons lacking f.entry f.rest above)
+    pub next_shortfall : shortfall - f.entry.weight - total_weight (least_recent (shortfall - f.entry.weight) (window_of (entries_of new)))
+        ≡ shortfall - total_weight (least_recent shortfall (window_of (entries_of old)))
+    next_shortfall =
+        ap (λ l. shortfall - f.entry.weight - total_weight (least_recent (shortfall - f.entry.weight) l)) rest
+        ∙ sym (ap (λ l. shortfall - total_weight (least_recent shortfall l)) f.first ∙ lacking-cons shortfall f.entry f.rest above)
 
   -- ---- one more at the back
 

@@ -73,7 +73,7 @@ fn victim_count<K: Eq + Drop, V: Drop, A: Allocator + Clone + Drop>(
     if u64::from(new.weight) > limit {
         return None;
     }
-    outvoted_count(store, sketch, new)
+    victims_outweighed_by(store, sketch, new)
 }
 
 /// Total weight of main's entries.
@@ -86,7 +86,7 @@ fn main_weight<K: Eq + Drop, V: Drop, A: Allocator + Clone + Drop>(store: &Store
 }
 
 /// Returns the number of LRU entries of main to evict for `new`, or `None` if it isn't used more often than all of them together.
-fn outvoted_count<K: Eq + Drop, V: Drop, A: Allocator + Clone + Drop>(
+fn victims_outweighed_by<K: Eq + Drop, V: Drop, A: Allocator + Clone + Drop>(
     store: &Store<K, V, A>,
     sketch: &FrequencySketch<A>,
     new: &Entry<K, V>,
@@ -96,13 +96,13 @@ fn outvoted_count<K: Eq + Drop, V: Drop, A: Allocator + Clone + Drop>(
         (shortest_prefix (λ e. e.weight) new.now.weight (main_of (entries_of store.now))) }
 {
     let candidate = sketch.frequency(new.hash);
-    let mut lacking = new.weight;
-    let mut votes = 0;
+    let mut shortfall = new.weight;
+    let mut victims_frequency = 0;
     let mut count = 0;
     let mut entries = store.iter();
     // The candidate's frequency is at most 15, so few votes are read before they are as many.
-    while votes < candidate {
-        if lacking == 0 {
+    while victims_frequency < candidate {
+        if shortfall == 0 {
             return Some(count);
         }
         let Some(victim) = entries.next() else {
@@ -112,8 +112,8 @@ fn outvoted_count<K: Eq + Drop, V: Drop, A: Allocator + Clone + Drop>(
             // Main ends here.
             return None;
         }
-        votes += sketch.frequency(victim.hash);
-        lacking = lacking.saturating_sub(victim.weight);
+        victims_frequency += sketch.frequency(victim.hash);
+        shortfall = shortfall.saturating_sub(victim.weight);
         count += 1;
     }
     None
@@ -143,7 +143,7 @@ fn enter_for<K: Eq + Drop, V: Drop, A: Allocator + Clone + Drop, L: Listener<K, 
     ensures told { TellsWhatLeft L.hears Size (λ e. 0 < count) (new ∷ entries_of store.old) (entries_of store.new) listener.old listener.new }
 {
     if count == 0 {
-        store.enter(new);
+        store.push(new);
         return;
     }
     evict(store, count - 1, listener);
@@ -152,7 +152,7 @@ fn enter_for<K: Eq + Drop, V: Drop, A: Allocator + Clone + Drop, L: Listener<K, 
             let Entry { key, value, .. } = store.replace(id, new);
             listener.removed(key, value, Cause::Size);
         }
-        None => store.enter(new),
+        None => store.push(new),
     }
 }
 
@@ -208,7 +208,12 @@ fn main_front<K: Eq + Drop, V: Drop, A: Allocator + Clone + Drop>(
 /// Stores a new entry in the window. Then the window's least recently used entries move to main if they are admitted there, or leave the store, until its
 /// weight is within its share. Returns whether the new entry was stored.
 #[inline(always)]
-pub(crate) fn enter_window<K: Eq + Drop, V: Drop, A: Allocator + Clone + Drop, L: Listener<K, V>>(
+pub(crate) fn insert_into_window<
+    K: Eq + Drop,
+    V: Drop,
+    A: Allocator + Clone + Drop,
+    L: Listener<K, V>,
+>(
     store: &mut Store<K, V, A>,
     limits: &PartLimits,
     sketch: &FrequencySketch<A>,
@@ -228,16 +233,16 @@ pub(crate) fn enter_window<K: Eq + Drop, V: Drop, A: Allocator + Clone + Drop, L
     let enough = excess(store, limits, new.weight);
     if enough == 0 {
         new.part = Part::Window;
-        store.enter(new);
+        store.push(new);
         return true;
     }
     match last_candidate(store, enough) {
         Some(id) => {
             new.part = Part::Window;
-            judge_last(store, limits, sketch, id, new, listener);
+            admit_or_evict_last(store, limits, sketch, id, new, listener);
             true
         }
-        None => enter_judged(store, limits, sketch, enough, new, listener),
+        None => insert_and_drain(store, limits, sketch, enough, new, listener),
     }
 }
 
@@ -259,7 +264,7 @@ fn last_candidate<K: Eq + Drop, V: Drop, A: Allocator + Clone + Drop>(
 /// Does the same if several entries are judged, or the new one is. The weight that has to leave the window is `enough`.
 #[cold]
 #[inline(never)]
-fn enter_judged<K: Eq + Drop, V: Drop, A: Allocator + Clone + Drop, L: Listener<K, V>>(
+fn insert_and_drain<K: Eq + Drop, V: Drop, A: Allocator + Clone + Drop, L: Listener<K, V>>(
     store: &mut Store<K, V, A>,
     limits: &PartLimits,
     sketch: &FrequencySketch<A>,
@@ -278,12 +283,12 @@ fn enter_judged<K: Eq + Drop, V: Drop, A: Allocator + Clone + Drop, L: Listener<
     ensures capacity { store.new.capacity ≡ store.old.capacity }
     ensures told { TellsPut L.hears (Some (main_limit limits.now)) result new (entries_of store.old) (entries_of store.new) listener.old listener.new }
 {
-    if judge_candidates(store, limits, sketch, enough, listener) > 0 {
+    if drain_window(store, limits, sketch, enough, listener) > 0 {
         // The new entry is the last candidate, so it comes to main or leaves without having stood in the window.
         return admit(store, Some(main_limit(limits)), sketch, new, listener);
     }
     new.part = Part::Window;
-    store.enter(new);
+    store.push(new);
     true
 }
 
@@ -311,7 +316,7 @@ fn excess<K: Eq + Drop, V: Drop, A: Allocator + Clone + Drop>(
 }
 
 /// Judges the window's entries, least recently used first, until `enough` weight has left the window. Returns how much is lacking then.
-fn judge_candidates<K: Eq + Drop, V: Drop, A: Allocator + Clone + Drop, L: Listener<K, V>>(
+fn drain_window<K: Eq + Drop, V: Drop, A: Allocator + Clone + Drop, L: Listener<K, V>>(
     store: &mut Store<K, V, A>,
     limits: &PartLimits,
     sketch: &FrequencySketch<A>,
@@ -325,19 +330,19 @@ fn judge_candidates<K: Eq + Drop, V: Drop, A: Allocator + Clone + Drop, L: Liste
     ensures told { TellsWhatLeft L.hears Size (λ e. IsAbove (Some (main_limit limits.now)) (total_weight (entries_of store.old)))
         (entries_of store.old) (entries_of store.new) listener.old listener.new }
 {
-    let mut lacking = enough;
-    while lacking > 0 {
+    let mut shortfall = enough;
+    while shortfall > 0 {
         let Some(id) = store.front_of(Part::Window) else {
-            return lacking;
+            return shortfall;
         };
-        lacking = lacking.saturating_sub(u64::from(store.get(id).weight));
-        judge(store, limits, sketch, id, listener);
+        shortfall = shortfall.saturating_sub(u64::from(store.get(id).weight));
+        admit_or_evict(store, limits, sketch, id, listener);
     }
-    lacking
+    shortfall
 }
 
 /// Judges the window's least recently used entry: it moves to main in place of its victims, or leaves.
-fn judge<K: Eq + Drop, V: Drop, A: Allocator + Clone + Drop, L: Listener<K, V>>(
+fn admit_or_evict<K: Eq + Drop, V: Drop, A: Allocator + Clone + Drop, L: Listener<K, V>>(
     store: &mut Store<K, V, A>,
     limits: &PartLimits,
     sketch: &FrequencySketch<A>,
@@ -363,7 +368,7 @@ fn judge<K: Eq + Drop, V: Drop, A: Allocator + Clone + Drop, L: Listener<K, V>>(
 
 /// Does the same and stores a new entry in the window, in the node of an entry that leaves, if one does.
 #[inline(always)]
-fn judge_last<K: Eq + Drop, V: Drop, A: Allocator + Clone + Drop, L: Listener<K, V>>(
+fn admit_or_evict_last<K: Eq + Drop, V: Drop, A: Allocator + Clone + Drop, L: Listener<K, V>>(
     store: &mut Store<K, V, A>,
     limits: &PartLimits,
     sketch: &FrequencySketch<A>,

@@ -238,7 +238,7 @@ impl<K: Eq + Hash + Drop, V: Drop, W: Drop, A: Allocator + Clone + Drop> CacheBu
         if let Some(fault) = share_fault(self.shares) {
             return Err(fault);
         }
-        let cache = Cache::with_parts(
+        let cache = Cache::from_parts(
             self.alloc,
             Parts {
                 hash_state,

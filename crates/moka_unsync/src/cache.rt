@@ -136,7 +136,7 @@ pub struct Cache<
     // The weight limit of protected.
     room: u64,
     // The largest useful capacity of the store.
-    most_entries: usize,
+    max_entries: usize,
     is_weighed: bool,
     weigher: W,
     store: Store<K, V, A>,
@@ -153,7 +153,7 @@ impl<K: Eq + Hash + Drop, V: Drop, S: BuildHasher + Drop, W: Drop, A: Allocator 
             shares: _,
             windowed: _,
             room: _,
-            most_entries: _,
+            max_entries: _,
             is_weighed: _,
             weigher: _,
             store: _,
@@ -227,7 +227,7 @@ impl<
     ghost use Rattle.moka_unsync.specs.CacheLends.{ends_as};
 
     /// A cache of these parts, with no entries.
-    pub(crate) fn with_parts(alloc: A, parts: Parts<S, W>) -> Result<Self, OutOfMemory>
+    pub(crate) fn from_parts(alloc: A, parts: Parts<S, W>) -> Result<Self, OutOfMemory>
         requires window { parts.shares.window ≤ 100 }
         requires protected { parts.shares.protected ≤ 100 }
         ensures new { IfOk result (λ cache. cache ≡ new_cache
@@ -242,7 +242,7 @@ impl<
             shares: parts.shares,
             windowed: windowed_limits(parts.shares, parts.policy.max_capacity()),
             room: protected_room(parts.shares, parts.policy.max_capacity()),
-            most_entries: most_entries(parts.policy, parts.is_weighed),
+            max_entries: max_entries(parts.policy, parts.is_weighed),
             is_weighed: parts.is_weighed,
             weigher: parts.weigher,
             store,
@@ -370,7 +370,7 @@ impl<
 }
 
 /// The largest useful capacity of a store: the limit plus one candidate, or any number if entries have weights.
-fn most_entries(policy: Policy, is_weighed: bool) -> usize {
+fn max_entries(policy: Policy, is_weighed: bool) -> usize {
     if is_weighed {
         return usize::MAX;
     }

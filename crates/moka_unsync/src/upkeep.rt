@@ -74,7 +74,7 @@ impl Bounds {
             expire(store, &self.limits, now, listener);
         }
         if store.weight() > self.max_weight {
-            trim_to(store, self.max_weight, listener);
+            evict_lru_to(store, self.max_weight, listener);
         }
     }
 
@@ -139,10 +139,10 @@ fn expire_oldest<K: Eq + Drop, V: Drop, A: Allocator + Clone + Drop, L: Listener
     ensures told { TellsWhatLeft L.hears Expired (λ e. is_expired limits.now now e ≡ true) (entries_of store.old) (entries_of store.new)
         listener.old listener.new }
 {
-    let Some(id) = store.oldest() else {
+    let Some(id) = store.oldest_write() else {
         return false;
     };
-    if !limits.has_lived(store.get(id).modified, now) {
+    if !limits.is_past_ttl(store.get(id).modified, now) {
         return false;
     }
     leave(store, id, Cause::Expired, listener);
@@ -219,7 +219,7 @@ fn expire_front<K: Eq + Drop, V: Drop, A: Allocator + Clone + Drop, L: Listener<
 /// Removes a batch of the least recently used entries while the weight is above the limit.
 #[cold]
 #[inline(never)]
-fn trim_to<K: Eq + Drop, V: Drop, A: Allocator + Clone + Drop, L: Listener<K, V>>(
+fn evict_lru_to<K: Eq + Drop, V: Drop, A: Allocator + Clone + Drop, L: Listener<K, V>>(
     store: &mut Store<K, V, A>,
     limit: u64,
     listener: &mut L,
@@ -230,13 +230,13 @@ fn trim_to<K: Eq + Drop, V: Drop, A: Allocator + Clone + Drop, L: Listener<K, V>
     ensures told { TellsWhatLeft L.hears Size (λ e. ⊤) (entries_of store.old) (entries_of store.new) listener.old listener.new }
 {
     let mut left = EVICTION_BATCH_SIZE;
-    while left > 0 && trim_front(store, limit, listener) {
+    while left > 0 && evict_lru_front(store, limit, listener) {
         left -= 1;
     }
 }
 
 /// Removes the least recently used entry if the weight is above the limit.
-fn trim_front<K: Eq + Drop, V: Drop, A: Allocator + Clone + Drop, L: Listener<K, V>>(
+fn evict_lru_front<K: Eq + Drop, V: Drop, A: Allocator + Clone + Drop, L: Listener<K, V>>(
     store: &mut Store<K, V, A>,
     limit: u64,
     listener: &mut L,
@@ -260,5 +260,5 @@ fn trim_front<K: Eq + Drop, V: Drop, A: Allocator + Clone + Drop, L: Listener<K,
 fn is_expired<K: Drop, V: Drop>(limits: &Limits, entry: &Entry<K, V>, now: Instant) -> bool
     ensures { result ≡ is_expired limits.now now entry.now }
 {
-    limits.has_lived(entry.modified, now) || limits.is_idle(entry.accessed, now)
+    limits.is_past_ttl(entry.modified, now) || limits.is_idle(entry.accessed, now)
 }

@@ -20,7 +20,7 @@ use Rattle.moka_unsync_model.specs.Contents.{Contents, Write, after_leaving, ent
 use Rattle.moka_unsync_model.specs.Contents.{without, is_probation, is_protected, is_window, probation_of, protected_of}
 use Rattle.moka_unsync_model.specs.CacheState.{CacheState, room_of, windowed}
 use Rattle.moka_common.specs.Settings.{keeps_writes, live_nanos}
-use Rattle.moka_unsync_model.specs.Upkeep.{after_expiry, after_idle, after_live_expiry, after_trim, after_upkeep, has_lived, is_idle, least_recent}
+use Rattle.moka_unsync_model.specs.Upkeep.{after_expiry, after_idle, after_live_expiry, after_trim, after_upkeep, is_past_ttl, is_idle, least_recent}
 use Rattle.moka_unsync_model.specs.Lookup.{after_use, after_look, unexpired_at, after_using}
 use Rattle.moka_unsync_model.specs.Upkeep.{is_expired}
 use Rattle.moka_unsync_model.specs.Insert.{after_entering, after_entry, after_new, after_put, after_verdict, new_entry}
@@ -76,14 +76,14 @@ module _ {K V : Type 0} (eq : K → K → Bool) (laws : IsEquivalence eq) where
   -- an entry whose write leaves has lived too long
   lived-too-long : (policy : Policy) (now most : ℕ) (contents : Contents K V) (key : K) (e : Entry K V) → AllTied eq contents
       → entry_at eq key contents.entries ≡ Some e
-      → list_any (λ w. eq w.key key) (take most (take_while (has_lived policy now) contents.written)) ≡ true
+      → list_any (λ w. eq w.key key) (take most (take_while (is_past_ttl policy now) contents.written)) ≡ true
       → live_expired (live_nanos policy) e.modified now ≡ true
   lived-too-long policy now most contents key e tied found any =
-      let P : Write K → Type 0 = λ w. IsTied eq contents.entries w × (has_lived policy now w ≡ true) in
+      let P : Write K → Type 0 = λ w. IsTied eq contents.entries w × (is_past_ttl policy now w ≡ true) in
       let (w, (is_tied, lived), equal) =
-      one-passes P (λ w. eq w.key key) (take most (take_while (has_lived policy now) contents.written))
-      (all-take P most (take_while (has_lived policy now) contents.written)
-      (all-taken (IsTied eq contents.entries) (has_lived policy now) contents.written tied)) any in
+      one-passes P (λ w. eq w.key key) (take most (take_while (is_past_ttl policy now) contents.written))
+      (all-take P most (take_while (is_past_ttl policy now) contents.written)
+      (all-taken (IsTied eq contents.entries) (is_past_ttl policy now) contents.written tied)) any in
       let same : e.modified ≡ w.modified =
       one_of refl (sym (ap (option_map (λ e. e.modified)) (entry_at-equal laws w.key key equal contents.entries ∙ found)) ∙ is_tied) in
       subst (λ m. live_expired (live_nanos policy) m now ≡ true) (sym same) lived
@@ -199,13 +199,13 @@ module _ {K V : Type 0} (eq : K → K → Bool) (laws : IsEquivalence eq) where
       ((l : ℕ) × (policy.max_capacity ≡ Some l) × (l < total_weight (entries_from eq key contents.entries))))
   upkeep-cause policy now contents key e tied once found =
       let most = EVICTION_BATCH_SIZE in
-      let lived_keys = map (λ w. w.key) (take most (take_while (has_lived policy now) contents.written)) in
+      let lived_keys = map (λ w. w.key) (take most (take_while (is_past_ttl policy now) contents.written)) in
       let lived = after_live_expiry eq policy now most contents in
       let apart = once-remains eq contents lived (remains-leaving eq lived_keys contents) once in
       let waited = after_idle eq policy now most (window_of lived.entries) lived in
       let tried = after_idle eq policy now most (probation_of lived.entries) waited in
       let expired = after_expiry eq policy now contents in
-      elim (among (λ w. w.key) (take most (take_while (has_lived policy now) contents.written)) contents key) [
+      elim (among (λ w. w.key) (take most (take_while (is_past_ttl policy now) contents.written)) contents key) [
         | inl any ↦
             inr (inl (or_left (live_expired (live_nanos policy) e.modified now) (is_idle policy now e)
             (lived-too-long policy now most contents key e tied found any)))

@@ -8,7 +8,7 @@ use Rattle.moka_unsync_model.specs.declared.constants.TheConstants.{EVICTION_BAT
 use Rattle.moka_unsync_model.specs.declared.entry.Entry.{Entry}
 use Rattle.moka_unsync_model.specs.Contents.{Contents, after_leaving, entry_at, entries_without, entry_keys, probation_of, protected_of, total_weight}
 use Rattle.moka_unsync_model.specs.Contents.{window_of, without}
-use Rattle.moka_unsync_model.specs.Upkeep.{after_expiry, after_idle, after_live_expiry, after_trim, after_upkeep, has_lived, is_idle, least_recent}
+use Rattle.moka_unsync_model.specs.Upkeep.{after_expiry, after_idle, after_live_expiry, after_trim, after_upkeep, is_past_ttl, is_idle, least_recent}
 
 -- the keys of a batch of these entries that were idle too long
 abbrev pub idle_keys : {K V : Type 0} → Policy → ℕ → List (Entry K V) → List K
@@ -36,7 +36,7 @@ module _ {K V : Type 0} (eq : K → K → Bool) (P : Entry K V → Type 0) where
       (All-leaving (idle_keys policy now (protected_of lived.entries)) tried
       (All-leaving (idle_keys policy now (probation_of lived.entries)) waited
       (All-leaving (idle_keys policy now (window_of lived.entries)) lived
-      (All-leaving (map (λ w. w.key) (take EVICTION_BATCH_SIZE (take_while (has_lived policy now) contents.written))) contents a))))
+      (All-leaving (map (λ w. w.key) (take EVICTION_BATCH_SIZE (take_while (is_past_ttl policy now) contents.written))) contents a))))
 
 module _ {K V : Type 0} (eq : K → K → Bool) (key : K) where
   absent-without : (gone : K) (entries : List (Entry K V)) → entry_at eq key entries ≡ None

@@ -16,7 +16,7 @@ use Rattle.moka_unsync_model.specs.Contents.{is_window, probation_of, protected_
 use Rattle.moka_unsync_model.specs.CacheState.{CacheState, new_cache, room_of, windowed}
 use Rattle.moka_common.specs.Settings.{Settings, keeps_writes}
 use Rattle.moka_common.specs.Sketch.{Table}
-use Rattle.moka_unsync_model.specs.Upkeep.{after_expiry, after_idle, after_live_expiry, after_trim, after_upkeep, has_lived, is_idle, least_recent}
+use Rattle.moka_unsync_model.specs.Upkeep.{after_expiry, after_idle, after_live_expiry, after_trim, after_upkeep, is_past_ttl, is_idle, least_recent}
 use Rattle.moka_unsync_model.specs.Lookup.{after_get, after_use, after_look, unexpired_at, after_using}
 use Rattle.moka_unsync_model.specs.Upkeep.{is_expired, unexpired}
 use Rattle.moka_unsync_model.specs.Insert.{after_entering, after_entry, after_new, after_put, after_verdict, new_entry}
@@ -106,7 +106,7 @@ module _ {K V : Type 0} {eq : K → K → Bool} (laws : IsEquivalence eq) where
       let lived = after_live_expiry eq policy now EVICTION_BATCH_SIZE contents in
       let waited = after_idle eq policy now EVICTION_BATCH_SIZE (window_of lived.entries) lived in
       let tried = after_idle eq policy now EVICTION_BATCH_SIZE (probation_of lived.entries) waited in
-      (found-leaving (λ w. w.key) (take EVICTION_BATCH_SIZE (take_while (has_lived policy now) contents.written)) contents key e
+      (found-leaving (λ w. w.key) (take EVICTION_BATCH_SIZE (take_while (is_past_ttl policy now) contents.written)) contents key e
       (found-leaving (λ e. e.key) (take EVICTION_BATCH_SIZE (take_while (is_idle policy now) (window_of lived.entries))) lived key e
       (found-leaving (λ e. e.key) (take EVICTION_BATCH_SIZE (take_while (is_idle policy now) (probation_of lived.entries))) waited key e
       (found-leaving (λ e. e.key) (take EVICTION_BATCH_SIZE (take_while (is_idle policy now) (protected_of lived.entries))) tried key e

@@ -19,7 +19,7 @@ use Rattle.moka_unsync_model.specs.Contents.{without, is_window, probation_of, p
 use Rattle.moka_unsync_model.specs.CacheState.{CacheState, new_cache, room_of, windowed}
 use Rattle.moka_common.specs.Settings.{keeps_writes}
 use Rattle.moka_unsync_model.specs.Upkeep.{after_expiry, after_idle, after_live_expiry, after_trim, after_upkeep}
-use Rattle.moka_unsync_model.specs.Upkeep.{has_lived, least_recent, is_expired, unexpired}
+use Rattle.moka_unsync_model.specs.Upkeep.{is_past_ttl, least_recent, is_expired, unexpired}
 use Rattle.moka_unsync_model.specs.Insert.{IsInserted, after_admission, after_asking, after_entering, after_entry, after_new, after_put, after_verdict}
 use Rattle.moka_unsync_model.specs.Insert.{new_entry}
 use Rattle.moka_unsync_model.specs.Window.{after_candidacy, after_candidates, candidates, excess, victims_of}
@@ -106,7 +106,7 @@ module _ {K V : Type 0} where
         let expired = after_expiry eq policy now contents in
         grind (
           arith,
-          total-leaving (map (λ w. w.key) (take EVICTION_BATCH_SIZE (take_while (has_lived policy now) contents.written))) contents,
+          total-leaving (map (λ w. w.key) (take EVICTION_BATCH_SIZE (take_while (is_past_ttl policy now) contents.written))) contents,
           total-leaving (idle_keys policy now (window_of lived.entries)) lived,
           total-leaving (idle_keys policy now (probation_of lived.entries)) waited,
           total-leaving (idle_keys policy now (protected_of lived.entries)) tried,

@@ -19,7 +19,7 @@ use Rattle.moka_unsync_model.specs.Contents.{Contents, after_leaving, entry_at, 
 use Rattle.moka_unsync_model.specs.Contents.{protected_of, total_weight}
 use Rattle.moka_unsync_model.specs.CacheState.{CacheState, room_of, windowed}
 use Rattle.moka_common.specs.Settings.{Settings, idle_nanos, keeps_writes, live_nanos}
-use Rattle.moka_unsync_model.specs.Upkeep.{after_expiry, after_idle, after_idle_expiry, after_trim, after_upkeep, has_lived, is_idle, is_expired}
+use Rattle.moka_unsync_model.specs.Upkeep.{after_expiry, after_idle, after_idle_expiry, after_trim, after_upkeep, is_past_ttl, is_idle, is_expired}
 use Rattle.moka_unsync_model.specs.Upkeep.{unexpired}
 use Rattle.moka_unsync_model.specs.Lookup.{after_look, after_search, after_use, found_by_get, found_by_peek, unexpired_at, after_using, used_part}
 use Rattle.moka_unsync_model.specs.Insert.{after_asking, after_entering, after_new, after_put, after_verdict, new_entry}
@@ -62,8 +62,8 @@ module _ (policy : Policy) (lasting : (policy.time_to_live ≡ None) × (policy.
   -- nothing leaves by time
   pub expiry-same : {K V : Type 0} (eq : K → K → Bool) (contents : Contents K V) → after_expiry eq policy now contents ≡ contents
   expiry-same {K = K} {V = V} eq contents =
-      let none_lived : take EVICTION_BATCH_SIZE (take_while (has_lived policy now) contents.written) ≡ [] =
-      ap (take EVICTION_BATCH_SIZE) (take_while-none (has_lived policy now) contents.written (λ w. lives w.modified))
+      let none_lived : take EVICTION_BATCH_SIZE (take_while (is_past_ttl policy now) contents.written) ≡ [] =
+      ap (take EVICTION_BATCH_SIZE) (take_while-none (is_past_ttl policy now) contents.written (λ w. lives w.modified))
       ∙ take-nil EVICTION_BATCH_SIZE in
       let none_idle = λ (es : List (Entry K V)). ap (take EVICTION_BATCH_SIZE) (take_while-none (is_idle policy now) es (λ e. used e.accessed))
       ∙ take-nil EVICTION_BATCH_SIZE in

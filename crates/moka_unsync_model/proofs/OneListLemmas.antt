@@ -17,7 +17,7 @@ use Rattle.moka_unsync_model.specs.Contents.{is_protected, is_window, main_of, p
 use Rattle.moka_unsync_model.specs.CacheState.{CacheState, new_cache, room_of, windowed}
 use Rattle.moka_unsync_model.specs.Shares.{default_shares, limits_of, main_limit, protected_room, windowed_limits}
 use Rattle.moka_unsync_model.specs.Lookup.{after_get, after_look, after_use, after_using, unexpired_at, used_part}
-use Rattle.moka_unsync_model.specs.Upkeep.{after_idle, after_idle_expiry, after_live_expiry, after_trim, after_upkeep, has_lived, least_recent}
+use Rattle.moka_unsync_model.specs.Upkeep.{after_idle, after_idle_expiry, after_live_expiry, after_trim, after_upkeep, is_past_ttl, least_recent}
 use Rattle.moka_unsync_model.specs.Window.{after_candidacy, after_candidate, after_candidates, candidates, victims_of}
 use Rattle.moka_unsync_model.specs.Insert.{IsInserted, after_asking, after_entering, after_entry, after_insert, after_new, after_put}
 use Rattle.moka_unsync_model.specs.Insert.{after_standing, after_verdict, new_entry}
@@ -131,7 +131,7 @@ module _ {K V : Type 0} (eq : K → K → Bool) where
   same-upkeep policy now contents free =
       ap (after_trim eq policy.max_capacity)
       (same-idle policy now EVICTION_BATCH_SIZE (after_live_expiry eq policy now EVICTION_BATCH_SIZE contents)
-      (All-leaving eq IsFree (map (λ w. w.key) (take EVICTION_BATCH_SIZE (take_while (has_lived policy now) contents.written))) contents free))
+      (All-leaving eq IsFree (map (λ w. w.key) (take EVICTION_BATCH_SIZE (take_while (is_past_ttl policy now) contents.written))) contents free))
 
   -- ---- candidates
 

@@ -8,7 +8,7 @@ use Rattle.moka_unsync_model.specs.declared.constants.TheConstants.{EVICTION_BAT
 use Rattle.moka_unsync_model.specs.Contents.{Contents, after_leaving, entry_keys, no_contents, probation_of, protected_of, total_weight}
 use Rattle.moka_unsync_model.specs.Contents.{window_of, without}
 use Rattle.moka_unsync_model.specs.CacheState.{CacheState}
-use Rattle.moka_unsync_model.specs.Upkeep.{after_expiry, after_idle, after_live_expiry, after_trim, after_upkeep, has_lived, least_recent}
+use Rattle.moka_unsync_model.specs.Upkeep.{after_expiry, after_idle, after_live_expiry, after_trim, after_upkeep, is_past_ttl, least_recent}
 use Rattle.moka_unsync_model.specs.Invalidate.{chosen}
 use Rattle.moka_unsync_model.proofs.ContentsLemmas.{idle_keys}
 use Rattle.moka_unsync_model.specs.Laws.{InvalidationsKeepCounts, LooksChangeNothing, Remains}
@@ -77,7 +77,7 @@ module _ {K V : Type 0} where
         let tried = after_idle eq policy now EVICTION_BATCH_SIZE (probation_of lived.entries) waited in
         remains-both contents (after_expiry eq policy now contents) (after_upkeep eq policy now contents)
         (remains-both contents lived (after_expiry eq policy now contents)
-        (remains-leaving (map (λ w. w.key) (take EVICTION_BATCH_SIZE (take_while (has_lived policy now) contents.written))) contents)
+        (remains-leaving (map (λ w. w.key) (take EVICTION_BATCH_SIZE (take_while (is_past_ttl policy now) contents.written))) contents)
         (remains-both lived waited (after_expiry eq policy now contents) (remains-leaving (idle_keys policy now (window_of lived.entries)) lived)
         (remains-both waited tried (after_expiry eq policy now contents) (remains-leaving (idle_keys policy now (probation_of lived.entries)) waited)
         (remains-leaving (idle_keys policy now (protected_of lived.entries)) tried))))

@@ -16,7 +16,7 @@ use Rattle.moka_unsync_model.specs.Contents.{Contents, Write, after_leaving, aft
 use Rattle.moka_unsync_model.specs.Contents.{entry_keys, no_contents, total_weight, without}
 use Rattle.moka_unsync_model.specs.Contents.{write_of, writes_without, probation_of, protected_of}
 use Rattle.moka_unsync_model.specs.CacheState.{CacheState, new_cache, room_of, windowed}
-use Rattle.moka_unsync_model.specs.Upkeep.{after_expiry, after_idle, after_live_expiry, after_trim, after_upkeep, has_lived, least_recent}
+use Rattle.moka_unsync_model.specs.Upkeep.{after_expiry, after_idle, after_live_expiry, after_trim, after_upkeep, is_past_ttl, least_recent}
 use Rattle.moka_unsync_model.specs.Lookup.{after_look, after_use, unexpired_at, after_using}
 use Rattle.moka_unsync_model.specs.Insert.{after_asking, after_entering, after_entry, after_new, after_put, after_update, after_verdict, new_entry}
 use Rattle.moka_unsync_model.specs.Insert.{after_arrival}
@@ -221,7 +221,7 @@ module _ {K V : Type 0} (eq : K → K → Bool) (laws : IsEquivalence eq) where
       (follow-leaving keeps (idle_keys policy now (protected_of lived.entries)) tried
       (follow-leaving keeps (idle_keys policy now (probation_of lived.entries)) waited
       (follow-leaving keeps (idle_keys policy now (window_of lived.entries)) lived
-      (follow-leaving keeps (map (λ w. w.key) (take EVICTION_BATCH_SIZE (take_while (has_lived policy now) contents.written))) contents f))))
+      (follow-leaving keeps (map (λ w. w.key) (take EVICTION_BATCH_SIZE (take_while (is_past_ttl policy now) contents.written))) contents f))))
 
   follow-use : (keeps : Bool) (room now : ℕ) (other : K) (o : Option (Entry K V)) (contents : Contents K V)
       → ((e : Entry K V) → o ≡ Some e → entry_at eq other contents.entries ≡ Some e)

@@ -9,8 +9,8 @@ use Rattle.moka_unsync_model.specs.declared.entry.Entry.{Entry}
 use Rattle.moka_unsync_model.specs.Contents.{Contents, Write, total_weight, probation_of, protected_of, window_of, entry_keys, after_leaving}
 
 -- whether a key was written too long ago
-abbrev pub has_lived : {K : Type 0} → Policy → ℕ → Write K → Bool
-has_lived policy now write = live_expired (live_nanos policy) write.modified now
+abbrev pub is_past_ttl : {K : Type 0} → Policy → ℕ → Write K → Bool
+is_past_ttl policy now write = live_expired (live_nanos policy) write.modified now
 
 -- whether an entry was idle too long
 abbrev pub is_idle : {K V : Type 0} → Policy → ℕ → Entry K V → Bool
@@ -33,7 +33,7 @@ module _ {K V : Type 0} (eq : K → K → Bool) where
   -- the longest beginning of the order of writing that has lived too long leaves, but at most so many
   abbrev pub after_live_expiry : Policy → ℕ → ℕ → Contents K V → Contents K V
   after_live_expiry policy now most contents =
-      after_leaving eq (map (λ w. w.key) (take most (take_while (has_lived policy now) contents.written))) contents
+      after_leaving eq (map (λ w. w.key) (take most (take_while (is_past_ttl policy now) contents.written))) contents
 
   -- the longest beginning of these entries that was idle too long leaves, but at most so many
   abbrev pub after_idle : Policy → ℕ → ℕ → List (Entry K V) → Contents K V → Contents K V

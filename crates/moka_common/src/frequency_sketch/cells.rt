@@ -2,7 +2,7 @@
 ghost use Rattle.std.specs.Prelude.{◌≡◌, ◌<◌, slice_index, nat_lt};
 ghost use Rattle.std.specs.Int.{IsPowerOfTwo};
 ghost use Rattle.moka_common.specs.Sketch.{cell, estimate_in, grown_at, grows_in, incremented_counters, index_of, position_of};
-ghost use Rattle.moka_common.specs.Cells.{counters_of, places_of};
+ghost use Rattle.moka_common.specs.Cells.{counters_of, slot_count};
 ghost use Rattle.moka_common.specs.declared.constants.TheConstants.{DEPTHS, MAX_FREQUENCY};
 
 use crate::constants::{COUNTER_BITS, DEPTHS, GROUPS_PER_WORD, MAX_FREQUENCY};
@@ -35,8 +35,8 @@ pub fn index_of(len: usize, hash: u64, depth: usize) -> usize
 
 /// The least of the hash's counters.
 pub fn frequency(groups: &[u16], hash: u64) -> u8
-    requires { IsPowerOfTwo (places_of groups.now) }
-    ensures { result ≡ estimate_in (places_of groups.now) (counters_of groups.now) hash }
+    requires { IsPowerOfTwo (slot_count groups.now) }
+    ensures { result ≡ estimate_in (slot_count groups.now) (counters_of groups.now) hash }
 {
     let mut least = FULL;
     for depth in 0..DEPTHS {
@@ -47,10 +47,10 @@ pub fn frequency(groups: &[u16], hash: u64) -> u8
 
 /// Adds one to each of the hash's counters that is below the most. Returns whether one was.
 pub fn increment(groups: &mut [u16], hash: u64) -> bool
-    requires { IsPowerOfTwo (places_of groups.old) }
+    requires { IsPowerOfTwo (slot_count groups.old) }
     ensures counters { counters_of groups.new
-        ≡ incremented_counters (places_of groups.old) (counters_of groups.old) hash }
-    ensures grew { result ≡ grows_in (places_of groups.old) (counters_of groups.old) hash }
+        ≡ incremented_counters (slot_count groups.old) (counters_of groups.old) hash }
+    ensures grew { result ≡ grows_in (slot_count groups.old) (counters_of groups.old) hash }
 {
     let mut grew = false;
     for depth in 0..DEPTHS {
@@ -61,9 +61,9 @@ pub fn increment(groups: &mut [u16], hash: u64) -> bool
 
 /// The hash's counter at a depth.
 fn counter_at(groups: &[u16], hash: u64, depth: usize) -> u16
-    requires groups { IsPowerOfTwo (places_of groups.now) }
+    requires groups { IsPowerOfTwo (slot_count groups.now) }
     requires depth { depth < DEPTHS }
-    ensures { let at = position_of (cell (places_of groups.now) hash depth) in
+    ensures { let at = position_of (cell (slot_count groups.now) hash depth) in
         result ≡ slice_index (counters_of groups.now) at }
 {
     let word = index_of(groups.len() / GROUPS_PER_WORD, hash, depth);
@@ -73,11 +73,11 @@ fn counter_at(groups: &[u16], hash: u64, depth: usize) -> u16
 
 /// Adds one to the hash's counter at a depth, if that is below the most. Returns whether it was.
 fn grow(groups: &mut [u16], hash: u64, depth: usize) -> bool
-    requires groups { IsPowerOfTwo (places_of groups.old) }
+    requires groups { IsPowerOfTwo (slot_count groups.old) }
     requires depth { depth < DEPTHS }
-    ensures counters { let at = position_of (cell (places_of groups.old) hash depth) in
+    ensures counters { let at = position_of (cell (slot_count groups.old) hash depth) in
         counters_of groups.new ≡ grown_at (counters_of groups.old) at }
-    ensures grew { let at = position_of (cell (places_of groups.old) hash depth) in
+    ensures grew { let at = position_of (cell (slot_count groups.old) hash depth) in
         result ≡ nat_lt (slice_index (counters_of groups.old) at) MAX_FREQUENCY }
 {
     let word = index_of(groups.len() / GROUPS_PER_WORD, hash, depth);

@@ -2,7 +2,7 @@
 ghost use Rattle.std.specs.Prelude.{◌≡◌, ◌+◌, Some, option_copied};
 ghost use Rattle.moka_sync_model.specs.Orders.{rewritten, used};
 ghost use Rattle.moka_sync_model.specs.Place.{Evict, ExpireAccess, ExpireWrite};
-ghost use Rattle.moka_sync_model.specs.Turn.Expiry.{access_front, after_front, is_out_of_use, is_outlived, write_front};
+ghost use Rattle.moka_sync_model.specs.Turn.Expiry.{access_front, after_front, is_past_tti_or_hidden, is_past_ttl_or_hidden, write_front};
 ghost use Rattle.moka_queues.specs.OrdersState.{orders_of};
 ghost use Rattle.moka_maintenance.specs.Held.{IsAtHand, maintenance_of, outcome_of};
 
@@ -17,25 +17,25 @@ use moka_sync_model::ticket::Ticket;
 use std::alloc::Allocator;
 
 /// Returns `true` if the last write of an entry is too long ago.
-fn is_outlived<K: Drop, V: Drop, S: Drop, A: Allocator + Drop>(
+fn is_past_ttl_or_hidden<K: Drop, V: Drop, S: Drop, A: Allocator + Drop>(
     settings: &Settings<S, A>,
     valid_after: Instant,
     now: Instant,
     entry: &Entry<K, V, A>,
 ) -> bool
-    ensures { result ≡ is_outlived settings.now valid_after now entry.now }
+    ensures { result ≡ is_past_ttl_or_hidden settings.now valid_after now entry.now }
 {
-    settings.limits().has_lived(entry.modified(), now) || entry.modified() < valid_after
+    settings.limits().is_past_ttl(entry.modified(), now) || entry.modified() < valid_after
 }
 
 /// Returns `true` if the last use of an entry is too long ago.
-fn is_out_of_use<K: Drop, V: Drop, S: Drop, A: Allocator + Drop>(
+fn is_past_tti_or_hidden<K: Drop, V: Drop, S: Drop, A: Allocator + Drop>(
     settings: &Settings<S, A>,
     valid_after: Instant,
     now: Instant,
     entry: &Entry<K, V, A>,
 ) -> bool
-    ensures { result ≡ is_out_of_use settings.now valid_after now entry.now }
+    ensures { result ≡ is_past_tti_or_hidden settings.now valid_after now entry.now }
 {
     settings.limits().is_idle(entry.accessed(), now) || entry.accessed() < valid_after
 }
@@ -50,7 +50,7 @@ impl<A: Allocator + Clone + Drop> State<A> {
         ensures { result ≡ write_front settings.now turns (orders_of self.now.orders) }
     {
         if settings.limits().has_time_to_live() && turns < SYNC_BATCH_SIZE {
-            return self.orders.oldest();
+            return self.orders.oldest_write();
         }
         None
     }
@@ -82,7 +82,7 @@ impl<A: Allocator + Clone + Drop> State<A> {
     ) -> EntryChange
         requires { write_front settings.now turns (orders_of self.old.orders) ≡ Some ticket }
         ensures step { outcome_of result self.new
-            ≡ after_front (is_outlived settings.now valid_after self.old.moment) rewritten (ExpireWrite (turns + 1)) (ExpireAccess 0)
+            ≡ after_front (is_past_ttl_or_hidden settings.now valid_after self.old.moment) rewritten (ExpireWrite (turns + 1)) (ExpireAccess 0)
             ticket (maintenance_of self.old) (option_copied found.entry) }
         ensures holds { IsAtHand self.new.orders self.new.stage }
     {
@@ -91,7 +91,7 @@ impl<A: Allocator + Clone + Drop> State<A> {
             self.stage = Stage::ExpireWrite { turns: turns + 1 };
             return EntryChange::Stays;
         };
-        if is_outlived(settings, valid_after, self.moment, entry) {
+        if is_past_ttl_or_hidden(settings, valid_after, self.moment, entry) {
             remove_ticket(&mut self.orders, ticket);
             self.stage = Stage::ExpireWrite { turns: turns + 1 };
             return EntryChange::Leaves;
@@ -111,7 +111,7 @@ impl<A: Allocator + Clone + Drop> State<A> {
     ) -> EntryChange
         requires { access_front settings.now valid_after turns (orders_of self.old.orders) ≡ Some ticket }
         ensures step { outcome_of result self.new
-            ≡ after_front (is_out_of_use settings.now valid_after self.old.moment) used (ExpireAccess (turns + 1)) (Evict 0)
+            ≡ after_front (is_past_tti_or_hidden settings.now valid_after self.old.moment) used (ExpireAccess (turns + 1)) (Evict 0)
             ticket (maintenance_of self.old) (option_copied found.entry) }
         ensures holds { IsAtHand self.new.orders self.new.stage }
     {
@@ -121,7 +121,7 @@ impl<A: Allocator + Clone + Drop> State<A> {
             self.stage = Stage::ExpireAccess { turns: turns + 1 };
             return EntryChange::Stays;
         };
-        if is_out_of_use(settings, valid_after, self.moment, entry) {
+        if is_past_tti_or_hidden(settings, valid_after, self.moment, entry) {
             remove_front(&mut self.orders);
             self.stage = Stage::ExpireAccess { turns: turns + 1 };
             return EntryChange::Leaves;

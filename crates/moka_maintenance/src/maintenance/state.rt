@@ -53,7 +53,7 @@ impl<A: Allocator + Clone + Drop> State<A> {
         if self.orders.len() > 0 {
             return false;
         }
-        if self.orders.oldest().is_some() {
+        if self.orders.oldest_write().is_some() {
             return false;
         }
         matches!(self.stage, Stage::Idle)

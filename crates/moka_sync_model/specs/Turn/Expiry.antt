@@ -20,12 +20,12 @@ first_if true (t ∷ ts) = Some t
 
 module _ {K V S : Type 0} (settings : Settings S) (valid_after : ℕ) where
   -- an entry whose write is too long ago
-  abbrev pub is_outlived : ℕ → Entry K V → Bool
-  is_outlived now e = live_expired (live_nanos settings.policy) e.modified now || nat_lt e.modified valid_after
+  abbrev pub is_past_ttl_or_hidden : ℕ → Entry K V → Bool
+  is_past_ttl_or_hidden now e = live_expired (live_nanos settings.policy) e.modified now || nat_lt e.modified valid_after
 
   -- an entry whose use is too long ago
-  abbrev pub is_out_of_use : ℕ → Entry K V → Bool
-  is_out_of_use now e = idle_expired (idle_nanos settings.policy) e.accessed now || nat_lt e.accessed valid_after
+  abbrev pub is_past_tti_or_hidden : ℕ → Entry K V → Bool
+  is_past_tti_or_hidden now e = idle_expired (idle_nanos settings.policy) e.accessed now || nat_lt e.accessed valid_after
 
 module _ {K V : Type 0} where
   -- a turn at the front of an order: an absent entry's node is sent to the back, an entry that is over leaves, and at a fresh one the

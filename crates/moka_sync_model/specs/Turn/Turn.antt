@@ -18,7 +18,7 @@ use Rattle.moka_common.specs.Settings.{Settings, keeps_writes}
 use Rattle.moka_sync_model.specs.Turn.Plan.{Plan, Alone, AtReads, AtWrites, AtEntry, gone_to, after_plan, reads_or_on, writes_or_on}
 use Rattle.moka_sync_model.specs.Turn.Apply.{after_miss, after_removal, after_hit, after_upsert}
 use Rattle.moka_sync_model.specs.Turn.Admission.{next_seen, after_scan, after_removing, after_entering}
-use Rattle.moka_sync_model.specs.Turn.Expiry.{is_outlived, is_out_of_use, after_front, after_eviction, write_front, access_front}
+use Rattle.moka_sync_model.specs.Turn.Expiry.{is_past_ttl_or_hidden, is_past_tti_or_hidden, after_front, after_eviction, write_front, access_front}
 use Rattle.moka_sync_model.specs.Turn.Expiry.{eviction_front, after_pass}
 
 -- what the cache holds when it asks whether to turn its sketch on
@@ -92,10 +92,10 @@ module _ {K V S : Type 0} (settings : Settings S) (valid_after : ℕ) where
   turn_at refused (place.MoreWrites round) m = AtWrites (λ log. (gone_to (after_more_writes round (length log)) m, log))
   turn_at refused (place.ExpireWrite turns) m =
       after_pass (write_front settings turns m.orders) (place.ExpireAccess 0)
-      (after_front (is_outlived settings valid_after m.moment) rewritten (place.ExpireWrite (turns + 1)) (place.ExpireAccess 0)) m
+      (after_front (is_past_ttl_or_hidden settings valid_after m.moment) rewritten (place.ExpireWrite (turns + 1)) (place.ExpireAccess 0)) m
   turn_at refused (place.ExpireAccess turns) m =
       after_pass (access_front settings valid_after turns m.orders) (place.Evict 0)
-      (after_front (is_out_of_use settings valid_after m.moment) used (place.ExpireAccess (turns + 1)) (place.Evict 0)) m
+      (after_front (is_past_tti_or_hidden settings valid_after m.moment) used (place.ExpireAccess (turns + 1)) (place.Evict 0)) m
   turn_at refused (place.Evict turns) m = after_pass (eviction_front settings turns m.orders) (place.Publish turns) (after_eviction turns) m
   turn_at refused (place.Publish turns) m = Alone (record m { place = place.Idle; published = next_published m })
 

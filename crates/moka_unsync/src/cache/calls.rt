@@ -10,9 +10,9 @@ ghost use Rattle.moka_unsync_model.specs.Told.{TellsWhatLeft};
 ghost use Rattle.moka_unsync_model.specs.ToldCalls.{TellsGot, TellsInsert, TellsInvalidate, TellsLook, TellsRemove};
 ghost use Rattle.moka_unsync_model.specs.declared.listener.Cause.TheVariants.{Explicit};
 
-use crate::admission::{admit, enter_window};
+use crate::admission::{admit, insert_into_window};
 use crate::cache::Cache;
-use crate::removal::{clear, remove_key, remove_where, take_key};
+use crate::removal::{clear, remove, remove_notifying, remove_where};
 use moka_common::error::InsertError;
 use moka_common::time::Instant;
 use moka_common::weigh::Weigh;
@@ -154,7 +154,7 @@ impl<
         ensures told { TellsInvalidate L.hears (keys_by K.Hash S.BuildHasher S.Hasher.Hasher) self.old now key.now listener.old listener.new }
     {
         self.bounds.upkeep(&mut self.store, now, listener);
-        remove_key(&mut self.store, key, hash, listener);
+        remove_notifying(&mut self.store, key, hash, listener);
     }
 
     /// Removes the entry of the key, if there is one, and returns its value, unless it is expired. The value is moved out, so it needs no `Clone`.
@@ -197,7 +197,7 @@ impl<
         ensures told { TellsRemove L.hears (keys_by K.Hash S.BuildHasher S.Hasher.Hasher) self.old now key.now listener.old listener.new }
     {
         self.bounds.upkeep(&mut self.store, now, listener);
-        let entry = take_key(&mut self.store, key, hash)?;
+        let entry = remove(&mut self.store, key, hash)?;
         if self.bounds.is_expired(&entry, now) {
             let Entry { key, value, .. } = entry;
             listener.removed(key, value, Cause::Expired);
@@ -310,7 +310,7 @@ impl<
         ensures told { OnOk result (TellsInsert L.hears (keys_by K.Hash S.BuildHasher S.Hasher.Hasher) self.old now key value self.new listener.old listener.new) }
         ensures untold { OnErr result (listener.new ≡ listener.old) }
     {
-        if self.store.reserve(1, self.most_entries).is_err() {
+        if self.store.reserve(1, self.max_entries).is_err() {
             return Err(InsertError::OutOfMemory);
         }
         self.bounds.upkeep(&mut self.store, now, listener);
@@ -330,7 +330,7 @@ impl<
             }
             None => match &self.windowed {
                 Some(limits) => {
-                    if enter_window(&mut self.store, limits, &self.sketch, entry, listener) {
+                    if insert_into_window(&mut self.store, limits, &self.sketch, entry, listener) {
                         self.enable_sketch();
                     }
                 }

@@ -12,8 +12,8 @@ replace-key-requires-clause-absent g c =
     absent_evicted g.K.PartialEq.eq c.args.new.key (contents_of c.args.store.now) (contents_of c.evict.new.store) (c.args.count - 1)
     (c.evict.ensures.step 0) c.requires.absent
 
-pub enter-requires-in-None-clause-absent : goal.enter-requires-in-None-clause-absent
-enter-requires-in-None-clause-absent g c =
+pub push-requires-in-None-clause-absent : goal.push-requires-in-None-clause-absent
+push-requires-in-None-clause-absent g c =
     absent_evicted g.K.PartialEq.eq c.args.new.key (contents_of c.args.store.now) (contents_of c.evict.new.store) (c.args.count - 1)
     (c.evict.ensures.step 0) c.requires.absent
 
@@ -28,7 +28,7 @@ returns-in-Some-clause-step g c =
 
 pub returns-then-count-eq0-clause-told : goal.returns-then-count-eq0-clause-told
 returns-then-count-eq0-clause-told g c =
-    and_moved untold (entered_among g.K.PartialEq.eq c.args.store.now c.enter.new.self c.args.new c.enter.ensures)
+    and_moved untold (entered_among g.K.PartialEq.eq c.args.store.now c.push.new.self c.args.new c.push.ensures)
 
 pub returns-in-Some-clause-told : goal.returns-in-Some-clause-told
 returns-in-Some-clause-told g c =
@@ -43,4 +43,4 @@ pub returns-in-None-clause-told : goal.returns-in-None-clause-told
 returns-in-None-clause-told g c =
     let some : 0 < c.args.count = omega (arith, c.if-count-eq0.false) in
     and_moved (also_there c.args.new (also_for (λ e there. some) c.evict.ensures.told))
-    (entered_among g.K.PartialEq.eq c.evict.new.store c.enter-in-None.new.self c.args.new c.enter-in-None.ensures)
+    (entered_among g.K.PartialEq.eq c.evict.new.store c.push-in-None.new.self c.args.new c.push-in-None.ensures)

@@ -1,6 +1,6 @@
 use Rattle.std.proofs.Common.{◌≡◌, ◌∙◌, ◌+◌, ◌*◌, ◌%◌, ◌<◌, ◌^◌, ℕ, List, get_or, length, nat_lt, ap, sym, arith, rules}
 use Rattle.std.specs.Int.{from_bool}
-use Rattle.moka_common.specs.Cells.{counters_of, counters_of_group, places_of}
+use Rattle.moka_common.specs.Cells.{counters_of, counters_of_group, slot_count}
 use Rattle.moka_common.specs.Sketch.{cell, grown_at, position_of}
 use Rattle.moka_common.proofs.CellLemmas.{counter_read, get_or-counters_of, raised, raised_room}
 use Rattle.moka_common.proofs.SketchLemmas.{cell_at}
@@ -14,9 +14,9 @@ index c = 4 * c.index_of-word.result + c.args.hash % 4
 within : (c : After-from) → index c < length c.args.groups.now
 within c = omega (arith, c.index_of-word.ensures.within)
 
-at : (c : After-from) → 4 * index c + c.args.depth ≡ position_of (cell (places_of c.args.groups.now) c.args.hash c.args.depth)
+at : (c : After-from) → 4 * index c + c.args.depth ≡ position_of (cell (slot_count c.args.groups.now) c.args.hash c.args.depth)
 at c =
-    cell_at (places_of c.args.groups.now) c.args.hash c.args.depth (index c)
+    cell_at (slot_count c.args.groups.now) c.args.hash c.args.depth (index c)
     (ap (λ word. 4 * word + c.args.hash % 4) c.index_of-word.ensures.value)
 
 -- what is added to the counter is one where it is below the most

@@ -3,14 +3,14 @@ use Rattle.std.specs.Int.Count.{count_trailing_zeros}
 use Rattle.std.specs.Prelude.{min}
 use Rattle.std.proofs.lemmas.Bool.{cond-false, cond-true}
 use Rattle.moka_list.specs.declared.constants.TheConstants.{FAR}
-use Rattle.moka_list.specs.HashIndex.{after, ends_at, group_at, places_of, rest_of}
+use Rattle.moka_list.specs.HashIndex.{after, ends_at, group_at, slots_of, rest_of}
 use Rattle.moka_list.proofs.ChosenLemmas.{bit_small, lowest}
 use Rattle.moka_list.proofs.RestLemmas.{next_of, none_of, yields}
 use Rattle.moka_list.proofs.hash_index.Candidates.next.Goals as goal
 use Rattle.moka_list.proofs.hash_index.Candidates.next.Goals.{then-not-self, else-not-self, then-self-eq0-via-then-self-eq0, then-self-eq0-via-else-self-eq0+then-group-eq0}
 
-pub bounds-group-place : goal.bounds-group-place
-bounds-group-place c =
+pub bounds-group-slot : goal.bounds-group-slot
+bounds-group-slot c =
     (lowest c.loop-group.self-inside.found (omega (arith, c.if-self-ne0.true)) c.loop-group.invariant.2).within
 
 pub overflow_sub-self : goal.overflow_sub-self
@@ -61,11 +61,11 @@ loop-group-preserved c =
     let sum = c.loop-group.invariant.6 in (
       c.loop-group.invariant.0,
       c.loop-group.invariant.1,
-      c.places_of-self-inside.ensures.bound,
+      c.slots_of-self-inside.ensures.bound,
       λ past. absurd (omega arith),
-      ap (rest_of groups it.tag it.far (it.left - 1) (it.distance + 1) c.after-self-inside.result) c.places_of-self-inside.ensures.places
+      ap (rest_of groups it.tag it.far (it.left - 1) (it.distance + 1) c.after-self-inside.result) c.slots_of-self-inside.ensures.slots
           ∙ ap (λ a. rest_of groups it.tag it.far (it.left - 1) (it.distance + 1) a
-          (places_of (group_at groups a) it.tag (min (it.distance + 1) FAR))) at
+          (slots_of (group_at groups a) it.tag (min (it.distance + 1) FAR))) at
           ∙ next_of groups it.tag it.far it.left it.distance it.at
           (ap (λ g. ends_at g it.far) (sym is) ∙ sym ends ∙ c.if-group-eq0.false) some
           ∙ sym (ap (rest_of groups it.tag it.far it.left it.distance it.at) c.if-self-ne0.false) ∙ c.loop-group.invariant.4,

@@ -23,19 +23,19 @@ pub shift-requires-clause-window_fits : goal.shift-requires-clause-window_fits
 shift-requires-clause-window_fits g c =
     (shift_fits c.self.invariant.0 c.args.id c.get_mut-entry.result.now c.get_mut-entry.result.now c.get_mut-entry.ensures.value).1
 
-pub settle-requires-clause-once : goal.settle-requires-clause-once
-settle-requires-clause-once g c =
+pub attach-requires-clause-once : goal.attach-requires-clause-once
+attach-requires-clause-once g c =
     let x = c.get_mut-entry.result.now in
     set_once c.self.invariant.0 c.args.id x (record x { part = Probation }) c.get_mut-entry.ensures.value
 
-pub settle-requires-clause-here : goal.settle-requires-clause-here
-settle-requires-clause-here g c =
+pub attach-requires-clause-here : goal.attach-requires-clause-here
+attach-requires-clause-here g c =
     let x = c.get_mut-entry.result.now in
     let e = (record x { part = Probation }) in
     (e, set_here c.self.invariant.0 c.args.id x e c.get_mut-entry.ensures.value, refl)
 
-pub settle-requires-clause-marks : goal.settle-requires-clause-marks
-settle-requires-clause-marks g c =
+pub attach-requires-clause-marks : goal.attach-requires-clause-marks
+attach-requires-clause-marks g c =
     let x = c.get_mut-entry.result.now in
     set_marks c.self.invariant.0 c.args.id x (record x { part = Probation }) c.get_mut-entry.ensures.value c.pass.new.self c.pass.ensures
 
@@ -46,12 +46,12 @@ invariant_of-self g c =
     let e = (record x { part = Probation }) in
     let stood = c.get_mut-entry.ensures.value in
     let weighed = shifted s c.args.id x e stood refl c.shift.new.self c.shift.ensures.value in (
-      stored-settled g.met.K.Eq.laws s c.args.id x e stood c.shift.ensures.small c.settle.new.entries.items c.settle.ensures.items
-          c.settle.new.marks c.settle.ensures.marks c.shift.new.self weighed refl refl,
-      room-same c.self.invariant.1 c.settle.new.entries c.self.inside.writes c.self.inside.index (ap (λ v. v.capacity) c.settle.ensures.unchanged) refl refl
-          (ap (λ v. v.room) c.settle.ensures.unchanged)
-          (length-settled g.met.K.Eq.laws s c.args.id x e stood c.shift.ensures.small c.settle.new.entries.items c.settle.ensures.items
-          c.settle.new.marks c.settle.ensures.marks c.shift.new.self weighed),
+      stored-settled g.met.K.Eq.laws s c.args.id x e stood c.shift.ensures.small c.attach.new.entries.items c.attach.ensures.items
+          c.attach.new.marks c.attach.ensures.marks c.shift.new.self weighed refl refl,
+      room-same c.self.invariant.1 c.attach.new.entries c.self.inside.writes c.self.inside.index (ap (λ v. v.capacity) c.attach.ensures.unchanged) refl refl
+          (ap (λ v. v.room) c.attach.ensures.unchanged)
+          (length-settled g.met.K.Eq.laws s c.args.id x e stood c.shift.ensures.small c.attach.new.entries.items c.attach.ensures.items
+          c.attach.new.marks c.attach.ensures.marks c.shift.new.self weighed),
     )
 
 pub returns : goal.returns
@@ -60,7 +60,7 @@ returns g c =
     let x = c.get_mut-entry.result.now in
     let e = (record x { part = Probation }) in
     let stood = c.get_mut-entry.ensures.value in
-    let moved = settled s c.args.id x e stood c.settle.new.entries.items c.settle.ensures.items in
+    let moved = settled s c.args.id x e stood c.attach.new.entries.items c.attach.ensures.items in
     rw (← c.self.view_is)
     (promotes_is g.met.K.Eq.laws _ _ s.keyed c.args.id x stood refl refl moved
-    (writes_kept s c.args.id x e stood refl c.settle.new.entries.items moved))
+    (writes_kept s c.args.id x e stood refl c.attach.new.entries.items moved))

@@ -49,19 +49,19 @@ add-requires-clause-fits g c small =
     fits c.self.invariant.0 c.args.id c.get_mut-gone.result.now c.get_mut-gone.result.now c.get_mut-gone.ensures.value c.take.new.self c.take.ensures
     c.args.entry.weight small
 
-pub settle-requires-clause-once : goal.settle-requires-clause-once
-settle-requires-clause-once g c =
+pub attach-requires-clause-once : goal.attach-requires-clause-once
+attach-requires-clause-once g c =
     let x = c.get_mut-gone.result.now in
     set_once c.self.invariant.0 c.args.id x c.replace-gone.new.dest c.get_mut-gone.ensures.value
 
-pub settle-requires-clause-here : goal.settle-requires-clause-here
-settle-requires-clause-here g c =
+pub attach-requires-clause-here : goal.attach-requires-clause-here
+attach-requires-clause-here g c =
     let x = c.get_mut-gone.result.now in
     let e = c.replace-gone.new.dest in
     (e, set_here c.self.invariant.0 c.args.id x e c.get_mut-gone.ensures.value, ap (λ z. z.part) c.replace-gone.ensures.after)
 
-pub settle-requires-clause-marks : goal.settle-requires-clause-marks
-settle-requires-clause-marks g c =
+pub attach-requires-clause-marks : goal.attach-requires-clause-marks
+attach-requires-clause-marks g c =
     let x = c.get_mut-gone.result.now in
     set_marks c.self.invariant.0 c.args.id x c.replace-gone.new.dest c.get_mut-gone.ensures.value
     c.pass.new.self c.pass.ensures
@@ -81,20 +81,20 @@ invariant_of-self g c =
     let e = c.args.entry in
     let stood = c.get_mut-gone.ensures.value in
     let moved =
-    settled s c.args.id x e stood c.settle.new.entries.items
-    (its_place c.args.id c.self.inside.entries.items c.replace-gone.new.dest e c.replace-gone.ensures.after c.settle.new.entries.items c.settle.ensures.items) in
+    settled s c.args.id x e stood c.attach.new.entries.items
+    (its_place c.args.id c.self.inside.entries.items c.replace-gone.new.dest e c.replace-gone.ensures.after c.attach.new.entries.items c.attach.ensures.items) in
     let weighed =
     heavier s c.args.id x e stood c.take.new.self c.take.ensures e.part e.weight refl refl c.add.new.self c.add.ensures.value in
     let absent = subst (λ v. entry_at g.K.PartialEq.eq e.key (entries_of v) ≡ None) (sym c.self.view_is) c.requires.absent in
     let left = subst (λ i. Unlists c.self.inside.index i c.remove.new.self) c.number.ensures c.remove.ensures.step in
     let added = subst (λ i. Adds c.remove.new.self i e.hash c.add-2.new.self) c.number-2.ensures c.add-2.ensures.step in (
-      stored-replaced g.met.K.Eq.laws s c.args.id x e stood c.add.ensures.small c.settle.new.entries.items c.settle.new.marks c.add.new.self moved
-          c.settle.ensures.marks weighed absent c.write_again.new.writes.ids c.write_again.ensures.ids c.remove.new.self c.add-2.new.self left added,
-      room-same c.self.invariant.1 c.settle.new.entries c.write_again.new.writes c.add-2.new.self (ap (λ v. v.capacity) c.settle.ensures.unchanged)
+      stored-replaced g.met.K.Eq.laws s c.args.id x e stood c.add.ensures.small c.attach.new.entries.items c.attach.new.marks c.add.new.self moved
+          c.attach.ensures.marks weighed absent c.write_again.new.writes.ids c.write_again.ensures.ids c.remove.new.self c.add-2.new.self left added,
+      room-same c.self.invariant.1 c.attach.new.entries c.write_again.new.writes c.add-2.new.self (ap (λ v. v.capacity) c.attach.ensures.unchanged)
           c.write_again.ensures.capacity (c.add-2.ensures.step.ids ∙ c.remove.ensures.step.ids)
-          (ap (λ v. v.room) c.settle.ensures.unchanged)
-          (length-relisted g.met.K.Eq.laws s c.args.id x e stood c.add.ensures.small c.settle.new.entries.items c.settle.new.marks c.add.new.self moved
-          c.settle.ensures.marks weighed),
+          (ap (λ v. v.room) c.attach.ensures.unchanged)
+          (length-relisted g.met.K.Eq.laws s c.args.id x e stood c.add.ensures.small c.attach.new.entries.items c.attach.new.marks c.add.new.self moved
+          c.attach.ensures.marks weighed),
     )
 
 pub returns-clause-step : goal.returns-clause-step
@@ -104,9 +104,9 @@ returns-clause-step g c =
     let e = c.args.entry in
     let stood = c.get_mut-gone.ensures.value in
     let moved =
-    settled s c.args.id x e stood c.settle.new.entries.items
-    (its_place c.args.id c.self.inside.entries.items c.replace-gone.new.dest e c.replace-gone.ensures.after c.settle.new.entries.items c.settle.ensures.items) in
+    settled s c.args.id x e stood c.attach.new.entries.items
+    (its_place c.args.id c.self.inside.entries.items c.replace-gone.new.dest e c.replace-gone.ensures.after c.attach.new.entries.items c.attach.ensures.items) in
     rw (← c.self.view_is)
     (replaces_is g.met.K.Eq.laws _ _ s.keyed c.args.id x stood refl refl e moved
-    ((λ i. written_under c.settle.new.entries.items (c.write_again.ensures.ids i))
-    ∙ writes_replaced g.met.K.Eq.laws s c.args.id x e stood c.settle.new.entries.items moved))
+    ((λ i. written_under c.attach.new.entries.items (c.write_again.ensures.ids i))
+    ∙ writes_replaced g.met.K.Eq.laws s c.args.id x e stood c.attach.new.entries.items moved))

@@ -22,19 +22,19 @@ pub shift-requires-clause-window_fits : goal.shift-requires-clause-window_fits
 shift-requires-clause-window_fits g c =
     (shift_fits c.self.invariant.0 c.args.id c.get_mut-entry.result.now c.get_mut-entry.result.now c.get_mut-entry.ensures.value).1
 
-pub settle-requires-clause-once : goal.settle-requires-clause-once
-settle-requires-clause-once g c =
+pub attach-requires-clause-once : goal.attach-requires-clause-once
+attach-requires-clause-once g c =
     let x = c.get_mut-entry.result.now in
     set_once c.self.invariant.0 c.args.id x (record x { accessed = c.args.now; part = c.used_part-used.result }) c.get_mut-entry.ensures.value
 
-pub settle-requires-clause-here : goal.settle-requires-clause-here
-settle-requires-clause-here g c =
+pub attach-requires-clause-here : goal.attach-requires-clause-here
+attach-requires-clause-here g c =
     let x = c.get_mut-entry.result.now in
     let e = (record x { accessed = c.args.now; part = c.used_part-used.result }) in
     (e, set_here c.self.invariant.0 c.args.id x e c.get_mut-entry.ensures.value, refl)
 
-pub settle-requires-clause-marks : goal.settle-requires-clause-marks
-settle-requires-clause-marks g c =
+pub attach-requires-clause-marks : goal.attach-requires-clause-marks
+attach-requires-clause-marks g c =
     let x = c.get_mut-entry.result.now in
     set_marks c.self.invariant.0 c.args.id x (record x { accessed = c.args.now; part = c.used_part-used.result }) c.get_mut-entry.ensures.value c.pass.new.self c.pass.ensures
 
@@ -46,8 +46,8 @@ balance-requires-clause-once g c =
     let stood = c.get_mut-entry.ensures.value in
     let weighed = shifted s c.args.id x e stood refl c.shift.new.self c.shift.ensures.value in
     let after =
-    stored-settled g.met.K.Eq.laws s c.args.id x e stood c.shift.ensures.small c.settle.new.entries.items c.settle.ensures.items
-    c.settle.new.marks c.settle.ensures.marks c.shift.new.self weighed refl refl in
+    stored-settled g.met.K.Eq.laws s c.args.id x e stood c.shift.ensures.small c.attach.new.entries.items c.attach.ensures.items
+    c.attach.new.marks c.attach.ensures.marks c.shift.new.self weighed refl refl in
     after.keyed.once
 
 pub balance-requires-clause-order : goal.balance-requires-clause-order
@@ -58,8 +58,8 @@ balance-requires-clause-order g c =
     let stood = c.get_mut-entry.ensures.value in
     let weighed = shifted s c.args.id x e stood refl c.shift.new.self c.shift.ensures.value in
     let after =
-    stored-settled g.met.K.Eq.laws s c.args.id x e stood c.shift.ensures.small c.settle.new.entries.items c.settle.ensures.items
-    c.settle.new.marks c.settle.ensures.marks c.shift.new.self weighed refl refl in
+    stored-settled g.met.K.Eq.laws s c.args.id x e stood c.shift.ensures.small c.attach.new.entries.items c.attach.ensures.items
+    c.attach.new.marks c.attach.ensures.marks c.shift.new.self weighed refl refl in
     after.order
 
 pub balance-requires-clause-weighed : goal.balance-requires-clause-weighed
@@ -70,8 +70,8 @@ balance-requires-clause-weighed g c =
     let stood = c.get_mut-entry.ensures.value in
     let weighed = shifted s c.args.id x e stood refl c.shift.new.self c.shift.ensures.value in
     let after =
-    stored-settled g.met.K.Eq.laws s c.args.id x e stood c.shift.ensures.small c.settle.new.entries.items c.settle.ensures.items
-    c.settle.new.marks c.settle.ensures.marks c.shift.new.self weighed refl refl in
+    stored-settled g.met.K.Eq.laws s c.args.id x e stood c.shift.ensures.small c.attach.new.entries.items c.attach.ensures.items
+    c.attach.new.marks c.attach.ensures.marks c.shift.new.self weighed refl refl in
     after.weighed
 
 pub invariant_of-self : goal.invariant_of-self
@@ -82,16 +82,16 @@ invariant_of-self g c =
     let stood = c.get_mut-entry.ensures.value in
     let weighed = shifted s c.args.id x e stood refl c.shift.new.self c.shift.ensures.value in
     let after =
-    stored-settled g.met.K.Eq.laws s c.args.id x e stood c.shift.ensures.small c.settle.new.entries.items c.settle.ensures.items
-    c.settle.new.marks c.settle.ensures.marks c.shift.new.self weighed refl refl in (
+    stored-settled g.met.K.Eq.laws s c.args.id x e stood c.shift.ensures.small c.attach.new.entries.items c.attach.ensures.items
+    c.attach.new.marks c.attach.ensures.marks c.shift.new.self weighed refl refl in (
       stored-balanced g.met.K.Eq.laws after c.args.room c.balance.new.entries.items c.balance.new.marks c.balance.new.weights c.balance.ensures.step
           c.balance.ensures.marks c.balance.ensures.weighed,
       room-same c.self.invariant.1 c.balance.new.entries c.self.inside.writes c.self.inside.index
-          (ap (λ v. v.capacity) c.balance.ensures.unchanged ∙ ap (λ v. v.capacity) c.settle.ensures.unchanged) refl refl
-          (ap (λ v. v.room) c.balance.ensures.unchanged ∙ ap (λ v. v.room) c.settle.ensures.unchanged)
-          (length-balanced c.settle.new.entries.items c.balance.new.entries.items c.balance.ensures.step
-          ∙ length-settled g.met.K.Eq.laws s c.args.id x e stood c.shift.ensures.small c.settle.new.entries.items c.settle.ensures.items
-          c.settle.new.marks c.settle.ensures.marks c.shift.new.self weighed),
+          (ap (λ v. v.capacity) c.balance.ensures.unchanged ∙ ap (λ v. v.capacity) c.attach.ensures.unchanged) refl refl
+          (ap (λ v. v.room) c.balance.ensures.unchanged ∙ ap (λ v. v.room) c.attach.ensures.unchanged)
+          (length-balanced c.attach.new.entries.items c.balance.new.entries.items c.balance.ensures.step
+          ∙ length-settled g.met.K.Eq.laws s c.args.id x e stood c.shift.ensures.small c.attach.new.entries.items c.attach.ensures.items
+          c.attach.new.marks c.attach.ensures.marks c.shift.new.self weighed),
     )
 
 pub returns : goal.returns
@@ -100,8 +100,8 @@ returns g c =
     let x = c.get_mut-entry.result.now in
     let e = (record x { accessed = c.args.now; part = c.used_part-used.result }) in
     let stood = c.get_mut-entry.ensures.value in
-    let moved = settled s c.args.id x e stood c.settle.new.entries.items c.settle.ensures.items in
+    let moved = settled s c.args.id x e stood c.attach.new.entries.items c.attach.ensures.items in
     rw (← c.self.view_is)
-    (uses_is g.met.K.Eq.laws _ _ s.keyed c.args.id x stood refl refl c.args.room e c.settle.new.entries.items moved c.balance.ensures.step c.args.now
+    (uses_is g.met.K.Eq.laws _ _ s.keyed c.args.id x stood refl refl c.args.room e c.attach.new.entries.items moved c.balance.ensures.step c.args.now
     (λ i. record x { accessed = c.args.now; part = c.used_part-used.ensures i })
-    (writes_balanced s c.args.id x e stood refl c.args.room c.settle.new.entries.items c.balance.new.entries.items moved c.balance.ensures.step))
+    (writes_balanced s c.args.id x e stood refl c.args.room c.attach.new.entries.items c.balance.new.entries.items moved c.balance.ensures.step))

@@ -34,19 +34,19 @@ pub add-requires-clause-fits : goal.add-requires-clause-fits
 add-requires-clause-fits g c small =
     fits c.self.invariant.0 c.args.id c.get_mut-entry.result.now c.get_mut-entry.result.now c.get_mut-entry.ensures.value c.take.new.self c.take.ensures c.args.update.weight small
 
-pub settle-requires-clause-once : goal.settle-requires-clause-once
-settle-requires-clause-once g c =
+pub attach-requires-clause-once : goal.attach-requires-clause-once
+attach-requires-clause-once g c =
     let x = c.get_mut-entry.result.now in
     set_once c.self.invariant.0 c.args.id x c.rewrite-left.new.entry c.get_mut-entry.ensures.value
 
-pub settle-requires-clause-here : goal.settle-requires-clause-here
-settle-requires-clause-here g c =
+pub attach-requires-clause-here : goal.attach-requires-clause-here
+attach-requires-clause-here g c =
     let x = c.get_mut-entry.result.now in
     let e = c.rewrite-left.new.entry in
     (e, set_here c.self.invariant.0 c.args.id x e c.get_mut-entry.ensures.value, ap (λ z. z.part) c.rewrite-left.ensures.entry)
 
-pub settle-requires-clause-marks : goal.settle-requires-clause-marks
-settle-requires-clause-marks g c =
+pub attach-requires-clause-marks : goal.attach-requires-clause-marks
+attach-requires-clause-marks g c =
     let x = c.get_mut-entry.result.now in
     set_marks c.self.invariant.0 c.args.id x c.rewrite-left.new.entry c.get_mut-entry.ensures.value c.pass.new.self c.pass.ensures
 
@@ -61,8 +61,8 @@ balance-requires-clause-once g c =
     (sym (ap (λ z. z.part) c.rewrite-left.ensures.entry)) (sym (ap (λ z. z.weight) c.rewrite-left.ensures.entry)) c.add.new.self c.add.ensures.value in
     let small = subst (λ z. z.weight < 2 ^ 32) (sym c.rewrite-left.ensures.entry) c.add.ensures.small in
     let after =
-    stored-settled g.met.K.Eq.laws s c.args.id x e stood small c.settle.new.entries.items c.settle.ensures.items
-    c.settle.new.marks c.settle.ensures.marks c.add.new.self weighed (ap (λ z. z.key) c.rewrite-left.ensures.entry) (ap (λ z. z.hash) c.rewrite-left.ensures.entry) in
+    stored-settled g.met.K.Eq.laws s c.args.id x e stood small c.attach.new.entries.items c.attach.ensures.items
+    c.attach.new.marks c.attach.ensures.marks c.add.new.self weighed (ap (λ z. z.key) c.rewrite-left.ensures.entry) (ap (λ z. z.hash) c.rewrite-left.ensures.entry) in
     after.keyed.once
 
 pub balance-requires-clause-order : goal.balance-requires-clause-order
@@ -76,8 +76,8 @@ balance-requires-clause-order g c =
     (sym (ap (λ z. z.part) c.rewrite-left.ensures.entry)) (sym (ap (λ z. z.weight) c.rewrite-left.ensures.entry)) c.add.new.self c.add.ensures.value in
     let small = subst (λ z. z.weight < 2 ^ 32) (sym c.rewrite-left.ensures.entry) c.add.ensures.small in
     let after =
-    stored-settled g.met.K.Eq.laws s c.args.id x e stood small c.settle.new.entries.items c.settle.ensures.items
-    c.settle.new.marks c.settle.ensures.marks c.add.new.self weighed (ap (λ z. z.key) c.rewrite-left.ensures.entry) (ap (λ z. z.hash) c.rewrite-left.ensures.entry) in
+    stored-settled g.met.K.Eq.laws s c.args.id x e stood small c.attach.new.entries.items c.attach.ensures.items
+    c.attach.new.marks c.attach.ensures.marks c.add.new.self weighed (ap (λ z. z.key) c.rewrite-left.ensures.entry) (ap (λ z. z.hash) c.rewrite-left.ensures.entry) in
     after.order
 
 pub balance-requires-clause-weighed : goal.balance-requires-clause-weighed
@@ -91,8 +91,8 @@ balance-requires-clause-weighed g c =
     (sym (ap (λ z. z.part) c.rewrite-left.ensures.entry)) (sym (ap (λ z. z.weight) c.rewrite-left.ensures.entry)) c.add.new.self c.add.ensures.value in
     let small = subst (λ z. z.weight < 2 ^ 32) (sym c.rewrite-left.ensures.entry) c.add.ensures.small in
     let after =
-    stored-settled g.met.K.Eq.laws s c.args.id x e stood small c.settle.new.entries.items c.settle.ensures.items
-    c.settle.new.marks c.settle.ensures.marks c.add.new.self weighed (ap (λ z. z.key) c.rewrite-left.ensures.entry) (ap (λ z. z.hash) c.rewrite-left.ensures.entry) in
+    stored-settled g.met.K.Eq.laws s c.args.id x e stood small c.attach.new.entries.items c.attach.ensures.items
+    c.attach.new.marks c.attach.ensures.marks c.add.new.self weighed (ap (λ z. z.key) c.rewrite-left.ensures.entry) (ap (λ z. z.hash) c.rewrite-left.ensures.entry) in
     after.weighed
 
 pub invariant_of-self : goal.invariant_of-self
@@ -106,19 +106,19 @@ invariant_of-self g c =
     (sym (ap (λ z. z.part) c.rewrite-left.ensures.entry)) (sym (ap (λ z. z.weight) c.rewrite-left.ensures.entry)) c.add.new.self c.add.ensures.value in
     let small = subst (λ z. z.weight < 2 ^ 32) (sym c.rewrite-left.ensures.entry) c.add.ensures.small in
     let after =
-    stored-settled g.met.K.Eq.laws s c.args.id x e stood small c.settle.new.entries.items c.settle.ensures.items
-    c.settle.new.marks c.settle.ensures.marks c.add.new.self weighed (ap (λ z. z.key) c.rewrite-left.ensures.entry) (ap (λ z. z.hash) c.rewrite-left.ensures.entry) in (
+    stored-settled g.met.K.Eq.laws s c.args.id x e stood small c.attach.new.entries.items c.attach.ensures.items
+    c.attach.new.marks c.attach.ensures.marks c.add.new.self weighed (ap (λ z. z.key) c.rewrite-left.ensures.entry) (ap (λ z. z.hash) c.rewrite-left.ensures.entry) in (
       stored-written g.met.K.Eq.laws (stored-balanced g.met.K.Eq.laws after c.args.room c.balance.new.entries.items c.balance.new.marks
           c.balance.new.weights c.balance.ensures.step c.balance.ensures.marks c.balance.ensures.weighed) c.args.id
-          (found_balanced s c.args.id x e stood c.args.room c.settle.new.entries.items c.balance.new.entries.items
-          (settled s c.args.id x e stood c.settle.new.entries.items c.settle.ensures.items) c.balance.ensures.step)
+          (found_balanced s c.args.id x e stood c.args.room c.attach.new.entries.items c.balance.new.entries.items
+          (settled s c.args.id x e stood c.attach.new.entries.items c.attach.ensures.items) c.balance.ensures.step)
           c.write_again.new.writes.ids c.write_again.ensures.ids,
       room-same c.self.invariant.1 c.balance.new.entries c.write_again.new.writes c.self.inside.index
-          (ap (λ v. v.capacity) c.balance.ensures.unchanged ∙ ap (λ v. v.capacity) c.settle.ensures.unchanged) c.write_again.ensures.capacity refl
-          (ap (λ v. v.room) c.balance.ensures.unchanged ∙ ap (λ v. v.room) c.settle.ensures.unchanged)
-          (length-balanced c.settle.new.entries.items c.balance.new.entries.items c.balance.ensures.step
-          ∙ length-settled g.met.K.Eq.laws s c.args.id x e stood small c.settle.new.entries.items c.settle.ensures.items
-          c.settle.new.marks c.settle.ensures.marks c.add.new.self weighed),
+          (ap (λ v. v.capacity) c.balance.ensures.unchanged ∙ ap (λ v. v.capacity) c.attach.ensures.unchanged) c.write_again.ensures.capacity refl
+          (ap (λ v. v.room) c.balance.ensures.unchanged ∙ ap (λ v. v.room) c.attach.ensures.unchanged)
+          (length-balanced c.attach.new.entries.items c.balance.new.entries.items c.balance.ensures.step
+          ∙ length-settled g.met.K.Eq.laws s c.args.id x e stood small c.attach.new.entries.items c.attach.ensures.items
+          c.attach.new.marks c.attach.ensures.marks c.add.new.self weighed),
     )
 
 pub returns-clause-step : goal.returns-clause-step
@@ -127,16 +127,16 @@ returns-clause-step g c =
     let x = c.get_mut-entry.result.now in
     let e = c.rewrite-left.new.entry in
     let stood = c.get_mut-entry.ensures.value in
-    let moved = settled s c.args.id x e stood c.settle.new.entries.items c.settle.ensures.items in
+    let moved = settled s c.args.id x e stood c.attach.new.entries.items c.attach.ensures.items in
     rw (← c.self.view_is)
-    (updates_is g.met.K.Eq.laws _ _ s.keyed c.args.id x stood refl refl c.args.room e c.settle.new.entries.items moved c.balance.ensures.step c.args.update
+    (updates_is g.met.K.Eq.laws _ _ s.keyed c.args.id x stood refl refl c.args.room e c.attach.new.entries.items moved c.balance.ensures.step c.args.update
     (c.rewrite-left.ensures.entry ∙ (λ i. record c.args.update {
       key = x.key;
       hash = x.hash;
       part = c.used_part-used.ensures i;
     }))
     ((λ i. written_under c.balance.new.entries.items (c.write_again.ensures.ids i))
-    ∙ (writes_last g.met.K.Eq.laws s c.args.id x e stood c.args.room c.settle.new.entries.items c.balance.new.entries.items moved c.balance.ensures.step
+    ∙ (writes_last g.met.K.Eq.laws s c.args.id x e stood c.args.room c.attach.new.entries.items c.balance.new.entries.items moved c.balance.ensures.step
     ∙ (λ i. with_write c.self.inside.keeps_writes
     (writes_without g.K.PartialEq.eq x.key (written_under c.self.inside.entries.items c.self.inside.writes.ids))
     (c.rewrite-left.ensures.entry i).key (c.rewrite-left.ensures.entry i).modified))))

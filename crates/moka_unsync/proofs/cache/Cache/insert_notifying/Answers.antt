@@ -155,19 +155,19 @@ its_admission g c none put stays max max_is step value =
       stays_main max c.self.inside.sketch new (entries_of old) stays all value,
     ))
 
-pub invariant_of-self-then-enter_window : goal.invariant_of-self-then-enter_window
-invariant_of-self-then-enter_window g c =
-    let at = (goal.at.invariant_of-self-then-enter_window g c).After-weigh in
-    let put = its_entering g at c.in-Some-windowed.limits c.in-Some-windowed.is c.enter_window.new.store c.enter_window.result
-    (c.enter_window.ensures.step, c.enter_window.ensures.value) in
-    admitted g at c.enter_window.new.store c.enter_window.result put c.enter_window.ensures.keeps
+pub invariant_of-self-then-insert_into_window : goal.invariant_of-self-then-insert_into_window
+invariant_of-self-then-insert_into_window g c =
+    let at = (goal.at.invariant_of-self-then-insert_into_window g c).After-weigh in
+    let put = its_entering g at c.in-Some-windowed.limits c.in-Some-windowed.is c.insert_into_window.new.store c.insert_into_window.result
+    (c.insert_into_window.ensures.step, c.insert_into_window.ensures.value) in
+    admitted g at c.insert_into_window.new.store c.insert_into_window.result put c.insert_into_window.ensures.keeps
 
-pub invariant_of-self-else-enter_window : goal.invariant_of-self-else-enter_window
-invariant_of-self-else-enter_window g c =
-    let at = (goal.at.invariant_of-self-else-enter_window g c).After-weigh in
-    let put = its_entering g at c.in-Some-windowed.limits c.in-Some-windowed.is c.enter_window.new.store c.enter_window.result
-    (c.enter_window.ensures.step, c.enter_window.ensures.value) in
-    admitted g at c.enter_window.new.store c.enter_window.result put c.enter_window.ensures.keeps
+pub invariant_of-self-else-insert_into_window : goal.invariant_of-self-else-insert_into_window
+invariant_of-self-else-insert_into_window g c =
+    let at = (goal.at.invariant_of-self-else-insert_into_window g c).After-weigh in
+    let put = its_entering g at c.in-Some-windowed.limits c.in-Some-windowed.is c.insert_into_window.new.store c.insert_into_window.result
+    (c.insert_into_window.ensures.step, c.insert_into_window.ensures.value) in
+    admitted g at c.insert_into_window.new.store c.insert_into_window.result put c.insert_into_window.ensures.keeps
 
 pub invariant_of-self-then-admit : goal.invariant_of-self-then-admit
 invariant_of-self-then-admit g c =
@@ -237,13 +237,13 @@ returns-in-Some-clause-step g c =
           (c.update-key.ensures.step.kept.capacity ∙ c.upkeep.ensures.kept.capacity);
     })
 
-pub returns-then-enter_window-clause-step : goal.returns-then-enter_window-clause-step
-returns-then-enter_window-clause-step g c =
-    let made = (goal.at.returns-then-enter_window-clause-step g c).After-upkeep in
-    let at = (goal.at.returns-then-enter_window-clause-step g c).After-weigh in
+pub returns-then-insert_into_window-clause-step : goal.returns-then-insert_into_window-clause-step
+returns-then-insert_into_window-clause-step g c =
+    let made = (goal.at.returns-then-insert_into_window-clause-step g c).After-upkeep in
+    let at = (goal.at.returns-then-insert_into_window-clause-step g c).After-weigh in
     let absent : entry_at g.K.PartialEq.eq c.args.key (entries_of c.upkeep.new.store) ≡ None = search rules in
-    let put = its_entering g at c.in-Some-windowed.limits c.in-Some-windowed.is c.enter_window.new.store c.enter_window.result
-    (c.enter_window.ensures.step, c.enter_window.ensures.value) in
+    let put = its_entering g at c.in-Some-windowed.limits c.in-Some-windowed.is c.insert_into_window.new.store c.insert_into_window.result
+    (c.insert_into_window.ensures.step, c.insert_into_window.ensures.value) in
     rw (← c.self.view_is)
     (record {
       weight = c.weigh.result;
@@ -257,17 +257,17 @@ returns-then-enter_window-clause-step g c =
       step =
           c.enable_sketch.ensures.1
           ∙ insert_stays g.K.PartialEq.eq (its_cache g at) (its_entry g at (its_hash g at)) c.args.now c.enable_sketch.ensures.0
-          (its_absence g at absent) (contents_of c.enter_window.new.store) c.enter_window.new.store.capacity c.enter_window.result
-          (its_put g at c.enter_window.new.store c.enter_window.result put) (c.enter_window.ensures.capacity ∙ c.upkeep.ensures.kept.capacity) c.if-enter_window.true;
+          (its_absence g at absent) (contents_of c.insert_into_window.new.store) c.insert_into_window.new.store.capacity c.insert_into_window.result
+          (its_put g at c.insert_into_window.new.store c.insert_into_window.result put) (c.insert_into_window.ensures.capacity ∙ c.upkeep.ensures.kept.capacity) c.if-insert_into_window.true;
     })
 
-pub returns-else-enter_window-clause-step : goal.returns-else-enter_window-clause-step
-returns-else-enter_window-clause-step g c =
-    let made = (goal.at.returns-else-enter_window-clause-step g c).After-upkeep in
-    let at = (goal.at.returns-else-enter_window-clause-step g c).After-weigh in
+pub returns-else-insert_into_window-clause-step : goal.returns-else-insert_into_window-clause-step
+returns-else-insert_into_window-clause-step g c =
+    let made = (goal.at.returns-else-insert_into_window-clause-step g c).After-upkeep in
+    let at = (goal.at.returns-else-insert_into_window-clause-step g c).After-weigh in
     let absent : entry_at g.K.PartialEq.eq c.args.key (entries_of c.upkeep.new.store) ≡ None = search rules in
-    let put = its_entering g at c.in-Some-windowed.limits c.in-Some-windowed.is c.enter_window.new.store c.enter_window.result
-    (c.enter_window.ensures.step, c.enter_window.ensures.value) in
+    let put = its_entering g at c.in-Some-windowed.limits c.in-Some-windowed.is c.insert_into_window.new.store c.insert_into_window.result
+    (c.insert_into_window.ensures.step, c.insert_into_window.ensures.value) in
     rw (← c.self.view_is)
     (record {
       weight = c.weigh.result;
@@ -280,8 +280,8 @@ returns-else-enter_window-clause-step g c =
       small = search rules;
       step =
           insert_drops g.K.PartialEq.eq (its_cache g at) (its_entry g at (its_hash g at)) c.args.now true
-          (its_absence g at absent) (contents_of c.enter_window.new.store) c.enter_window.new.store.capacity c.enter_window.result
-          (its_put g at c.enter_window.new.store c.enter_window.result put) (c.enter_window.ensures.capacity ∙ c.upkeep.ensures.kept.capacity) c.if-enter_window.false;
+          (its_absence g at absent) (contents_of c.insert_into_window.new.store) c.insert_into_window.new.store.capacity c.insert_into_window.result
+          (its_put g at c.insert_into_window.new.store c.insert_into_window.result put) (c.insert_into_window.ensures.capacity ∙ c.upkeep.ensures.kept.capacity) c.if-insert_into_window.false;
     })
 
 pub returns-then-admit-clause-step : goal.returns-then-admit-clause-step
@@ -407,25 +407,25 @@ returns-in-Some-clause-told g c =
     (subst (λ v. hears c.upkeep.new.listener c.args.key v Replaced c.removed.new.self) left
     (subst (λ k. hears c.upkeep.new.listener k c.update-key.result.1 Replaced c.removed.new.self) c.update-key.ensures.key c.removed.ensures)))
 
-pub returns-then-enter_window-clause-told : goal.returns-then-enter_window-clause-told
-returns-then-enter_window-clause-told g c =
-    let at = (goal.at.returns-then-enter_window-clause-told g c).After-weigh in
+pub returns-then-insert_into_window-clause-told : goal.returns-then-insert_into_window-clause-told
+returns-then-insert_into_window-clause-told g c =
+    let at = (goal.at.returns-then-insert_into_window-clause-told g c).After-weigh in
     let absent : entry_at g.K.PartialEq.eq c.args.key (entries_of c.upkeep.new.store) ≡ None = search rules in
-    let same : c.enable_sketch.new.self.contents.entries ≡ entries_of c.enter_window.new.store = ap (λ cache. cache.contents.entries) c.enable_sketch.ensures.1 in
+    let same : c.enable_sketch.new.self.contents.entries ≡ entries_of c.insert_into_window.new.store = ap (λ cache. cache.contents.entries) c.enable_sketch.ensures.1 in
     rw (← c.self.view_is)
-    (its_told g at (Some (main_limit c.in-Some-windowed.limits)) c.enter_window.result c.enable_sketch.new.self c.enter_window.new.listener
+    (its_told g at (Some (main_limit c.in-Some-windowed.limits)) c.insert_into_window.result c.enable_sketch.new.self c.insert_into_window.new.listener
     (its_window g at c.in-Some-windowed.limits c.in-Some-windowed.is) absent
-    (c.enter_window.ensures.value ∙ ap (λ es. is_some (entry_at g.K.PartialEq.eq c.args.key es)) (sym same))
-    (subst (λ es. TellsPut g.L.Listener.hears (Some (main_limit c.in-Some-windowed.limits)) c.enter_window.result (its_entry g at c.args.hash)
-    (entries_of c.upkeep.new.store) es c.upkeep.new.listener c.enter_window.new.listener) (sym same) c.enter_window.ensures.told))
+    (c.insert_into_window.ensures.value ∙ ap (λ es. is_some (entry_at g.K.PartialEq.eq c.args.key es)) (sym same))
+    (subst (λ es. TellsPut g.L.Listener.hears (Some (main_limit c.in-Some-windowed.limits)) c.insert_into_window.result (its_entry g at c.args.hash)
+    (entries_of c.upkeep.new.store) es c.upkeep.new.listener c.insert_into_window.new.listener) (sym same) c.insert_into_window.ensures.told))
 
-pub returns-else-enter_window-clause-told : goal.returns-else-enter_window-clause-told
-returns-else-enter_window-clause-told g c =
-    let at = (goal.at.returns-else-enter_window-clause-told g c).After-weigh in
+pub returns-else-insert_into_window-clause-told : goal.returns-else-insert_into_window-clause-told
+returns-else-insert_into_window-clause-told g c =
+    let at = (goal.at.returns-else-insert_into_window-clause-told g c).After-weigh in
     let absent : entry_at g.K.PartialEq.eq c.args.key (entries_of c.upkeep.new.store) ≡ None = search rules in
     rw (← c.self.view_is)
-    (its_told g at (Some (main_limit c.in-Some-windowed.limits)) c.enter_window.result _ c.enter_window.new.listener
-    (its_window g at c.in-Some-windowed.limits c.in-Some-windowed.is) absent c.enter_window.ensures.value c.enter_window.ensures.told)
+    (its_told g at (Some (main_limit c.in-Some-windowed.limits)) c.insert_into_window.result _ c.insert_into_window.new.listener
+    (its_window g at c.in-Some-windowed.limits c.in-Some-windowed.is) absent c.insert_into_window.ensures.value c.insert_into_window.ensures.told)
 
 pub returns-then-admit-clause-told : goal.returns-then-admit-clause-told
 returns-then-admit-clause-told g c =

@@ -3,8 +3,8 @@ use Rattle.moka_common.specs.Keys.{keys_by}
 use Rattle.moka_unsync.proofs.CachedLemmas.{IsCached-leaving, IsCached-upkeep, has_hash}
 use Rattle.moka_unsync.proofs.cache.Cache.invalidate_notifying.Goals as goal
 
-pub remove_key-requires : goal.remove_key-requires
-remove_key-requires g c =
+pub remove_notifying-requires : goal.remove_notifying-requires
+remove_notifying-requires g c =
     has_hash g.K.PartialEq.eq g.K.Hash.hash_input g.S.BuildHasher g.S.Hasher.Hasher g.met.K.Hash.respects_eq
     (IsCached-upkeep c.args.now c.self.invariant c.upkeep.ensures.step c.upkeep.ensures.kept) (subst (λ cache. c.args.hash ≡
     (keys_by (record { eq = g.K.PartialEq.eq; hash_input = g.K.Hash.hash_input }) g.S.BuildHasher g.S.Hasher.Hasher).hash_of
@@ -13,4 +13,4 @@ remove_key-requires g c =
 pub invariant_of-self : goal.invariant_of-self
 invariant_of-self g c =
     IsCached-leaving (c.args.key.now ∷ []) (IsCached-upkeep c.args.now c.self.invariant c.upkeep.ensures.step c.upkeep.ensures.kept)
-    c.remove_key.ensures.step c.remove_key.ensures.kept
+    c.remove_notifying.ensures.step c.remove_notifying.ensures.kept

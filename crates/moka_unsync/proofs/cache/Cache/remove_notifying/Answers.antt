@@ -3,8 +3,8 @@ use Rattle.moka_common.specs.Keys.{keys_by}
 use Rattle.moka_unsync.proofs.CachedLemmas.{IsCached-leaving, IsCached-upkeep, has_hash}
 use Rattle.moka_unsync.proofs.cache.Cache.remove_notifying.Goals as goal
 
-pub take_key-requires : goal.take_key-requires
-take_key-requires g c =
+pub remove-requires : goal.remove-requires
+remove-requires g c =
     has_hash g.K.PartialEq.eq g.K.Hash.hash_input g.S.BuildHasher g.S.Hasher.Hasher g.met.K.Hash.respects_eq
     (IsCached-upkeep c.args.now c.self.invariant c.upkeep.ensures.step c.upkeep.ensures.kept) (subst (λ cache. c.args.hash ≡
     (keys_by (record { eq = g.K.PartialEq.eq; hash_input = g.K.Hash.hash_input }) g.S.BuildHasher g.S.Hasher.Hasher).hash_of
@@ -13,14 +13,14 @@ take_key-requires g c =
 pub invariant_of-self : goal.invariant_of-self
 invariant_of-self g c =
     IsCached-leaving (c.args.key.now ∷ []) (IsCached-upkeep c.args.now c.self.invariant c.upkeep.ensures.step c.upkeep.ensures.kept)
-    c.take_key.ensures.step c.take_key.ensures.kept
+    c.remove.ensures.step c.remove.ensures.kept
 
 pub invariant_of-self-then-is_expired : goal.invariant_of-self-then-is_expired
 invariant_of-self-then-is_expired g c =
     IsCached-leaving (c.args.key.now ∷ []) (IsCached-upkeep c.args.now c.self.invariant c.upkeep.ensures.step c.upkeep.ensures.kept)
-    c.take_key.ensures.step c.take_key.ensures.kept
+    c.remove.ensures.step c.remove.ensures.kept
 
 pub invariant_of-self-2 : goal.invariant_of-self-2
 invariant_of-self-2 g c =
     IsCached-leaving (c.args.key.now ∷ []) (IsCached-upkeep c.args.now c.self.invariant c.upkeep.ensures.step c.upkeep.ensures.kept)
-    c.take_key.ensures.step c.take_key.ensures.kept
+    c.remove.ensures.step c.remove.ensures.kept

@@ -24,8 +24,8 @@ returns-then-weight-self-clause-step g c =
           (contents_of c.args.store.now))
     ] in
     let small = c.weight.type_inv in
-    subst (λ p. contents_of c.trim_to.new.store ≡ after_upkeep eq p c.args.now (contents_of c.args.store.now)) c.self.view_is
-    (c.trim_to.ensures.step
+    subst (λ p. contents_of c.evict_lru_to.new.store ≡ after_upkeep eq p c.args.now (contents_of c.args.store.now)) c.self.view_is
+    (c.evict_lru_to.ensures.step
     ∙ (trim-above eq c.self.inside.limits.max_capacity c.self.inside.max_weight c.weight.result c.self.invariant.limited c.if-weight-self.true small
     (contents_of c.if-self.store)
     ∙ ap (after_trim eq c.self.inside.limits.max_capacity) expired))
@@ -67,10 +67,10 @@ returns-then-weight-self-clause-told g c =
     let above : IsAbove policy.max_capacity (total_weight then.entries) =
     subst (λ w. IsAbove policy.max_capacity w) c.weight.ensures.value
     (is_above policy.max_capacity c.self.inside.max_weight c.weight.result c.self.invariant.limited c.if-weight-self.true c.weight.type_inv) in
-    subst (λ p. TellsUpkeep hears eq p c.args.now old c.args.listener.now c.trim_to.new.listener) c.self.view_is
-    (upkeep_told hears eq policy c.args.now old then (contents_of c.trim_to.new.store) c.args.listener.now c.if-self.listener c.trim_to.new.listener
-    expired.0 (subst (λ p. contents_of c.trim_to.new.store ≡ after_upkeep eq p c.args.now old) (sym c.self.view_is) (returns-then-weight-self-clause-step g c))
-    expired.1 (also_for (λ e there. above) c.trim_to.ensures.told))
+    subst (λ p. TellsUpkeep hears eq p c.args.now old c.args.listener.now c.evict_lru_to.new.listener) c.self.view_is
+    (upkeep_told hears eq policy c.args.now old then (contents_of c.evict_lru_to.new.store) c.args.listener.now c.if-self.listener c.evict_lru_to.new.listener
+    expired.0 (subst (λ p. contents_of c.evict_lru_to.new.store ≡ after_upkeep eq p c.args.now old) (sym c.self.view_is) (returns-then-weight-self-clause-step g c))
+    expired.1 (also_for (λ e there. above) c.evict_lru_to.ensures.told))
 
 pub returns-else-weight-self-clause-told : goal.returns-else-weight-self-clause-told
 returns-else-weight-self-clause-told g c =

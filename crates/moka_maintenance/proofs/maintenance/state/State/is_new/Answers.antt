@@ -15,7 +15,7 @@ returns-in-Idle g c =
           })
           c.in-Idle.is
           (subst (λ n. n ≤ 0) c.len.ensures.value c.if-len-gt0.false)
-          (sym (c.if-is_some.ensures ∙ (λ i. Rattle.std.specs.Option.is_some (c.oldest.ensures.value i))))
+          (sym (c.if-is_some.ensures ∙ (λ i. Rattle.std.specs.Option.is_some (c.oldest_write.ensures.value i))))
           c.table_len.ensures.sketch
           (subst (λ n. n ≤ 0) c.table_len.ensures.value c.if-table_len-gt0.false)
           (subst (λ n. n ≤ 0) c.nanos.ensures c.if-nanos-gt0.false)
