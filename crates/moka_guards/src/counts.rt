@@ -59,7 +59,6 @@ pub struct Publisher<A: Allocator + Drop = Global> {
     cell: Arc<Cell<A>, A>,
     size: InMemory<Cell<A>>,
     pass: Pass<Published, Known>,
-    newest: Published,
 }
 
 // By hand, as that of the counts.
@@ -69,7 +68,6 @@ impl<A: Allocator + Drop> Drop for Publisher<A> {
             cell,
             size,
             pass: _,
-            newest: _,
         } = self;
         size.tell();
         drop(cell);
@@ -77,7 +75,7 @@ impl<A: Allocator + Drop> Drop for Publisher<A> {
 }
 
 impl<A: Allocator + Drop> Model for Publisher<A> {
-    ghost use Rattle.std.specs.Prelude.{◌≡◌, ◌∷◌, true, List};
+    ghost use Rattle.std.specs.Prelude.{◌≡◌, true};
     ghost use Rattle.std.specs.Arc.{arc_value};
     ghost use Rattle.crossbeam_utils.specs.Seq.{cell_view};
     ghost use Rattle.moka_guards.specs.Counts.{Publisher as PublisherValue};
@@ -86,8 +84,7 @@ impl<A: Allocator + Drop> Model for Publisher<A> {
 
     ghost view = { λ p. record { counts = (arc_value p.cell).table.shared.table_id; published = (cell_view p.pass).seen } };
 
-    ghost invariant = { λ p. (p.pass.table_id ≡ (arc_value p.cell).table.shared.table_id) × ((cell_view p.pass).publishes ≡ true)
-        × ((older : List _) × ((cell_view p.pass).seen ≡ p.newest ∷ older)) };
+    ghost invariant = { λ p. (p.pass.table_id ≡ (arc_value p.cell).table.shared.table_id) × ((cell_view p.pass).publishes ≡ true) };
 }
 
 impl<A: Allocator + Clone + Drop> Publisher<A> {
@@ -95,18 +92,12 @@ impl<A: Allocator + Clone + Drop> Publisher<A> {
     pub fn new(alloc: &A) -> Result<Self, AllocError>
         ensures { IfOk result (λ publisher. publisher.published ≡ opening ∷ []) }
     {
-        let first = Published::opening();
         let size = InMemory::<Cell<A>>::new()?;
-        let (cell, pass) = Cell::ruled(alloc.clone()?, first)?;
+        let (cell, pass) = Cell::ruled(alloc.clone()?, Published::opening())?;
         let Ok(cell) = Arc::new(alloc.clone()?, cell) else {
             return Err(AllocError);
         };
-        Ok(Publisher {
-            cell,
-            size,
-            pass,
-            newest: first,
-        })
+        Ok(Publisher { cell, size, pass })
     }
 }
 
@@ -132,20 +123,13 @@ impl<A: Allocator + Drop> Publisher<A> {
         }
     }
 
-    /// Publishes the next counts. Their number is one more, at most `u64::MAX`.
-    pub fn publish<R: Wait>(&mut self, rt: &R, count: u64, weight: u64)
-        ensures { self.new ≡ record self.old {
-          published = record { number = number_after self.old.published; count = count; weight = weight } ∷ self.old.published;
-        } }
+    /// Publishes the next counts. Their number must be one more, at most `u64::MAX`.
+    pub fn publish<R: Wait>(&mut self, rt: &R, next: Published)
+        requires { next.number ≡ number_after self.old.published }
+        ensures { self.new ≡ record self.old { published = next ∷ self.old.published } }
     {
-        let next = Published {
-            number: self.newest.number.saturating_add(1),
-            count,
-            weight,
-        };
         self.size.tell();
         self.cell.swap_as::<Publishes, R>(rt, &mut self.pass, next);
-        self.newest = next;
     }
 }
 

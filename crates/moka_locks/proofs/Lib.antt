@@ -2,3 +2,4 @@ pub mod TurnLemmas
 pub mod SnapshotLemmas
 pub mod WritesLeftLemmas
 pub mod SameTicketsLemmas
+pub mod AccountedLemmas

@@ -17,15 +17,15 @@ ghost use Rattle.moka_sync_model.specs.Place.{Idle};
 ghost use Rattle.moka_sync_model.specs.Reply.{IsHanded};
 ghost use Rattle.moka_locks.specs.SameTickets.{AtWork, IsOrdered, just_begun};
 
+mod assemble;
 mod turns;
 
 use crate::housekeeper::Housekeeper;
-use crate::resting::Resting;
-use crate::running::Running;
-use crate::working::Working;
+use crate::idle::IdleMaintenance;
+use crate::inner::assemble::{counts_of, logs_and_maintenance, settings_and_shards};
+use crate::running::RunningMaintenance;
 use crossbeam_utils::CachePadded;
 use moka_common::error::{InsertError, OutOfMemory};
-use moka_common::policy::Policy;
 use moka_common::shared::Shared;
 use moka_common::time::Instant;
 use moka_guards::counts::{CountPass, Counts, Publisher};
@@ -33,11 +33,7 @@ use moka_guards::logs::Logs;
 use moka_guards::rule::PairRule;
 use moka_guards::shard::RuledShard;
 use moka_guards::waiting::lock;
-use moka_maintenance::maintenance::Maintenance;
-use moka_queues::logs::LoggedRead;
-use moka_shard::shard::Shard;
 use moka_sync_model::constants::SHARDS;
-use moka_sync_model::operation::Write;
 use moka_sync_model::published::Published;
 use moka_sync_model::settings::{CoreParts, Settings};
 use moka_sync_model::ticket::Ticket;
@@ -49,7 +45,7 @@ use std::sync::atomic::{AtomicU64, Ordering};
 use std::sync::{Mutex, Wait};
 
 /// The shards, each behind its lock and on lines of its own.
-type LockedShards<K, V, S, P, A> = Vec<CachePadded<Mutex<RuledShard<K, V, S, P, A>>>, A>;
+pub(crate) type LockedShards<K, V, S, P, A> = Vec<CachePadded<Mutex<RuledShard<K, V, S, P, A>>>, A>;
 
 /// The locks of a cache, and what lies beside them. What threads write to lies on lines of its own.
 #[derive(Drop)]
@@ -65,10 +61,10 @@ pub struct Inner<
     weigher: W,
     alloc: A,
     shards: LockedShards<K, V, S, P, A>,
-    logs: Logs<A>,
+    pub(crate) logs: Logs<A>,
     /// Nothing while a maintenance is under way: then whoever runs it has the lock.
-    maintenance: CachePadded<Mutex<Option<Resting<A>>>>,
-    housekeeper: CachePadded<Housekeeper>,
+    maintenance: CachePadded<Mutex<Option<IdleMaintenance<A>>>>,
+    pub(crate) housekeeper: CachePadded<Housekeeper>,
     valid_after: AtomicU64,
     /// Number of charged entries when a maintenance last ended.
     entry_count: AtomicU64,
@@ -125,8 +121,12 @@ impl<
             parts.capacity,
         )?;
         let keeps_writes = settings.limits().has_time_to_live();
-        let (logs, working) = logs_and_maintenance(&alloc, keeps_writes)?;
-        let maintenance = Resting::new(working, publisher);
+        let (logs, maintenance) = logs_and_maintenance(&alloc)?;
+        let maintenance = IdleMaintenance {
+            maintenance,
+            publisher,
+            keeps_writes,
+        };
         Ok(Inner {
             settings,
             weigher: parts.weigher,
@@ -311,16 +311,6 @@ impl<
         }
     }
 
-    /// Puts a read into its log. Answers whether there was room.
-    pub(crate) fn push_read<R: Wait>(&self, rt: &R, logged: LoggedRead) -> bool {
-        self.logs.push_read(rt, logged)
-    }
-
-    /// Puts a write into its log, once there is room. Answers whether there was.
-    pub(crate) fn push_write<R: Wait>(&self, rt: &R, write: Write) -> bool {
-        self.logs.push_write(rt, write)
-    }
-
     /// Returns `true` if a maintenance is due, as a get asks, and nobody else runs one. Then nobody does until `end_maintenance`.
     pub(crate) fn try_start_for_reads(&self, now: Instant) -> bool {
         self.housekeeper.should_apply_reads(self.logs.reads(), now)
@@ -328,30 +318,24 @@ impl<
     }
 
     /// Returns `true` if a maintenance is due, as an insert or an invalidation asks, and nobody else runs one.
-    pub(crate) fn win_for_writes(&self, now: Instant) -> bool {
+    pub(crate) fn try_start_for_writes(&self, now: Instant) -> bool {
         self.housekeeper
             .should_apply_writes(self.logs.writes(), now)
             && self.housekeeper.try_begin(now)
     }
 
-    /// Others may run a maintenance again.
-    pub(crate) fn end_maintenance(&self) {
-        self.housekeeper.end();
-    }
-
     /// Begins a maintenance, once nobody else runs one.
-    pub(crate) fn begin<R: Wait>(&self, rt: &R, now: Instant) -> Running<'_, A>
+    pub(crate) fn begin<R: Wait>(&self, rt: &R, now: Instant) -> RunningMaintenance<'_, A>
         ensures begun { (w : AtWork) × (w.keeps_writes ≡ keeps_writes self.now.settings.policy) × (w.working.maintenance.place ≡ Idle)
             × (result ≡ just_begun now w) }
         ensures ordered { IsOrdered result }
     {
         let keeps_writes = self.settings.limits().has_time_to_live();
-        Running::begin(rt, &self.maintenance, keeps_writes, now)
+        RunningMaintenance::begin(rt, &self.maintenance, keeps_writes, now)
     }
 
     /// Publishes what a maintenance that has ended has left.
-    pub(crate) fn publish(&self, maintenance: &Maintenance<A>) {
-        let published = maintenance.published();
+    pub(crate) fn publish(&self, published: Published) {
         self.entry_count.store(published.count, Ordering::Release);
         self.weighted_size
             .store(published.weight, Ordering::Release);
@@ -409,92 +393,4 @@ impl<
         let mut shard = lock(rt, self.shard(hash));
         shard.take(key, hash, &self.settings, self.valid_after(), now)
     }
-}
-
-/// The counts of a publisher, if there is one.
-fn counts_of<A: Allocator + Drop>(
-    publisher: &Option<Publisher<A>>,
-) -> Result<Option<Counts<A>>, OutOfMemory>
-    ensures { IfOk result (λ counts. counts ≡ counts_of publisher.now) }
-{
-    match publisher {
-        Some(publisher) => Ok(Some(publisher.counts()?)),
-        None => Ok(None),
-    }
-}
-
-/// Empty logs, and a maintenance that has done nothing.
-fn logs_and_maintenance<A: Allocator + Clone + Drop>(
-    alloc: &A,
-    keeps_writes: bool,
-) -> Result<(Logs<A>, Box<Working<A>, A>), OutOfMemory>
-    ensures { IfOk result (λ made. made.1.value.working.maintenance ≡ new_maintenance) }
-{
-    let maintenance = Maintenance::new(alloc.clone()?)?;
-    let working = Box::new(alloc.clone()?, Working::new(maintenance, keeps_writes))?;
-    Ok((Logs::new(alloc)?, working))
-}
-
-/// The settings of a new cache, and its shards, with room for `capacity` entries in each.
-fn settings_and_shards<
-    K: Eq + Hash + Drop,
-    V: Drop,
-    S: BuildHasher + Drop,
-    P: PairRule<K, V>,
-    A: Allocator + Clone + Drop,
->(
-    alloc: &A,
-    hash_state: S,
-    policy: Policy,
-    is_weighed: bool,
-    capacity: usize,
-) -> Result<(Settings<S, A>, LockedShards<K, V, S, P, A>), OutOfMemory>
-    ensures settings { IfOk result (λ made. made.0 ≡ record { hash_state = hash_state; policy = policy; is_weighed = is_weighed }) }
-    ensures shards { IfOk result (λ made. vec_len made.1 ≡ SHARDS) }
-{
-    let hash_state = Shared::new(alloc.clone()?, hash_state)?;
-    let shards = locked_shards(alloc, &hash_state, capacity)?;
-    Ok((Settings::new(hash_state, policy, is_weighed), shards))
-}
-
-/// The shards of a new cache, each behind its lock, with room for `capacity` entries in each.
-fn locked_shards<
-    K: Eq + Hash + Drop,
-    V: Drop,
-    S: BuildHasher + Drop,
-    P: PairRule<K, V>,
-    A: Allocator + Clone + Drop,
->(
-    alloc: &A,
-    hash_state: &Shared<S, A>,
-    capacity: usize,
-) -> Result<LockedShards<K, V, S, P, A>, OutOfMemory>
-    ensures { IfOk result (λ shards. vec_len shards ≡ SHARDS) }
-{
-    let mut shards = Vec::with_capacity(alloc.clone()?, SHARDS)?;
-    for number in 0..SHARDS {
-        let shard = empty_shard(alloc, hash_state, number, capacity)?;
-        shards.push(CachePadded::new(Mutex::new(shard)))?;
-    }
-    Ok(shards)
-}
-
-/// A shard of a new cache, by its number, with room for `capacity` entries.
-fn empty_shard<
-    K: Eq + Hash + Drop,
-    V: Drop,
-    S: BuildHasher + Drop,
-    P: PairRule<K, V>,
-    A: Allocator + Clone + Drop,
->(
-    alloc: &A,
-    hash_state: &Shared<S, A>,
-    number: usize,
-    capacity: usize,
-) -> Result<RuledShard<K, V, S, P, A>, OutOfMemory>
-    requires { number < SHARDS }
-{
-    let hash_state = hash_state.try_clone()?;
-    let shard = Shard::new(alloc.clone()?, number, 0, capacity, hash_state)?;
-    Ok(RuledShard::new(shard))
 }

@@ -2,9 +2,8 @@
 #![tactic(auto)]
 
 pub mod housekeeper;
+mod idle;
 pub mod inner;
 pub mod laws;
-pub mod locked;
-mod resting;
 mod running;
-mod working;
+pub mod session;

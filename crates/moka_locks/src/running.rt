@@ -5,73 +5,102 @@ ghost use Rattle.moka_sync_model.specs.Place.{Idle, name_of};
 ghost use Rattle.moka_locks.specs.MaintenanceTurn.{AreTurns};
 ghost use Rattle.moka_locks.specs.SameTickets.{AtWork, IsOrdered, just_begun};
 
+use crate::idle::IdleMaintenance;
 use crate::inner::Inner;
-use crate::resting::Resting;
-use crate::working::Working;
 use moka_common::time::Instant;
 use moka_guards::counts::Publisher;
 use moka_guards::rule::PairRule;
 use moka_guards::waiting::lock;
 use moka_maintenance::maintenance::Maintenance;
+use moka_queues::taken::TakenWrites;
 use moka_sync_model::place::Place;
+use moka_sync_model::published::Published;
 use std::alloc::Allocator;
 use std::hash::{BuildHasher, Hash};
 use std::marker::Model;
 use std::sync::{Mutex, MutexGuard, Wait};
 
-/// A maintenance with the lock from which it was taken, and to which it goes back.
+/// A maintenance that is under way, with its lock.
+///
+/// The writes that it has taken from their log are no more than its round is still to apply.
 #[derive(Drop)]
-pub(crate) struct Running<'a, A: Allocator + Clone + Drop> {
-    guard: MutexGuard<'a, Option<Resting<A>>>,
-    working: Box<Working<A>, A>,
+pub(crate) struct RunningMaintenance<'a, A: Allocator + Clone + Drop> {
+    guard: MutexGuard<'a, Option<IdleMaintenance<A>>>,
+    maintenance: Box<Maintenance<A>, A>,
+    taken: TakenWrites,
     publisher: Option<Publisher<A>>,
+    keeps_writes: bool,
 }
 
-impl<'a, A: Allocator + Clone + Drop> Model for Running<'a, A> {
-    ghost use Rattle.moka_locks.specs.SameTickets.{AtWork};
+impl<'a, A: Allocator + Clone + Drop> Model for RunningMaintenance<'a, A> {
+    ghost use Rattle.std.specs.Prelude.{◌≤◌, IfSome, length};
+    ghost use Rattle.moka_locks.specs.Charged.{IsAccounted};
+    ghost use Rattle.moka_locks.specs.SameTickets.{AtWork, HasBothOrders};
+    ghost use Rattle.moka_maintenance.specs.Taken.{writes_left};
 
     ghost Value = { AtWork };
 
-    ghost view = { λ r. r.working.value };
+    ghost view = { λ r. record { keeps_writes = r.keeps_writes; working = record { maintenance = r.maintenance.value; at_hand = r.taken } } };
+
+    ghost invariant = { λ r. (length r.taken ≤ writes_left r.maintenance.value.place) × HasBothOrders r.keeps_writes r.maintenance.value.orders
+        × IfSome r.publisher (λ p. IsAccounted r.maintenance.value p.published) };
 }
 
-impl<'a, A: Allocator + Clone + Drop> Running<'a, A> {
+impl<'a, A: Allocator + Clone + Drop> RunningMaintenance<'a, A> {
     /// Takes the lock, and begins a maintenance of a cache with a time to live, or of one without.
     pub(crate) fn begin<R: Wait>(
         rt: &R,
-        maintenance: &'a Mutex<Option<Resting<A>>>,
+        lock_of: &'a Mutex<Option<IdleMaintenance<A>>>,
         keeps_writes: bool,
         now: Instant,
-    ) -> Running<'a, A>
+    ) -> RunningMaintenance<'a, A>
         ensures begun { (w : AtWork) × (w.keeps_writes ≡ keeps_writes) × (w.working.maintenance.place ≡ Idle) × (result ≡ just_begun now w) }
         ensures ordered { IsOrdered result }
     {
         for _ in rt.forever() {
-            let mut guard = lock(rt, maintenance);
-            let Some(resting) = guard.take() else {
+            let mut guard = lock(rt, lock_of);
+            let Some(idle) = guard.take() else {
                 continue;
             };
-            if resting.keeps_writes() != keeps_writes {
+            if idle.keeps_writes != keeps_writes {
                 // Not proved: read in the code. It never comes here: a cache's maintenance was made by its settings.
-                *guard = Some(resting);
+                *guard = Some(idle);
                 continue;
             }
-            let (mut working, publisher) = resting.wake();
-            working.begin(now);
-            return Running {
-                guard,
-                working,
-                publisher,
-            };
+            return RunningMaintenance::of(guard, idle, now);
         }
         unreachable!()
     }
 
-    /// The maintenance.
-    pub(crate) fn maintenance(&self) -> &Maintenance<A>
-        ensures { result.now ≡ self.now.working.maintenance }
+    /// Begins this maintenance, which was taken from its lock.
+    fn of(
+        guard: MutexGuard<'a, Option<IdleMaintenance<A>>>,
+        idle: IdleMaintenance<A>,
+        now: Instant,
+    ) -> RunningMaintenance<'a, A>
+        ensures begun { (w : AtWork) × (w.keeps_writes ≡ idle) × (w.working.maintenance.place ≡ Idle) × (result ≡ just_begun now w) }
+        ensures ordered { IsOrdered result }
     {
-        self.working.maintenance()
+        let IdleMaintenance {
+            mut maintenance,
+            publisher,
+            keeps_writes,
+        } = idle;
+        maintenance.begin(now);
+        RunningMaintenance {
+            guard,
+            maintenance,
+            taken: TakenWrites::new(),
+            publisher,
+            keeps_writes,
+        }
+    }
+
+    /// The counts that it has published.
+    pub(crate) fn published(&self) -> Published
+        ensures { result ≡ self.now.working.maintenance.published }
+    {
+        self.maintenance.published()
     }
 
     /// One turn, with the lock of what it needs, or several, where operations leave their log and are applied at once. The answer is where the maintenance is
@@ -90,18 +119,28 @@ impl<'a, A: Allocator + Clone + Drop> Running<'a, A> {
         ensures keeps { self.new.keeps_writes ≡ self.old.keeps_writes }
         ensures ordered { IsOrdered self.new }
     {
-        self.working.turn(rt, inner)
+        inner.turn(rt, &mut self.maintenance, &mut self.taken);
+        self.maintenance.place()
     }
 
     /// Publishes the counts of the maintenance, which has ended, gives it back, and frees its lock.
     pub(crate) fn end<R: Wait>(self, rt: &R)
         requires { self.working.maintenance.place ≡ Idle }
     {
-        let Running {
+        let RunningMaintenance {
             mut guard,
-            working,
-            publisher,
+            maintenance,
+            taken: _,
+            mut publisher,
+            keeps_writes,
         } = self;
-        *guard = Some(Resting::ended(rt, working, publisher));
+        if let Some(publisher) = &mut publisher {
+            publisher.publish(rt, maintenance.published());
+        }
+        *guard = Some(IdleMaintenance {
+            maintenance,
+            publisher,
+            keeps_writes,
+        });
     }
 }

@@ -25,7 +25,7 @@ use moka_common::weigh::UnitWeight;
 use moka_guards::counts::{CountPass, Publisher};
 use moka_guards::rule::{AnyPair, PairRule};
 use moka_locks::inner::Inner;
-use moka_locks::locked::Locked;
+use moka_locks::session::Session;
 use moka_sync_model::constants::SHARDS;
 use moka_sync_model::published::Published;
 use moka_sync_model::settings::CoreParts;
@@ -256,7 +256,7 @@ impl<
         ensures call { CallsContains (locked_allows (keys_by K.Hash S.BuildHasher S.Hasher.Hasher) P.holds W.weighs) locked_decides
             (pends_by locked_caller) CALLER key.now now (reply.Bool result) (resting_at self.now) (resting_at self.now) }
     {
-        steps::contains_key(rt, &Locked::new(self.inner.get()), key, now)
+        steps::contains_key(rt, &Session::new(self.inner.get()), key, now)
     }
 
     /// Puts a value at a key, in place of the one that is there. The pair has to meet the rule. It is refused for want of memory, or where the key's
@@ -270,7 +270,7 @@ impl<
         let Some((key, value)) = shared(self.inner.get().alloc(), key, value) else {
             return Err(InsertError::OutOfMemory);
         };
-        steps::insert(rt, &mut Locked::new(self.inner.get()), key, value, now)
+        steps::insert(rt, &mut Session::new(self.inner.get()), key, value, now)
     }
 
     /// Takes the entry of a key out.
@@ -278,7 +278,7 @@ impl<
         ensures call { (new : LockedValue S W) × CallsInvalidate (locked_allows (keys_by K.Hash S.BuildHasher S.Hasher.Hasher) P.holds W.weighs) locked_decides
             (pends_by locked_caller) CALLER key.now now reply.Done (resting_at self.now) new }
     {
-        steps::invalidate(rt, &mut Locked::new(self.inner.get()), key, now);
+        steps::invalidate(rt, &mut Session::new(self.inner.get()), key, now);
     }
 
     /// Hides all entries that were inserted or read last before this moment. Those of the moment itself stay. It takes no lock.
@@ -287,7 +287,7 @@ impl<
             (locked_allows (keys_by K.Hash S.BuildHasher S.Hasher.Hasher) P.holds W.weighs) locked_decides
             (pends_by locked_caller) CALLER now reply.Done (resting_at self.now) new }
     {
-        steps::invalidate_all(&mut Locked::new(self.inner.get()), now);
+        steps::invalidate_all(&mut Session::new(self.inner.get()), now);
     }
 }
 
@@ -307,7 +307,7 @@ impl<
         // It is a clone of a value that meets the rule with the key.
         ensures ruled { IfOk result (λ found. IfSome found (λ copy. (value : V) × P.holds key.now value × V.is_clone value copy)) }
     {
-        steps::get(rt, &mut Locked::new(self.inner.get()), key, now)
+        steps::get(rt, &mut Session::new(self.inner.get()), key, now)
     }
 
     /// Calls `get`.
@@ -333,7 +333,7 @@ impl<
         // It is a clone of a value that meets the rule with the key.
         ensures ruled { IfOk result (λ found. IfSome found (λ copy. (value : V) × P.holds key.now value × V.is_clone value copy)) }
     {
-        steps::remove(rt, &mut Locked::new(self.inner.get()), key, now)
+        steps::remove(rt, &mut Session::new(self.inner.get()), key, now)
     }
 }
 
@@ -373,6 +373,6 @@ impl<
         locked_decides (pends_by locked_caller) CALLER now reply.Done (resting_at cache) new };
 
     fn sync<R: Wait>(&self, rt: &R, now: Instant) {
-        steps::sync(rt, &mut Locked::new(self.inner.get()), now);
+        steps::sync(rt, &mut Session::new(self.inner.get()), now);
     }
 }

@@ -1,5 +1,6 @@
 // Calls of the cache with a listener.
 use moka_common::error::InsertError;
+use moka_common::hash::FixedState;
 use moka_common::time::Instant;
 use moka_unsync::cache::Cache;
 use moka_unsync::notifying_cache::NotifyingCache;
@@ -74,6 +75,23 @@ fn a_listener_counts_each_entry_that_leaves(rt: HostRuntime) -> Result<(), Fail>
     cache.invalidate_all();
     let (cache, counts) = cache.into_parts();
     assert_eq!(rt; (cache.entry_count(), digits(&counts)), (0, 1310));
+    Ok(())
+}
+
+// With a hash state of its own. The first count is of the second value, the next one of the removal alone.
+#[test]
+fn a_listener_can_be_changed_between_calls(rt: HostRuntime) -> Result<(), Fail> {
+    let mut cache = Cache::builder(rt.alloc())
+        .max_capacity(1)
+        .eviction_listener(Statistics::default())
+        .build_with_hasher(FixedState::new())?;
+    cache.insert(1u64, 1u64, at(0))?;
+    cache.insert(1, 2, at(0))?;
+    assert_eq!(rt; digits(cache.listener()), 10);
+    *cache.listener_mut() = Statistics::default();
+    cache.invalidate(&1, at(0));
+    assert_eq!(rt; digits(cache.listener()), 100);
+    assert_eq!(rt; cache.cache().policy().max_capacity(), Some(1));
     Ok(())
 }
 

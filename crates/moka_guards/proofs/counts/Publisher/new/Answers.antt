@@ -7,5 +7,5 @@ use Rattle.moka_guards.proofs.counts.Publisher.new.Goals as goal
 pub ruled-requires : goal.ruled-requires
 ruled-requires g c = (
   search rules,
-  (search rules, subst (λ first. IsLog first (record { publishes = true; seen = opening ∷ [] } ∷ [])) (sym c.opening-first.ensures) opens),
+  (search rules, subst (λ first. IsLog first (record { publishes = true; seen = opening ∷ [] } ∷ [])) (sym c.opening.ensures) opens),
 )

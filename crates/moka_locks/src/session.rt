@@ -6,7 +6,7 @@ ghost use Rattle.moka_locks.specs.Locked.{resting_at, running};
 ghost use Rattle.moka_locks.specs.SameTickets.{HasBothOrders};
 
 use crate::inner::Inner;
-use crate::running::Running;
+use crate::running::RunningMaintenance;
 use moka_common::error::{InsertError, OutOfMemory};
 use moka_common::shared::Shared;
 use moka_common::time::Instant;
@@ -30,7 +30,7 @@ enum Pending {
 }
 
 /// A cache as one caller has it for the time of a call.
-pub struct Locked<
+pub struct Session<
     'a,
     K: Eq + Hash + Drop,
     V: Drop,
@@ -42,7 +42,7 @@ pub struct Locked<
     inner: &'a Inner<K, V, S, P, W, A>,
     pending: Pending,
     /// The maintenance that the caller runs.
-    running: Option<Running<'a, A>>,
+    running: Option<RunningMaintenance<'a, A>>,
     /// True if the caller has been told to run it, and nobody else is until it has ended.
     runs_maintenance: bool,
 }
@@ -56,9 +56,9 @@ impl<
     P: PairRule<K, V>,
     W: Drop,
     A: Allocator + Clone + Drop,
-> Drop for Locked<'a, K, V, S, P, W, A> {
+> Drop for Session<'a, K, V, S, P, W, A> {
     fn drop(self) {
-        let Locked {
+        let Session {
             inner: _,
             pending: _,
             running: _,
@@ -75,7 +75,7 @@ impl<
     P: PairRule<K, V>,
     W: Drop,
     A: Allocator + Clone + Drop,
-> Model for Locked<'a, K, V, S, P, W, A> {
+> Model for Session<'a, K, V, S, P, W, A> {
     ghost use Rattle.std.specs.Prelude.{◌≡◌, IfSome, option_map};
     ghost use Rattle.moka_common.specs.Settings.{keeps_writes};
     ghost use Rattle.moka_locks.specs.Locked.{Locked as LockedValue, operation_of};
@@ -96,12 +96,12 @@ impl<
     P: PairRule<K, V>,
     W: Drop,
     A: Allocator + Clone + Drop,
-> Locked<'a, K, V, S, P, W, A> {
-    /// The cache, with nothing under way.
+> Session<'a, K, V, S, P, W, A> {
+    /// Begins a call, with nothing under way.
     pub fn new(inner: &'a Inner<K, V, S, P, W, A>) -> Self
         ensures { result ≡ resting_at inner.now }
     {
-        Locked {
+        Session {
             inner,
             pending: Pending::Nothing,
             running: None,
@@ -124,11 +124,12 @@ impl<
         let Some(running) = self.running.take() else {
             return;
         };
-        self.inner.publish(running.maintenance());
+        let inner = self.inner;
+        inner.publish(running.published());
         running.end(rt);
         if self.runs_maintenance {
             self.runs_maintenance = false;
-            self.inner.end_maintenance();
+            inner.housekeeper.end();
         }
     }
 }
@@ -141,7 +142,7 @@ impl<
     P: PairRule<K, V>,
     W: WeighShared<K, V>,
     A: Allocator + Clone + Drop,
-> Steps<K, V, A> for Locked<'a, K, V, S, P, W, A> {
+> Steps<K, V, A> for Session<'a, K, V, S, P, W, A> {
     ghost use Rattle.moka_common.specs.Keys.{keys_by};
     ghost use Rattle.moka_locks.specs.Locked.{locked_allows, locked_caller, locked_decides};
 
@@ -216,7 +217,8 @@ impl<
             return ReadPush::Discarded;
         };
         self.pending = Pending::Nothing;
-        if self.inner.push_read(rt, logged) {
+        let inner = self.inner;
+        if inner.logs.push_read(rt, logged) {
             ReadPush::Pushed
         } else {
             ReadPush::Discarded
@@ -227,7 +229,8 @@ impl<
         let Pending::Write(write) = self.pending else {
             return WritePush::Full;
         };
-        if !self.inner.push_write(rt, write) {
+        let inner = self.inner;
+        if !inner.logs.push_write(rt, write) {
             return WritePush::Full;
         }
         self.pending = Pending::Nothing;
@@ -241,7 +244,7 @@ impl<
     fn decide(&mut self, log: WhichLog, now: Instant) -> bool {
         let runs_maintenance = match log {
             WhichLog::Reads => self.inner.try_start_for_reads(now),
-            WhichLog::Writes => self.inner.win_for_writes(now),
+            WhichLog::Writes => self.inner.try_start_for_writes(now),
         };
         self.runs_maintenance = runs_maintenance;
         runs_maintenance
@@ -272,7 +275,7 @@ impl<
     P: PairRule<K, V>,
     W: WeighShared<K, V>,
     A: Allocator + Clone + Drop,
-> TakingSteps<K, V, A> for Locked<'a, K, V, S, P, W, A> {
+> TakingSteps<K, V, A> for Session<'a, K, V, S, P, W, A> {
     type Taken = V;
 
     ghost is_taken = { V.is_clone };

@@ -6,8 +6,8 @@ use Rattle.moka_sync_model.specs.declared.event.Event.TheVariants.{Get}
 use Rattle.moka_guards.specs.Permitted.{FindsIn}
 use Rattle.moka_sync_model.specs.Steps.{get_reply}
 use Rattle.moka_locks.specs.Locked.{Locked, locked_allows}
-use Rattle.moka_locks.proofs.locked.LockedSteps.get.Given.{Over}
-use Rattle.moka_locks.proofs.locked.LockedSteps.get.Goals as goal
+use Rattle.moka_locks.proofs.session.SessionSteps.get.Given.{Over}
+use Rattle.moka_locks.proofs.session.SessionSteps.get.Goals as goal
 
 -- how the keys are told apart and hashed
 abbrev keys_of : (g : Over) → Keys g.row.K.Denot g.row.S.Denot
