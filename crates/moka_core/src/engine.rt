@@ -9,7 +9,6 @@ ghost use Rattle.moka_sync_model.specs.declared.call.Call.TheVariants as call;
 ghost use Rattle.moka_sync_model.specs.Run.{RunsTo};
 
 mod caller;
-mod steps;
 
 use crate::machine::Machine;
 use crate::rows::Rows;

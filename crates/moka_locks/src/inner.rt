@@ -33,7 +33,7 @@ use moka_guards::logs::Logs;
 use moka_guards::rule::PairRule;
 use moka_guards::shard::RuledShard;
 use moka_guards::waiting::lock;
-use moka_sync_model::constants::SHARDS;
+use moka_sync_model::constants::{FLUSH_POINT, SHARDS};
 use moka_sync_model::published::Published;
 use moka_sync_model::settings::{CoreParts, Settings};
 use moka_sync_model::ticket::Ticket;
@@ -311,17 +311,10 @@ impl<
         }
     }
 
-    /// Returns `true` if a maintenance is due, as a get asks, and nobody else runs one. Then nobody does until `end_maintenance`.
-    pub(crate) fn try_start_for_reads(&self, now: Instant) -> bool {
-        self.housekeeper.should_apply_reads(self.logs.reads(), now)
-            && self.housekeeper.try_begin(now)
-    }
-
-    /// Returns `true` if a maintenance is due, as an insert or an invalidation asks, and nobody else runs one.
-    pub(crate) fn try_start_for_writes(&self, now: Instant) -> bool {
-        self.housekeeper
-            .should_apply_writes(self.logs.writes(), now)
-            && self.housekeeper.try_begin(now)
+    /// Returns `true` if a maintenance is due in a call that finds `len` operations in its log, and nobody else runs one. Then nobody does until `end` of the
+    /// housekeeper.
+    pub(crate) fn try_start(&self, len: usize, now: Instant) -> bool {
+        self.housekeeper.should_apply(len, FLUSH_POINT, now) && self.housekeeper.try_begin(now)
     }
 
     /// Begins a maintenance, once nobody else runs one.

@@ -242,10 +242,12 @@ impl<
     }
 
     fn decide(&mut self, log: WhichLog, now: Instant) -> bool {
-        let runs_maintenance = match log {
-            WhichLog::Reads => self.inner.try_start_for_reads(now),
-            WhichLog::Writes => self.inner.try_start_for_writes(now),
+        let inner = self.inner;
+        let len = match log {
+            WhichLog::Reads => inner.logs.reads(),
+            WhichLog::Writes => inner.logs.writes(),
         };
+        let runs_maintenance = inner.try_start(len, now);
         self.runs_maintenance = runs_maintenance;
         runs_maintenance
     }

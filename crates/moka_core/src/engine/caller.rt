@@ -3,6 +3,7 @@ use crate::engine::Core;
 use moka_common::error::{InsertError, OutOfMemory};
 use moka_common::shared::Shared;
 use moka_common::time::Instant;
+use moka_sync_model::constants::CALLER;
 use moka_sync_model::event::Reply;
 use moka_sync_model::place::Place;
 use moka_sync_model::steps::{ReadPush, Steps, TakingSteps, WhichLog, WritePush};
@@ -44,7 +45,7 @@ impl<
         value: Shared<V, A>,
         now: Instant,
     ) -> Result<(), InsertError> {
-        match self.step_insert(key, value, now) {
+        match self.machine.insert(CALLER, key, value, now) {
             Reply::Done => Ok(()),
             Reply::OutOfMemory => Err(InsertError::OutOfMemory),
             _ => Err(InsertError::TicketsUsedUp),
@@ -57,59 +58,56 @@ impl<
         key: &K,
         now: Instant,
     ) -> Result<Option<Shared<V, A>>, OutOfMemory> {
-        match self.step_get(key, now) {
+        match self.machine.get(CALLER, key, now) {
             Reply::Found(found) => Ok(found),
             _ => Err(OutOfMemory),
         }
     }
 
     fn contains_key<R: Wait>(&self, _rt: &R, key: &K, now: Instant) -> bool {
-        match self.step_contains_key(key, now) {
+        match self.machine.contains_key(key, now) {
             Reply::Bool(is_there) => is_there,
             _ => false,
         }
     }
 
     fn invalidate<R: Wait>(&mut self, _rt: &R, key: &K, now: Instant) -> bool {
-        let _ = self.step_invalidate(key, now);
-        self.has_pending()
+        let _ = self.machine.invalidate(CALLER, key, now);
+        self.machine.has_pending()
     }
 
     fn invalidate_all(&mut self, now: Instant) {
-        let _ = self.step_invalidate_all(now);
+        let _ = self.machine.invalidate_all(now);
     }
 
     fn push_read<R: Wait>(&mut self, _rt: &R) -> ReadPush {
-        match self.step_push() {
+        match self.machine.push(CALLER) {
             Reply::Done => ReadPush::Pushed,
             _ => ReadPush::Discarded,
         }
     }
 
     fn push_write<R: Wait>(&mut self, _rt: &R) -> WritePush {
-        match self.step_push() {
+        match self.machine.push(CALLER) {
             Reply::Done => WritePush::Pushed,
             _ => WritePush::Full,
         }
     }
 
     fn forget(&mut self) {
-        let _ = self.step_forget();
+        let _ = self.machine.forget(CALLER);
     }
 
     fn decide(&mut self, log: WhichLog, now: Instant) -> bool {
-        match log {
-            WhichLog::Reads => self.decide_for_reads(now),
-            WhichLog::Writes => self.decide_for_writes(now),
-        }
+        self.machine.decide(log, now)
     }
 
     fn begin<R: Wait>(&mut self, _rt: &R, now: Instant) {
-        let _ = self.step_begin(now);
+        let _ = self.machine.begin(now);
     }
 
     fn turn<R: Wait>(&mut self, _rt: &R) -> Place {
-        match self.step_turn() {
+        match self.machine.turn() {
             Reply::At(place) => place,
             _ => Place::Idle,
         }
@@ -137,8 +135,8 @@ impl<
         key: &K,
         now: Instant,
     ) -> Result<(Option<Shared<V, A>>, bool), OutOfMemory> {
-        let reply = self.step_take(key, now);
-        let has_left = self.has_pending();
+        let reply = self.machine.take(CALLER, key, now);
+        let has_left = self.machine.has_pending();
         match reply {
             Reply::Found(found) => Ok((found, has_left)),
             _ => Err(OutOfMemory),

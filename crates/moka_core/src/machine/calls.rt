@@ -10,7 +10,8 @@ ghost use Rattle.moka_sync_model.specs.Place.{Idle};
 ghost use Rattle.moka_sync_model.specs.declared.call.Call.TheVariants as call;
 ghost use Rattle.moka_sync_model.specs.declared.operation.Operation.TheVariants.{Reading, Writing};
 
-use crate::machine::{Machine, refusal};
+use crate::machine::Machine;
+use crate::machine::steps::refusal;
 use crate::rows::Rows;
 use moka_common::shared::Shared;
 use moka_common::time::Instant;
