@@ -5,6 +5,9 @@
  * Moments and durations are nanoseconds. Moments count from a start of the program's choice, as by CLOCK_MONOTONIC; one may be before an earlier call's. Each
  * call returns a mini_moka_status, and none aborts. A call writes through a pointer only if it returns MINI_MOKA_DONE, and a length at MINI_MOKA_TOO_SHORT too.
  *
+ * A handle can keep the entries that leave its cache, for the program to drain: a write-back cache writes them to a store, and a cache of objects frees them. Its
+ * settings have a removed_room, and mini_moka_removed takes them out.
+ *
  * The size of a cache:
  *
  * - A weighed cache may exceed its capacity after an update with a longer value, until the next insert, get or mini_moka_contains. Any other cache never does.
@@ -17,9 +20,9 @@
  *   nor copies a handle, and closes it in the end.
  * - One call of a handle is made at a time. Threads that share one hold a lock for each call; mini_moka_segments.h has a cache that does so.
  * - No pointer is null, not even one to no bytes.
- * - What a call writes to (the handle, a buffer, a length, a value, a count, statistics) overlaps nothing else that the call gets. So the two lengths of
- *   mini_moka_next are two places. The key and the value of an insert, which are only read, may overlap each other. What is only written, as a buffer,
- *   needn't be initialised.
+ * - What a call writes to (the handle, a buffer, a length, a value, a count, a cause, statistics) overlaps nothing else that the call gets. So the two lengths
+ *   of mini_moka_next and mini_moka_removed are two places. The key and the value of an insert, which are only read, may overlap each other. What is only
+ *   written, as a buffer, needn't be initialised.
  * - Memory is that of malloc, realloc and free. A program that replaces them replaces all three, before it opens a handle.
  * - No call is made from a signal handler.
  * - A child of fork may use its copies of the handles, if no other thread was in a call of them at the fork.
@@ -52,6 +55,15 @@ enum mini_moka_status {
     MINI_MOKA_CHANGED = 7,       /* no walk was begun, or a call that may change the cache has ended it */
     MINI_MOKA_ZERO_DURATION = 8, /* a time to live or to idle is 0, so no entry would be found: nothing was opened. MINI_MOKA_UNLIMITED sets none */
     MINI_MOKA_REJECTED = 9,      /* the call was made, and the full cache did not let the new entry in */
+};
+
+/* Why an entry left a cache, or never entered it. */
+enum mini_moka_cause {
+    MINI_MOKA_CAUSE_SIZE = 0,     /* the capacity: other entries are used more */
+    MINI_MOKA_CAUSE_EXPIRED = 1,  /* its time to live or to idle was over */
+    MINI_MOKA_CAUSE_EXPLICIT = 2, /* a call removed it */
+    MINI_MOKA_CAUSE_REPLACED = 3, /* an insert gave its key another value */
+    MINI_MOKA_CAUSE_REJECTED = 4, /* it was new, and the full cache did not let it in */
 };
 
 /* Returns true for each status but MINI_MOKA_DONE, MINI_MOKA_ABSENT and MINI_MOKA_REJECTED. */
@@ -93,12 +105,16 @@ struct mini_moka_settings {
                                 than 24 bytes */
     uint64_t seed[2];        /* the key of the hash: if strangers choose the cache's keys, 16 bytes that they can't know */
     bool is_weighed;         /* true if an entry weighs its bytes of key and value, and not 1 */
+    size_t removed_room;     /* the most entries that left that are kept for mini_moka_removed: 0 keeps none */
 };
 
 /* Settings without limits. A program sets what it needs: struct mini_moka_settings settings = MINI_MOKA_SETTINGS_INIT; settings.capacity = 1000; */
-#define MINI_MOKA_SETTINGS_INIT {MINI_MOKA_UNLIMITED, MINI_MOKA_UNLIMITED, MINI_MOKA_UNLIMITED, 0, {0, 0}, false}
+#define MINI_MOKA_SETTINGS_INIT {MINI_MOKA_UNLIMITED, MINI_MOKA_UNLIMITED, MINI_MOKA_UNLIMITED, 0, {0, 0}, false, 0}
 
-/* Opens a closed handle with a new cache. If memory is refused or a duration is 0, the handle stays closed. */
+/*
+ * Opens a closed handle with a new cache. If memory is refused or a duration is 0, the handle stays closed. The memory for removed_room entries is reserved here,
+ * so no other call is refused memory for them.
+ */
 uint32_t mini_moka_open(struct mini_moka *handle, const struct mini_moka_settings *settings);
 
 /*
@@ -136,6 +152,17 @@ uint32_t mini_moka_invalidate(struct mini_moka *handle, const void *key, size_t 
 uint32_t mini_moka_next(struct mini_moka *handle, uint64_t now, void *key, size_t key_room, void *value, size_t value_room, size_t *key_length,
                         size_t *value_length);
 
+/*
+ * Drains the removed entry that left first: copies its key and its value to the beginnings of both buffers, and writes their lengths and a mini_moka_cause. If a
+ * buffer is shorter, the answer is MINI_MOKA_TOO_SHORT, only the lengths are written, and the entry stays in front. The answer is MINI_MOKA_ABSENT if there is none.
+ *
+ * Each entry that leaves is queued, in the call in which it leaves, unless mini_moka_remove returns it. A replaced value comes with its key, and a rejected entry
+ * as it was passed. If removed_room entries are queued, what leaves is dropped and counted: `lost` of the statistics. What is queued stays until it is drained,
+ * or until the handle is closed.
+ */
+uint32_t mini_moka_removed(struct mini_moka *handle, void *key, size_t key_room, void *value, size_t value_room, size_t *key_length, size_t *value_length,
+                           uint32_t *cause);
+
 /* ---- numbers */
 
 /* Settings of a cache of numbers, as those of bytes. */
@@ -144,10 +171,11 @@ struct mini_moka_u64_settings {
     uint64_t time_to_live;   /* how long an entry lives after it was last written */
     uint64_t time_to_idle;   /* how long an entry lives after it was last read or written */
     size_t initial_capacity; /* number of entries that fit from the start: up to there no insert is refused */
+    size_t removed_room;     /* the most entries that left that are kept for mini_moka_u64_removed: 0 keeps none */
 };
 
 /* Settings without limits. */
-#define MINI_MOKA_U64_SETTINGS_INIT {MINI_MOKA_UNLIMITED, MINI_MOKA_UNLIMITED, MINI_MOKA_UNLIMITED, 0}
+#define MINI_MOKA_U64_SETTINGS_INIT {MINI_MOKA_UNLIMITED, MINI_MOKA_UNLIMITED, MINI_MOKA_UNLIMITED, 0, 0}
 
 /* Opens a closed handle with a new cache. The keys' hash has a fixed key: if strangers choose the keys, use a cache of bytes. */
 uint32_t mini_moka_u64_open(struct mini_moka *handle, const struct mini_moka_u64_settings *settings);
@@ -160,6 +188,7 @@ uint32_t mini_moka_u64_contains(struct mini_moka *handle, uint64_t key, uint64_t
 uint32_t mini_moka_u64_remove(struct mini_moka *handle, uint64_t key, uint64_t now, uint64_t *value);
 uint32_t mini_moka_u64_invalidate(struct mini_moka *handle, uint64_t key, uint64_t now);
 uint32_t mini_moka_u64_next(struct mini_moka *handle, uint64_t now, uint64_t *key, uint64_t *value);
+uint32_t mini_moka_u64_removed(struct mini_moka *handle, uint64_t *key, uint64_t *value, uint32_t *cause);
 
 /* Gets the value of the key, or inserts `otherwise` if there is none. It writes the value that was found, or `otherwise`, even if its entry was rejected. */
 uint32_t mini_moka_u64_get_or_insert(struct mini_moka *handle, uint64_t key, uint64_t otherwise, uint64_t now, uint64_t *value);
@@ -179,6 +208,7 @@ struct mini_moka_statistics {
     uint64_t evictions;   /* entries that left for the capacity */
     uint64_t expirations; /* expired entries that left */
     uint64_t removals;    /* entries that a call removed */
+    uint64_t lost;        /* entries that left while the queue of removed entries was full; always 0 without one */
 };
 
 /* Closes the handle and frees its cache. Closing a closed one returns MINI_MOKA_CLOSED. */
@@ -198,8 +228,8 @@ uint32_t mini_moka_statistics(struct mini_moka *handle, struct mini_moka_statist
 
 /*
  * Begins a walk through the unexpired entries, in order of use, least recently used first. Each mini_moka_next of bytes, or mini_moka_u64_next of numbers,
- * writes one entry; after the last it returns MINI_MOKA_ABSENT. A program may peek within a walk, and ask for the count, the weight and the statistics. Each
- * other call ends the walk, unless it returns MINI_MOKA_OUT_OF_MEMORY.
+ * writes one entry; after the last it returns MINI_MOKA_ABSENT. A program may peek within a walk, drain removed entries, and ask for the count, the weight and
+ * the statistics. Each other call ends the walk, unless it returns MINI_MOKA_OUT_OF_MEMORY.
  */
 uint32_t mini_moka_walk(struct mini_moka *handle);
 

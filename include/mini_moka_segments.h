@@ -106,7 +106,7 @@ static inline uint64_t mini_moka_segments_part(uint64_t whole, size_t count, siz
 
 /*
  * Opens a cache of `count` segments. If that is 0 there are 16, or as many as leave each a capacity of 100 entries, or of 1 MiB if bytes are weighed. Each has
- * its part of the capacity and of initial_capacity. If a segment is refused, nothing stays open.
+ * its part of the capacity, of initial_capacity and of removed_room, which is rounded up. If a segment is refused, nothing stays open.
  */
 static inline uint32_t mini_moka_segments_open(struct mini_moka_segments *all, const struct mini_moka_settings *settings, size_t count) {
     if (all->segments != NULL)
@@ -128,6 +128,7 @@ static inline uint32_t mini_moka_segments_open(struct mini_moka_segments *all, c
         struct mini_moka_settings part = *settings;
         part.capacity = mini_moka_segments_part(settings->capacity, count, all->count);
         part.initial_capacity = (size_t)mini_moka_segments_part(settings->initial_capacity, count, all->count);
+        part.removed_room = settings->removed_room / count + (settings->removed_room % count > 0);
         uint32_t status = pthread_mutex_init(&segment->in.lock, NULL) == 0 ? MINI_MOKA_DONE : MINI_MOKA_OUT_OF_MEMORY;
         if (status == MINI_MOKA_DONE) {
             all->count++;
@@ -199,6 +200,22 @@ static inline uint32_t mini_moka_segments_invalidate_all(struct mini_moka_segmen
     return MINI_MOKA_DONE;
 }
 
+/*
+ * Drains a removed entry of the first segment that has one, as mini_moka_removed does; entries of one key come in the order in which they left. If threads drain
+ * at once, a call after MINI_MOKA_TOO_SHORT may meet another entry.
+ */
+static inline uint32_t mini_moka_segments_removed(struct mini_moka_segments *all, void *key, size_t key_room, void *value, size_t value_room,
+                                                  size_t *key_length, size_t *value_length, uint32_t *cause) {
+    uint32_t status = all->segments == NULL ? MINI_MOKA_CLOSED : MINI_MOKA_ABSENT;
+    for (size_t i = 0; i < all->count && status == MINI_MOKA_ABSENT; i++) {
+        struct mini_moka *cache = &all->segments[i].in.cache;
+        pthread_mutex_lock(&all->segments[i].in.lock);
+        status = mini_moka_segments_unlock(&all->segments[i],
+                                           mini_moka_removed(cache, key, key_room, value, value_room, key_length, value_length, cause));
+    }
+    return status;
+}
+
 /* Adds two counts, at most to UINT64_MAX. */
 static inline uint64_t mini_moka_segments_add(uint64_t count, uint64_t other) {
     return other > UINT64_MAX - count ? UINT64_MAX : count + other;
@@ -245,6 +262,7 @@ static inline uint32_t mini_moka_segments_statistics(struct mini_moka_segments *
         whole.evictions = mini_moka_segments_add(whole.evictions, part.evictions);
         whole.expirations = mini_moka_segments_add(whole.expirations, part.expirations);
         whole.removals = mini_moka_segments_add(whole.removals, part.removals);
+        whole.lost = mini_moka_segments_add(whole.lost, part.lost);
     }
     *statistics = whole;
     return MINI_MOKA_DONE;

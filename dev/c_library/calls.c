@@ -20,8 +20,8 @@ static void check(bool holds, const char *what, int line) {
 /* What is written before a call, and stays where it isn't done. */
 enum { BEFORE = 99, ROOM = 8 };
 
-static const struct mini_moka_settings BYTES = {10, NONE, NONE, 0, {1, 2}, false};
-static const struct mini_moka_u64_settings NUMBERS = {10, NONE, NONE, 0};
+static const struct mini_moka_settings BYTES = {10, NONE, NONE, 0, {1, 2}, false, 0};
+static const struct mini_moka_u64_settings NUMBERS = {10, NONE, NONE, 0, 0};
 
 /* The number that a count or a weight writes. */
 static uint64_t number_of(uint32_t (*call)(struct mini_moka *, uint64_t *), struct mini_moka *cache) {
@@ -181,6 +181,103 @@ static void walks_meet_each_entry(void) {
     CHECK(mini_moka_close(&cache) == MINI_MOKA_DONE);
 }
 
+/* ---- removed entries */
+
+/* The number of removed entries that were lost. */
+static uint64_t lost(struct mini_moka *cache) {
+    struct mini_moka_statistics met = {.lost = BEFORE};
+    CHECK(mini_moka_statistics(cache, &met) == MINI_MOKA_DONE);
+    return met.lost;
+}
+
+/* Whether a drain answers this, and if it is done has this text as "key=value" and this cause. */
+static bool drains(struct mini_moka *cache, uint32_t status, const char *text, uint32_t cause) {
+    uint8_t key[ROOM], value[ROOM];
+    size_t key_length = BEFORE, value_length = BEFORE;
+    uint32_t why = BEFORE;
+    char met[2 * ROOM + 2];
+    if (mini_moka_removed(cache, key, ROOM, value, ROOM, &key_length, &value_length, &why) != status)
+        return false;
+    if (status != MINI_MOKA_DONE)
+        return key_length == BEFORE && value_length == BEFORE && why == BEFORE;
+    sprintf(met, "%.*s=%.*s", (int)key_length, (char *)key, (int)value_length, (char *)value);
+    return strcmp(met, text) == 0 && why == cause;
+}
+
+/* An entry is drained for each cause, in the order in which they left; what a removal returns isn't queued. Draining doesn't end a walk. */
+static void removed_entries_are_drained(void) {
+    struct mini_moka cache = {0};
+    struct mini_moka_settings settings = BYTES;
+    char text[100] = "";
+    settings.capacity = 2;
+    settings.time_to_live = 20;
+    settings.removed_room = 10;
+    CHECK(mini_moka_open(&cache, &settings) == MINI_MOKA_DONE && drains(&cache, MINI_MOKA_ABSENT, NULL, 0));
+    CHECK(insert(&cache, "a", "apple", 0) == MINI_MOKA_DONE && insert(&cache, "a", "pear", 0) == MINI_MOKA_DONE);
+    CHECK(insert(&cache, "b", "", 1) == MINI_MOKA_DONE && insert(&cache, "c", "cherry", 1) == MINI_MOKA_REJECTED);
+    for (int i = 0; i < 3; i++)
+        CHECK(finds(mini_moka_get, &cache, "d", 1, MINI_MOKA_ABSENT, NULL));
+    CHECK(insert(&cache, "d", "date", 2) == MINI_MOKA_DONE && contains(&cache, "b", 21) == MINI_MOKA_ABSENT);
+    CHECK(invalidate(&cache, "d", 21) == MINI_MOKA_DONE && invalidate(&cache, "d", 21) == MINI_MOKA_DONE);
+    CHECK(insert(&cache, "", "nothing", 21) == MINI_MOKA_DONE && finds(mini_moka_remove, &cache, "", 21, MINI_MOKA_DONE, "nothing"));
+    CHECK(insert(&cache, "e", "elder", 21) == MINI_MOKA_DONE && mini_moka_walk(&cache) == MINI_MOKA_DONE);
+    CHECK(drains(&cache, MINI_MOKA_DONE, "a=apple", MINI_MOKA_CAUSE_REPLACED));
+    CHECK(drains(&cache, MINI_MOKA_DONE, "c=cherry", MINI_MOKA_CAUSE_REJECTED));
+    CHECK(drains(&cache, MINI_MOKA_DONE, "a=pear", MINI_MOKA_CAUSE_SIZE));
+    CHECK(drains(&cache, MINI_MOKA_DONE, "b=", MINI_MOKA_CAUSE_EXPIRED));
+    CHECK(drains(&cache, MINI_MOKA_DONE, "d=date", MINI_MOKA_CAUSE_EXPLICIT));
+    CHECK(drains(&cache, MINI_MOKA_ABSENT, NULL, 0));
+    CHECK(walk_on(&cache, 21, text) == MINI_MOKA_DONE && strcmp(text, "e=elder ") == 0);
+    CHECK(mini_moka_invalidate_all(&cache) == MINI_MOKA_DONE && drains(&cache, MINI_MOKA_DONE, "e=elder", MINI_MOKA_CAUSE_EXPLICIT));
+    CHECK(lost(&cache) == 0 && insert(&cache, "f", "fig", 21) == MINI_MOKA_DONE && mini_moka_invalidate_all(&cache) == MINI_MOKA_DONE);
+    CHECK(mini_moka_close(&cache) == MINI_MOKA_DONE && drains(&cache, MINI_MOKA_CLOSED, NULL, 0));
+    CHECK(mini_moka_open(&cache, &settings) == MINI_MOKA_DONE && drains(&cache, MINI_MOKA_ABSENT, NULL, 0));
+    CHECK(mini_moka_close(&cache) == MINI_MOKA_DONE);
+}
+
+/* An entry whose key or value is longer than its buffer stays in front, and its lengths are told. */
+static void long_removed_entries_stay(void) {
+    struct mini_moka cache = {0};
+    struct mini_moka_settings settings = BYTES;
+    uint8_t key[ROOM] = {BEFORE}, value[ROOM] = {BEFORE};
+    size_t key_length = BEFORE, value_length = BEFORE;
+    uint32_t cause = BEFORE;
+    settings.removed_room = 1;
+    CHECK(mini_moka_open(&cache, &settings) == MINI_MOKA_DONE);
+    CHECK(insert(&cache, "long", "1234567", 0) == MINI_MOKA_DONE && invalidate(&cache, "long", 0) == MINI_MOKA_DONE);
+    CHECK(mini_moka_removed(&cache, key, 3, value, ROOM, &key_length, &value_length, &cause) == MINI_MOKA_TOO_SHORT);
+    CHECK(key_length == 4 && value_length == 7 && cause == BEFORE && key[0] == BEFORE && value[0] == BEFORE);
+    key_length = value_length = BEFORE;
+    CHECK(mini_moka_removed(&cache, key, ROOM, value, 6, &key_length, &value_length, &cause) == MINI_MOKA_TOO_SHORT);
+    CHECK(key_length == 4 && value_length == 7 && cause == BEFORE && key[0] == BEFORE && value[0] == BEFORE);
+    CHECK(mini_moka_removed(&cache, key, 4, value, 7, &key_length, &value_length, &cause) == MINI_MOKA_DONE && cause == MINI_MOKA_CAUSE_EXPLICIT);
+    CHECK(memcmp(key, "long", 4) == 0 && memcmp(value, "1234567", 7) == 0 && drains(&cache, MINI_MOKA_ABSENT, NULL, 0));
+    CHECK(mini_moka_close(&cache) == MINI_MOKA_DONE);
+}
+
+/* A full queue keeps what it has, and what leaves then is counted as lost. A handle without a queue counts nothing as lost. */
+static void full_queues_lose(void) {
+    struct mini_moka cache = {0};
+    struct mini_moka_u64_settings settings = NUMBERS;
+    uint64_t key = BEFORE, value = BEFORE;
+    uint32_t cause = BEFORE;
+    settings.removed_room = 2;
+    CHECK(mini_moka_u64_open(&cache, &settings) == MINI_MOKA_DONE);
+    for (uint64_t i = 0; i < 5; i++)
+        CHECK(mini_moka_u64_insert(&cache, 7, i, 0) == MINI_MOKA_DONE);
+    CHECK(lost(&cache) == 2);
+    CHECK(mini_moka_u64_removed(&cache, &key, &value, &cause) == MINI_MOKA_DONE && key == 7 && value == 0 && cause == MINI_MOKA_CAUSE_REPLACED);
+    CHECK(mini_moka_u64_invalidate(&cache, 7, 0) == MINI_MOKA_DONE && lost(&cache) == 2);
+    CHECK(mini_moka_u64_removed(&cache, &key, &value, &cause) == MINI_MOKA_DONE && value == 1 && cause == MINI_MOKA_CAUSE_REPLACED);
+    CHECK(mini_moka_u64_removed(&cache, &key, &value, &cause) == MINI_MOKA_DONE && value == 4 && cause == MINI_MOKA_CAUSE_EXPLICIT);
+    key = value = cause = BEFORE;
+    CHECK(mini_moka_u64_removed(&cache, &key, &value, &cause) == MINI_MOKA_ABSENT && key == BEFORE && value == BEFORE && cause == BEFORE);
+    CHECK(mini_moka_close(&cache) == MINI_MOKA_DONE);
+    CHECK(mini_moka_u64_open(&cache, &NUMBERS) == MINI_MOKA_DONE && mini_moka_u64_insert(&cache, 7, 49, 0) == MINI_MOKA_DONE);
+    CHECK(mini_moka_u64_insert(&cache, 7, 50, 0) == MINI_MOKA_DONE && mini_moka_u64_removed(&cache, &key, &value, &cause) == MINI_MOKA_ABSENT);
+    CHECK(lost(&cache) == 0 && mini_moka_close(&cache) == MINI_MOKA_DONE);
+}
+
 /* ---- numbers */
 
 static void numbers_come_and_go(void) {
@@ -215,7 +312,7 @@ static void numbers_come_and_go(void) {
 static void numbers_expire(void) {
     struct mini_moka cache = {0};
     uint64_t value = BEFORE;
-    CHECK(mini_moka_u64_open(&cache, &(struct mini_moka_u64_settings){10, 20, NONE, 10}) == MINI_MOKA_DONE);
+    CHECK(mini_moka_u64_open(&cache, &(struct mini_moka_u64_settings){10, 20, NONE, 10, 0}) == MINI_MOKA_DONE);
     CHECK(mini_moka_u64_insert(&cache, 7, 49, 0) == MINI_MOKA_DONE);
     CHECK(mini_moka_u64_get(&cache, 7, 19, &value) == MINI_MOKA_DONE && value == 49);
     CHECK(mini_moka_u64_peek(&cache, 7, 20, &value) == MINI_MOKA_ABSENT && number_of(mini_moka_count, &cache) == 1);
@@ -224,7 +321,7 @@ static void numbers_expire(void) {
     CHECK(mini_moka_u64_remove(&cache, 8, 40, &value) == MINI_MOKA_ABSENT);
     CHECK(number_of(mini_moka_count, &cache) == 0);
     CHECK(mini_moka_close(&cache) == MINI_MOKA_DONE);
-    CHECK(mini_moka_u64_open(&cache, &(struct mini_moka_u64_settings){NONE, NONE, 20, 0}) == MINI_MOKA_DONE);
+    CHECK(mini_moka_u64_open(&cache, &(struct mini_moka_u64_settings){NONE, NONE, 20, 0, 0}) == MINI_MOKA_DONE);
     CHECK(mini_moka_u64_insert(&cache, 7, 49, 0) == MINI_MOKA_DONE);
     CHECK(mini_moka_u64_get(&cache, 7, 19, &value) == MINI_MOKA_DONE);
     CHECK(mini_moka_u64_contains(&cache, 7, 38) == MINI_MOKA_DONE);
@@ -349,12 +446,15 @@ static void bytes_answer(struct mini_moka *cache, uint32_t status) {
     CHECK(finds(mini_moka_remove, cache, "a", 0, status, NULL));
     CHECK(contains(cache, "a", 0) == status && invalidate(cache, "a", 0) == status);
     CHECK(walk_on(cache, 0, text) == status && text[0] == 0);
+    CHECK(drains(cache, status, NULL, 0));
 }
 
 /* And each call of numbers. */
 static void numbers_answer(struct mini_moka *cache, uint32_t status) {
     uint64_t key = BEFORE, value = BEFORE;
+    uint32_t cause = BEFORE;
     CHECK(mini_moka_u64_next(cache, 0, &key, &value) == status && key == BEFORE);
+    CHECK(mini_moka_u64_removed(cache, &key, &value, &cause) == status && key == BEFORE && cause == BEFORE);
     CHECK(mini_moka_u64_insert(cache, 7, 49, 0) == status && mini_moka_u64_get(cache, 7, 0, &value) == status);
     CHECK(mini_moka_u64_peek(cache, 7, 0, &value) == status && mini_moka_u64_remove(cache, 7, 0, &value) == status);
     CHECK(mini_moka_u64_contains(cache, 7, 0) == status && mini_moka_u64_invalidate(cache, 7, 0) == status);
@@ -364,9 +464,9 @@ static void numbers_answer(struct mini_moka *cache, uint32_t status) {
 /* A closed handle answers that it is, one of the other kind too, and nothing is done. */
 static void calls_are_refused(void) {
     struct mini_moka cache = {0};
-    struct mini_moka_statistics met = {.hits = BEFORE, .removals = BEFORE};
+    struct mini_moka_statistics met = {.hits = BEFORE, .removals = BEFORE, .lost = BEFORE};
     uint64_t number = BEFORE;
-    CHECK(mini_moka_statistics(&cache, &met) == MINI_MOKA_CLOSED && met.hits == BEFORE && met.removals == BEFORE);
+    CHECK(mini_moka_statistics(&cache, &met) == MINI_MOKA_CLOSED && met.hits == BEFORE && met.removals == BEFORE && met.lost == BEFORE);
     CHECK(mini_moka_walk(&cache) == MINI_MOKA_CLOSED);
     bytes_answer(&cache, MINI_MOKA_CLOSED);
     numbers_answer(&cache, MINI_MOKA_CLOSED);
@@ -388,7 +488,11 @@ static void too_much_room_is_refused(void) {
     struct mini_moka_settings settings = BYTES;
     settings.initial_capacity = SIZE_MAX;
     CHECK(mini_moka_open(&cache, &settings) == MINI_MOKA_OUT_OF_MEMORY);
-    CHECK(mini_moka_u64_open(&cache, &(struct mini_moka_u64_settings){10, NONE, NONE, SIZE_MAX}) == MINI_MOKA_OUT_OF_MEMORY);
+    CHECK(mini_moka_u64_open(&cache, &(struct mini_moka_u64_settings){10, NONE, NONE, SIZE_MAX, 0}) == MINI_MOKA_OUT_OF_MEMORY);
+    CHECK(mini_moka_u64_open(&cache, &(struct mini_moka_u64_settings){10, NONE, NONE, 0, SIZE_MAX}) == MINI_MOKA_OUT_OF_MEMORY);
+    settings.initial_capacity = 0;
+    settings.removed_room = SIZE_MAX;
+    CHECK(mini_moka_open(&cache, &settings) == MINI_MOKA_OUT_OF_MEMORY);
     CHECK(mini_moka_close(&cache) == MINI_MOKA_CLOSED);
 }
 
@@ -398,6 +502,9 @@ int main(void) {
     bytes_are_weighed();
     calls_are_counted();
     walks_meet_each_entry();
+    removed_entries_are_drained();
+    long_removed_entries_stay();
+    full_queues_lose();
     numbers_come_and_go();
     numbers_expire();
     walks_meet_each_number();

@@ -5,6 +5,9 @@
  *
  * Without a capacity the model knows what each call has to answer. With one it doesn't know which entries have left, so a look-up may find nothing; what is
  * found has to be the value that was written last, and unexpired, and the capacity has to hold.
+ *
+ * Where a cache queues what leaves, each entry that is drained has to be one that was inserted and hasn't left, for a cause that it can have. Each entry that was
+ * inserted is there, or was drained once, returned by a removal, or lost. As long as none was lost, the model knows which entries have left.
  */
 #include "mini_moka.h"
 #include <inttypes.h>
@@ -12,7 +15,7 @@
 #include <stdlib.h>
 #include <string.h>
 
-enum { KEYS = 300, LONGEST = 4096, SHORT_KEY = 24, CALLS_OF_A_CACHE = 3000 };
+enum { KEYS = 300, LONGEST = 4096, SHORT_KEY = 24, CALLS_OF_A_CACHE = 3000, CAUSES = 5, NO_PUT = -1 };
 
 /* ---- memory that is refused */
 
@@ -65,6 +68,14 @@ struct known {
     uint64_t version, written, used;
 };
 
+/* What a call put: another version of a key's value, until it has left. */
+struct put {
+    uint64_t version, written, used;
+    uint32_t status; /* of the call: a get or insert doesn't tell if its entry was rejected */
+    bool has_left, is_invalidated;
+    int next; /* of the same key */
+};
+
 struct model {
     struct mini_moka cache;
     bool is_bytes, is_weighed;
@@ -72,9 +83,15 @@ struct model {
     struct known keys[KEYS];
     uint64_t hits, misses, inserts, rejections;
     size_t longest_key; /* of those that were looked up, for which the handle has memory */
+    size_t removed_room;
+    bool is_eager; /* whether each look-up drains what left */
+    struct put puts[CALLS_OF_A_CACHE];
+    int put_count, first_put[KEYS], last_put[KEYS];
+    uint64_t drained[CAUSES], returned, skipped;
 };
 
-static const char *calls[] = {"insert", "get", "peek", "contains", "remove", "invalidate", "get or insert", "invalidate all", "counts", "walk", "open"};
+static const char *calls[] = {"insert",        "get",            "peek",   "contains", "remove", "invalidate",
+                              "get or insert", "invalidate all", "counts", "walk",     "drain",  "open"};
 static unsigned call;
 static uint64_t calls_made, seed;
 
@@ -191,6 +208,126 @@ static uint32_t invalidate(struct model *model, uint64_t key) {
     return mini_moka_invalidate(&model->cache, key_at, key_bytes(key_at, key), model->now);
 }
 
+/* ---- entries that left */
+
+/* The statistics, which are always there. */
+static struct mini_moka_statistics statistics_of(struct model *model) {
+    struct mini_moka_statistics met;
+    require(mini_moka_statistics(&model->cache, &met) == MINI_MOKA_DONE, "statistics are there");
+    return met;
+}
+
+static void note_put(struct model *model, uint64_t key, uint64_t version, uint32_t status) {
+    int at = model->put_count++;
+    model->puts[at] = (struct put){version, model->now, model->now, status, false, false, NO_PUT};
+    if (model->first_put[key] == NO_PUT)
+        model->first_put[key] = at;
+    else
+        model->puts[model->last_put[key]].next = at;
+    model->last_put[key] = at;
+}
+
+/* The entry of a key was used. */
+static void note_use(struct model *model, uint64_t key) {
+    model->keys[key].used = model->puts[model->last_put[key]].used = model->now;
+}
+
+/* What was put at a key before was invalidated, if it was there. */
+static void note_invalidation(struct model *model, uint64_t key) {
+    for (int at = model->first_put[key]; at != NO_PUT; at = model->puts[at].next)
+        model->puts[at].is_invalidated = true;
+}
+
+/* Whether what was put can have left for this cause. */
+static bool can_leave(const struct model *model, const struct put *put, uint32_t cause) {
+    if (put->status == MINI_MOKA_REJECTED || cause == MINI_MOKA_CAUSE_REJECTED)
+        return cause == MINI_MOKA_CAUSE_REJECTED && (put->status == MINI_MOKA_REJECTED || model->capacity != MINI_MOKA_UNLIMITED);
+    switch (cause) {
+    case MINI_MOKA_CAUSE_SIZE: return model->capacity != MINI_MOKA_UNLIMITED;
+    case MINI_MOKA_CAUSE_EXPIRED: return is_over(put->written, model->time_to_live, model->now) || is_over(put->used, model->time_to_idle, model->now);
+    case MINI_MOKA_CAUSE_EXPLICIT: return put->is_invalidated;
+    case MINI_MOKA_CAUSE_REPLACED: return put->next != NO_PUT;
+    default: return false;
+    }
+}
+
+/* Whether what was put has this value: this number, or these bytes. */
+static bool has_value(const struct model *model, uint64_t key, const struct put *put, uint64_t number, const uint8_t *value, size_t length) {
+    static uint8_t wanted[LONGEST];
+    if (!model->is_bytes)
+        return number == value_number(key, put->version);
+    return fill(wanted, value_number(key, put->version)) == length && memcmp(wanted, value, length) == 0;
+}
+
+/* An entry was drained: the first of its key that can be it has left, and any before it was lost. */
+static void note_drained(struct model *model, uint64_t key, uint64_t number, const uint8_t *value, size_t length, uint32_t cause) {
+    require(key < KEYS && cause < CAUSES, "an unknown entry was drained");
+    for (int at = model->first_put[key]; at != NO_PUT; at = model->puts[at].next) {
+        struct put *put = &model->puts[at];
+        if (put->has_left)
+            continue;
+        put->has_left = true;
+        if (can_leave(model, put, cause) && has_value(model, key, put, number, value, length)) {
+            model->drained[cause]++;
+            if (put->version == model->keys[key].version)
+                model->keys[key].is_there = false;
+            return;
+        }
+        model->skipped++;
+    }
+    differs("an entry was drained that wasn't put, that had left, or that can't leave for its cause");
+}
+
+/* Drains an entry, which takes no memory, and answers false if there is none. */
+static bool drain(struct model *model) {
+    static uint8_t key_at[LONGEST], value_at[LONGEST], wanted[LONGEST];
+    uint64_t key = 0, value = 0;
+    size_t key_length = SIZE_MAX, value_length = SIZE_MAX, key_room = some_room(LONGEST), value_room = some_room(LONGEST);
+    uint32_t cause = CAUSES, status;
+    int left_before = allocations_left;
+    uint64_t refusals_before = refusals;
+    allocations_left = 0;
+    if (model->is_bytes) {
+        status = mini_moka_removed(&model->cache, key_at, key_room, value_at, value_room, &key_length, &value_length, &cause);
+        if (status == MINI_MOKA_TOO_SHORT) {
+            size_t first_key_length = key_length, first_value_length = value_length;
+            require((key_length > key_room || value_length > value_room) && cause == CAUSES, "the buffers were long enough");
+            status = mini_moka_removed(&model->cache, key_at, LONGEST, value_at, LONGEST, &key_length, &value_length, &cause);
+            require(key_length == first_key_length && value_length == first_value_length, "another entry came to the front");
+        }
+    } else {
+        status = mini_moka_u64_removed(&model->cache, &key, &value, &cause);
+    }
+    allocations_left = left_before;
+    require(refusals == refusals_before, "a drain asked for memory");
+    require(status == MINI_MOKA_DONE || (status == MINI_MOKA_ABSENT && cause == CAUSES), "a drain wasn't made");
+    if (status == MINI_MOKA_ABSENT)
+        return false;
+    require(model->removed_room > 0, "an entry was queued without room");
+    if (model->is_bytes) {
+        memcpy(&key, key_at, key_length < 8 ? 0 : 8);
+        require(key < KEYS && key_bytes(wanted, key) == key_length && memcmp(wanted, key_at, key_length) == 0, "another key was drained");
+    }
+    note_drained(model, key, value, value_at, value_length, cause);
+    return true;
+}
+
+/* Drains all, which is no more than there is room for. */
+static void drain_all(struct model *model) {
+    size_t count = 0;
+    while (drain(model))
+        count++;
+    require(count <= model->removed_room, "more was queued than there is room for");
+}
+
+/* Whether the model knows each entry that has left. It drains them. */
+static bool knows_what_left(struct model *model) {
+    if (model->removed_room == 0 || !model->is_eager)
+        return false;
+    drain_all(model);
+    return statistics_of(model).lost == 0;
+}
+
 /* ---- each call beside the model */
 
 static bool is_found(uint32_t status) {
@@ -206,8 +343,9 @@ static bool is_refused(uint32_t status) {
 /* What a look-up tells of a key has to be what is known of it; an entry of a cache with a capacity may have left. */
 static void meet(struct model *model, struct known *key, uint32_t status) {
     require(is_found(status) || status == MINI_MOKA_ABSENT, "an unknown status");
+    bool is_known = knows_what_left(model) || model->capacity == MINI_MOKA_UNLIMITED;
     require(!is_found(status) || is_alive(model, key), "an entry was found that has left or is expired");
-    require(is_found(status) || !is_alive(model, key) || model->capacity != MINI_MOKA_UNLIMITED, "an entry is missing");
+    require(is_found(status) || !is_alive(model, key) || !is_known, "an entry is missing");
     if (!is_found(status))
         key->is_there = false;
 }
@@ -237,6 +375,7 @@ static void play_insert(struct model *model, uint64_t key) {
     require(status == MINI_MOKA_DONE || (status == MINI_MOKA_REJECTED && model->capacity != MINI_MOKA_UNLIMITED), "an insert was not taken");
     model->inserts++;
     model->rejections += status == MINI_MOKA_REJECTED;
+    note_put(model, key, version, status);
     write_down(model, &model->keys[key], version);
     /* A peek removes nothing, so it finds the entry if that was let in. */
     allocations_left = -1;
@@ -253,7 +392,7 @@ static void play_look_up(struct model *model, uint64_t key) {
     meet(model, &model->keys[key], status);
     if (is_get && is_found(status)) {
         model->hits++;
-        model->keys[key].used = model->now;
+        note_use(model, key);
     } else if (is_get) {
         model->misses++;
     }
@@ -270,8 +409,11 @@ static void play_remove(struct model *model, uint64_t key) {
     if (is_look_up_refused(model, key, status))
         return;
     meet(model, &model->keys[key], status);
-    if (status == MINI_MOKA_DONE)
+    if (status == MINI_MOKA_DONE) {
         model->keys[key].is_there = false;
+        model->puts[model->last_put[key]].has_left = true;
+        model->returned++;
+    }
 }
 
 static void play_invalidate(struct model *model, uint64_t key) {
@@ -279,6 +421,7 @@ static void play_invalidate(struct model *model, uint64_t key) {
     if (is_look_up_refused(model, key, status))
         return;
     require(status == MINI_MOKA_DONE, "an invalidation was not made");
+    note_invalidation(model, key);
     model->keys[key].is_there = false;
 }
 
@@ -294,15 +437,37 @@ static void play_get_or_insert(struct model *model, uint64_t key) {
     require(status == MINI_MOKA_DONE, "a get or insert was not made");
     if (is_alive(model, known) && value == value_number(key, known->version)) {
         model->hits++;
-        known->used = model->now;
+        note_use(model, key);
         return;
     }
     model->misses++;
     model->inserts++;
-    meet(model, known, MINI_MOKA_ABSENT);
     require(value == value_number(key, version), "another value was found or made");
+    note_put(model, key, version, MINI_MOKA_DONE);
+    meet(model, known, MINI_MOKA_ABSENT);
     model->versions = version;
+    bool has_left = model->puts[model->last_put[key]].has_left;
     write_down(model, known, version);
+    known->is_there = !has_left;
+}
+
+/* Once all is drained, each entry that was put is there, or was drained, returned or lost, and those of a cause are as many as the statistics say. */
+static void check_drained(struct model *model, const struct mini_moka_statistics *met, uint64_t count) {
+    const uint64_t left[CAUSES] = {met->evictions, met->expirations, met->removals - model->returned, met->updates, met->rejections};
+    uint64_t drained = 0;
+    drain_all(model);
+    if (model->removed_room == 0) {
+        require(met->lost == 0, "an entry was lost without a queue");
+        return;
+    }
+    for (size_t cause = 0; cause < CAUSES; cause++) {
+        drained += model->drained[cause];
+        require(model->drained[cause] <= left[cause], "more was drained for a cause than left for it");
+        require(model->drained[cause] == left[cause] || met->lost > 0, "an entry wasn't drained");
+    }
+    require(met->inserts == count + drained + model->returned + met->lost, "an entry is neither there nor drained, returned or lost");
+    require(model->skipped <= met->lost, "an entry was drained before one that left earlier");
+    require(met->lost == 0 || drained >= model->removed_room, "an entry was lost though there was room");
 }
 
 static void play_counts(struct model *model) {
@@ -314,14 +479,14 @@ static void play_counts(struct model *model) {
     }
     require(model->capacity != MINI_MOKA_UNLIMITED || (alive <= count && count <= there), "another count");
     require(model->is_weighed || (weight == count && count <= model->capacity), "another weight, or more than the capacity");
-    struct mini_moka_statistics met;
-    require(mini_moka_statistics(&model->cache, &met) == MINI_MOKA_DONE, "statistics are there");
+    struct mini_moka_statistics met = statistics_of(model);
     require(met.hits == model->hits && met.misses == model->misses && met.inserts == model->inserts, "other statistics");
     /* A get or insert doesn't tell that its entry was rejected. */
     require(model->is_bytes ? met.rejections == model->rejections : met.rejections >= model->rejections, "another number of rejections");
     require(met.inserts - met.updates - met.rejections == met.evictions + met.expirations + met.removals + count, "statistics that don't add up");
     require(model->capacity != MINI_MOKA_UNLIMITED || met.evictions + met.rejections == 0, "evictions without a capacity");
     require(model->time_to_live != MINI_MOKA_UNLIMITED || model->time_to_idle != MINI_MOKA_UNLIMITED || met.expirations == 0, "expirations without a duration");
+    check_drained(model, &met, count);
 }
 
 /* An insert that is refused memory doesn't end a walk. */
@@ -348,6 +513,8 @@ static void play_walk(struct model *model) {
         size_t room = below(4) == 0 ? below(64) : LONGEST;
         if (below(16) == 0)
             refuse_insert(model);
+        if (below(16) == 0)
+            drain(model);
         status = mini_moka_next(&model->cache, model->now, key, LONGEST, value, room, &key_length, &value_length);
         if (status == MINI_MOKA_TOO_SHORT) {
             require(value_length > room, "the buffer was long enough");
@@ -404,7 +571,7 @@ static void play_call(struct model *model) {
     uint64_t key = below(KEYS);
     unsigned dice = (unsigned)below(1000);
     /* Which call is made below which throw of the dice, of a thousand. */
-    static const unsigned below_it[] = {350, 700, 760, 820, 870, 900, 970, 971, 998, 1000};
+    static const unsigned below_it[] = {340, 680, 740, 800, 850, 880, 950, 951, 968, 970, 1000};
     for (call = 0; dice >= below_it[call];)
         call++;
     /* Bytes have no get or insert. */
@@ -423,11 +590,14 @@ static void play_call(struct model *model) {
     case 6: play_get_or_insert(model, key); break;
     case 7:
         require(mini_moka_invalidate_all(&model->cache) == MINI_MOKA_DONE, "not all left");
-        for (size_t i = 0; i < KEYS; i++)
+        for (size_t i = 0; i < KEYS; i++) {
             model->keys[i].is_there = false;
+            note_invalidation(model, i);
+        }
         break;
     case 8: play_counts(model); break;
     case 9: model->is_bytes ? play_walk(model) : play_number_walk(model); break;
+    case 10: drain(model); break;
     }
     allocations_left = -1;
 }
@@ -441,9 +611,15 @@ static bool open_cache(struct model *model) {
     model->time_to_live = below(2) == 0 ? MINI_MOKA_UNLIMITED : 1 + below(5000);
     model->time_to_idle = below(2) == 0 ? MINI_MOKA_UNLIMITED : 1 + below(2000);
     size_t room = below(2) == 0 ? 0 : below(KEYS);
-    struct mini_moka_settings bytes = {model->capacity, model->time_to_live, model->time_to_idle, room, {next_number(), next_number()}, model->is_weighed};
-    struct mini_moka_u64_settings numbers = {model->capacity, model->time_to_live, model->time_to_idle, room};
-    call = 10;
+    model->removed_room = below(3) == 0 ? 0 : below(2) == 0 ? 1 + below(8) : 1 + below(2 * KEYS);
+    model->is_eager = below(2) == 0;
+    for (size_t i = 0; i < KEYS; i++)
+        model->first_put[i] = model->last_put[i] = NO_PUT;
+    struct mini_moka_settings bytes = {
+        model->capacity, model->time_to_live, model->time_to_idle, room, {next_number(), next_number()}, model->is_weighed, model->removed_room,
+    };
+    struct mini_moka_u64_settings numbers = {model->capacity, model->time_to_live, model->time_to_idle, room, model->removed_room};
+    call = 11;
     was_refused = false;
     allocations_left = below(4) == 0 ? (int)below(6) : -1;
     uint32_t status = model->is_bytes ? mini_moka_open(&model->cache, &bytes) : mini_moka_u64_open(&model->cache, &numbers);
@@ -463,6 +639,9 @@ int main(int count, char **words) {
         caches++;
         for (int i = 0; i < CALLS_OF_A_CACHE && calls_made < wanted; i++)
             play_call(&model);
+        call = 8;
+        if (below(2) == 0)
+            play_counts(&model);
         require(mini_moka_close(&model.cache) == MINI_MOKA_DONE, "a cache was not closed");
     }
     printf("%" PRIu64 " calls of %" PRIu64 " caches, %" PRIu64 " requests refused: no difference\n", calls_made, caches, refusals);

@@ -1,6 +1,7 @@
 /*
  * Threads that share a cache of include/mini_moka_segments.h: segments [CALLS]. First one thread makes each call; then four make random calls at keys that they
- * share, a fifth counts and clears. A value that is found is one that was put at its key. It is run under ThreadSanitizer. It names what differs, and fails then.
+ * share, a fifth counts, drains and clears. A value that is found or drained is one that was put at its key, and each entry that leaves is drained or lost. It
+ * is run under ThreadSanitizer. It names what differs, and fails then.
  */
 #include "mini_moka_segments.h"
 #include <stdio.h>
@@ -33,7 +34,9 @@ static void calls_answer(void) {
     char buffer[ROOM];
     uint64_t number;
     size_t length;
+    uint32_t cause;
     CHECK(mini_moka_segments_insert(&cache, "a", 1, "apple", 5, 0) == MINI_MOKA_CLOSED);
+    CHECK(mini_moka_segments_removed(&cache, buffer, 8, buffer + 8, 8, &length, &(size_t){0}, &cause) == MINI_MOKA_CLOSED);
     CHECK(mini_moka_segments_get(&cache, "a", 1, 0, buffer, ROOM, &length) == MINI_MOKA_CLOSED);
     CHECK(mini_moka_segments_peek(&cache, "a", 1, 0, buffer, ROOM, &length) == MINI_MOKA_CLOSED);
     CHECK(mini_moka_segments_remove(&cache, "a", 1, 0, buffer, ROOM, &length) == MINI_MOKA_CLOSED);
@@ -96,6 +99,31 @@ static void capacity_is_spread(void) {
     CHECK(mini_moka_segments_close(&cache) == MINI_MOKA_DONE);
 }
 
+/* Each segment keeps a part of what left, which is rounded up. Each entry is drained once, or lost. */
+static void removed_entries_are_drained(void) {
+    struct mini_moka_segments cache = {0};
+    struct mini_moka_settings settings = MINI_MOKA_SETTINGS_INIT;
+    struct mini_moka_statistics met;
+    bool is_drained[100] = {false};
+    unsigned char key, value;
+    size_t key_length, value_length;
+    uint32_t cause, status;
+    uint64_t drained = 0;
+    settings.removed_room = 9;
+    CHECK(mini_moka_segments_open(&cache, &settings, 4) == MINI_MOKA_DONE);
+    for (key = 0; key < 100; key++)
+        CHECK(mini_moka_segments_insert(&cache, &key, 1, &key, 1, 0) == MINI_MOKA_DONE);
+    CHECK(mini_moka_segments_invalidate_all(&cache) == MINI_MOKA_DONE);
+    CHECK(mini_moka_segments_removed(&cache, &key, 0, &value, 1, &key_length, &value_length, &cause) == MINI_MOKA_TOO_SHORT && key_length == 1);
+    while ((status = mini_moka_segments_removed(&cache, &key, 1, &value, 1, &key_length, &value_length, &cause)) == MINI_MOKA_DONE) {
+        CHECK(key == value && key < 100 && !is_drained[key] && cause == MINI_MOKA_CAUSE_EXPLICIT);
+        is_drained[key] = true;
+        drained++;
+    }
+    CHECK(status == MINI_MOKA_ABSENT && drained == 12 && mini_moka_segments_statistics(&cache, &met) == MINI_MOKA_DONE && met.lost == 88);
+    CHECK(mini_moka_segments_close(&cache) == MINI_MOKA_DONE);
+}
+
 /* ---- threads */
 
 static struct mini_moka_segments shared;
@@ -123,6 +151,7 @@ static void *make_calls(void *number) {
     uint64_t state = (uint64_t)(uintptr_t)number;
     unsigned char value[LONGEST], buffer[ROOM];
     size_t length = 0;
+    uintptr_t returned = 0;
     for (int i = 0; i < calls; i++) {
         uint32_t key = (uint32_t)(next_number(&state) % KEYS), status;
         uint64_t now = (uint64_t)i;
@@ -134,6 +163,7 @@ static void *make_calls(void *number) {
         case 3:
             status = mini_moka_segments_remove(&shared, &key, sizeof key, now, buffer, ROOM, &length);
             look(key, status, buffer, length);
+            returned += status == MINI_MOKA_DONE;
             break;
         case 4: CHECK(!mini_moka_is_error(mini_moka_segments_contains(&shared, &key, sizeof key, now))); break;
         case 5:
@@ -145,28 +175,52 @@ static void *make_calls(void *number) {
             look(key, status, buffer, length);
         }
     }
-    return NULL;
+    return (void *)returned;
+}
+
+/* Drains what is there, and answers how much. */
+static uintptr_t drain(void) {
+    unsigned char value[LONGEST];
+    uint32_t key, cause;
+    size_t key_length, value_length;
+    uintptr_t drained = 0;
+    while (mini_moka_segments_removed(&shared, &key, sizeof key, value, LONGEST, &key_length, &value_length, &cause) == MINI_MOKA_DONE) {
+        CHECK(key_length == sizeof key && key < KEYS && cause <= MINI_MOKA_CAUSE_REJECTED);
+        look(key, MINI_MOKA_DONE, value, value_length);
+        drained++;
+    }
+    return drained;
 }
 
 static void *count_and_clear(void *unused) {
     struct mini_moka_statistics met;
+    uintptr_t drained = (uintptr_t)unused;
     for (int i = 0; i < calls / 100; i++) {
         CHECK(number_of(&shared, mini_moka_segments_count) <= 310 && mini_moka_segments_statistics(&shared, &met) == MINI_MOKA_DONE);
+        drained += drain();
         if (i % 16 == 15)
             CHECK(mini_moka_segments_invalidate_all(&shared) == MINI_MOKA_DONE);
     }
-    return unused;
+    return (void *)drained;
 }
 
 static void threads_share(void) {
     pthread_t threads[THREADS + 1];
-    struct mini_moka_settings settings = {310, 1000, 500, 0, {3, 4}, false};
+    struct mini_moka_settings settings = {310, 1000, 500, 0, {3, 4}, false, 400};
+    struct mini_moka_statistics met;
+    uint64_t gone = 0;
     CHECK(mini_moka_segments_open(&shared, &settings, 4) == MINI_MOKA_DONE);
     for (int i = 0; i < THREADS; i++)
         CHECK(pthread_create(&threads[i], NULL, make_calls, (void *)(uintptr_t)(i + 1)) == 0);
     CHECK(pthread_create(&threads[THREADS], NULL, count_and_clear, NULL) == 0);
-    for (int i = 0; i <= THREADS; i++)
-        CHECK(pthread_join(threads[i], NULL) == 0);
+    for (int i = 0; i <= THREADS; i++) {
+        void *count;
+        CHECK(pthread_join(threads[i], &count) == 0);
+        gone += (uintptr_t)count;
+    }
+    gone += drain();
+    CHECK(mini_moka_segments_statistics(&shared, &met) == MINI_MOKA_DONE);
+    CHECK(met.inserts == number_of(&shared, mini_moka_segments_count) + gone + met.lost && gone > 0);
     CHECK(mini_moka_segments_close(&shared) == MINI_MOKA_DONE);
 }
 
@@ -176,6 +230,7 @@ int main(int count, char **words) {
     calls_answer();
     segments_are_counted();
     capacity_is_spread();
+    removed_entries_are_drained();
     threads_share();
     return 0;
 }

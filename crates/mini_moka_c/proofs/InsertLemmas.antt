@@ -18,12 +18,10 @@ use Rattle.mini_moka_c.specs.ByteKeys.{ByteCacheState, byte_keys, byte_weighs}
 use Rattle.mini_moka_c.specs.Inserted.{heard, inserted_of}
 use Rattle.mini_moka_c.specs.NumberCalls.{weighs_one}
 use Rattle.mini_moka_c.specs.NumberKeys.{NumberCacheState, number_keys}
-use Rattle.mini_moka_c.specs.Statistics.{with_insert, with_insertion, with_one}
+use Rattle.mini_moka_c.specs.Removed.{hears_leaving}
 use Rattle.mini_moka_c.specs.declared.inserted.Inserted.{Inserted}
 use Rattle.mini_moka_c.specs.declared.inserted.Inserted.TheVariants.{Stored}
-use Rattle.mini_moka_c.specs.declared.inserted.Insertion.{Insertion}
-use Rattle.mini_moka_c.specs.declared.statistics.Statistics.{Statistics}
-use Rattle.mini_moka_c.proofs.StatisticsLemmas.{insert-counted}
+use Rattle.mini_moka_c.specs.declared.removed.Leaving.{Leaving}
 
 -- there is one, if from none it follows that there is one
 somewhere : {X : Type 0} (o : Option X) → (o ≡ None → is_some o ≡ true) → is_some o ≡ true
@@ -88,32 +86,18 @@ module _ {K V S W : Type 0} (keys : Keys K S) (laws : IsEquivalence keys.eq) {L 
           (entry_at keys.eq key (kept hears keys old now).entries) (new_entry keys old.settings.hash_state key value inserted.weight now) there
           inserted.refused refl is)))
 
--- what an insert's listener is once it got an entry
-abbrev hears_insertion : {K V : Type 0} → Insertion → K → V → Cause → Insertion → Type 0
-hears_insertion old key value cause new = new ≡ record { statistics = with_one cause old.statistics; inserted = heard cause old.inserted }
-
 -- an insert of bytes answers so
-pub bytes_answered : (old new : ByteCacheState) (key value : List ℕ) (now : ℕ) (counts : Statistics) (after : Insertion)
-    → IsInserted byte_keys byte_weighs old key value now new
-    → TellsInsert hears_insertion byte_keys old now key value new (record { statistics = counts; inserted = Stored }) after
+pub bytes_answered : (old new : ByteCacheState) (key value : List ℕ) (now : ℕ) (before after : Leaving (List ℕ) (List ℕ)) → before.inserted ≡ Stored
+    → IsInserted byte_keys byte_weighs old key value now new → TellsInsert hears_leaving byte_keys old now key value new before after
     → after.inserted ≡ inserted_of (is_some (entry_at byte_keys.eq key new.contents.entries))
-bytes_answered old new key value now counts after =
-    insert_told byte_keys nat_list_eq_equiv hears_insertion (λ (i : Insertion). i.inserted) (λ a b key value cause is. ap (λ (i : Insertion). i.inserted) is)
-    byte_weighs old new key value now (record { statistics = counts; inserted = Stored }) after refl
+bytes_answered old new key value now before after =
+    insert_told byte_keys nat_list_eq_equiv hears_leaving (λ (l : Leaving (List ℕ) (List ℕ)). l.inserted)
+    (λ a b key value cause is. ap (λ (l : Leaving (List ℕ) (List ℕ)). l.inserted) is) byte_weighs old new key value now before after
 
 -- and one of numbers
-pub numbers_answered : (old new : NumberCacheState) (key value now : ℕ) (counts : Statistics) (after : Insertion)
-    → IsInserted number_keys weighs_one old key value now new
-    → TellsInsert hears_insertion number_keys old now key value new (record { statistics = counts; inserted = Stored }) after
+pub numbers_answered : (old new : NumberCacheState) (key value now : ℕ) (before after : Leaving ℕ ℕ) → before.inserted ≡ Stored
+    → IsInserted number_keys weighs_one old key value now new → TellsInsert hears_leaving number_keys old now key value new before after
     → after.inserted ≡ inserted_of (is_some (entry_at number_keys.eq key new.contents.entries))
-numbers_answered old new key value now counts after =
-    insert_told number_keys nat_eq_equiv hears_insertion (λ (i : Insertion). i.inserted) (λ a b key value cause is. ap (λ (i : Insertion). i.inserted) is)
-    weighs_one old new key value now (record { statistics = counts; inserted = Stored }) after refl
-
--- and it counts what leaves
-pub insert_counted : {K V S W : Type 0} (keys : Keys K S) (old new : CacheState K V S W) (key : K) (value : V) (now : ℕ) (counts : Statistics)
-    (after : Insertion) → TellsInsert hears_insertion keys old now key value new (record { statistics = counts; inserted = Stored }) after
-    → with_insert after.statistics ≡ with_insertion keys old now key new counts
-insert_counted keys old new key value now counts after =
-    insert-counted keys hears_insertion (λ (i : Insertion). i.statistics) (λ a b key value cause is. ap (λ (i : Insertion). i.statistics) is) old now key value
-    new (record { statistics = counts; inserted = Stored }) after
+numbers_answered old new key value now before after =
+    insert_told number_keys nat_eq_equiv hears_leaving (λ (l : Leaving ℕ ℕ). l.inserted)
+    (λ a b key value cause is. ap (λ (l : Leaving ℕ ℕ). l.inserted) is) weighs_one old new key value now before after

@@ -14,7 +14,9 @@ use Rattle.moka_unsync_model.specs.Upkeep.{after_expiry, after_upkeep, is_expire
 use Rattle.moka_unsync_model.specs.declared.entry.Entry.{Entry}
 use Rattle.moka_unsync_model.specs.declared.listener.Cause.{Cause}
 use Rattle.moka_unsync_model.specs.declared.listener.Cause.TheVariants as cause
+use Rattle.mini_moka_c.specs.Removed.{hears_leaving}
 use Rattle.mini_moka_c.specs.Statistics.{with_found, with_left, with_one, with_put, with_insertion, with_insert, with_invalidation, with_removal, with_remove, with_upkeep}
+use Rattle.mini_moka_c.specs.declared.removed.Leaving.{Leaving}
 use Rattle.mini_moka_c.specs.declared.statistics.Statistics.{Statistics}
 
 -- as many were told as there are fewer
@@ -125,24 +127,33 @@ module _ {K V S W : Type 0} (keys : Keys K S) {L : Type 0} (hears : L → K → 
       by (Some e) found = on e (is_expired old.settings.policy now e) found
 
 -- all entries are counted, if all are removed
-pub clearing-counted : {K V : Type 0} {Reason : Entry K V → Type 0} (were : List (Entry K V)) (a b : Statistics)
-    → TellsWhatLeft (λ old key value cause new. new ≡ with_one cause old) cause.Explicit Reason were [] a b
-    → b ≡ with_left (length were) cause.Explicit a
-clearing-counted were a b t =
-    each-counted (λ old key value cause new. new ≡ with_one cause old) (λ s. s) (λ a b key value cause is. is) cause.Explicit t.told a b t.heard
-    ∙ ap (λ n. with_left n cause.Explicit a) (all-told were t.told t.each)
+pub clearing_counted : {K V : Type 0} {Reason : Entry K V → Type 0} (were : List (Entry K V)) (a b : Leaving K V)
+    → TellsWhatLeft hears_leaving cause.Explicit Reason were [] a b → b.statistics ≡ with_left (length were) cause.Explicit a.statistics
+clearing_counted {K} {V} were a b t =
+    each-counted hears_leaving (λ (l : Leaving K V). l.statistics) (λ a b key value cause is. ap (λ (l : Leaving K V). l.statistics) is) cause.Explicit t.told
+    a b t.heard
+    ∙ ap (λ n. with_left n cause.Explicit a.statistics) (all-told were t.told t.each)
 
-module _ {K V S W : Type 0} (keys : Keys K S) (old : CacheState K V S W) (now : ℕ) (a b : Statistics) where
-  -- the same, where the counts listen
-  pub look_counted : TellsLook (λ old key value cause new. new ≡ with_one cause old) keys old now a b → b ≡ with_upkeep keys old now a
-  look_counted = look-counted keys (λ old key value cause new. new ≡ with_one cause old) (λ s. s) (λ a b key value cause is. is) old now a b
+module _ {K V S W : Type 0} (keys : Keys K S) (old : CacheState K V S W) (now : ℕ) (a b : Leaving K V) where
+  -- the same, of a listener that queues too
+  pub look_counted : TellsLook hears_leaving keys old now a b → b.statistics ≡ with_upkeep keys old now a.statistics
+  look_counted =
+      look-counted keys hears_leaving (λ (l : Leaving K V). l.statistics) (λ a b key value cause is. ap (λ (l : Leaving K V). l.statistics) is) old now a b
 
-  pub invalidation_counted : (key : K) → TellsInvalidate (λ old key value cause new. new ≡ with_one cause old) keys old now key a b
-      → b ≡ with_invalidation keys old now key a
+  pub insert_counted : (key : K) (value : V) (new : CacheState K V S W) → TellsInsert hears_leaving keys old now key value new a b
+      → with_insert b.statistics ≡ with_insertion keys old now key new a.statistics
+  insert_counted key value new =
+      insert-counted keys hears_leaving (λ (l : Leaving K V). l.statistics) (λ a b key value cause is. ap (λ (l : Leaving K V). l.statistics) is) old now key
+      value new a b
+
+  pub invalidation_counted : (key : K) → TellsInvalidate hears_leaving keys old now key a b
+      → b.statistics ≡ with_invalidation keys old now key a.statistics
   invalidation_counted key =
-      invalidation-counted keys (λ old key value cause new. new ≡ with_one cause old) (λ s. s) (λ a b key value cause is. is) old now key a b
+      invalidation-counted keys hears_leaving (λ (l : Leaving K V). l.statistics) (λ a b key value cause is. ap (λ (l : Leaving K V). l.statistics) is) old now
+      key a b
 
-  pub removal_counted : (key : K) → TellsRemove (λ old key value cause new. new ≡ with_one cause old) keys old now key a b
-      → with_removal (is_some (found_by_get keys old key now)) b ≡ with_remove keys old now key a
+  pub removal_counted : (key : K) → TellsRemove hears_leaving keys old now key a b
+      → with_removal (is_some (found_by_get keys old key now)) b.statistics ≡ with_remove keys old now key a.statistics
   removal_counted key =
-      removal-counted keys (λ old key value cause new. new ≡ with_one cause old) (λ s. s) (λ a b key value cause is. is) old now key a b
+      removal-counted keys hears_leaving (λ (l : Leaving K V). l.statistics) (λ a b key value cause is. ap (λ (l : Leaving K V). l.statistics) is) old now key a
+      b

@@ -4,6 +4,7 @@ use Rattle.moka_unsync.specs.Contents.{entry_at}
 use Rattle.moka_unsync.specs.Insert.{IsInserted}
 use Rattle.moka_unsync.specs.Invalidate.{after_invalidate}
 use Rattle.moka_unsync.specs.Lookup.{after_get, after_look, found_by_get, found_by_peek, is_contained}
+use Rattle.moka_unsync_model.specs.ToldCalls as told
 use Rattle.mini_moka_c.specs.declared.cache.ByteCache.{ByteCache}
 use Rattle.mini_moka_c.specs.Buffer.{IsTaken, copied_to, is_longer}
 use Rattle.mini_moka_c.specs.ByteKeys.{byte_keys, byte_weighs}
@@ -13,11 +14,12 @@ use Rattle.mini_moka_c.specs.declared.steps.Step.{Step}
 use Rattle.mini_moka_c.specs.declared.steps.Walk.TheVariants.{Ended}
 use Rattle.mini_moka_c.specs.declared.steps.Step.TheVariants as step
 use Rattle.mini_moka_c.specs.Walk.{BytePair, IsLong, fitting, met_after, next_pair, step_of, walk_after}
+use Rattle.mini_moka_c.specs.Removed.{QueuesTaken, queues}
 use Rattle.mini_moka_c.specs.Statistics.{with_get, with_insertion, with_invalidation, with_taken, with_upkeep}
 use Rattle.mini_moka_c.specs.declared.constants.TheConstants.{ABSENT, CHANGED, DONE, OUT_OF_MEMORY, TOO_SHORT}
 use Rattle.mini_moka_c.specs.Calls.{TellsLength, TellsTruth}
 
--- memory was refused: all entries are as they were, nothing is counted, and a walk stands where it stood
+-- memory was refused: all entries are as they were, nothing is counted or queued, and a walk stands where it stood
 abbrev pub TellsRefusal : ℕ → ByteCache → ByteCache → Type 0
 TellsRefusal status old new = (status ≡ OUT_OF_MEMORY) × (new ≡ record old { cache = record old.cache { capacity = new.cache.capacity } })
 
@@ -25,12 +27,13 @@ TellsRefusal status old new = (status ≡ OUT_OF_MEMORY) × (new ≡ record old 
 abbrev pub TellsLongRefused : List ℕ → ℕ → ByteCache → ByteCache → Type 0
 TellsLongRefused key status old new = (SHORT_KEY < length key) × TellsRefusal status old new
 
--- the pair was put, and is counted, and the status says if the key has an entry now; or memory was refused
+-- the pair was put, and is counted, what leaves is queued, and the status says if the key has an entry now; or memory was refused
 abbrev pub TellsBytesInsert : List ℕ → List ℕ → ℕ → ℕ → ByteCache → ByteCache → Type 0
 TellsBytesInsert key value now status old new =
     ((status ≡ status_of (inserted_of (is_some (entry_at byte_keys.eq key new.cache.contents.entries))))
     × IsInserted byte_keys byte_weighs old.cache key value now new.cache
-    × (new.statistics ≡ with_insertion byte_keys old.cache now key new.cache old.statistics) × (new.walk ≡ Ended))
+    × (new.leaving.statistics ≡ with_insertion byte_keys old.cache now key new.cache old.leaving.statistics)
+    × told.TellsInsert queues byte_keys old.cache now key value new.cache old.leaving.removed new.leaving.removed × (new.walk ≡ Ended))
     ⊎ TellsRefusal status old new
 
 -- what was found is told by its length, and copied where the buffer is long enough
@@ -43,8 +46,8 @@ abbrev pub TellsBytesGet : List ℕ → ℕ → List ℕ → ℕ → List ℕ �
 TellsBytesGet key now buffer status filled written old new =
     (TellsBytesFound (found_by_get byte_keys old.cache key now) buffer status filled written
     × (new.cache ≡ after_get byte_keys old.cache key now)
-    × (new.statistics ≡ with_get (is_some (found_by_get byte_keys old.cache key now)) (with_upkeep byte_keys old.cache now old.statistics))
-    × (new.walk ≡ Ended))
+    × (new.leaving.statistics ≡ with_get (is_some (found_by_get byte_keys old.cache key now)) (with_upkeep byte_keys old.cache now old.leaving.statistics))
+    × told.TellsLook queues byte_keys old.cache now old.leaving.removed new.leaving.removed × (new.walk ≡ Ended))
     ⊎ TellsLongRefused key status old new
 
 -- what a peek finds
@@ -58,15 +61,17 @@ TellsBytesPeek key now buffer status filled written old new =
 abbrev pub TellsBytesLook : List ℕ → ℕ → ℕ → ByteCache → ByteCache → Type 0
 TellsBytesLook key now status old new =
     (TellsTruth (is_contained byte_keys old.cache key now) status × (new.cache ≡ after_look byte_keys old.cache now)
-    × (new.statistics ≡ with_upkeep byte_keys old.cache now old.statistics) × (new.walk ≡ Ended))
+    × (new.leaving.statistics ≡ with_upkeep byte_keys old.cache now old.leaving.statistics)
+    × told.TellsLook queues byte_keys old.cache now old.leaving.removed new.leaving.removed × (new.walk ≡ Ended))
     ⊎ TellsLongRefused key status old new
 
 -- what a removal finds, unless it is longer than the buffer and stays
 abbrev pub TellsBytesRemove : List ℕ → ℕ → List ℕ → ℕ → List ℕ → ℕ → ByteCache → ByteCache → Type 0
 TellsBytesRemove key now buffer status filled written old new =
     ((told : Option ℕ) × TellsLength told (length buffer) status written × IsTaken old.cache key now buffer new.cache filled told
-    × (new.statistics
-    ≡ with_taken byte_keys old.cache now (is_longer (found_by_peek byte_keys old.cache key now) buffer) key old.statistics)
+    × (new.leaving.statistics
+    ≡ with_taken byte_keys old.cache now (is_longer (found_by_peek byte_keys old.cache key now) buffer) key old.leaving.statistics)
+    × QueuesTaken byte_keys old.cache now (is_longer (found_by_peek byte_keys old.cache key now) buffer) key old.leaving.removed new.leaving.removed
     × (new.walk ≡ Ended))
     ⊎ TellsLongRefused key status old new
 
@@ -74,7 +79,8 @@ TellsBytesRemove key now buffer status filled written old new =
 abbrev pub TellsInvalidate : List ℕ → ℕ → ℕ → ByteCache → ByteCache → Type 0
 TellsInvalidate key now status old new =
     ((status ≡ DONE) × (new.cache ≡ after_invalidate byte_keys old.cache key now)
-    × (new.statistics ≡ with_invalidation byte_keys old.cache now key old.statistics) × (new.walk ≡ Ended))
+    × (new.leaving.statistics ≡ with_invalidation byte_keys old.cache now key old.leaving.statistics)
+    × told.TellsInvalidate queues byte_keys old.cache now key old.leaving.removed new.leaving.removed × (new.walk ≡ Ended))
     ⊎ TellsLongRefused key status old new
 
 -- a walk has ended, each entry was met, or the lengths of the next one are written, and whether buffers of these lengths have it is told
@@ -93,7 +99,7 @@ pub record IsWalked (keys values filled_keys filled_values : List ℕ) (status k
   pub walk : new.walk ≡ walk_after old.walk (fitting next keys values)
   pub met : new.met ≡ met_after old.met (fitting next keys values)
   pub cache : new.cache ≡ old.cache
-  pub counts : new.statistics ≡ old.statistics
+  pub leaving : new.leaving ≡ old.leaving
 
 abbrev pub TellsWalk : ℕ → List ℕ → List ℕ → ℕ → List ℕ → List ℕ → ℕ → ℕ → ByteCache → ByteCache → Type 0
 TellsWalk now keys values status filled_keys filled_values key value old new =

@@ -1,15 +1,18 @@
 -- How a call on a handle tells what the call of its cache answers.
-use Rattle.std.specs.Prelude.{◌≡◌, ℕ, Bool, true, false, length, nat_le, Option, Some, None, if◌then◌else◌}
+use Rattle.std.specs.Prelude.{◌≡◌, ⊤, ℕ, Bool, true, false, [], length, nat_le, Option, Some, None, if◌then◌else◌}
 use Rattle.moka_unsync.specs.Contents.{weighted_size}
 use Rattle.moka_unsync.specs.Invalidate.{after_invalidate_all}
+use Rattle.moka_unsync_model.specs.Told.{TellsWhatLeft}
+use Rattle.moka_unsync_model.specs.declared.listener.Cause.TheVariants.{Explicit}
 use Rattle.mini_moka_c.specs.declared.cache.ByteCache.{ByteCache}
 use Rattle.mini_moka_c.specs.declared.steps.Walk.TheVariants.{AtStart, Ended}
 use Rattle.mini_moka_c.specs.declared.constants.TheConstants.{ABSENT, CLOSED, DONE, OTHER_KIND, TOO_SHORT}
 use Rattle.mini_moka_c.specs.declared.handle.Kept.{Kept}
 use Rattle.mini_moka_c.specs.declared.handle.Kept.TheVariants.{Bytes, Numbers}
 use Rattle.mini_moka_c.specs.declared.number_cache.NumberCache.{NumberCache}
+use Rattle.mini_moka_c.specs.Removed.{queues}
 use Rattle.mini_moka_c.specs.Statistics.{with_clearing}
-use Rattle.mini_moka_c.specs.declared.statistics.Statistics.{Statistics}
+use Rattle.mini_moka_c.specs.declared.statistics.Report.{Report}
 
 -- a closed handle answers that it is closed, and stays so; an open one stays open, and what it keeps becomes this of that
 abbrev pub OnOpen : Option Kept → ℕ → Option Kept → (Kept → Kept → Type 0) → Type 0
@@ -41,26 +44,33 @@ abbrev pub weight_of : Kept → ℕ
 weight_of (Numbers numbers) = weighted_size numbers.cache.contents.entries
 weight_of (Bytes bytes) = weighted_size bytes.cache.contents.entries
 
--- what is kept once all entries have left, which ends a walk
-abbrev pub emptied : Kept → Kept
-emptied (Numbers numbers) =
-    Numbers (record numbers {
-      cache = after_invalidate_all numbers.cache;
-      statistics = with_clearing numbers.cache numbers.statistics;
-      walk = Ended;
-    })
-emptied (Bytes bytes) =
-    Bytes (record bytes { cache = after_invalidate_all bytes.cache; statistics = with_clearing bytes.cache bytes.statistics; walk = Ended })
+-- all entries have left, are counted and queued, which ends a walk
+pub record IsNumbersEmptied (old new : NumberCache) : Type 0 where
+  pub step : new ≡ record old { cache = after_invalidate_all old.cache; leaving = new.leaving; walk = Ended }
+  pub counts : new.leaving.statistics ≡ with_clearing old.cache old.leaving.statistics
+  pub removed : TellsWhatLeft queues Explicit (λ e. ⊤) old.cache.contents.entries [] old.leaving.removed new.leaving.removed
+
+-- and of bytes
+pub record IsBytesEmptied (old new : ByteCache) : Type 0 where
+  pub step : new ≡ record old { cache = after_invalidate_all old.cache; leaving = new.leaving; walk = Ended }
+  pub counts : new.leaving.statistics ≡ with_clearing old.cache old.leaving.statistics
+  pub removed : TellsWhatLeft queues Explicit (λ e. ⊤) old.cache.contents.entries [] old.leaving.removed new.leaving.removed
+
+abbrev pub IsEmptied : Kept → Kept → Type 0
+IsEmptied (Numbers old) (Numbers new) = IsNumbersEmptied old new
+IsEmptied (Numbers old) (Bytes new) = ⊥
+IsEmptied (Bytes old) (Numbers new) = ⊥
+IsEmptied (Bytes old) (Bytes new) = IsBytesEmptied old new
 
 -- what is kept once a walk was begun
 abbrev pub walking : Kept → Kept
 walking (Numbers numbers) = Numbers (record numbers { walk = AtStart })
 walking (Bytes bytes) = Bytes (record bytes { walk = AtStart })
 
--- what the calls have met
-abbrev pub statistics_of : Kept → Statistics
-statistics_of (Numbers numbers) = numbers.statistics
-statistics_of (Bytes bytes) = bytes.statistics
+-- what the calls have met, and how many entries the queue has lost
+abbrev pub statistics_of : Kept → Report
+statistics_of (Numbers numbers) = record { statistics = numbers.leaving.statistics; lost = numbers.leaving.removed.lost }
+statistics_of (Bytes bytes) = record { statistics = bytes.leaving.statistics; lost = bytes.leaving.removed.lost }
 
 -- ---- answers
 

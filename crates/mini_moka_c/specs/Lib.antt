@@ -1,9 +1,11 @@
 pub mod Weight
 pub mod Statistics
 pub mod Inserted
+pub mod Removed
 pub mod Buffer
 pub mod ByteKeys
 pub mod Walk
+pub mod Drain
 pub mod NumberKeys
 pub mod NumberWalk
 pub mod Opening

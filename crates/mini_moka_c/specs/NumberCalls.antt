@@ -5,6 +5,7 @@ use Rattle.moka_unsync.specs.Contents.{entry_at}
 use Rattle.moka_unsync.specs.Insert.{IsInserted, IsRefused}
 use Rattle.moka_unsync.specs.Invalidate.{after_invalidate}
 use Rattle.moka_unsync.specs.Lookup.{after_get, after_look, found_by_get, found_by_peek, is_contained}
+use Rattle.moka_unsync_model.specs.ToldCalls as told
 use Rattle.mini_moka_c.specs.declared.number_cache.NumberCache.{NumberCache}
 use Rattle.mini_moka_c.specs.declared.steps.NumberStep.{NumberStep}
 use Rattle.mini_moka_c.specs.declared.steps.NumberStep.TheVariants as step
@@ -14,29 +15,44 @@ use Rattle.mini_moka_c.specs.Calls.{TellsTruth}
 use Rattle.mini_moka_c.specs.Inserted.{inserted_of, status_of}
 use Rattle.mini_moka_c.specs.NumberKeys.{number_keys}
 use Rattle.mini_moka_c.specs.NumberWalk.{met_after, next_pair, step_of, walk_after}
+use Rattle.mini_moka_c.specs.Removed.{queues}
 use Rattle.mini_moka_c.specs.Statistics.{with_get, with_insertion, with_invalidation, with_remove, with_upkeep}
 
 -- what a weigher of numbers answers
 abbrev pub weighs_one : {W : Type 0} → W → ℕ → ℕ → ℕ → W → Type 0
 weighs_one before key value weight after = unit_weighs key value weight × (after ≡ before)
 
--- the pair goes into the cache at a moment, each entry weighing the same, and is counted
+-- the pair goes into the cache at a moment, each entry weighing the same, and is counted, and what leaves is queued
 pub record IsNumberInsert (key value now : ℕ) (old new : NumberCache) : Type 0 where
   pub step : IsInserted number_keys weighs_one old.cache key value now new.cache
-  pub counts : new.statistics ≡ with_insertion number_keys old.cache now key new.cache old.statistics
+  pub counts : new.leaving.statistics ≡ with_insertion number_keys old.cache now key new.cache old.leaving.statistics
+  pub removed : told.TellsInsert queues number_keys old.cache now key value new.cache old.leaving.removed new.leaving.removed
   pub walk : new.walk ≡ Ended
 
--- there was no room for one more entry: all are as they were, nothing is counted, and a walk stands where it stood
+-- there was no room for one more entry: all are as they were, nothing is counted or queued, and a walk stands where it stood
 pub record IsNumberRefusal (old new : NumberCache) : Type 0 where
   pub refused : IsRefused old.cache new.cache
   pub same : new ≡ record old { cache = new.cache }
 
--- a get finds this value, or none, and is counted
+-- a get finds this value, or none, and is counted, and what upkeep removes is queued
 pub record IsNumberGet (key now : ℕ) (found : Option ℕ) (old new : NumberCache) : Type 0 where
   pub value : found ≡ found_by_get number_keys old.cache key now
   pub step : new.cache ≡ after_get number_keys old.cache key now
-  pub counts : new.statistics ≡ with_get (is_some found) (with_upkeep number_keys old.cache now old.statistics)
+  pub counts : new.leaving.statistics ≡ with_get (is_some found) (with_upkeep number_keys old.cache now old.leaving.statistics)
+  pub removed : told.TellsLook queues number_keys old.cache now old.leaving.removed new.leaving.removed
   pub walk : new.walk ≡ Ended
+
+-- the entry of the key left, is counted and queued
+pub record IsNumberInvalidation (key now : ℕ) (old new : NumberCache) : Type 0 where
+  pub step : new ≡ record old { cache = after_invalidate number_keys old.cache key now; leaving = new.leaving; walk = Ended }
+  pub counts : new.leaving.statistics ≡ with_invalidation number_keys old.cache now key old.leaving.statistics
+  pub removed : told.TellsInvalidate queues number_keys old.cache now key old.leaving.removed new.leaving.removed
+
+-- the entry of the key was taken, and is counted; it is queued only if it is expired
+pub record IsNumberRemove (key now : ℕ) (old new : NumberCache) : Type 0 where
+  pub step : new ≡ record old { cache = after_invalidate number_keys old.cache key now; leaving = new.leaving; walk = Ended }
+  pub counts : new.leaving.statistics ≡ with_remove number_keys old.cache now key old.leaving.statistics
+  pub removed : told.TellsRemove queues number_keys old.cache now key old.leaving.removed new.leaving.removed
 
 -- a value was found and is written, or none was
 abbrev pub TellsFound : Option ℕ → ℕ → ℕ → Type 0
@@ -62,30 +78,13 @@ TellsPeek key now status written old new = TellsFound (found_by_peek number_keys
 abbrev pub TellsLook : ℕ → ℕ → ℕ → NumberCache → NumberCache → Type 0
 TellsLook key now status old new =
     TellsTruth (is_contained number_keys old.cache key now) status × (new.cache ≡ after_look number_keys old.cache now)
-    × (new.statistics ≡ with_upkeep number_keys old.cache now old.statistics) × (new.walk ≡ Ended)
-
--- the entry of the key left
-abbrev pub without : ℕ → ℕ → NumberCache → NumberCache
-without key now old =
-    record old {
-      cache = after_invalidate number_keys old.cache key now;
-      statistics = with_invalidation number_keys old.cache now key old.statistics;
-      walk = Ended;
-    }
-
--- the entry of the key was taken
-abbrev pub taken : ℕ → ℕ → NumberCache → NumberCache
-taken key now old =
-    record old {
-      cache = after_invalidate number_keys old.cache key now;
-      statistics = with_remove number_keys old.cache now key old.statistics;
-      walk = Ended;
-    }
+    × (new.leaving.statistics ≡ with_upkeep number_keys old.cache now old.leaving.statistics)
+    × told.TellsLook queues number_keys old.cache now old.leaving.removed new.leaving.removed × (new.walk ≡ Ended)
 
 -- what a removal finds
 abbrev pub TellsRemove : ℕ → ℕ → ℕ → ℕ → NumberCache → NumberCache → Type 0
 TellsRemove key now status written old new =
-    TellsFound (found_by_get number_keys old.cache key now) status written × (new ≡ taken key now old)
+    TellsFound (found_by_get number_keys old.cache key now) status written × IsNumberRemove key now old new
 
 -- a get found the value that is written; or it found none, and this one was inserted behind it, or was refused memory
 abbrev pub TellsGotOrInserted : ℕ → ℕ → ℕ → ℕ → ℕ → NumberCache → NumberCache → Type 0

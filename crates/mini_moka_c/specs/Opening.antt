@@ -7,6 +7,7 @@ use Rattle.moka_unsync.specs.Shares.{default_shares}
 use Rattle.mini_moka_c.specs.declared.cache.ByteCache.{ByteCache}
 use Rattle.mini_moka_c.specs.declared.steps.Walk.TheVariants.{Ended}
 use Rattle.mini_moka_c.specs.declared.weight.ByteWeight.TheVariants as weight
+use Rattle.mini_moka_c.specs.Removed.{empty_queue}
 use Rattle.mini_moka_c.specs.Statistics.{no_statistics}
 use Rattle.mini_moka_c.specs.declared.constants.TheConstants.{ALREADY_OPEN, DONE, OUT_OF_MEMORY, UNLIMITED, ZERO_DURATION}
 use Rattle.mini_moka_c.specs.declared.handle.Kept.{Kept}
@@ -29,7 +30,8 @@ pub record HasLimits (policy : Policy) (capacity live idle : ℕ) : Type 0 where
 abbrev pub has_zero_duration : ℕ → ℕ → Bool
 has_zero_duration live idle = live == 0 || idle == 0
 
--- the cache is a new one of the settings, with no entry and no weigher, and at least the room that was asked for; nothing was counted, and no walk was begun
+-- the cache is a new one of the settings, with no entry and no weigher, and at least the room that was asked for; nothing was counted or
+-- removed, and no walk was begun
 pub record IsNumbersNew (settings : NumberSettings) (numbers : NumberCache) : Type 0 where
   pub limits : HasLimits numbers.cache.settings.policy settings.capacity settings.time_to_live settings.time_to_idle
   pub new : numbers.cache ≡ new_cache (record {
@@ -38,10 +40,11 @@ pub record IsNumbersNew (settings : NumberSettings) (numbers : NumberCache) : Ty
     is_weighed = false;
   }) default_shares numbers.cache.weigher numbers.cache.capacity
   pub room : settings.initial_capacity ≤ numbers.cache.capacity
-  pub counts : numbers.statistics ≡ no_statistics
+  pub counts : numbers.leaving.statistics ≡ no_statistics
+  pub removed : numbers.leaving.removed ≡ empty_queue settings.removed_room
   pub walk : numbers.walk ≡ Ended
 
--- and of bytes, with the key of the hash and the weigher that are set; nothing was counted, and no walk was begun
+-- and of bytes, with the key of the hash and the weigher that are set; nothing was counted or removed, and no walk was begun
 pub record IsBytesNew (settings : ByteSettings) (bytes : ByteCache) : Type 0 where
   pub limits : HasLimits bytes.cache.settings.policy settings.capacity settings.time_to_live settings.time_to_idle
   pub new : bytes.cache ≡ new_cache (record {
@@ -50,7 +53,8 @@ pub record IsBytesNew (settings : ByteSettings) (bytes : ByteCache) : Type 0 whe
     is_weighed = settings.is_weighed;
   }) default_shares (if settings.is_weighed then weight.Bytes else weight.Entry) bytes.cache.capacity
   pub room : settings.initial_capacity ≤ bytes.cache.capacity
-  pub counts : bytes.statistics ≡ no_statistics
+  pub counts : bytes.leaving.statistics ≡ no_statistics
+  pub removed : bytes.leaving.removed ≡ empty_queue settings.removed_room
   pub walk : bytes.walk ≡ Ended
 
 -- what is kept is such a cache

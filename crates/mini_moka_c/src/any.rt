@@ -1,11 +1,11 @@
 // The calls of a handle that are the same for bytes and for numbers.
 ghost use Rattle.std.specs.Prelude.{◌≡◌, ◌≢◌, None};
 ghost use Rattle.std.specs.Option.{MatchOption};
-ghost use Rattle.mini_moka_c.specs.Calls.{OnOpen, count_of, emptied, statistics_of, walking, weight_of};
+ghost use Rattle.mini_moka_c.specs.Calls.{IsEmptied, OnOpen, count_of, statistics_of, walking, weight_of};
 
 use crate::constants::{CLOSED, DONE};
 use crate::handle::Handle;
-use crate::statistics::Statistics;
+use crate::statistics::Report;
 use std::alloc::Global;
 
 /// Closes the handle, and frees its cache. Closing a closed handle answers `CLOSED`.
@@ -23,7 +23,7 @@ pub extern "C" fn mini_moka_close(alloc: Global, handle: &mut Handle) -> u32
 /// Removes all entries.
 #[unsafe(no_mangle)]
 pub extern "C" fn mini_moka_invalidate_all(handle: &mut Handle) -> u32
-    ensures { OnOpen handle.old.value result handle.new.value (λ old new. (result ≡ DONE) × (new ≡ emptied old)) }
+    ensures { OnOpen handle.old.value result handle.new.value (λ old new. (result ≡ DONE) × IsEmptied old new) }
 {
     match handle.kept() {
         Some(kept) => {
@@ -68,7 +68,7 @@ pub extern "C" fn mini_moka_weight(handle: &mut Handle, weight: &mut u64) -> u32
 
 /// Writes the counts of the calls since the handle was opened.
 #[unsafe(no_mangle)]
-pub extern "C" fn mini_moka_statistics(handle: &mut Handle, statistics: &mut Statistics) -> u32
+pub extern "C" fn mini_moka_statistics(handle: &mut Handle, statistics: &mut Report) -> u32
     ensures step { OnOpen handle.old.value result handle.new.value (λ old new.
         (result ≡ DONE) × (statistics.new ≡ statistics_of old) × (new ≡ old)) }
     ensures unchanged { result ≢ DONE → statistics.new ≡ statistics.old }

@@ -1,20 +1,26 @@
 //! A cache of bytes.
-ghost use Rattle.std.specs.Prelude.{◌≡◌, ◌<◌, length, nat_le, IfErr, IfOk, is_some, None, OnErr, OnOk, option_copied, option_map};
+ghost use Rattle.std.specs.Prelude.{◌≡◌, ◌<◌, ⊤, [], length, nat_le, IfErr, IfOk, is_some, None, OnErr, OnOk, option_copied, option_map};
 ghost use Rattle.std.specs.Map.Iter.{deref_pair};
 ghost use Rattle.moka_unsync.specs.Builder.{IsBuilt, refusal_of};
 ghost use Rattle.moka_unsync.specs.Contents.{entry_at};
 ghost use Rattle.moka_unsync.specs.Insert.{IsInserted};
 ghost use Rattle.moka_unsync.specs.Invalidate.{after_invalidate, after_invalidate_all};
 ghost use Rattle.moka_unsync.specs.Lookup.{after_get, after_look, found_by_get, found_by_peek, is_contained};
+ghost use Rattle.moka_unsync_model.specs.Told.{TellsWhatLeft};
+ghost use Rattle.moka_unsync_model.specs.ToldCalls.{TellsInsert, TellsInvalidate, TellsLook};
+ghost use Rattle.moka_unsync_model.specs.declared.listener.Cause.TheVariants.{Explicit};
 ghost use Rattle.mini_moka_c.specs.Buffer.{IsTaken, copied_to, is_longer};
 ghost use Rattle.mini_moka_c.specs.ByteKeys.{byte_keys, byte_weighs};
 ghost use Rattle.mini_moka_c.specs.Inserted.{inserted_of};
+ghost use Rattle.mini_moka_c.specs.Drain.{drained_by, drained_of, pair_of};
+ghost use Rattle.mini_moka_c.specs.Removed.{QueuesTaken, oldest, queues};
 ghost use Rattle.mini_moka_c.specs.Walk.{IsLong, fitting, met_after, next_pair, step_of, walk_after};
 ghost use Rattle.mini_moka_c.specs.declared.steps.Walk.TheVariants.{AtStart, Ended};
 ghost use Rattle.mini_moka_c.specs.Statistics.{no_statistics, with_clearing, with_get, with_insertion, with_invalidation, with_taken, with_upkeep};
 
-use crate::inserted::{Inserted, Insertion};
+use crate::inserted::Inserted;
 use crate::key::{Key, SHORT_KEY};
+use crate::removed::{Drained, Leaving, RemovedQueue};
 use crate::seed::Seed;
 use crate::statistics::Statistics;
 use crate::steps::{Step, Walk};
@@ -33,7 +39,8 @@ use std::alloc::Global;
 #[derive(Drop)]
 pub struct ByteCache {
     pub cache: Cache<Key, Value, Seed, ByteWeight>,
-    pub statistics: Statistics,
+    /// What was counted, and the entries that left and aren't drained.
+    pub leaving: Leaving<Key, Value>,
     // The key that is looked for.
     sought: Key,
     walk: Walk,
@@ -42,20 +49,26 @@ pub struct ByteCache {
 }
 
 impl ByteCache {
-    /// A cache with what is set, whose hash has this key. It is refused as `CacheBuilder::build` is.
+    /// A cache with what is set, whose hash has this key, and which queues what leaves. It is refused as `CacheBuilder::build` is.
     pub fn build(
         alloc: Global,
         builder: CacheBuilder<Key, Value, ByteWeight>,
         seed: Seed,
+        removed: RemovedQueue<Key, Value>,
     ) -> Result<ByteCache, BuildError>
         ensures ok { IfOk result (λ made. IsBuilt builder seed made.cache) }
-        ensures counts { IfOk result (λ made. made.statistics ≡ no_statistics) }
+        ensures counts { IfOk result (λ made. made.leaving.statistics ≡ no_statistics) }
+        ensures removed { IfOk result (λ made. made.leaving.removed ≡ removed) }
         ensures walk { IfOk result (λ made. made.walk ≡ Ended) }
         ensures err { IfErr result (λ error. error ≡ refusal_of builder) }
     {
         Ok(ByteCache {
             cache: builder.build_with_hasher(seed)?,
-            statistics: Statistics::none(),
+            leaving: Leaving {
+                statistics: Statistics::none(),
+                removed,
+                inserted: Inserted::Stored,
+            },
             sought: Key::new(alloc),
             walk: Walk::Ended,
             met: Key::new(alloc),
@@ -73,23 +86,26 @@ impl ByteCache {
     ) -> Result<Inserted, InsertError>
         ensures answer { IfOk result (λ inserted. inserted ≡ inserted_of (is_some (entry_at byte_keys.eq key.now self.new.cache.contents.entries))) }
         ensures step { OnOk result (IsInserted byte_keys byte_weighs self.old.cache key.now value.now now self.new.cache) }
-        ensures counts { OnOk result (self.new.statistics ≡ with_insertion byte_keys self.old.cache now key.now self.new.cache self.old.statistics) }
+        ensures counts { OnOk result (self.new.leaving.statistics ≡ with_insertion byte_keys self.old.cache now key.now self.new.cache self.old.leaving.statistics) }
+        ensures removed { OnOk result (TellsInsert queues byte_keys self.old.cache now key.now value.now self.new.cache self.old.leaving.removed self.new.leaving.removed) }
         ensures walk { OnOk result (self.new.walk ≡ Ended) }
         ensures refused { OnErr result (self.new ≡ record self.old { cache = record self.old.cache { capacity = self.new.cache.capacity } }) }
         ensures error { IfErr result (λ error. error ≡ InsertError.OutOfMemory) }
     {
         let (key, value) = copies(alloc, key, value)?;
         let hash = self.cache.hash_of(&key);
-        let mut insertion = Insertion {
-            statistics: self.statistics,
-            inserted: Inserted::Stored,
-        };
-        self.cache
-            .insert_notifying(key, hash, value, now, &mut insertion)?;
+        let before = self.leaving.inserted;
+        self.leaving.inserted = Inserted::Stored;
+        if let Err(refused) = self
+            .cache
+            .insert_notifying(key, hash, value, now, &mut self.leaving)
+        {
+            self.leaving.inserted = before;
+            return Err(refused);
+        }
         self.walk = Walk::Ended;
-        self.statistics = insertion.statistics;
-        self.statistics.count_insert();
-        Ok(insertion.inserted)
+        self.leaving.statistics.count_insert();
+        Ok(self.leaving.inserted)
     }
 
     /// Looks the key up as `Cache::get` does. It copies the value to the beginning of the buffer, if it fits, and answers its length.
@@ -102,8 +118,9 @@ impl ByteCache {
         ensures value { IfOk result (λ found. found ≡ option_map length (found_by_get byte_keys self.old.cache key.now now)) }
         ensures copied { OnOk result (buffer.new ≡ copied_to buffer.old (found_by_get byte_keys self.old.cache key.now now)) }
         ensures step { OnOk result (self.new.cache ≡ after_get byte_keys self.old.cache key.now now) }
-        ensures counts { OnOk result (self.new.statistics
-            ≡ with_get (is_some (found_by_get byte_keys self.old.cache key.now now)) (with_upkeep byte_keys self.old.cache now self.old.statistics)) }
+        ensures counts { OnOk result (self.new.leaving.statistics
+            ≡ with_get (is_some (found_by_get byte_keys self.old.cache key.now now)) (with_upkeep byte_keys self.old.cache now self.old.leaving.statistics)) }
+        ensures removed { OnOk result (TellsLook queues byte_keys self.old.cache now self.old.leaving.removed self.new.leaving.removed) }
         ensures walk { OnOk result (self.new.walk ≡ Ended) }
         ensures refused { OnErr result ((self.new ≡ self.old) × (buffer.new ≡ buffer.old)) }
         ensures short { OnErr result (SHORT_KEY < length key.now) }
@@ -113,9 +130,9 @@ impl ByteCache {
         let hash = self.cache.hash_of(&self.sought);
         let value = self
             .cache
-            .get_notifying(&self.sought, hash, now, &mut self.statistics);
+            .get_notifying(&self.sought, hash, now, &mut self.leaving);
         let found = copied(value, buffer);
-        self.statistics.count_get(found.is_some());
+        self.leaving.statistics.count_get(found.is_some());
         Ok(found)
     }
 
@@ -140,7 +157,8 @@ impl ByteCache {
     pub fn contains(&mut self, key: &[u8], now: Instant) -> Result<bool, OutOfMemory>
         ensures value { IfOk result (λ there. there ≡ is_contained byte_keys self.old.cache key.now now) }
         ensures step { OnOk result (self.new.cache ≡ after_look byte_keys self.old.cache now) }
-        ensures counts { OnOk result (self.new.statistics ≡ with_upkeep byte_keys self.old.cache now self.old.statistics) }
+        ensures counts { OnOk result (self.new.leaving.statistics ≡ with_upkeep byte_keys self.old.cache now self.old.leaving.statistics) }
+        ensures removed { OnOk result (TellsLook queues byte_keys self.old.cache now self.old.leaving.removed self.new.leaving.removed) }
         ensures walk { OnOk result (self.new.walk ≡ Ended) }
         ensures refused { OnErr result (self.new ≡ self.old) }
         ensures short { OnErr result (SHORT_KEY < length key.now) }
@@ -150,7 +168,7 @@ impl ByteCache {
         let hash = self.cache.hash_of(&self.sought);
         Ok(
             self.cache
-                .contains_notifying(&self.sought, hash, now, &mut self.statistics),
+                .contains_notifying(&self.sought, hash, now, &mut self.leaving),
         )
     }
 
@@ -165,8 +183,10 @@ impl ByteCache {
         ensures step { IfOk result (IsTaken self.old.cache key.now now buffer.old self.new.cache buffer.new) }
         ensures walk { OnOk result (self.new.walk ≡ Ended) }
         ensures refused { OnErr result ((self.new ≡ self.old) × (buffer.new ≡ buffer.old)) }
-        ensures counts { OnOk result (self.new.statistics
-            ≡ with_taken byte_keys self.old.cache now (is_longer (found_by_peek byte_keys self.old.cache key.now now) buffer.old) key.now self.old.statistics) }
+        ensures counts { OnOk result (self.new.leaving.statistics
+            ≡ with_taken byte_keys self.old.cache now (is_longer (found_by_peek byte_keys self.old.cache key.now now) buffer.old) key.now self.old.leaving.statistics) }
+        ensures removed { OnOk result (QueuesTaken byte_keys self.old.cache now
+            (is_longer (found_by_peek byte_keys self.old.cache key.now now) buffer.old) key.now self.old.leaving.removed self.new.leaving.removed) }
         ensures short { OnErr result (SHORT_KEY < length key.now) }
     {
         self.sought.set(key)?;
@@ -180,8 +200,8 @@ impl ByteCache {
         let hash = self.cache.hash_of(&self.sought);
         let value = self
             .cache
-            .remove_notifying(&self.sought, hash, now, &mut self.statistics);
-        self.statistics.count_removal(value.is_some());
+            .remove_notifying(&self.sought, hash, now, &mut self.leaving);
+        self.leaving.statistics.count_removal(value.is_some());
         Ok(copied(value.as_ref(), buffer))
     }
 
@@ -190,27 +210,51 @@ impl ByteCache {
         ensures step { OnOk result (self.new.cache ≡ after_invalidate byte_keys self.old.cache key.now now) }
         ensures walk { OnOk result (self.new.walk ≡ Ended) }
         ensures refused { OnErr result (self.new ≡ self.old) }
-        ensures counts { OnOk result (self.new.statistics ≡ with_invalidation byte_keys self.old.cache now key.now self.old.statistics) }
+        ensures counts { OnOk result (self.new.leaving.statistics ≡ with_invalidation byte_keys self.old.cache now key.now self.old.leaving.statistics) }
+        ensures removed { OnOk result (TellsInvalidate queues byte_keys self.old.cache now key.now self.old.leaving.removed self.new.leaving.removed) }
         ensures short { OnErr result (SHORT_KEY < length key.now) }
     {
         self.sought.set(key)?;
         self.walk = Walk::Ended;
         let hash = self.cache.hash_of(&self.sought);
         self.cache
-            .invalidate_notifying(&self.sought, hash, now, &mut self.statistics);
+            .invalidate_notifying(&self.sought, hash, now, &mut self.leaving);
         Ok(())
     }
 
     /// Removes all entries.
     pub fn invalidate_all(&mut self)
-        ensures { self.new ≡ record self.old {
-          cache = after_invalidate_all self.old.cache;
-          statistics = with_clearing self.old.cache self.old.statistics;
-          walk = Ended;
-        } }
+        ensures step { self.new ≡ record self.old { cache = after_invalidate_all self.old.cache; leaving = self.new.leaving; walk = Ended } }
+        ensures counts { self.new.leaving.statistics ≡ with_clearing self.old.cache self.old.leaving.statistics }
+        ensures removed { TellsWhatLeft queues Explicit (λ e. ⊤) self.old.cache.contents.entries [] self.old.leaving.removed self.new.leaving.removed }
     {
         self.walk = Walk::Ended;
-        self.cache.invalidate_all_notifying(&mut self.statistics);
+        self.cache.invalidate_all_notifying(&mut self.leaving);
+    }
+
+    /// Drains the removed entry that left first: copies its key and its value to the beginnings of the buffers, if both fit, and answers their lengths. If one
+    /// doesn't fit, the entry stays in front.
+    pub fn drain(&mut self, keys: &mut [u8], values: &mut [u8]) -> Option<Drained>
+        ensures told { result ≡ option_map drained_of (oldest self.old.leaving.removed) }
+        ensures key { keys.new ≡ copied_to keys.old (option_map (λ p. p.0)
+            (fitting (option_map pair_of (oldest self.old.leaving.removed)) keys.old values.old)) }
+        ensures value { values.new ≡ copied_to values.old (option_map (λ p. p.1)
+            (fitting (option_map pair_of (oldest self.old.leaving.removed)) keys.old values.old)) }
+        ensures step { self.new ≡ drained_by (fitting (option_map pair_of (oldest self.old.leaving.removed)) keys.old values.old) self.old }
+    {
+        let removed = self.leaving.removed.kept.front()?;
+        let (key, value) = (removed.key.as_slice(), removed.value.as_slice());
+        let drained = Drained {
+            key: key.len(),
+            value: value.len(),
+            cause: removed.cause,
+        };
+        if key.len() <= keys.len() && value.len() <= values.len() {
+            keys[..key.len()].copy_from_slice(key);
+            values[..value.len()].copy_from_slice(value);
+            let _removed = self.leaving.removed.take();
+        }
+        Some(drained)
     }
 
     /// Begins a walk through the unexpired entries, in the order of `Cache::iter`. Each call that may change the cache ends it, unless it is refused memory: all
@@ -241,7 +285,7 @@ impl ByteCache {
         ensures refused { OnErr result ((self.new ≡ self.old) × (keys.new ≡ keys.old) × (values.new ≡ values.old)) }
         ensures long { OnErr result (IsLong (next_pair self.old.walk self.old.cache self.old.met now)) }
         ensures cache { self.new.cache ≡ self.old.cache }
-        ensures counts { self.new.statistics ≡ self.old.statistics }
+        ensures leaving { self.new.leaving ≡ self.old.leaving }
     {
         let ByteCache {
             cache,

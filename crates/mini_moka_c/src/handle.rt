@@ -33,7 +33,7 @@ mod loose;
 use crate::cache::ByteCache;
 use crate::constants::{CLOSED, OTHER_KIND};
 use crate::number_cache::NumberCache;
-use crate::statistics::Statistics;
+use crate::statistics::Report;
 use loose::Loose;
 use std::alloc::Global;
 use std::marker::Model;
@@ -48,11 +48,11 @@ pub enum Kept {
 }
 
 impl Kept {
-    ghost use Rattle.mini_moka_c.specs.Calls.{count_of, emptied, statistics_of, walking, weight_of};
+    ghost use Rattle.mini_moka_c.specs.Calls.{IsEmptied, count_of, statistics_of, walking, weight_of};
 
     /// Removes all entries.
     pub(crate) fn invalidate_all(&mut self)
-        ensures { self.new ≡ emptied self.old }
+        ensures { IsEmptied self.old self.new }
     {
         match self {
             Kept::Numbers(numbers) => numbers.invalidate_all(),
@@ -90,13 +90,13 @@ impl Kept {
         }
     }
 
-    /// Returns what the calls have met.
-    pub(crate) fn statistics(&self) -> Statistics
+    /// Returns what the calls have met, and how many entries the queue has lost.
+    pub(crate) fn statistics(&self) -> Report
         ensures { result ≡ statistics_of self.now }
     {
         match self {
-            Kept::Numbers(numbers) => numbers.statistics,
-            Kept::Bytes(bytes) => bytes.statistics,
+            Kept::Numbers(numbers) => numbers.leaving.report(),
+            Kept::Bytes(bytes) => bytes.leaving.report(),
         }
     }
 }

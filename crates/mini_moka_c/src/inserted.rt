@@ -1,11 +1,9 @@
 //! The answer of an insert.
 ghost use Rattle.std.specs.Prelude.{◌≡◌};
 ghost use Rattle.mini_moka_c.specs.Inserted.{heard, status_of};
-ghost use Rattle.mini_moka_c.specs.Statistics.{with_one};
 
 use crate::constants::{DONE, REJECTED};
-use crate::statistics::Statistics;
-use moka_unsync_model::listener::{Cause, Listener};
+use moka_unsync_model::listener::Cause;
 
 /// The answer of an insert that wasn't refused memory.
 #[derive(Clone, Copy, Drop)]
@@ -26,22 +24,13 @@ impl Inserted {
             Inserted::Rejected => REJECTED,
         }
     }
-}
 
-/// The listener of an insert, which counts what leaves and finds the answer.
-#[derive(Clone, Copy, Drop)]
-pub struct Insertion {
-    pub statistics: Statistics,
-    pub inserted: Inserted,
-}
-
-impl<K: Drop, V: Drop> Listener<K, V> for Insertion {
-    ghost hears = { λ old key value cause new. new ≡ record { statistics = with_one cause old.statistics; inserted = heard cause old.inserted } };
-
-    fn removed(&mut self, _key: K, _value: V, cause: Cause) {
-        self.statistics.count_leaving(cause);
+    /// Becomes `Rejected` if an entry left for that cause.
+    pub(crate) fn hear(&mut self, cause: Cause)
+        ensures { self.new ≡ heard cause self.old }
+    {
         if let Cause::Rejected = cause {
-            self.inserted = Inserted::Rejected;
+            *self = Inserted::Rejected;
         }
     }
 }

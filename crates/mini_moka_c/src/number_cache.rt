@@ -1,18 +1,23 @@
 //! A cache of numbers.
-ghost use Rattle.std.specs.Prelude.{◌≡◌, IfErr, IfOk, is_some, None, OnErr, OnOk, option_map};
+ghost use Rattle.std.specs.Prelude.{◌≡◌, ⊤, [], IfErr, IfOk, is_some, None, OnErr, OnOk, option_map};
 ghost use Rattle.std.specs.Map.Iter.{deref_pair};
 ghost use Rattle.moka_unsync.specs.Builder.{IsBuilt, refusal_of};
 ghost use Rattle.moka_unsync.specs.Contents.{entry_at};
-ghost use Rattle.moka_unsync.specs.Invalidate.{after_invalidate, after_invalidate_all};
+ghost use Rattle.moka_unsync.specs.Invalidate.{after_invalidate_all};
 ghost use Rattle.moka_unsync.specs.Lookup.{after_look, found_by_get, found_by_peek, is_contained};
+ghost use Rattle.moka_unsync_model.specs.Told.{TellsWhatLeft};
+ghost use Rattle.moka_unsync_model.specs.ToldCalls.{TellsLook};
+ghost use Rattle.moka_unsync_model.specs.declared.listener.Cause.TheVariants.{Explicit};
 ghost use Rattle.mini_moka_c.specs.declared.steps.Walk.TheVariants.{AtStart, Ended};
 ghost use Rattle.mini_moka_c.specs.Inserted.{inserted_of};
-ghost use Rattle.mini_moka_c.specs.NumberCalls.{IsNumberGet, IsNumberInsert, IsNumberRefusal};
+ghost use Rattle.mini_moka_c.specs.NumberCalls.{IsNumberGet, IsNumberInsert, IsNumberInvalidation, IsNumberRefusal, IsNumberRemove};
 ghost use Rattle.mini_moka_c.specs.NumberKeys.{number_keys};
 ghost use Rattle.mini_moka_c.specs.NumberWalk.{met_after, next_pair, step_of, walk_after};
-ghost use Rattle.mini_moka_c.specs.Statistics.{no_statistics, with_clearing, with_invalidation, with_remove, with_upkeep};
+ghost use Rattle.mini_moka_c.specs.Removed.{oldest, queues, without_oldest};
+ghost use Rattle.mini_moka_c.specs.Statistics.{no_statistics, with_clearing, with_upkeep};
 
-use crate::inserted::{Inserted, Insertion};
+use crate::inserted::Inserted;
+use crate::removed::{Leaving, Removed, RemovedQueue};
 use crate::statistics::Statistics;
 use crate::steps::{NumberStep, Walk};
 use moka_common::error::{BuildError, InsertError};
@@ -24,23 +29,32 @@ use moka_unsync::cache::Cache;
 #[derive(Drop)]
 pub struct NumberCache {
     pub cache: Cache<u64, u64>,
-    pub statistics: Statistics,
+    /// What was counted, and the entries that left and aren't drained.
+    pub leaving: Leaving<u64, u64>,
     walk: Walk,
     // The key that the walk met last.
     met: u64,
 }
 
 impl NumberCache {
-    /// A cache with what is set. It is refused as `CacheBuilder::build` is.
-    pub fn build(builder: CacheBuilder<u64, u64>) -> Result<NumberCache, BuildError>
+    /// A cache with what is set, which queues what leaves. It is refused as `CacheBuilder::build` is.
+    pub fn build(
+        builder: CacheBuilder<u64, u64>,
+        removed: RemovedQueue<u64, u64>,
+    ) -> Result<NumberCache, BuildError>
         ensures ok { IfOk result (λ made. IsBuilt builder made.cache.settings.hash_state made.cache) }
-        ensures counts { IfOk result (λ made. made.statistics ≡ no_statistics) }
+        ensures counts { IfOk result (λ made. made.leaving.statistics ≡ no_statistics) }
+        ensures removed { IfOk result (λ made. made.leaving.removed ≡ removed) }
         ensures walk { IfOk result (λ made. made.walk ≡ Ended) }
         ensures err { IfErr result (λ error. error ≡ refusal_of builder) }
     {
         Ok(NumberCache {
             cache: builder.build()?,
-            statistics: Statistics::none(),
+            leaving: Leaving {
+                statistics: Statistics::none(),
+                removed,
+                inserted: Inserted::Stored,
+            },
             walk: Walk::Ended,
             met: 0,
         })
@@ -54,29 +68,54 @@ impl NumberCache {
         ensures error { IfErr result (λ error. error ≡ InsertError.OutOfMemory) }
     {
         let hash = self.cache.hash_of(&key);
-        let mut insertion = Insertion {
-            statistics: self.statistics,
-            inserted: Inserted::Stored,
-        };
-        self.cache
-            .insert_notifying(key, hash, value, now, &mut insertion)?;
+        self.insert_hashed(key, hash, value, now)
+    }
+
+    /// Puts the value at the key, as `insert` does, by the key's hash.
+    pub(crate) fn insert_hashed(
+        &mut self,
+        key: u64,
+        hash: u64,
+        value: u64,
+        now: Instant,
+    ) -> Result<Inserted, InsertError>
+        requires { hash ≡ number_keys.hash_of self.old.cache.settings.hash_state key }
+        ensures answer { IfOk result (λ inserted. inserted ≡ inserted_of (is_some (entry_at number_keys.eq key self.new.cache.contents.entries))) }
+        ensures step { OnOk result (IsNumberInsert key value now self.old self.new) }
+        ensures refused { OnErr result (IsNumberRefusal self.old self.new) }
+        ensures error { IfErr result (λ error. error ≡ InsertError.OutOfMemory) }
+    {
+        let before = self.leaving.inserted;
+        self.leaving.inserted = Inserted::Stored;
+        if let Err(refused) = self
+            .cache
+            .insert_notifying(key, hash, value, now, &mut self.leaving)
+        {
+            self.leaving.inserted = before;
+            return Err(refused);
+        }
         self.walk = Walk::Ended;
-        self.statistics = insertion.statistics;
-        self.statistics.count_insert();
-        Ok(insertion.inserted)
+        self.leaving.statistics.count_insert();
+        Ok(self.leaving.inserted)
     }
 
     /// Looks the key up as `Cache::get` does.
     pub fn get(&mut self, key: u64, now: Instant) -> Option<u64>
         ensures { IsNumberGet key now result self.old self.new }
     {
-        self.walk = Walk::Ended;
         let hash = self.cache.hash_of(&key);
-        let value = self
-            .cache
-            .get_notifying(&key, hash, now, &mut self.statistics);
+        self.get_hashed(key, hash, now)
+    }
+
+    /// Looks the key up as `get` does, by the key's hash.
+    pub(crate) fn get_hashed(&mut self, key: u64, hash: u64, now: Instant) -> Option<u64>
+        requires { hash ≡ number_keys.hash_of self.old.cache.settings.hash_state key }
+        ensures { IsNumberGet key now result self.old self.new }
+    {
+        self.walk = Walk::Ended;
+        let value = self.cache.get_notifying(&key, hash, now, &mut self.leaving);
         let found = value.copied();
-        self.statistics.count_get(found.is_some());
+        self.leaving.statistics.count_get(found.is_some());
         found
     }
 
@@ -91,57 +130,56 @@ impl NumberCache {
     pub fn contains(&mut self, key: u64, now: Instant) -> bool
         ensures value { result ≡ is_contained number_keys self.old.cache key now }
         ensures step { self.new.cache ≡ after_look number_keys self.old.cache now }
-        ensures counts { self.new.statistics ≡ with_upkeep number_keys self.old.cache now self.old.statistics }
+        ensures counts { self.new.leaving.statistics ≡ with_upkeep number_keys self.old.cache now self.old.leaving.statistics }
+        ensures removed { TellsLook queues number_keys self.old.cache now self.old.leaving.removed self.new.leaving.removed }
         ensures walk { self.new.walk ≡ Ended }
     {
         self.walk = Walk::Ended;
         let hash = self.cache.hash_of(&key);
         self.cache
-            .contains_notifying(&key, hash, now, &mut self.statistics)
+            .contains_notifying(&key, hash, now, &mut self.leaving)
     }
 
     /// Removes the entry of the key, as `Cache::remove` does, and returns its value.
     pub fn remove(&mut self, key: u64, now: Instant) -> Option<u64>
         ensures value { result ≡ found_by_get number_keys self.old.cache key now }
-        ensures step { self.new ≡ record self.old {
-          cache = after_invalidate number_keys self.old.cache key now;
-          statistics = with_remove number_keys self.old.cache now key self.old.statistics;
-          walk = Ended;
-        } }
+        ensures step { IsNumberRemove key now self.old self.new }
     {
         self.walk = Walk::Ended;
         let hash = self.cache.hash_of(&key);
         let value = self
             .cache
-            .remove_notifying(&key, hash, now, &mut self.statistics);
-        self.statistics.count_removal(value.is_some());
+            .remove_notifying(&key, hash, now, &mut self.leaving);
+        self.leaving.statistics.count_removal(value.is_some());
         value
     }
 
     /// Removes the entry of the key, if there is one.
     pub fn invalidate(&mut self, key: u64, now: Instant)
-        ensures { self.new ≡ record self.old {
-          cache = after_invalidate number_keys self.old.cache key now;
-          statistics = with_invalidation number_keys self.old.cache now key self.old.statistics;
-          walk = Ended;
-        } }
+        ensures { IsNumberInvalidation key now self.old self.new }
     {
         self.walk = Walk::Ended;
         let hash = self.cache.hash_of(&key);
         self.cache
-            .invalidate_notifying(&key, hash, now, &mut self.statistics);
+            .invalidate_notifying(&key, hash, now, &mut self.leaving);
     }
 
     /// Removes all entries.
     pub fn invalidate_all(&mut self)
-        ensures { self.new ≡ record self.old {
-          cache = after_invalidate_all self.old.cache;
-          statistics = with_clearing self.old.cache self.old.statistics;
-          walk = Ended;
-        } }
+        ensures step { self.new ≡ record self.old { cache = after_invalidate_all self.old.cache; leaving = self.new.leaving; walk = Ended } }
+        ensures counts { self.new.leaving.statistics ≡ with_clearing self.old.cache self.old.leaving.statistics }
+        ensures removed { TellsWhatLeft queues Explicit (λ e. ⊤) self.old.cache.contents.entries [] self.old.leaving.removed self.new.leaving.removed }
     {
         self.walk = Walk::Ended;
-        self.cache.invalidate_all_notifying(&mut self.statistics);
+        self.cache.invalidate_all_notifying(&mut self.leaving);
+    }
+
+    /// Drains the removed entry that left first.
+    pub fn drain(&mut self) -> Option<Removed<u64, u64>>
+        ensures value { result ≡ oldest self.old.leaving.removed }
+        ensures step { self.new ≡ record self.old { leaving = record self.old.leaving { removed = without_oldest self.old.leaving.removed } } }
+    {
+        self.leaving.removed.take()
     }
 
     /// Begins a walk through the unexpired entries, in the order of `Cache::iter`. Each call that may change the cache ends it, unless it is refused memory: all

@@ -1,12 +1,14 @@
 // The calls of a cache of numbers. Each borrows the cache from its handle, and makes one call of it.
 ghost use Rattle.std.specs.Prelude.{◌≡◌, ◌≢◌, false, IfErr, IfOk};
 ghost use Rattle.mini_moka_c.specs.Calls.{OnNumbers, OnOpen};
-ghost use Rattle.mini_moka_c.specs.NumberCalls.{TellsFound, TellsGet, TellsGotOrInserted, TellsInsert, TellsLook, TellsNumberWalk};
-ghost use Rattle.mini_moka_c.specs.NumberCalls.{TellsPeek, TellsRemove, TellsStep, without};
+ghost use Rattle.mini_moka_c.specs.Drain.{TellsRemoved, TellsRemovedOf};
+ghost use Rattle.mini_moka_c.specs.NumberCalls.{IsNumberInvalidation, TellsFound, TellsGet, TellsGotOrInserted, TellsInsert, TellsLook, TellsNumberWalk};
+ghost use Rattle.mini_moka_c.specs.NumberCalls.{TellsPeek, TellsRemove, TellsStep};
 ghost use Rattle.mini_moka_c.specs.Opening.{IsNumbersKept, IsOpening, has_zero_duration, refusal_of};
 
 use crate::constants::{ABSENT, ALREADY_OPEN, CHANGED, DONE, OUT_OF_MEMORY, ZERO_DURATION};
 use crate::handle::{Handle, Kept};
+use crate::removed::{Removed, number_of};
 use crate::settings::{NumberSettings, build_numbers};
 use crate::steps::NumberStep;
 use moka_common::time::Instant;
@@ -116,11 +118,12 @@ pub extern "C" fn mini_moka_u64_get_or_insert(
     match handle.numbers() {
         Ok(numbers) => {
             let now = Instant::from_nanos(now);
-            if let Some(known) = numbers.get(key, now) {
+            let hash = numbers.cache.hash_of(&key);
+            if let Some(known) = numbers.get_hashed(key, hash, now) {
                 *value = known;
                 return DONE;
             }
-            match numbers.insert(key, otherwise, now) {
+            match numbers.insert_hashed(key, hash, otherwise, now) {
                 Ok(_) => {
                     *value = otherwise;
                     DONE
@@ -170,7 +173,7 @@ pub extern "C" fn mini_moka_u64_remove(
 #[unsafe(no_mangle)]
 pub extern "C" fn mini_moka_u64_invalidate(handle: &mut Handle, key: u64, now: u64) -> u32
     ensures { OnOpen handle.old.value result handle.new.value (OnNumbers result (λ old new.
-        (result ≡ DONE) × (new ≡ without key now old))) }
+        (result ≡ DONE) × IsNumberInvalidation key now old new)) }
 {
     match handle.numbers() {
         Ok(numbers) => {
@@ -178,6 +181,49 @@ pub extern "C" fn mini_moka_u64_invalidate(handle: &mut Handle, key: u64, now: u
             DONE
         }
         Err(status) => status,
+    }
+}
+
+/// Drains the removed entry that left first: writes its key, its value and why it left. The answer is `ABSENT` if there is none.
+#[unsafe(no_mangle)]
+pub extern "C" fn mini_moka_u64_removed(
+    handle: &mut Handle,
+    key: &mut u64,
+    value: &mut u64,
+    cause: &mut u32,
+) -> u32
+    ensures step { OnOpen handle.old.value result handle.new.value
+        (OnNumbers result (TellsRemoved result key.new value.new cause.new)) }
+    ensures key { result ≢ DONE → key.new ≡ key.old }
+    ensures value { result ≢ DONE → value.new ≡ value.old }
+    ensures cause { result ≢ DONE → cause.new ≡ cause.old }
+{
+    match handle.numbers() {
+        Ok(numbers) => tell_removed(numbers.drain(), key, value, cause),
+        Err(status) => status,
+    }
+}
+
+/// Writes a removed entry, and answers `DONE`, else `ABSENT`.
+fn tell_removed(
+    removed: Option<Removed<u64, u64>>,
+    key: &mut u64,
+    value: &mut u64,
+    cause: &mut u32,
+) -> u32
+    ensures removed { TellsRemovedOf removed result key.new value.new cause.new }
+    ensures key { result ≢ DONE → key.new ≡ key.old }
+    ensures value { result ≢ DONE → value.new ≡ value.old }
+    ensures cause { result ≢ DONE → cause.new ≡ cause.old }
+{
+    match removed {
+        Some(known) => {
+            *key = known.key;
+            *value = known.value;
+            *cause = number_of(known.cause);
+            DONE
+        }
+        None => ABSENT,
     }
 }
 

@@ -6,6 +6,7 @@ use crate::cache::ByteCache;
 use crate::constants::UNLIMITED;
 use crate::key::Key;
 use crate::number_cache::NumberCache;
+use crate::removed::RemovedQueue;
 use crate::seed::Seed;
 use crate::value::Value;
 use crate::weight::ByteWeight;
@@ -25,6 +26,8 @@ pub struct NumberSettings {
     pub time_to_idle: u64,
     /// Number of entries that fit from the start.
     pub initial_capacity: usize,
+    /// The most entries that left that are kept.
+    pub removed_room: usize,
 }
 
 /// The settings of a cache of bytes.
@@ -42,12 +45,16 @@ pub struct ByteSettings {
     pub seed_high: u64,
     /// True if an entry weighs its bytes and not 1.
     pub is_weighed: bool,
+    pub removed_room: usize,
 }
 
 /// A new cache of numbers, where memory serves. No duration of 64 bits of nanoseconds is too long.
 pub(crate) fn build_numbers(alloc: Global, settings: &NumberSettings) -> Option<NumberCache>
     ensures { IfSome result (IsNumbersNew settings.now) }
 {
+    let Ok(removed) = RemovedQueue::with_capacity(alloc, settings.removed_room) else {
+        return None;
+    };
     let builder = CacheBuilder::default(alloc).initial_capacity(settings.initial_capacity);
     let builder = with_limits(
         builder,
@@ -55,13 +62,16 @@ pub(crate) fn build_numbers(alloc: Global, settings: &NumberSettings) -> Option<
         settings.time_to_live,
         settings.time_to_idle,
     );
-    NumberCache::build(builder).ok()
+    NumberCache::build(builder, removed).ok()
 }
 
 /// A new cache of bytes, where memory serves.
 pub(crate) fn build_bytes(alloc: Global, settings: &ByteSettings) -> Option<ByteCache>
     ensures { IfSome result (IsBytesNew settings.now) }
 {
+    let Ok(removed) = RemovedQueue::with_capacity(alloc, settings.removed_room) else {
+        return None;
+    };
     let weight = if settings.is_weighed {
         ByteWeight::Bytes
     } else {
@@ -81,7 +91,7 @@ pub(crate) fn build_bytes(alloc: Global, settings: &ByteSettings) -> Option<Byte
         low: settings.seed_low,
         high: settings.seed_high,
     };
-    ByteCache::build(alloc, builder, seed).ok()
+    ByteCache::build(alloc, builder, seed, removed).ok()
 }
 
 /// A builder that had no limits, with those that are set.

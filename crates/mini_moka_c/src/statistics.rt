@@ -2,7 +2,7 @@
 ghost use Rattle.std.specs.Prelude.{◌≡◌, true, false};
 ghost use Rattle.mini_moka_c.specs.Statistics.{no_statistics, with_get, with_insert, with_one, with_removal};
 
-use moka_unsync_model::listener::{Cause, Listener};
+use moka_unsync_model::listener::Cause;
 
 /// Counts of calls since the cache was made, and of what left it. Each stays at `u64::MAX` once it has reached that.
 #[repr(C)]
@@ -84,10 +84,11 @@ impl Statistics {
     }
 }
 
-impl<K: Drop, V: Drop> Listener<K, V> for Statistics {
-    ghost hears = { λ old key value cause new. new ≡ with_one cause old };
-
-    fn removed(&mut self, _key: K, _value: V, cause: Cause) {
-        self.count_leaving(cause);
-    }
+/// What a program is told: the counts, and how many entries the queue of removed ones has lost.
+#[repr(C)]
+#[derive(Clone, Copy, Drop)]
+pub struct Report {
+    pub statistics: Statistics,
+    /// Entries that left while the queue of removed entries was full.
+    pub lost: u64,
 }

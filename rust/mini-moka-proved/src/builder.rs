@@ -70,6 +70,17 @@ impl Builder {
         self
     }
 
+    /// Keeps up to so many entries that leave, for [`Cache::removed`] to drain. Without it none is kept.
+    ///
+    /// The memory for them is reserved when the cache is built, so that no call is refused memory for
+    /// them. If the queue is full, what leaves is dropped and counted: [`Statistics::lost`].
+    ///
+    /// [`Statistics::lost`]: crate::Statistics::lost
+    pub fn removed_room(mut self, entries: usize) -> Builder {
+        self.limits.removed_room = entries;
+        self
+    }
+
     /// Sets the key of the hash of the cache's keys.
     ///
     /// Without one, each cache has a random key, made by std's
@@ -124,6 +135,7 @@ impl Builder {
             initial_capacity: limits.initial_capacity,
             seed: self.seed.map_or_else(random_words, words),
             is_weighed: self.weighs_bytes,
+            removed_room: limits.removed_room,
         };
         Ok(Cache::open(&settings, clock)?)
     }
@@ -154,6 +166,9 @@ impl Builder {
         builder.limits.max_capacity = self.limits.max_capacity.map(part);
         // A part of a `usize` is no greater than it.
         builder.limits.initial_capacity = part(self.limits.initial_capacity as u64) as usize;
+        let room = self.limits.removed_room as u64;
+        // Rounded up, so that each segment keeps what leaves if one does.
+        builder.limits.removed_room = (room / count + u64::from(room % count > 0)) as usize;
         builder
     }
 }
@@ -202,6 +217,17 @@ impl NumberBuilder {
         self
     }
 
+    /// Keeps up to so many entries that leave, for [`NumberCache::removed`] to drain. Without it none is kept.
+    ///
+    /// The memory for them is reserved when the cache is built, so that no call is refused memory for
+    /// them. If the queue is full, what leaves is dropped and counted: [`Statistics::lost`].
+    ///
+    /// [`Statistics::lost`]: crate::Statistics::lost
+    pub fn removed_room(mut self, entries: usize) -> NumberBuilder {
+        self.limits.removed_room = entries;
+        self
+    }
+
     /// Makes the cache read a coarse clock, as [`Builder::coarse_clock`] does.
     pub fn coarse_clock(mut self) -> NumberBuilder {
         self.limits.is_coarse = true;
@@ -234,6 +260,7 @@ struct Limits {
     time_to_live: Option<Duration>,
     time_to_idle: Option<Duration>,
     initial_capacity: usize,
+    removed_room: usize,
     is_coarse: bool,
 }
 
@@ -244,6 +271,7 @@ impl Limits {
             time_to_live: limit(self.time_to_live)?,
             time_to_idle: limit(self.time_to_idle)?,
             initial_capacity: self.initial_capacity,
+            removed_room: self.removed_room,
         })
     }
 
@@ -267,6 +295,7 @@ impl Limits {
             .field("time_to_live", &self.time_to_live)
             .field("time_to_idle", &self.time_to_idle)
             .field("initial_capacity", &self.initial_capacity)
+            .field("removed_room", &self.removed_room)
             .field("coarse_clock", &self.is_coarse)
     }
 }

@@ -3,7 +3,7 @@
 use crate::builder::Builder;
 use crate::clock::{nanoseconds, Clock};
 use crate::error::OutOfMemory;
-use crate::handle::{Bytes, Handle, Inserted, Look, Settings, Statistics, Step};
+use crate::handle::{Bytes, Drained, Handle, Inserted, Look, Removed, Settings, Statistics, Step};
 use std::fmt;
 use std::iter::FusedIterator;
 use std::time::Duration;
@@ -416,6 +416,30 @@ impl Cache {
         }
     }
 
+    /// Returns an iterator that drains the entries that left, the first one first. What it doesn't
+    /// come to stays in the queue. Without [`Builder::removed_room`] there is none.
+    ///
+    /// An entry is queued within the call in which it leaves, unless [`remove`](Self::remove)
+    /// returns it. A replaced value comes with its key, and a rejected entry as it was handed in.
+    ///
+    /// ```
+    /// use mini_moka_proved::{Cache, Cause};
+    ///
+    /// let mut cache = Cache::builder().max_capacity(100).removed_room(10).build()?;
+    /// cache.insert("alice", "guest")?;
+    /// cache.insert("alice", "admin")?;
+    /// for removed in cache.removed() {
+    ///     let removed = removed?;
+    ///     assert_eq!((removed.key, removed.value), (b"alice".to_vec(), b"guest".to_vec()));
+    ///     assert_eq!(removed.cause, Cause::Replaced);
+    /// }
+    /// assert!(cache.removed().next().is_none());
+    /// # Ok::<(), Box<dyn std::error::Error>>(())
+    /// ```
+    pub fn removed(&mut self) -> RemovedIter<'_> {
+        RemovedIter { cache: self }
+    }
+
     /// Returns the number of entries, including expired ones that no call has removed yet. It takes
     /// constant time.
     pub fn len(&self) -> usize {
@@ -518,6 +542,35 @@ impl Iter<'_> {
         }
     }
 }
+
+/// An iterator that drains the entries that left a cache, by [`Cache::removed`].
+///
+/// If memory is refused for the copy of an entry, the next step comes to it again.
+#[derive(Debug)]
+pub struct RemovedIter<'a> {
+    cache: &'a mut Cache,
+}
+
+impl Iterator for RemovedIter<'_> {
+    type Item = Result<Removed<Vec<u8>>, OutOfMemory>;
+
+    fn next(&mut self) -> Option<Self::Item> {
+        let (mut key, mut value) = (Vec::new(), Vec::new());
+        loop {
+            let (key_length, value_length) = match self.cache.handle.drain(&mut key, &mut value) {
+                Drained::Copied(cause) => return Some(Ok(Removed { key, value, cause })),
+                Drained::Empty => return None,
+                Drained::TooLong { key, value } => (key, value),
+            };
+            let reserved = key.try_reserve_exact(key_length);
+            if let Err(error) = reserved.and_then(|()| value.try_reserve_exact(value_length)) {
+                return Some(Err(error.into()));
+            }
+        }
+    }
+}
+
+impl FusedIterator for RemovedIter<'_> {}
 
 impl<'a> IntoIterator for &'a mut Cache {
     type Item = Result<(Vec<u8>, Vec<u8>), OutOfMemory>;

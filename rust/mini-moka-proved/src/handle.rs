@@ -41,6 +41,7 @@ pub(crate) struct Settings {
     pub(crate) initial_capacity: usize,
     pub(crate) seed: [u64; 2],
     pub(crate) is_weighed: bool,
+    pub(crate) removed_room: usize,
 }
 
 /// The header's `struct mini_moka_u64_settings`.
@@ -50,6 +51,7 @@ pub(crate) struct NumberSettings {
     pub(crate) time_to_live: u64,
     pub(crate) time_to_idle: u64,
     pub(crate) initial_capacity: usize,
+    pub(crate) removed_room: usize,
 }
 
 // The header's `struct mini_moka_statistics`.
@@ -77,6 +79,48 @@ pub struct Statistics {
     pub expirations: u64,
     /// Entries that a call removed.
     pub removals: u64,
+    /// Entries that left while the queue of removed entries was full. It stays 0 without a queue.
+    pub lost: u64,
+}
+
+/// Why an entry left a cache, or never entered it.
+#[derive(Clone, Copy, Debug, PartialEq, Eq, Hash)]
+pub enum Cause {
+    /// The capacity: other entries are used more.
+    Size,
+    /// Its time to live or to idle was over.
+    Expired,
+    /// A call removed it.
+    Explicit,
+    /// An insert gave its key another value.
+    Replaced,
+    /// It was new, and the full cache did not let it in.
+    Rejected,
+}
+
+impl Cause {
+    /// Reads the header's `enum mini_moka_cause`.
+    fn of(number: u32) -> Cause {
+        match number {
+            0 => Cause::Size,
+            1 => Cause::Expired,
+            2 => Cause::Explicit,
+            3 => Cause::Replaced,
+            4 => Cause::Rejected,
+            other => unexpected(other),
+        }
+    }
+}
+
+/// An entry that left a cache, or never entered it.
+#[derive(Clone, Debug, PartialEq, Eq, Hash)]
+pub struct Removed<T> {
+    /// Its key.
+    pub key: T,
+    /// Its value.
+    pub value: T,
+    /// Why it left.
+    pub cause: Cause,
 }
 
 /// The answer of an insert.
@@ -166,6 +210,16 @@ extern "C" {
         key_length: *mut usize,
         value_length: *mut usize,
     ) -> u32;
+    fn mini_moka_removed(
+        handle: *mut RawHandle,
+        key: *mut c_void,
+        key_room: usize,
+        value: *mut c_void,
+        value_room: usize,
+        key_length: *mut usize,
+        value_length: *mut usize,
+        cause: *mut u32,
+    ) -> u32;
 
     fn mini_moka_u64_open(handle: *mut RawHandle, settings: *const NumberSettings) -> u32;
     fn mini_moka_u64_insert(handle: *mut RawHandle, key: u64, value: u64, now: u64) -> u32;
@@ -175,6 +229,12 @@ extern "C" {
     fn mini_moka_u64_contains(handle: *mut RawHandle, key: u64, now: u64) -> u32;
     fn mini_moka_u64_invalidate(handle: *mut RawHandle, key: u64, now: u64) -> u32;
     fn mini_moka_u64_next(handle: *mut RawHandle, now: u64, key: *mut u64, value: *mut u64) -> u32;
+    fn mini_moka_u64_removed(
+        handle: *mut RawHandle,
+        key: *mut u64,
+        value: *mut u64,
+        cause: *mut u32,
+    ) -> u32;
     fn mini_moka_u64_get_or_insert(
         handle: *mut RawHandle,
         key: u64,
@@ -302,6 +362,17 @@ pub(crate) enum Step {
     Ended,
     /// An entry with a key and a value of these lengths, for which a buffer has no room. Both are
     /// empty, and the walk stays where it is.
+    TooLong { key: usize, value: usize },
+}
+
+/// What a drain came to.
+pub(crate) enum Drained {
+    /// An entry that left for this cause, whose key and value the buffers have now.
+    Copied(Cause),
+    /// No entry. The buffers are empty.
+    Empty,
+    /// An entry with a key and a value of these lengths, for which a buffer has no room. Both are
+    /// empty, and the entry stays in front.
     TooLong { key: usize, value: usize },
 }
 
@@ -471,6 +542,42 @@ impl Handle<Bytes> {
             other => unexpected(other),
         }
     }
+
+    /// Drains a removed entry, and lets it write to all that both vectors have room for.
+    pub(crate) fn drain(&self, key: &mut Vec<u8>, value: &mut Vec<u8>) -> Drained {
+        key.clear();
+        value.clear();
+        let (mut key_length, mut value_length, mut cause) = (0, 0, 0);
+        // SAFETY: as in `step`, and the cause is a variable of this function too.
+        let status = unsafe {
+            mini_moka_removed(
+                self.at(),
+                key.as_mut_ptr().cast(),
+                key.capacity(),
+                value.as_mut_ptr().cast(),
+                value.capacity(),
+                &mut key_length,
+                &mut value_length,
+                &mut cause,
+            )
+        };
+        match status {
+            DONE => {
+                // SAFETY: as in `step`.
+                unsafe {
+                    key.set_len(key_length);
+                    value.set_len(value_length);
+                }
+                Drained::Copied(Cause::of(cause))
+            }
+            ABSENT => Drained::Empty,
+            TOO_SHORT => Drained::TooLong {
+                key: key_length,
+                value: value_length,
+            },
+            other => unexpected(other),
+        }
+    }
 }
 
 impl Handle<Numbers> {
@@ -535,6 +642,19 @@ impl Handle<Numbers> {
         // of this function.
         let status = unsafe { mini_moka_u64_next(self.at(), now, &mut key, &mut value) };
         is_there(status).then_some((key, value))
+    }
+
+    /// Drains a removed entry.
+    pub(crate) fn drain(&self) -> Option<Removed<u64>> {
+        let (mut key, mut value, mut cause) = (0, 0, 0);
+        // SAFETY: `at` leads to a handle as the rule wants it, and `key`, `value` and `cause` are
+        // variables of this function.
+        let status = unsafe { mini_moka_u64_removed(self.at(), &mut key, &mut value, &mut cause) };
+        is_there(status).then(|| Removed {
+            key,
+            value,
+            cause: Cause::of(cause),
+        })
     }
 
     /// Looks the key up, and inserts `otherwise` if that finds nothing.

@@ -35,10 +35,10 @@ mod numbers;
 pub mod sync;
 
 pub use builder::{Builder, NumberBuilder};
-pub use cache::{Cache, Iter};
+pub use cache::{Cache, Iter, RemovedIter};
 pub use error::{BuildError, OutOfMemory};
-pub use handle::{Inserted, Statistics};
-pub use numbers::{NumberCache, NumberIter};
+pub use handle::{Cause, Inserted, Removed, Statistics};
+pub use numbers::{NumberCache, NumberIter, NumberRemovedIter};
 
 /// Runs the examples of the README as tests.
 #[cfg(doctest)]

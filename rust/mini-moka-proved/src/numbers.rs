@@ -3,7 +3,7 @@
 use crate::builder::NumberBuilder;
 use crate::clock::{nanoseconds, Clock};
 use crate::error::OutOfMemory;
-use crate::handle::{Handle, Inserted, NumberSettings, Numbers, Statistics};
+use crate::handle::{Handle, Inserted, NumberSettings, Numbers, Removed, Statistics};
 use std::fmt;
 use std::iter::FusedIterator;
 use std::time::Duration;
@@ -255,6 +255,24 @@ impl NumberCache {
         }
     }
 
+    /// Returns an iterator that drains the entries that left, as [`Cache::removed`] does.
+    ///
+    /// [`Cache::removed`]: crate::Cache::removed
+    ///
+    /// ```
+    /// use mini_moka_proved::{Cause, NumberCache};
+    ///
+    /// let mut squares = NumberCache::builder().removed_room(10).build()?;
+    /// squares.insert(7, 49)?;
+    /// squares.invalidate(7)?;
+    /// let removed = squares.removed().next().unwrap();
+    /// assert_eq!((removed.key, removed.value, removed.cause), (7, 49, Cause::Explicit));
+    /// # Ok::<(), Box<dyn std::error::Error>>(())
+    /// ```
+    pub fn removed(&mut self) -> NumberRemovedIter<'_> {
+        NumberRemovedIter { cache: self }
+    }
+
     /// Returns the number of entries, including expired ones that no call has removed yet. It takes
     /// constant time.
     pub fn len(&self) -> usize {
@@ -312,6 +330,22 @@ impl Iterator for NumberIter<'_> {
 }
 
 impl FusedIterator for NumberIter<'_> {}
+
+/// An iterator that drains the entries that left a cache, by [`NumberCache::removed`].
+#[derive(Debug)]
+pub struct NumberRemovedIter<'a> {
+    cache: &'a mut NumberCache,
+}
+
+impl Iterator for NumberRemovedIter<'_> {
+    type Item = Removed<u64>;
+
+    fn next(&mut self) -> Option<Removed<u64>> {
+        self.cache.handle.drain()
+    }
+}
+
+impl FusedIterator for NumberRemovedIter<'_> {}
 
 impl<'a> IntoIterator for &'a mut NumberCache {
     type Item = (u64, u64);

@@ -6,7 +6,7 @@
 use crate::builder;
 use crate::clock::Clock;
 use crate::error::{BuildError, OutOfMemory};
-use crate::handle::{Inserted, Statistics};
+use crate::handle::{Inserted, Removed, Statistics};
 use std::fmt;
 use std::iter::FusedIterator;
 use std::sync::{Arc, Mutex, MutexGuard, PoisonError};
@@ -347,6 +347,28 @@ impl Cache {
         }
     }
 
+    /// Returns an iterator that drains the entries that left, as [`crate::Cache::removed`] does, of
+    /// one segment after another. Those of one key come in the order in which they left.
+    ///
+    /// A step locks a segment only while it copies an entry. Threads that drain at once share the
+    /// entries.
+    ///
+    /// ```
+    /// use mini_moka_proved::sync::Cache;
+    ///
+    /// let cache = Cache::builder().max_capacity(1000).removed_room(100).build()?;
+    /// cache.insert("alice", "admin")?;
+    /// cache.invalidate("alice")?;
+    /// let removed = cache.removed().next().transpose()?.unwrap();
+    /// assert_eq!(removed.value, b"admin");
+    /// # Ok::<(), Box<dyn std::error::Error>>(())
+    /// ```
+    pub fn removed(&self) -> RemovedIter<'_> {
+        RemovedIter {
+            left: &self.shared.segments,
+        }
+    }
+
     /// Returns the number of entries, including expired ones that no call has removed yet.
     pub fn len(&self) -> usize {
         let segments = self.shared.segments.iter();
@@ -381,6 +403,7 @@ impl Cache {
                 evictions: sum.evictions.saturating_add(one.evictions),
                 expirations: sum.expirations.saturating_add(one.expirations),
                 removals: sum.removals.saturating_add(one.removals),
+                lost: sum.lost.saturating_add(one.lost),
             },
         )
     }
@@ -463,6 +486,39 @@ impl FusedIterator for Iter<'_> {}
 impl fmt::Debug for Iter<'_> {
     fn fmt(&self, f: &mut fmt::Formatter<'_>) -> fmt::Result {
         f.debug_struct("Iter")
+            .field("segments_left", &self.left.len())
+            .finish_non_exhaustive()
+    }
+}
+
+/// An iterator that drains the entries that left a cache that threads share, by
+/// [`Cache::removed`].
+///
+/// If memory is refused for the copy of an entry, the next step comes to it again.
+pub struct RemovedIter<'a> {
+    // The segments that haven't been found empty.
+    left: &'a [Segment],
+}
+
+impl Iterator for RemovedIter<'_> {
+    type Item = Result<Removed<Vec<u8>>, OutOfMemory>;
+
+    fn next(&mut self) -> Option<Self::Item> {
+        loop {
+            let (segment, left) = self.left.split_first()?;
+            if let Some(removed) = segment.lock().removed().next() {
+                return Some(removed);
+            }
+            self.left = left;
+        }
+    }
+}
+
+impl FusedIterator for RemovedIter<'_> {}
+
+impl fmt::Debug for RemovedIter<'_> {
+    fn fmt(&self, f: &mut fmt::Formatter<'_>) -> fmt::Result {
+        f.debug_struct("RemovedIter")
             .field("segments_left", &self.left.len())
             .finish_non_exhaustive()
     }
@@ -569,6 +625,13 @@ impl Builder {
     /// Sets the key of the hash of the cache's keys, as [`crate::Builder::seed`] does.
     pub fn seed(mut self, seed: [u8; 16]) -> Builder {
         self.whole = self.whole.seed(seed);
+        self
+    }
+
+    /// Keeps up to so many entries that leave, for [`Cache::removed`] to drain. Each segment has an
+    /// equal part of them, rounded up.
+    pub fn removed_room(mut self, entries: usize) -> Builder {
+        self.whole = self.whole.removed_room(entries);
         self
     }
 

@@ -1,6 +1,6 @@
 //! The cache of bytes, call by call.
 
-use mini_moka_proved::{BuildError, Cache, Inserted, Statistics};
+use mini_moka_proved::{BuildError, Cache, Cause, Inserted, Removed, Statistics};
 use std::thread::sleep;
 use std::time::Duration;
 
@@ -273,6 +273,83 @@ fn statistics_count_what_leaves_by_cause() {
     assert_eq!(cache.statistics(), expected);
 }
 
+/// Drains what left, as "key=value cause".
+fn drained(cache: &mut Cache) -> Vec<String> {
+    let text = |bytes| String::from_utf8(bytes).unwrap();
+    let removed = cache.removed().map(Result::unwrap);
+    removed
+        .map(|it| format!("{}={} {:?}", text(it.key), text(it.value), it.cause))
+        .collect()
+}
+
+#[test]
+fn what_leaves_is_drained_in_order_and_by_cause() {
+    let mut cache = Cache::builder()
+        .max_capacity(2)
+        .time_to_live(10 * SECOND)
+        .removed_room(9)
+        .build()
+        .unwrap();
+    cache.insert_at("a", "1", START).unwrap();
+    cache.insert_at("a", "2", START).unwrap();
+    cache.insert_at("b", "3", SECOND).unwrap();
+    assert_eq!(cache.insert_at("c", "4", SECOND), Ok(Inserted::Rejected));
+    for _ in 0..3 {
+        assert_eq!(cache.get_at("d", SECOND), None);
+    }
+    cache.insert_at("d", "5", SECOND).unwrap();
+    assert_eq!(cache.remove_at("d", SECOND), Ok(Some(b"5".to_vec())));
+    cache.insert_at("e", "6", 2 * SECOND).unwrap();
+    assert!(!cache.contains_key_at("b", 11 * SECOND));
+    cache.clear();
+    let left = [
+        "a=1 Replaced",
+        "c=4 Rejected",
+        "a=2 Size",
+        "b=3 Expired",
+        "e=6 Explicit",
+    ];
+    assert_eq!(drained(&mut cache), left);
+    assert_eq!(drained(&mut cache), [""; 0]);
+    assert_eq!(cache.statistics().lost, 0);
+}
+
+#[test]
+fn what_leaves_a_full_queue_is_counted_as_lost() {
+    let mut cache = Cache::builder().removed_room(2).build().unwrap();
+    for value in ["1", "2", "3", "4"] {
+        cache.insert("a", value).unwrap();
+    }
+    assert_eq!(cache.statistics().lost, 1);
+    assert_eq!(
+        cache.removed().next().unwrap().unwrap(),
+        Removed {
+            key: b"a".to_vec(),
+            value: b"1".to_vec(),
+            cause: Cause::Replaced,
+        }
+    );
+    cache.invalidate("a").unwrap();
+    assert_eq!(drained(&mut cache), ["a=2 Replaced", "a=4 Explicit"]);
+    let mut without = unlimited();
+    without.insert("a", "1").unwrap();
+    without.clear();
+    assert_eq!(drained(&mut without), [""; 0]);
+    assert_eq!(without.statistics().lost, 0);
+}
+
+#[test]
+fn long_entries_are_drained_whole() {
+    let mut cache = Cache::builder().removed_room(1).build().unwrap();
+    cache.insert(bytes(1 << 20), bytes(1 << 21)).unwrap();
+    cache.clear();
+    let removed = cache.removed().next().unwrap().unwrap();
+    assert_eq!(
+        (removed.key, removed.value),
+        (bytes(1 << 20), bytes(1 << 21))
+    );
+}
+
 #[test]
 fn a_value_is_made_only_for_a_key_that_has_none() {
     let mut cache = unlimited();
@@ -459,7 +536,7 @@ fn a_builder_shows_its_limits_and_no_seed() {
     assert_eq!(
         format!("{builder:?}"),
         "Builder { max_capacity: Some(10), time_to_live: Some(1s), time_to_idle: None, \
-         initial_capacity: 0, coarse_clock: false, weigh_bytes: false, .. }"
+         initial_capacity: 0, removed_room: 0, coarse_clock: false, weigh_bytes: false, .. }"
     );
 }
 

@@ -1,6 +1,6 @@
 //! The cache of numbers, call by call.
 
-use mini_moka_proved::{BuildError, Inserted, NumberCache, Statistics};
+use mini_moka_proved::{BuildError, Cause, Inserted, NumberCache, Removed, Statistics};
 use std::time::Duration;
 
 const SECOND: Duration = Duration::from_secs(1);
@@ -106,6 +106,28 @@ fn a_rejected_entry_is_told() {
 }
 
 #[test]
+fn what_leaves_is_drained() {
+    let mut cache = NumberCache::builder().removed_room(2).build().unwrap();
+    for (key, value) in [(7, 49), (7, 50), (8, 64)] {
+        cache.insert(key, value).unwrap();
+    }
+    assert_eq!(cache.remove(8), Ok(Some(64)));
+    cache.clear();
+    let left = |value, cause| Removed {
+        key: 7,
+        value,
+        cause,
+    };
+    let removed: Vec<_> = cache.removed().collect();
+    assert_eq!(
+        removed,
+        [left(49, Cause::Replaced), left(50, Cause::Explicit)]
+    );
+    assert!(cache.removed().next().is_none());
+    assert_eq!(cache.statistics().lost, 0);
+}
+
+#[test]
 fn what_cannot_be_built_is_refused() {
     let built = NumberCache::builder().time_to_live(Duration::MAX).build();
     assert_eq!(built.unwrap_err(), BuildError::DurationTooLong);
@@ -195,6 +217,6 @@ fn a_builder_shows_its_limits() {
     assert_eq!(
         format!("{builder:?}"),
         "NumberBuilder { max_capacity: Some(10), time_to_live: None, time_to_idle: None, \
-         initial_capacity: 0, coarse_clock: true }"
+         initial_capacity: 0, removed_room: 0, coarse_clock: true }"
     );
 }

@@ -118,6 +118,17 @@ fn an_iterator_gives_a_refused_pair_again() {
 }
 
 #[test]
+fn a_refused_entry_is_drained_again() {
+    let mut cache = Cache::builder().removed_room(1).build().unwrap();
+    cache.insert(b"long", [1; 1000]).unwrap();
+    cache.clear();
+    let refused = limited(999, || cache.removed().next());
+    assert_eq!(refused, Some(Err(OutOfMemory)));
+    let removed = cache.removed().next().unwrap().unwrap();
+    assert_eq!(removed.value, [1; 1000]);
+}
+
+#[test]
 fn a_shared_cache_is_not_built() {
     for limit in [0, 16, 255] {
         let built = limited(limit, || sync::Cache::new(100));

@@ -1,7 +1,7 @@
 //! Caches that threads share, by segments or behind one lock, and one that goes from thread to
 //! thread.
 
-use mini_moka_proved::{sync, BuildError, Cache, NumberCache};
+use mini_moka_proved::{sync, BuildError, Cache, Cause, NumberCache};
 use std::sync::{Arc, Mutex};
 use std::thread::{self, sleep};
 use std::time::Duration;
@@ -227,4 +227,42 @@ fn an_iterator_meets_each_entry_of_each_segment_once() {
     assert!(cache.is_empty());
     assert_eq!(cache.statistics().hits, before.hits);
     assert!(cache.iter().next().is_none());
+}
+
+#[test]
+fn threads_drain_each_entry_once() {
+    let builder = sync::Cache::builder().segments(4);
+    let cache = builder.removed_room(4000).build().unwrap();
+    for key in 0..1000u64 {
+        cache.insert(key.to_le_bytes(), key.to_le_bytes()).unwrap();
+    }
+    cache.clear();
+    let drain = || {
+        let cache = cache.clone();
+        thread::spawn(move || {
+            let removed = cache.removed().map(Result::unwrap);
+            let keys = removed.map(|it| {
+                assert_eq!((&it.key, it.cause), (&it.value, Cause::Explicit));
+                it.key
+            });
+            keys.collect::<Vec<_>>()
+        })
+    };
+    let threads: Vec<_> = (0..THREADS).map(|_| drain()).collect();
+    let mut keys: Vec<_> = threads
+        .into_iter()
+        .flat_map(|thread| thread.join().unwrap())
+        .collect();
+    keys.sort_unstable();
+    keys.dedup();
+    assert_eq!(keys.len(), 1000);
+    assert_eq!(cache.statistics().lost, 0);
+    // Each segment has room for one.
+    let cache = sync::Cache::builder().segments(4).removed_room(3).build();
+    let cache = cache.unwrap();
+    for key in 0..100u8 {
+        cache.insert([key], [key]).unwrap();
+    }
+    cache.clear();
+    assert_eq!((cache.removed().count(), cache.statistics().lost), (4, 96));
 }

@@ -1,23 +1,35 @@
-use Rattle.std.proofs.Common.{◌≡◌, ◌∙◌, is_some, subst}
-use Rattle.moka_unsync_model.specs.Contents.{entry_at}
-use Rattle.mini_moka_c.specs.ByteKeys.{byte_keys}
-use Rattle.mini_moka_c.specs.Inserted.{inserted_of}
-use Rattle.mini_moka_c.specs.Statistics.{with_insertion}
-use Rattle.mini_moka_c.proofs.InsertLemmas.{bytes_answered, insert_counted}
+use Rattle.std.proofs.Common.{◌∙◌, refl, rules}
+use Rattle.moka_unsync_model.specs.Insert.{IsInserted}
+use Rattle.moka_unsync_model.specs.ToldCalls.{TellsInsert}
+use Rattle.mini_moka_c.specs.ByteKeys.{byte_keys, byte_weighs}
+use Rattle.mini_moka_c.specs.Removed.{hears_leaving}
+use Rattle.mini_moka_c.specs.declared.inserted.Inserted.TheVariants.{Stored}
+use Rattle.mini_moka_c.proofs.InsertLemmas.{bytes_answered}
+use Rattle.mini_moka_c.proofs.QueueLemmas.{insert_queued}
+use Rattle.mini_moka_c.proofs.StatisticsLemmas.{insert_counted}
 use Rattle.mini_moka_c.proofs.cache.ByteCache.insert.Goals as goal
 
 pub returns-clause-answer : goal.returns-clause-answer
 returns-clause-answer c =
+    let old = c.args.self.now in
     let new = c.insert_notifying.new in
-    subst (λ key. new.listener.inserted ≡ inserted_of (is_some (entry_at byte_keys.eq key new.self.contents.entries))) c.in_ok-key.ensures.ok.0
-    (bytes_answered c.args.self.now.cache new.self c.in_ok-key.key c.in_ok-key.value c.args.now c.args.self.now.statistics new.listener
-    c.in_ok-insert_notifying.ensures.step c.in_ok-insert_notifying.ensures.told)
+    let before = record old.leaving { inserted = Stored } in
+    let step : IsInserted byte_keys byte_weighs old.cache c.args.key.now c.args.value.now c.args.now new.self = search rules in
+    let told : TellsInsert hears_leaving byte_keys old.cache c.args.now c.args.key.now c.args.value.now new.self before new.listener = search rules in
+    bytes_answered old.cache new.self c.args.key.now c.args.value.now c.args.now before new.listener refl step told
 
 pub returns-clause-counts : goal.returns-clause-counts
 returns-clause-counts c =
-    let new = c.insert_notifying.new in
     let old = c.args.self.now in
-    subst (λ key. c.count_insert.new.self ≡ with_insertion byte_keys old.cache c.args.now key new.self old.statistics) c.in_ok-key.ensures.ok.0
-    (c.count_insert.ensures
-    ∙ insert_counted byte_keys old.cache new.self c.in_ok-key.key c.in_ok-key.value c.args.now old.statistics new.listener
-    c.in_ok-insert_notifying.ensures.told)
+    let new = c.insert_notifying.new in
+    let before = record old.leaving { inserted = Stored } in
+    let told : TellsInsert hears_leaving byte_keys old.cache c.args.now c.args.key.now c.args.value.now new.self before new.listener = search rules in
+    c.count_insert.ensures ∙ insert_counted byte_keys old.cache c.args.now before new.listener c.args.key.now c.args.value.now new.self told
+
+pub returns-clause-removed : goal.returns-clause-removed
+returns-clause-removed c =
+    let old = c.args.self.now in
+    let new = c.insert_notifying.new in
+    let before = record old.leaving { inserted = Stored } in
+    let told : TellsInsert hears_leaving byte_keys old.cache c.args.now c.args.key.now c.args.value.now new.self before new.listener = search rules in
+    insert_queued byte_keys old.cache c.args.now before new.listener c.args.key.now c.args.value.now new.self told
