@@ -6,5 +6,6 @@ pub use Rattle.moka_segments.specs.History
 pub use Rattle.moka_segments.specs.Calls
 pub use Rattle.moka_segments.specs.Tells
 pub use Rattle.moka_segments.specs.TellsAll
+pub use Rattle.moka_segments.specs.Notifying
 pub use Rattle.moka_segments.specs.Session
 pub use Rattle.moka_segments.specs.Visits

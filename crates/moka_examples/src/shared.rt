@@ -8,7 +8,8 @@ ghost use Rattle.std.specs.String.{string_len};
 use mini_moka::Error;
 use mini_moka::common::FixedState;
 use mini_moka::common::time::Instant;
-use mini_moka::sync::{Cache, ConcurrentCacheExt, EntryRef, PairRule};
+use mini_moka::sync::segmented::{NotifyingCache, Statistics};
+use mini_moka::sync::{Cache, ConcurrentCacheExt, EntryRef, PairRule, SegmentedCache};
 use std::alloc::Global;
 use std::sync::Wait;
 use std::thread::{Builder, Threads};
@@ -50,6 +51,21 @@ pub fn counted_twice<R: Wait>(rt: &R, alloc: Global) -> Result<(u64, u64), Error
     again.insert(rt, 2, 20, now)?;
     cache.sync(rt, now);
     Ok((cache.entry_count(), again.entry_count()))
+}
+
+/// Returns the numbers of values that a session replaced and of entries that it removed.
+pub fn counts_of_a_session<R: Wait>(rt: &R, alloc: Global) -> Result<(u64, u64), Error> {
+    let cache: NotifyingCache<u64, u32, Statistics> = SegmentedCache::builder(alloc)
+        .max_capacity(1000)
+        .eviction_listener(Statistics::default())
+        .build()?;
+    let now = Instant::from_secs(0);
+    let mut session = cache.session()?;
+    session.insert(rt, 1, 1, now)?;
+    session.insert(rt, 1, 2, now)?;
+    session.invalidate(rt, &1, now);
+    let counts = session.into_listener();
+    Ok((counts.replaced, counts.explicit))
 }
 
 /// Returns if a text is there five seconds after it was inserted, and ten.

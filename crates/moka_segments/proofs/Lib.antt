@@ -10,3 +10,4 @@ mod SessionLemmas
 mod PairLemmas
 mod ToldLemmas
 mod NoteLemmas
+mod NotifyLemmas

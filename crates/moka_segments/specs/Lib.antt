@@ -9,3 +9,4 @@ pub mod Tells
 pub mod TellsAll
 pub mod Put
 pub mod Session
+pub mod Notifying

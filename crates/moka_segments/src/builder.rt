@@ -3,6 +3,8 @@ ghost use Rattle.std.specs.Prelude.{◌≡◌, ◌≤◌, ◌<◌, ◌^◌, true
 ghost use Rattle.moka_segments.specs.Builder.{count_fault, count_of, fault_of, new_builder, plan_of, refusal_of, usual_count};
 ghost use Rattle.moka_unsync.specs.Builder.{share_fault};
 
+mod notifying;
+
 use crate::assemble::assemble;
 use crate::cache::SegmentedCache;
 use crate::constants::{ENTRIES_OF_A_SEGMENT, MOST_SEGMENTS, USUAL_SEGMENTS};
@@ -18,6 +20,7 @@ use moka_common::settings::duration_fault;
 use moka_common::weigh::UnitWeight;
 use moka_unsync_model::constants::{PROTECTED_SHARE, WINDOW_SHARE};
 use moka_unsync_model::shares::Shares;
+pub use notifying::NotifyingBuilder;
 use std::alloc::Global;
 use std::hash::{BuildHasher, Hash};
 use std::marker::{Model, PhantomData};
@@ -204,6 +207,20 @@ impl<K, V, W: Drop, P> CacheBuilder<K, V, W, P> {
             weigher: self.weigher,
             of: PhantomData,
         }
+    }
+
+    /// Sets the listener, of which each session gets a clone. It is set last.
+    ///
+    /// ```
+    /// let cache: NotifyingCache<u64, u64, Statistics> = SegmentedCache::builder(alloc)
+    ///     .max_capacity(100_000)
+    ///     .eviction_listener(Statistics::default())
+    ///     .build()?;
+    /// ```
+    pub fn eviction_listener<L: Drop>(self, listener: L) -> NotifyingBuilder<K, V, L, W, P>
+        ensures { result ≡ record { builder = self; listener = listener } }
+    {
+        NotifyingBuilder::new(self, listener)
     }
 
     /// Returns the number of segments.

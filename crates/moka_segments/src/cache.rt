@@ -24,6 +24,7 @@ use moka_common::hash::FixedState;
 use moka_common::policy::Policy;
 use moka_common::time::Instant;
 use moka_common::weigh::UnitWeight;
+use moka_unsync_model::listener::NoListener;
 use std::alloc::{AllocError, Global};
 use std::hash::{BuildHasher, Hash};
 use std::marker::Model;
@@ -124,7 +125,7 @@ impl<
     {
         let shared = &*self.shared;
         let mut caller = come(&shared.table.shared);
-        call::get(rt, shared, &mut caller, key, now)
+        call::get(rt, shared, &mut caller, key, now, &mut NoListener)
     }
 
     /// Returns a clone of the value of the key, if it has an unexpired entry. It doesn't count as a use of the key.
@@ -158,7 +159,7 @@ impl<
     {
         let shared = &*self.shared;
         let mut caller = come(&shared.table.shared);
-        call::get_or_insert_with(rt, shared, &mut caller, key, now, make)
+        call::get_or_insert_with(rt, shared, &mut caller, key, now, make, &mut NoListener)
     }
 }
 
@@ -208,7 +209,7 @@ impl<
     {
         let shared = &*self.shared;
         let mut caller = come(&shared.table.shared);
-        call::contains_key(rt, shared, &mut caller, key, now)
+        call::contains_key(rt, shared, &mut caller, key, now, &mut NoListener)
     }
 
     /// Puts the value at the key. The admission policy of the segment may reject a new entry, which is `Ok` as well. If memory is refused, all is as it was.
@@ -220,7 +221,7 @@ impl<
     {
         let shared = &*self.shared;
         let mut caller = come(&shared.table.shared);
-        call::insert(rt, shared, &mut caller, key, value, now)
+        call::insert(rt, shared, &mut caller, key, value, now, &mut NoListener)
     }
 
     /// Removes the entry of the key, if it has one.
@@ -232,7 +233,7 @@ impl<
     {
         let shared = &*self.shared;
         let mut caller = come(&shared.table.shared);
-        call::invalidate(rt, shared, &mut caller, key, now);
+        call::invalidate(rt, shared, &mut caller, key, now, &mut NoListener);
     }
 
     /// Removes the entry of the key, if it has one, and returns its value, unless it is expired. The value is moved out.
@@ -243,7 +244,7 @@ impl<
     {
         let shared = &*self.shared;
         let mut caller = come(&shared.table.shared);
-        call::remove(rt, shared, &mut caller, key, now)
+        call::remove(rt, shared, &mut caller, key, now, &mut NoListener)
     }
 
     /// Removes all entries, one segment after another.
@@ -254,7 +255,13 @@ impl<
     {
         let shared = &*self.shared;
         let mut caller = come(&shared.table.shared);
-        all::invalidate_all(rt, &shared.table.shared, &mut caller, shared.plan.count);
+        all::invalidate_all(
+            rt,
+            &shared.table.shared,
+            &mut caller,
+            shared.plan.count,
+            &mut NoListener,
+        );
     }
 
     /// Removes the entries at which the predicate answers `true`, one segment after another. It is called once at each entry, in order of use, with a copy of it
@@ -277,6 +284,7 @@ impl<
             &mut caller,
             shared.plan.count,
             predicate,
+            &mut NoListener,
         );
     }
 

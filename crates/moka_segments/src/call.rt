@@ -3,9 +3,10 @@ ghost use Rattle.std.specs.Prelude.{◌≡◌};
 ghost use Rattle.moka_common.specs.Keys.{keys_by};
 ghost use Rattle.moka_unsync_model.specs.Step.{Done, Invalidate};
 ghost use Rattle.moka_segments.specs.Calls.{Makes};
+ghost use Rattle.moka_segments.specs.Notifying.{TellsLast};
 ghost use Rattle.moka_segments.specs.Plan.{place_of};
 ghost use Rattle.moka_segments.specs.Tells.{Gets, GetsOrInserts, Inserts, Looks, Peeks, Removes};
-ghost use Rattle.moka_segments.specs.Visits.{IsIdle};
+ghost use Rattle.moka_segments.specs.Visits.{IsIdle, at};
 
 use crate::account::Caller;
 use crate::plan::segment_of;
@@ -19,6 +20,7 @@ use moka_unsync_model::history::{
     contains_as_get, hits_are_current, inserts_enter_or_are_rejected, last_writes_are_inserts,
     misses_have_a_reason, peeks_are_current, remove_as_get,
 };
+use moka_unsync_model::listener::Listener;
 use std::hash::{BuildHasher, Hash};
 use std::sync::Wait;
 
@@ -30,6 +32,7 @@ pub(crate) fn get<
     S: BuildHasher + Drop,
     W: Weighing<K, V>,
     P: Rule<K, V>,
+    L: Listener<K, V>,
     R: Wait,
 >(
     rt: &R,
@@ -37,6 +40,7 @@ pub(crate) fn get<
     me: &mut Caller<K, V, S, W>,
     key: &K,
     now: Instant,
+    listener: &mut L,
 ) -> Result<Option<V>, OutOfMemory>
     requires table { me.old.table_id ≡ shared.now.table.shared.table_id }
     requires idle { IsIdle shared.now.table.shared.key me.old.me }
@@ -44,13 +48,15 @@ pub(crate) fn get<
     ensures idle { IsIdle shared.now.table.shared.key me.new.me }
     ensures made { Gets (keys_by K.Hash S.BuildHasher S.Hasher.Hasher) W.weighs P.rules shared.now.table.shared.key V.is_clone me.old.me.0
         key.now now result me.new.me.0 }
+    ensures told { TellsLast L.hears (keys_by K.Hash S.BuildHasher S.Hasher.Hasher) (at me.new.me.0.seen (place_of
+        shared.now.table.shared.key (keys_by K.Hash S.BuildHasher S.Hasher.Hasher) key.now)) listener.old listener.new }
 {
     hits_are_current::<K, V, S, Asks<W>>();
     misses_have_a_reason::<K, V, S, Asks<W>>();
     last_writes_are_inserts::<K, V, S>();
     let hash = shared.plan.hash_state.hash_one(key);
     let i = segment_of(hash, shared.plan.count);
-    visit::get(rt, &shared.table.shared, me, i, key, hash, now)
+    visit::get(rt, &shared.table.shared, me, i, key, hash, now, listener)
 }
 
 /// Returns a clone of the value of the key, which is not used.
@@ -91,6 +97,7 @@ pub(crate) fn contains_key<
     S: BuildHasher + Drop,
     W: Weighing<K, V>,
     P: Rule<K, V>,
+    L: Listener<K, V>,
     R: Wait,
 >(
     rt: &R,
@@ -98,6 +105,7 @@ pub(crate) fn contains_key<
     me: &mut Caller<K, V, S, W>,
     key: &K,
     now: Instant,
+    listener: &mut L,
 ) -> bool
     requires table { me.old.table_id ≡ shared.now.table.shared.table_id }
     requires idle { IsIdle shared.now.table.shared.key me.old.me }
@@ -105,12 +113,14 @@ pub(crate) fn contains_key<
     ensures idle { IsIdle shared.now.table.shared.key me.new.me }
     ensures made { Looks (keys_by K.Hash S.BuildHasher S.Hasher.Hasher) W.weighs P.rules shared.now.table.shared.key me.old.me.0 key.now now
         result me.new.me.0 }
+    ensures told { TellsLast L.hears (keys_by K.Hash S.BuildHasher S.Hasher.Hasher) (at me.new.me.0.seen (place_of
+        shared.now.table.shared.key (keys_by K.Hash S.BuildHasher S.Hasher.Hasher) key.now)) listener.old listener.new }
 {
     hits_are_current::<K, V, S, Asks<W>>();
     contains_as_get::<K, V, S, Asks<W>>();
     let hash = shared.plan.hash_state.hash_one(key);
     let i = segment_of(hash, shared.plan.count);
-    visit::contains_key(rt, &shared.table.shared, me, i, key, hash, now)
+    visit::contains_key(rt, &shared.table.shared, me, i, key, hash, now, listener)
 }
 
 /// Puts the value at the key.
@@ -121,6 +131,7 @@ pub(crate) fn insert<
     S: BuildHasher + Drop,
     W: Weighing<K, V>,
     P: Rule<K, V>,
+    L: Listener<K, V>,
     R: Wait,
 >(
     rt: &R,
@@ -129,6 +140,7 @@ pub(crate) fn insert<
     key: K,
     value: V,
     now: Instant,
+    listener: &mut L,
 ) -> Result<(), InsertError>
     requires table { me.old.table_id ≡ shared.now.table.shared.table_id }
     requires idle { IsIdle shared.now.table.shared.key me.old.me }
@@ -138,11 +150,23 @@ pub(crate) fn insert<
     ensures idle { IsIdle shared.now.table.shared.key me.new.me }
     ensures made { Inserts (keys_by K.Hash S.BuildHasher S.Hasher.Hasher) W.weighs P.rules shared.now.table.shared.key me.old.me.0 key value
         now result me.new.me.0 }
+    ensures told { TellsLast L.hears (keys_by K.Hash S.BuildHasher S.Hasher.Hasher) (at me.new.me.0.seen (place_of
+        shared.now.table.shared.key (keys_by K.Hash S.BuildHasher S.Hasher.Hasher) key)) listener.old listener.new }
 {
     inserts_enter_or_are_rejected::<K, V, S, Asks<W>>();
     let hash = shared.plan.hash_state.hash_one(&key);
     let i = segment_of(hash, shared.plan.count);
-    visit::insert(rt, &shared.table.shared, me, i, key, hash, value, now)
+    visit::insert(
+        rt,
+        &shared.table.shared,
+        me,
+        i,
+        key,
+        hash,
+        value,
+        now,
+        listener,
+    )
 }
 
 /// Removes the entry of the key.
@@ -153,8 +177,16 @@ pub(crate) fn invalidate<
     S: BuildHasher + Drop,
     W: Weighing<K, V>,
     P: Rule<K, V>,
+    L: Listener<K, V>,
     R: Wait,
->(rt: &R, shared: &Shared<K, V, S, W, P>, me: &mut Caller<K, V, S, W>, key: &K, now: Instant)
+>(
+    rt: &R,
+    shared: &Shared<K, V, S, W, P>,
+    me: &mut Caller<K, V, S, W>,
+    key: &K,
+    now: Instant,
+    listener: &mut L,
+)
     requires table { me.old.table_id ≡ shared.now.table.shared.table_id }
     requires idle { IsIdle shared.now.table.shared.key me.old.me }
     requires owns { P.rules.owns me.old.me.0.by key.now }
@@ -162,10 +194,12 @@ pub(crate) fn invalidate<
     ensures idle { IsIdle shared.now.table.shared.key me.new.me }
     ensures made { Makes (keys_by K.Hash S.BuildHasher S.Hasher.Hasher) W.weighs P.rules shared.now.table.shared.key me.old.me.0 (place_of
         shared.now.table.shared.key (keys_by K.Hash S.BuildHasher S.Hasher.Hasher) key.now) (Invalidate key.now now) Done me.new.me.0 }
+    ensures told { TellsLast L.hears (keys_by K.Hash S.BuildHasher S.Hasher.Hasher) (at me.new.me.0.seen (place_of
+        shared.now.table.shared.key (keys_by K.Hash S.BuildHasher S.Hasher.Hasher) key.now)) listener.old listener.new }
 {
     let hash = shared.plan.hash_state.hash_one(key);
     let i = segment_of(hash, shared.plan.count);
-    visit::invalidate(rt, &shared.table.shared, me, i, key, hash, now);
+    visit::invalidate(rt, &shared.table.shared, me, i, key, hash, now, listener);
 }
 
 /// Removes the entry of the key, and returns its value.
@@ -176,6 +210,7 @@ pub(crate) fn remove<
     S: BuildHasher + Drop,
     W: Weighing<K, V>,
     P: Rule<K, V>,
+    L: Listener<K, V>,
     R: Wait,
 >(
     rt: &R,
@@ -183,6 +218,7 @@ pub(crate) fn remove<
     me: &mut Caller<K, V, S, W>,
     key: &K,
     now: Instant,
+    listener: &mut L,
 ) -> Option<V>
     requires table { me.old.table_id ≡ shared.now.table.shared.table_id }
     requires idle { IsIdle shared.now.table.shared.key me.old.me }
@@ -191,13 +227,15 @@ pub(crate) fn remove<
     ensures idle { IsIdle shared.now.table.shared.key me.new.me }
     ensures made { Removes (keys_by K.Hash S.BuildHasher S.Hasher.Hasher) W.weighs P.rules shared.now.table.shared.key me.old.me.0 key.now
         now result me.new.me.0 }
+    ensures told { TellsLast L.hears (keys_by K.Hash S.BuildHasher S.Hasher.Hasher) (at me.new.me.0.seen (place_of
+        shared.now.table.shared.key (keys_by K.Hash S.BuildHasher S.Hasher.Hasher) key.now)) listener.old listener.new }
 {
     hits_are_current::<K, V, S, Asks<W>>();
     remove_as_get::<K, V, S, Asks<W>>();
     last_writes_are_inserts::<K, V, S>();
     let hash = shared.plan.hash_state.hash_one(key);
     let i = segment_of(hash, shared.plan.count);
-    visit::remove(rt, &shared.table.shared, me, i, key, hash, now)
+    visit::remove(rt, &shared.table.shared, me, i, key, hash, now, listener)
 }
 
 /// Returns a clone of the value of the key, or of one that is made and inserted.
@@ -209,6 +247,7 @@ pub(crate) fn get_or_insert_with<
     W: Weighing<K, V>,
     P: Rule<K, V>,
     F: FnOnce() -> V,
+    L: Listener<K, V>,
     R: Wait,
 >(
     rt: &R,
@@ -217,6 +256,7 @@ pub(crate) fn get_or_insert_with<
     key: K,
     now: Instant,
     make: F,
+    listener: &mut L,
 ) -> Result<V, InsertError>
     requires table { me.old.table_id ≡ shared.now.table.shared.table_id }
     requires idle { IsIdle shared.now.table.shared.key me.old.me }
@@ -228,8 +268,20 @@ pub(crate) fn get_or_insert_with<
     ensures made { GetsOrInserts (keys_by K.Hash S.BuildHasher S.Hasher.Hasher) W.weighs P.rules shared.now.table.shared.key V.is_clone
         (F.post make) me.old.me.0
         (place_of shared.now.table.shared.key (keys_by K.Hash S.BuildHasher S.Hasher.Hasher) key) key now result me.new.me.0 }
+    ensures told { TellsLast L.hears (keys_by K.Hash S.BuildHasher S.Hasher.Hasher) (at me.new.me.0.seen (place_of
+        shared.now.table.shared.key (keys_by K.Hash S.BuildHasher S.Hasher.Hasher) key)) listener.old listener.new }
 {
     let hash = shared.plan.hash_state.hash_one(&key);
     let i = segment_of(hash, shared.plan.count);
-    make::get_or_insert_with(rt, &shared.table.shared, me, i, key, hash, now, make)
+    make::get_or_insert_with(
+        rt,
+        &shared.table.shared,
+        me,
+        i,
+        key,
+        hash,
+        now,
+        make,
+        listener,
+    )
 }

@@ -2,13 +2,15 @@
 ghost use Rattle.std.specs.Prelude.{◌≡◌, ◌≢◌, ◌*◌, ◌≤◌, ◌^◌, ℕ};
 ghost use Rattle.moka_common.specs.Keys.{keys_by};
 ghost use Rattle.moka_segments.specs.Calls.{SameIn};
+ghost use Rattle.moka_segments.specs.Notifying.{TellsEach, TellsLast};
 ghost use Rattle.moka_segments.specs.TellsAll.{InvalidatesAllIf, InvalidatesIf};
-ghost use Rattle.moka_segments.specs.Visits.{IsIdle, IsPlace};
+ghost use Rattle.moka_segments.specs.Visits.{IsIdle, IsPlace, at};
 
 use crate::account::{Caller, Segments};
 use crate::row::{leave, lock};
 use crate::rule::Rule;
 use crate::weigher::Weighing;
+use moka_unsync_model::listener::Listener;
 use std::hash::{BuildHasher, Hash};
 use std::marker::Brand;
 use std::snapshot::Snapshot;
@@ -22,8 +24,16 @@ fn invalidate_entries_if_in<
     W: Weighing<K, V>,
     P: Rule<K, V>,
     F: FnMut(&K, &V) -> bool + Copy,
+    L: Listener<K, V>,
     R: Wait,
->(rt: &R, row: &Segments<K, V, S, W, P>, me: &mut Caller<K, V, S, W>, i: usize, predicate: F)
+>(
+    rt: &R,
+    row: &Segments<K, V, S, W, P>,
+    me: &mut Caller<K, V, S, W>,
+    i: usize,
+    predicate: F,
+    listener: &mut L,
+)
     requires table { (me.old.table_id ≡ row.now.table_id) × IsPlace row.now.table_id i }
     requires idle { IsIdle row.now.key me.old.me }
     requires predicate { F.IsAlwaysCallable predicate }
@@ -33,11 +43,12 @@ fn invalidate_entries_if_in<
     ensures made { InvalidatesIf (keys_by K.Hash S.BuildHasher S.Hasher.Hasher) W.weighs P.rules row.now.key F.step predicate me.old.me.0 i
         me.new.me.0 }
     ensures others { (j : ℕ) → j ≢ i → SameIn me.old.me.0 j me.new.me.0 }
+    ensures told { TellsLast L.hears (keys_by K.Hash S.BuildHasher S.Hasher.Hasher) (at me.new.me.0.seen i) listener.old listener.new }
 {
     lock(rt, row, me, i);
     let cache = me.slot_mut(row, i);
     let before = Snapshot::of(&*cache);
-    cache.invalidate_entries_if(predicate);
+    cache.invalidate_entries_if_notifying(predicate, listener);
     let after = Snapshot::of(&*cache);
     leave::<_, _, _, _, _, Brand>(row, me, i, (before, after));
 }
@@ -50,8 +61,16 @@ pub fn invalidate_entries_if<
     W: Weighing<K, V>,
     P: Rule<K, V>,
     F: FnMut(&K, &V) -> bool + Copy,
+    L: Listener<K, V>,
     R: Wait,
->(rt: &R, row: &Segments<K, V, S, W, P>, me: &mut Caller<K, V, S, W>, count: usize, predicate: F)
+>(
+    rt: &R,
+    row: &Segments<K, V, S, W, P>,
+    me: &mut Caller<K, V, S, W>,
+    count: usize,
+    predicate: F,
+    listener: &mut L,
+)
     requires table { me.old.table_id ≡ row.now.table_id }
     requires sized { (count ≤ 2 ^ 32) × (row.now.table_id.slots ≡ count) × (row.now.table_id.words ≡ count * 16) }
     requires idle { IsIdle row.now.key me.old.me }
@@ -61,8 +80,9 @@ pub fn invalidate_entries_if<
     ensures idle { IsIdle row.now.key me.new.me }
     ensures made { InvalidatesAllIf (keys_by K.Hash S.BuildHasher S.Hasher.Hasher) W.weighs P.rules row.now.key F.step predicate me.old.me.0
         count me.new.me.0 }
+    ensures told { TellsEach L.hears (keys_by K.Hash S.BuildHasher S.Hasher.Hasher) me.new.me.0.seen count listener.old listener.new }
 {
     for i in 0..count {
-        invalidate_entries_if_in(rt, row, me, i, predicate);
+        invalidate_entries_if_in(rt, row, me, i, predicate, listener);
     }
 }

@@ -13,6 +13,8 @@ pub mod invalidate_if;
 pub mod iter;
 mod make;
 pub mod note;
+pub mod notifying_cache;
+pub mod notifying_session;
 pub mod own;
 pub mod owners;
 pub mod plan;

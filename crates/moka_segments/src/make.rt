@@ -2,10 +2,11 @@
 ghost use Rattle.std.specs.Prelude.{◌≡◌, option_map};
 ghost use Rattle.moka_common.specs.Keys.{keys_by};
 ghost use Rattle.moka_unsync_model.specs.History.{Leads};
+ghost use Rattle.moka_segments.specs.Notifying.{TellsIfPut, TellsLast, TellsVisit};
 ghost use Rattle.moka_segments.specs.Plan.{place_of};
 ghost use Rattle.moka_segments.specs.Put.{IsPut, TellsGot, TellsPut, visit_of};
 ghost use Rattle.moka_segments.specs.Tells.{GetsOrInserts};
-ghost use Rattle.moka_segments.specs.Visits.{IsIdle, IsPlace};
+ghost use Rattle.moka_segments.specs.Visits.{IsIdle, IsPlace, at};
 
 use crate::account::{Caller, Segments};
 use crate::row::{leave, lock};
@@ -15,6 +16,7 @@ use crate::weigher::{Asks, Weighing};
 use moka_common::error::InsertError;
 use moka_common::time::Instant;
 use moka_unsync::cache::Cache;
+use moka_unsync_model::listener::Listener;
 use std::hash::{BuildHasher, Hash};
 use std::marker::Brand;
 use std::snapshot::Snapshot;
@@ -24,25 +26,34 @@ use std::sync::Wait;
 type Put<V> = Option<(Snapshot<V>, bool)>;
 
 /// Inserts a value that was made, and returns a clone of it. If memory is refused for the clone, nothing is inserted.
-fn put<K: Eq + Hash + Drop, V: Clone + Drop, S: BuildHasher + Drop, W: Weighing<K, V>>(
+fn put<
+    K: Eq + Hash + Drop,
+    V: Clone + Drop,
+    S: BuildHasher + Drop,
+    W: Weighing<K, V>,
+    L: Listener<K, V>,
+>(
     cache: &mut Cache<K, V, S, Asks<W>>,
     key: K,
     hash: u64,
     now: Instant,
     value: V,
+    listener: &mut L,
 ) -> (Result<V, InsertError>, Put<V>)
     requires hashed { hash ≡ (keys_by K.Hash S.BuildHasher S.Hasher.Hasher).hash_of cache.old.settings.hash_state key }
     requires ready { W.ready cache.old.weigher }
-    ensures told { TellsPut V.is_clone value (option_map (λ p. (p.0.value, p.1)) result.1) result.0 }
+    ensures answered { TellsPut V.is_clone value (option_map (λ p. (p.0.value, p.1)) result.1) result.0 }
     ensures step { IsPut (keys_by K.Hash S.BuildHasher S.Hasher.Hasher) W.weighs cache.old key now (option_map (λ p. (p.0.value, p.1))
         result.1) cache.new }
     ensures ready { W.ready cache.new.weigher }
+    ensures told { TellsIfPut L.hears (keys_by K.Hash S.BuildHasher S.Hasher.Hasher) cache.old key now (option_map (λ p. (p.0.value, p.1)) result.1) cache.new listener.old
+        listener.new }
 {
     let given = Snapshot::of(&value);
     let Ok(copy) = value.clone() else {
         return (Err(InsertError::OutOfMemory), None);
     };
-    match cache.insert_hashed(key, hash, value, now) {
+    match cache.insert_notifying(key, hash, value, now, listener) {
         Ok(()) => (Ok(copy), Some((given, true))),
         Err(error) => (Err(error), Some((given, false))),
     }
@@ -62,28 +73,32 @@ fn get_or_put<
     S: BuildHasher + Drop,
     W: Weighing<K, V>,
     F: FnOnce() -> V,
+    L: Listener<K, V>,
 >(
     cache: &mut Cache<K, V, S, Asks<W>>,
     key: K,
     hash: u64,
     now: Instant,
     make: F,
+    listener: &mut L,
 ) -> (Result<V, InsertError>, Noted<K, V, S, W>)
     requires hashed { hash ≡ (keys_by K.Hash S.BuildHasher S.Hasher.Hasher).hash_of cache.old.settings.hash_state key }
     requires ready { W.ready cache.old.weigher }
     requires make { F.pre make }
-    ensures told { TellsGot V.is_clone (F.post make) (option_map (λ s. s.value) result.1.0) (option_map (λ p. (p.0.value, p.1)) result.1.2) result.0 }
+    ensures answered { TellsGot V.is_clone (F.post make) (option_map (λ s. s.value) result.1.0) (option_map (λ p. (p.0.value, p.1)) result.1.2) result.0 }
     ensures leads { Leads (keys_by K.Hash S.BuildHasher S.Hasher.Hasher) W.weighs cache.old
         (visit_of cache.old key now (option_map (λ s. s.value) result.1.0) result.1.1.value (option_map (λ p. (p.0.value, p.1)) result.1.2) cache.new) cache.new }
     ensures ready { W.ready cache.new.weigher }
+    ensures told { TellsVisit L.hears (keys_by K.Hash S.BuildHasher S.Hasher.Hasher)
+        (visit_of cache.old key now (option_map (λ s. s.value) result.1.0) result.1.1.value (option_map (λ p. (p.0.value, p.1)) result.1.2) cache.new) listener.old listener.new }
 {
-    let (found, told) = looked(cache.get_hashed(&key, hash, now));
+    let (found, told) = looked(cache.get_notifying(&key, hash, now, listener));
     let between = Snapshot::of(&*cache);
     match found {
         Ok(Some(copy)) => (Ok(copy), (told, between, None)),
         Err(_) => (Err(InsertError::OutOfMemory), (told, between, None)),
         Ok(None) => {
-            let (result, put) = put(cache, key, hash, now, make());
+            let (result, put) = put(cache, key, hash, now, make(), listener);
             (result, (told, between, put))
         }
     }
@@ -97,6 +112,7 @@ pub fn get_or_insert_with<
     W: Weighing<K, V>,
     P: Rule<K, V>,
     F: FnOnce() -> V,
+    L: Listener<K, V>,
     R: Wait,
 >(
     rt: &R,
@@ -107,6 +123,7 @@ pub fn get_or_insert_with<
     hash: u64,
     now: Instant,
     make: F,
+    listener: &mut L,
 ) -> Result<V, InsertError>
     requires table { (me.old.table_id ≡ row.now.table_id) × IsPlace row.now.table_id i }
     requires idle { IsIdle row.now.key me.old.me }
@@ -119,13 +136,15 @@ pub fn get_or_insert_with<
     ensures idle { IsIdle row.now.key me.new.me }
     ensures made { GetsOrInserts (keys_by K.Hash S.BuildHasher S.Hasher.Hasher) W.weighs P.rules row.now.key V.is_clone (F.post make) me.old.me.0
         (place_of row.now.key (keys_by K.Hash S.BuildHasher S.Hasher.Hasher) key) key now result me.new.me.0 }
+    ensures told { TellsLast L.hears (keys_by K.Hash S.BuildHasher S.Hasher.Hasher) (at me.new.me.0.seen (place_of row.now.key
+        (keys_by K.Hash S.BuildHasher S.Hasher.Hasher) key)) listener.old listener.new }
 {
     lock(rt, row, me, i);
     let cache = me.slot_mut(row, i);
     let before = Snapshot::of(&*cache);
     let asked = Snapshot::of(&key);
     let moment = Snapshot::of(&now);
-    let (result, noted) = get_or_put(cache, key, hash, now, make);
+    let (result, noted) = get_or_put(cache, key, hash, now, make, listener);
     let after = Snapshot::of(&*cache);
     leave::<_, _, _, _, _, Brand>(row, me, i, (before, after, asked, moment, noted));
     result

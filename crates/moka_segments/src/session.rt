@@ -8,10 +8,12 @@ ghost use Rattle.moka_segments.specs.Tells.{Gets, GetsOrInserts, Inserts, Looks,
 ghost use Rattle.moka_segments.specs.TellsAll.{InvalidatesAllIf, TellsSnapshot};
 ghost use Rattle.moka_segments.specs.Kept.{Hears};
 
+mod notifying;
+
 use crate::account::Caller;
-use crate::invalidate_if::invalidate_entries_if;
 use crate::iter::snapshot;
 use crate::note::Note;
+use crate::notifying_session::NotifyingSession;
 use crate::rule::{Rule, Unruled};
 use crate::shared::Shared;
 use crate::weigher::Weighing;
@@ -21,6 +23,7 @@ use moka_common::hash::FixedState;
 use moka_common::policy::Policy;
 use moka_common::time::Instant;
 use moka_common::weigh::UnitWeight;
+use moka_unsync_model::listener::NoListener;
 use std::alloc::Global;
 use std::hash::{BuildHasher, Hash};
 use std::marker::Model;
@@ -74,7 +77,7 @@ impl<
         ensures made { Gets (keys_by K.Hash S.BuildHasher S.Hasher.Hasher) W.weighs P.rules self.old.cache.plan V.is_clone self.old.knows
             key.now now result self.new.knows }
     {
-        call::get(rt, &*self.shared, &mut self.caller, key, now)
+        self.get_notifying(rt, key, now, &mut NoListener)
     }
 
     /// Returns a clone of the value of the key, if it has an unexpired entry. It doesn't count as a use of the key.
@@ -106,7 +109,7 @@ impl<
             make) self.old.knows (place_of self.old.cache.plan (keys_by K.Hash S.BuildHasher S.Hasher.Hasher) key) key now result
             self.new.knows }
     {
-        call::get_or_insert_with(rt, &*self.shared, &mut self.caller, key, now, make)
+        self.get_or_insert_notifying(rt, key, now, make, &mut NoListener)
     }
 }
 
@@ -154,7 +157,7 @@ impl<K: Eq + Hash + Drop, V: Drop, S: BuildHasher + Drop, W: Weighing<K, V>, P: 
         ensures made { Looks (keys_by K.Hash S.BuildHasher S.Hasher.Hasher) W.weighs P.rules self.old.cache.plan self.old.knows key.now now
             result self.new.knows }
     {
-        call::contains_key(rt, &*self.shared, &mut self.caller, key, now)
+        self.contains_notifying(rt, key, now, &mut NoListener)
     }
 
     /// Puts the value at the key. The admission policy of the segment may reject a new entry, which is `Ok` as well. If memory is refused, all is as it was.
@@ -171,7 +174,7 @@ impl<K: Eq + Hash + Drop, V: Drop, S: BuildHasher + Drop, W: Weighing<K, V>, P: 
         ensures made { Inserts (keys_by K.Hash S.BuildHasher S.Hasher.Hasher) W.weighs P.rules self.old.cache.plan self.old.knows key value
             now result self.new.knows }
     {
-        call::insert(rt, &*self.shared, &mut self.caller, key, value, now)
+        self.insert_notifying(rt, key, value, now, &mut NoListener)
     }
 
     /// Removes the entry of the key, if it has one.
@@ -181,7 +184,7 @@ impl<K: Eq + Hash + Drop, V: Drop, S: BuildHasher + Drop, W: Weighing<K, V>, P: 
         ensures made { Makes (keys_by K.Hash S.BuildHasher S.Hasher.Hasher) W.weighs P.rules self.old.cache.plan self.old.knows (place_of
             self.old.cache.plan (keys_by K.Hash S.BuildHasher S.Hasher.Hasher) key.now) (Invalidate key.now now) Done self.new.knows }
     {
-        call::invalidate(rt, &*self.shared, &mut self.caller, key, now);
+        self.invalidate_notifying(rt, key, now, &mut NoListener);
     }
 
     /// Removes the entry of the key, if it has one, and returns its value, unless it is expired. The value is moved out.
@@ -191,7 +194,7 @@ impl<K: Eq + Hash + Drop, V: Drop, S: BuildHasher + Drop, W: Weighing<K, V>, P: 
         ensures made { Removes (keys_by K.Hash S.BuildHasher S.Hasher.Hasher) W.weighs P.rules self.old.cache.plan self.old.knows key.now
             now result self.new.knows }
     {
-        call::remove(rt, &*self.shared, &mut self.caller, key, now)
+        self.remove_notifying(rt, key, now, &mut NoListener)
     }
 
     /// Removes all entries, one segment after another.
@@ -201,13 +204,7 @@ impl<K: Eq + Hash + Drop, V: Drop, S: BuildHasher + Drop, W: Weighing<K, V>, P: 
         ensures made { MakesAll (keys_by K.Hash S.BuildHasher S.Hasher.Hasher) W.weighs P.rules self.old.cache.plan self.old.knows
             self.old.cache.plan.count (λ _. InvalidateAll) (λ _. Done) self.new.knows }
     {
-        let shared = &*self.shared;
-        all::invalidate_all(
-            rt,
-            &shared.table.shared,
-            &mut self.caller,
-            shared.plan.count,
-        );
+        self.invalidate_all_notifying(rt, &mut NoListener);
     }
 
     /// Removes the entries at which the predicate answers `true`, one segment after another. It is called once at each entry, in order of use, with a copy of it
@@ -223,14 +220,7 @@ impl<K: Eq + Hash + Drop, V: Drop, S: BuildHasher + Drop, W: Weighing<K, V>, P: 
         ensures made { InvalidatesAllIf (keys_by K.Hash S.BuildHasher S.Hasher.Hasher) W.weighs P.rules self.old.cache.plan F.step predicate
             self.old.knows self.old.cache.plan.count self.new.knows }
     {
-        let shared = &*self.shared;
-        invalidate_entries_if(
-            rt,
-            &shared.table.shared,
-            &mut self.caller,
-            shared.plan.count,
-            predicate,
-        );
+        self.invalidate_entries_if_notifying(rt, predicate, &mut NoListener);
     }
 
     /// Returns the number of entries, counted one segment after another.
@@ -261,6 +251,13 @@ impl<K: Eq + Hash + Drop, V: Drop, S: BuildHasher + Drop, W: Weighing<K, V>, P: 
             &mut self.caller,
             shared.plan.count,
         )
+    }
+
+    /// Makes it a session that tells a listener of each entry that leaves in its calls.
+    pub fn with_listener<L: Drop>(self, listener: L) -> NotifyingSession<K, V, L, S, W, P>
+        ensures { result ≡ record { session = self; listener = listener } }
+    {
+        NotifyingSession::new(self, listener)
     }
 
     /// Returns the limits of the cache.

@@ -17,9 +17,10 @@ ghost use Rattle.moka_unsync_model.specs.Step.{
   WeightedSize,
 };
 ghost use Rattle.moka_segments.specs.Calls.{Makes};
+ghost use Rattle.moka_segments.specs.Notifying.{TellsLast};
 ghost use Rattle.moka_segments.specs.Plan.{place_of};
 ghost use Rattle.moka_segments.specs.Tells.{TellsClone, answer_of};
-ghost use Rattle.moka_segments.specs.Visits.{IsIdle, IsPlace};
+ghost use Rattle.moka_segments.specs.Visits.{IsIdle, IsPlace, at};
 
 use crate::account::{Caller, Segments};
 use crate::row::{leave, lock};
@@ -27,6 +28,7 @@ use crate::rule::Rule;
 use crate::weigher::Weighing;
 use moka_common::error::{InsertError, OutOfMemory};
 use moka_common::time::Instant;
+use moka_unsync_model::listener::Listener;
 use std::hash::{BuildHasher, Hash};
 use std::marker::Brand;
 use std::snapshot::Snapshot;
@@ -60,6 +62,7 @@ pub fn get<
     S: BuildHasher + Drop,
     W: Weighing<K, V>,
     P: Rule<K, V>,
+    L: Listener<K, V>,
     R: Wait,
 >(
     rt: &R,
@@ -69,6 +72,7 @@ pub fn get<
     key: &K,
     hash: u64,
     now: Instant,
+    listener: &mut L,
 ) -> Result<Option<V>, OutOfMemory>
     requires table { (me.old.table_id ≡ row.now.table_id) × IsPlace row.now.table_id i }
     requires idle { IsIdle row.now.key me.old.me }
@@ -78,13 +82,14 @@ pub fn get<
     ensures idle { IsIdle row.now.key me.new.me }
     ensures made { (found : Option V) × TellsClone V.is_clone found result × Makes (keys_by K.Hash S.BuildHasher S.Hasher.Hasher) W.weighs
         P.rules row.now.key me.old.me.0 i (Get key.now now) (Found found) me.new.me.0 }
+    ensures told { TellsLast L.hears (keys_by K.Hash S.BuildHasher S.Hasher.Hasher) (at me.new.me.0.seen i) listener.old listener.new }
 {
     lock(rt, row, me, i);
     let cache = me.slot_mut(row, i);
     let before = Snapshot::of(&*cache);
     let asked = Snapshot::of(key);
     let moment = Snapshot::of(&now);
-    let (found, told) = looked(cache.get_hashed(key, hash, now));
+    let (found, told) = looked(cache.get_notifying(key, hash, now, listener));
     let after = Snapshot::of(&*cache);
     leave::<_, _, _, _, _, Brand>(row, me, i, (before, after, asked, moment, told));
     found
@@ -136,6 +141,7 @@ pub fn contains_key<
     S: BuildHasher + Drop,
     W: Weighing<K, V>,
     P: Rule<K, V>,
+    L: Listener<K, V>,
     R: Wait,
 >(
     rt: &R,
@@ -145,6 +151,7 @@ pub fn contains_key<
     key: &K,
     hash: u64,
     now: Instant,
+    listener: &mut L,
 ) -> bool
     requires table { (me.old.table_id ≡ row.now.table_id) × IsPlace row.now.table_id i }
     requires idle { IsIdle row.now.key me.old.me }
@@ -154,13 +161,14 @@ pub fn contains_key<
     ensures idle { IsIdle row.now.key me.new.me }
     ensures made { Makes (keys_by K.Hash S.BuildHasher S.Hasher.Hasher) W.weighs P.rules row.now.key me.old.me.0 i (ContainsKey key.now now)
         (Truth result) me.new.me.0 }
+    ensures told { TellsLast L.hears (keys_by K.Hash S.BuildHasher S.Hasher.Hasher) (at me.new.me.0.seen i) listener.old listener.new }
 {
     lock(rt, row, me, i);
     let cache = me.slot_mut(row, i);
     let before = Snapshot::of(&*cache);
     let asked = Snapshot::of(key);
     let moment = Snapshot::of(&now);
-    let found = cache.contains_hashed(key, hash, now);
+    let found = cache.contains_notifying(key, hash, now, listener);
     let told = Snapshot::of(&found);
     let after = Snapshot::of(&*cache);
     leave::<_, _, _, _, _, Brand>(row, me, i, (before, after, asked, moment, told));
@@ -175,6 +183,7 @@ pub fn insert<
     S: BuildHasher + Drop,
     W: Weighing<K, V>,
     P: Rule<K, V>,
+    L: Listener<K, V>,
     R: Wait,
 >(
     rt: &R,
@@ -185,6 +194,7 @@ pub fn insert<
     hash: u64,
     value: V,
     now: Instant,
+    listener: &mut L,
 ) -> Result<(), InsertError>
     requires table { (me.old.table_id ≡ row.now.table_id) × IsPlace row.now.table_id i }
     requires idle { IsIdle row.now.key me.old.me }
@@ -196,6 +206,7 @@ pub fn insert<
     ensures idle { IsIdle row.now.key me.new.me }
     ensures made { Makes (keys_by K.Hash S.BuildHasher S.Hasher.Hasher) W.weighs P.rules row.now.key me.old.me.0 i (Insert key value now)
         (answer_of result) me.new.me.0 }
+    ensures told { TellsLast L.hears (keys_by K.Hash S.BuildHasher S.Hasher.Hasher) (at me.new.me.0.seen i) listener.old listener.new }
 {
     lock(rt, row, me, i);
     let cache = me.slot_mut(row, i);
@@ -203,7 +214,7 @@ pub fn insert<
     let asked = Snapshot::of(&key);
     let given = Snapshot::of(&value);
     let moment = Snapshot::of(&now);
-    let found = cache.insert_hashed(key, hash, value, now);
+    let found = cache.insert_notifying(key, hash, value, now, listener);
     let told = Snapshot::of(&found);
     let after = Snapshot::of(&*cache);
     leave::<_, _, _, _, _, Brand>(row, me, i, (before, after, asked, given, moment, told));
@@ -218,6 +229,7 @@ pub fn invalidate<
     S: BuildHasher + Drop,
     W: Weighing<K, V>,
     P: Rule<K, V>,
+    L: Listener<K, V>,
     R: Wait,
 >(
     rt: &R,
@@ -227,6 +239,7 @@ pub fn invalidate<
     key: &K,
     hash: u64,
     now: Instant,
+    listener: &mut L,
 )
     requires table { (me.old.table_id ≡ row.now.table_id) × IsPlace row.now.table_id i }
     requires idle { IsIdle row.now.key me.old.me }
@@ -237,13 +250,14 @@ pub fn invalidate<
     ensures idle { IsIdle row.now.key me.new.me }
     ensures made { Makes (keys_by K.Hash S.BuildHasher S.Hasher.Hasher) W.weighs P.rules row.now.key me.old.me.0 i (Invalidate key.now now)
         Done me.new.me.0 }
+    ensures told { TellsLast L.hears (keys_by K.Hash S.BuildHasher S.Hasher.Hasher) (at me.new.me.0.seen i) listener.old listener.new }
 {
     lock(rt, row, me, i);
     let cache = me.slot_mut(row, i);
     let before = Snapshot::of(&*cache);
     let asked = Snapshot::of(key);
     let moment = Snapshot::of(&now);
-    cache.invalidate_hashed(key, hash, now);
+    cache.invalidate_notifying(key, hash, now, listener);
     let after = Snapshot::of(&*cache);
     leave::<_, _, _, _, _, Brand>(row, me, i, (before, after, asked, moment));
 }
@@ -256,6 +270,7 @@ pub fn remove<
     S: BuildHasher + Drop,
     W: Weighing<K, V>,
     P: Rule<K, V>,
+    L: Listener<K, V>,
     R: Wait,
 >(
     rt: &R,
@@ -265,6 +280,7 @@ pub fn remove<
     key: &K,
     hash: u64,
     now: Instant,
+    listener: &mut L,
 ) -> Option<V>
     requires table { (me.old.table_id ≡ row.now.table_id) × IsPlace row.now.table_id i }
     requires idle { IsIdle row.now.key me.old.me }
@@ -275,13 +291,14 @@ pub fn remove<
     ensures idle { IsIdle row.now.key me.new.me }
     ensures made { Makes (keys_by K.Hash S.BuildHasher S.Hasher.Hasher) W.weighs P.rules row.now.key me.old.me.0 i (Remove key.now now)
         (Found result) me.new.me.0 }
+    ensures told { TellsLast L.hears (keys_by K.Hash S.BuildHasher S.Hasher.Hasher) (at me.new.me.0.seen i) listener.old listener.new }
 {
     lock(rt, row, me, i);
     let cache = me.slot_mut(row, i);
     let before = Snapshot::of(&*cache);
     let asked = Snapshot::of(key);
     let moment = Snapshot::of(&now);
-    let found = cache.remove_hashed(key, hash, now);
+    let found = cache.remove_notifying(key, hash, now, listener);
     let told = Snapshot::of(&found);
     let after = Snapshot::of(&*cache);
     leave::<_, _, _, _, _, Brand>(row, me, i, (before, after, asked, moment, told));
@@ -296,19 +313,21 @@ pub fn invalidate_all<
     S: BuildHasher + Drop,
     W: Weighing<K, V>,
     P: Rule<K, V>,
+    L: Listener<K, V>,
     R: Wait,
->(rt: &R, row: &Segments<K, V, S, W, P>, me: &mut Caller<K, V, S, W>, i: usize)
+>(rt: &R, row: &Segments<K, V, S, W, P>, me: &mut Caller<K, V, S, W>, i: usize, listener: &mut L)
     requires table { (me.old.table_id ≡ row.now.table_id) × IsPlace row.now.table_id i }
     requires idle { IsIdle row.now.key me.old.me }
     requires owns { (key : K) → P.rules.owns me.old.me.0.by key }
     ensures same { (me.new.table_id ≡ me.old.table_id) × (me.new.me.0.by ≡ me.old.me.0.by) }
     ensures idle { IsIdle row.now.key me.new.me }
     ensures made { Makes (keys_by K.Hash S.BuildHasher S.Hasher.Hasher) W.weighs P.rules row.now.key me.old.me.0 i InvalidateAll Done me.new.me.0 }
+    ensures told { TellsLast L.hears (keys_by K.Hash S.BuildHasher S.Hasher.Hasher) (at me.new.me.0.seen i) listener.old listener.new }
 {
     lock(rt, row, me, i);
     let cache = me.slot_mut(row, i);
     let before = Snapshot::of(&*cache);
-    cache.invalidate_all();
+    cache.invalidate_all_notifying(listener);
     let after = Snapshot::of(&*cache);
     leave::<_, _, _, _, _, Brand>(row, me, i, (before, after));
 }

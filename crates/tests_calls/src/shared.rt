@@ -6,6 +6,7 @@ mod one_thread;
 mod races;
 mod recorded;
 mod segment_calls;
+mod segment_listeners;
 mod segments;
 mod threads;
 

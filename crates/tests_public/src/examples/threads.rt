@@ -9,8 +9,8 @@ use moka_examples::calling::empty_if_due;
 use moka_examples::configuration::configured_by_threads;
 use moka_examples::metrics::watched_while_filled;
 use moka_examples::shared::{
-    IsSquare, charged_in_bytes, counted_twice, key_and_length, some_square, square,
-    square_by_threads, squares_below, there_within_ten_seconds,
+    IsSquare, charged_in_bytes, counted_twice, counts_of_a_session, key_and_length, some_square,
+    square, square_by_threads, squares_below, there_within_ten_seconds,
 };
 use std::sync::Wait;
 use std::test::Fail;
@@ -26,6 +26,12 @@ fn examples_of_a_shared_cache_give_what_they_say(rt: HostRuntime) -> Result<(), 
     );
     let charged = charged_in_bytes(&rt, alloc, String::from_str(alloc, "alice")?)?;
     assert_eq!(rt; (found, charged), (((1240, 16), (2, 2), (true, false)), 5));
+    Ok(())
+}
+
+#[test]
+fn a_session_counts_what_leaves(rt: HostRuntime) -> Result<(), Fail> {
+    assert_eq!(rt; counts_of_a_session(&rt, rt.alloc())?, (1, 1));
     Ok(())
 }
 

@@ -2,6 +2,7 @@ use Rattle.std.proofs.Common.{◌∙◌, refl, rules, subst, sym}
 use Rattle.moka_common.specs.Keys.{keys_by}
 use Rattle.moka_unsync_model.specs.Step.{Done, InvalidateAll}
 use Rattle.moka_segments.proofs.AllLemmas.{none_yet, one_more}
+use Rattle.moka_segments.proofs.NotifyLemmas.{one_more_tells}
 use Rattle.moka_segments.proofs.all.invalidate_all.Goals as goal
 
 pub loop-i-init : goal.loop-i-init
@@ -10,6 +11,7 @@ loop-i-init g c = (
   refl,
   c.requires.idle,
   none_yet (keys_by (record { eq = g.K.PartialEq.eq; hash_input = g.K.Hash.hash_input }) g.S.BuildHasher g.S.Hasher.Hasher) g.W.Weighing.weighs g.P.Rule.rules c.args.row.now.key c.args.me.now.me.0 (λ _. InvalidateAll) (λ _. Done),
+  refl,
 )
 
 pub invalidate_all-requires-clause-owns : goal.invalidate_all-requires-clause-owns
@@ -22,4 +24,6 @@ loop-i-preserved g c = (
   c.invalidate_all.ensures.idle,
   one_more (keys_by (record { eq = g.K.PartialEq.eq; hash_input = g.K.Hash.hash_input }) g.S.BuildHasher g.S.Hasher.Hasher) g.W.Weighing.weighs g.P.Rule.rules c.args.row.now.key c.args.me.now.me.0 c.loop-i.me.me.0
       c.invalidate_all.new.me.me.0 c.loop-i.i (λ _. InvalidateAll) (λ _. Done) InvalidateAll Done c.loop-i.invariant.3 c.invalidate_all.ensures.made refl refl,
+  one_more_tells g.L.Listener.hears (keys_by (record { eq = g.K.PartialEq.eq; hash_input = g.K.Hash.hash_input }) g.S.BuildHasher g.S.Hasher.Hasher) c.loop-i.i c.loop-i.me.me.0 c.invalidate_all.new.me.me.0 c.args.listener.now c.loop-i.listener
+      c.invalidate_all.new.listener c.loop-i.invariant.4 c.invalidate_all.ensures.made.others c.invalidate_all.ensures.told,
 )

@@ -1,7 +1,9 @@
-use Rattle.std.proofs.Common.{◌≡◌, rules}
+use Rattle.std.proofs.Common.{◌≡◌, rules, subst, sym}
 use Rattle.moka_common.specs.Keys.{Keys, keys_by}
 use Rattle.moka_segments.proofs.LawLemmas.{looks}
+use Rattle.moka_segments.specs.Notifying.{TellsLast}
 use Rattle.moka_segments.specs.Plan.{place_of}
+use Rattle.moka_segments.specs.Visits.{at}
 use Rattle.moka_segments.proofs.call.contains_key.Given.{Over}
 use Rattle.moka_segments.proofs.call.contains_key.Goals as goal
 
@@ -14,3 +16,8 @@ returns-clause-made g c =
     let w = c.contains_key.new.me.me.0 in
     let place : place_of c.args.shared.now.table.shared.key (keys_of g) c.args.key.now ≡ c.segment_of-i.result = search rules in
     looks (keys_of g) g.W.Weighing.weighs g.P.Rule.rules c.args.shared.now.table.shared.key c.hits_are_current.ensures c.contains_as_get.ensures v w c.segment_of-i.result c.args.key.now c.args.now c.contains_key.result place c.contains_key.ensures.made
+
+pub returns-clause-told : goal.returns-clause-told
+returns-clause-told g c =
+    let place : place_of c.args.shared.now.table.shared.key (keys_of g) c.args.key.now ≡ c.segment_of-i.result = search rules in
+    subst (λ i. TellsLast g.L.Listener.hears (keys_of g) (at c.contains_key.new.me.me.0.seen i) c.args.listener.now c.contains_key.new.listener) (sym place) c.contains_key.ensures.told

@@ -1,7 +1,9 @@
-use Rattle.std.proofs.Common.{◌≡◌, rules}
+use Rattle.std.proofs.Common.{◌≡◌, rules, subst, sym}
 use Rattle.moka_common.specs.Keys.{Keys, keys_by}
 use Rattle.moka_segments.proofs.LawLemmas.{removes}
+use Rattle.moka_segments.specs.Notifying.{TellsLast}
 use Rattle.moka_segments.specs.Plan.{place_of}
+use Rattle.moka_segments.specs.Visits.{at}
 use Rattle.moka_segments.proofs.call.remove.Given.{Over}
 use Rattle.moka_segments.proofs.call.remove.Goals as goal
 
@@ -14,3 +16,8 @@ returns-clause-made g c =
     let w = c.remove.new.me.me.0 in
     let place : place_of c.args.shared.now.table.shared.key (keys_of g) c.args.key.now ≡ c.segment_of-i.result = search rules in
     removes (keys_of g) g.W.Weighing.weighs g.P.Rule.rules c.args.shared.now.table.shared.key g.met.P.Rule.agree c.hits_are_current.ensures c.remove_as_get.ensures c.last_writes_are_inserts.ensures v w c.segment_of-i.result c.args.key.now c.args.now c.remove.result place c.remove.ensures.made
+
+pub returns-clause-told : goal.returns-clause-told
+returns-clause-told g c =
+    let place : place_of c.args.shared.now.table.shared.key (keys_of g) c.args.key.now ≡ c.segment_of-i.result = search rules in
+    subst (λ i. TellsLast g.L.Listener.hears (keys_of g) (at c.remove.new.me.me.0.seen i) c.args.listener.now c.remove.new.listener) (sym place) c.remove.ensures.told

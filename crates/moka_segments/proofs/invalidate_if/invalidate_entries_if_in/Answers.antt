@@ -6,6 +6,7 @@ use Rattle.moka_segments.specs.History.{IsAccount}
 use Rattle.moka_segments.specs.TellsAll.{leavers}
 use Rattle.moka_segments.proofs.CallLemmas.{call_of, none_behind, same_head, stands, visited}
 use Rattle.moka_segments.proofs.IfLemmas.{if_step}
+use Rattle.moka_segments.proofs.NotifyLemmas.{call_tells}
 use Rattle.moka_segments.proofs.invalidate_if.invalidate_entries_if_in.Given.{Over}
 use Rattle.moka_segments.proofs.invalidate_if.invalidate_entries_if_in.Goals.{After-of-after}
 use Rattle.moka_segments.proofs.invalidate_if.invalidate_entries_if_in.Goals as goal
@@ -25,27 +26,27 @@ its_account g c =
     subst (λ x. IsAccount (keys_of g) g.W.Weighing.weighs g.P.Rule.rules g.W.Weighing.ready c.args.row.now.key c.args.i got.log x) (sym (same_head c.args.i c.slot_mut-cache.result.now got.content c.lock.new.me.me.1 c.slot_mut-cache.ensures.value (ap (λ m. m.1) got.now))) (got.kept c.args.row.now.key c.requires.idle.3)
 
 -- the step that was made
-its_step : (g : Over) (c : After-of-after g) → IsStep (keys_of g) g.W.Weighing.weighs c.slot_mut-cache.result.now (InvalidateEntriesIf (leavers g.K.PartialEq.eq c.slot_mut-cache.result.now.contents.entries c.invalidate_entries_if.new.self.contents.entries)) Done c.invalidate_entries_if.new.self
-its_step g c = if_step (keys_of g) g.met.K.Eq.laws g.W.Weighing.weighs c.slot_mut-cache.result.now c.invalidate_entries_if.new.self c.invalidate_entries_if.ensures.step.0 c.invalidate_entries_if.ensures.step.2
+its_step : (g : Over) (c : After-of-after g) → IsStep (keys_of g) g.W.Weighing.weighs c.slot_mut-cache.result.now (InvalidateEntriesIf (leavers g.K.PartialEq.eq c.slot_mut-cache.result.now.contents.entries c.invalidate_entries_if_notifying.new.self.contents.entries)) Done c.invalidate_entries_if_notifying.new.self
+its_step g c = if_step (keys_of g) g.met.K.Eq.laws g.W.Weighing.weighs c.slot_mut-cache.result.now c.invalidate_entries_if_notifying.new.self c.invalidate_entries_if_notifying.ensures.step.0 c.invalidate_entries_if_notifying.ensures.step.2
 
 -- the call, as it is noted
 its_call : (g : Over) (c : After-of-after g)
     → call_of c.of-before.result.value (InvalidateEntriesIf (leavers g.K.PartialEq.eq c.of-before.result.value.contents.entries c.of-after.result.value.contents.entries)) Done c.of-after.result.value
-    ≡ call_of c.slot_mut-cache.result.now (InvalidateEntriesIf (leavers g.K.PartialEq.eq c.slot_mut-cache.result.now.contents.entries c.invalidate_entries_if.new.self.contents.entries)) Done c.invalidate_entries_if.new.self
+    ≡ call_of c.slot_mut-cache.result.now (InvalidateEntriesIf (leavers g.K.PartialEq.eq c.slot_mut-cache.result.now.contents.entries c.invalidate_entries_if_notifying.new.self.contents.entries)) Done c.invalidate_entries_if_notifying.new.self
 its_call g c =
     λ j. call_of (c.of-before.ensures j) (InvalidateEntriesIf (leavers g.K.PartialEq.eq (c.of-before.ensures j).contents.entries (c.of-after.ensures j).contents.entries)) Done (c.of-after.ensures j)
 
-its_ready : (g : Over) (c : After-of-after g) → g.W.Weighing.ready c.invalidate_entries_if.new.self.weigher
-its_ready g c = subst (λ x. g.W.Weighing.ready x.weigher) (sym c.invalidate_entries_if.ensures.step.2) (its_account g c).1
+its_ready : (g : Over) (c : After-of-after g) → g.W.Weighing.ready c.invalidate_entries_if_notifying.new.self.weigher
+its_ready g c = subst (λ x. g.W.Weighing.ready x.weigher) (sym c.invalidate_entries_if_notifying.ensures.step.2) (its_account g c).1
 
 pub leave-requires-clause-kept : goal.leave-requires-clause-kept
 leave-requires-clause-kept g c =
     let d = (goal.at.leave-requires-clause-kept g c).After-of-after in
     let got = c.lock.ensures.got in (
-      c.invalidate_entries_if.new.self,
-      none_behind c.args.i got.content c.invalidate_entries_if.new.self c.lock.new.me.me.1 (ap (λ m. m.1) got.now),
-      visited (keys_of g) g.W.Weighing.weighs g.P.Rule.rules g.W.Weighing.ready c.args.row.now.key c.args.i c.args.me.now.me.0 c.lock.new.me.me.0 got.log c.slot_mut-cache.result.now c.invalidate_entries_if.new.self _
-          (call_of c.slot_mut-cache.result.now (InvalidateEntriesIf (leavers g.K.PartialEq.eq c.slot_mut-cache.result.now.contents.entries c.invalidate_entries_if.new.self.contents.entries)) Done c.invalidate_entries_if.new.self ∷ []) (ap (λ m. m.0) got.now) (its_account g d) (refl, its_step g d, refl) ((tt, tt), (c.requires.owns, tt)) (its_ready g d) (ap (λ k. k ∷ []) (its_call g d)),
+      c.invalidate_entries_if_notifying.new.self,
+      none_behind c.args.i got.content c.invalidate_entries_if_notifying.new.self c.lock.new.me.me.1 (ap (λ m. m.1) got.now),
+      visited (keys_of g) g.W.Weighing.weighs g.P.Rule.rules g.W.Weighing.ready c.args.row.now.key c.args.i c.args.me.now.me.0 c.lock.new.me.me.0 got.log c.slot_mut-cache.result.now c.invalidate_entries_if_notifying.new.self _
+          (call_of c.slot_mut-cache.result.now (InvalidateEntriesIf (leavers g.K.PartialEq.eq c.slot_mut-cache.result.now.contents.entries c.invalidate_entries_if_notifying.new.self.contents.entries)) Done c.invalidate_entries_if_notifying.new.self ∷ []) (ap (λ m. m.0) got.now) (its_account g d) (refl, its_step g d, refl) ((tt, tt), (c.requires.owns, tt)) (its_ready g d) (ap (λ k. k ∷ []) (its_call g d)),
     )
 
 pub returns-clause-made : goal.returns-clause-made
@@ -53,15 +54,15 @@ returns-clause-made g c =
     let d = (goal.at.returns-clause-made g c).After-of-after in
     let got = c.lock.ensures.got in
     let all =
-    (stands (keys_of g) g.W.Weighing.weighs g.P.Rule.rules g.W.Weighing.ready c.args.row.now.key c.args.i c.args.me.now.me.0 c.lock.new.me.me.0 c.leave.new.me.me.0 got.log c.slot_mut-cache.result.now c.invalidate_entries_if.new.self _
-    (call_of c.slot_mut-cache.result.now (InvalidateEntriesIf (leavers g.K.PartialEq.eq c.slot_mut-cache.result.now.contents.entries c.invalidate_entries_if.new.self.contents.entries)) Done c.invalidate_entries_if.new.self ∷ []) (ap (λ m. m.0) got.now) (its_account g d) (refl, its_step g d, refl) ((tt, tt), (c.requires.owns, tt)) (its_ready g d) (ap (λ k. k ∷ []) (its_call g d)) got.saw got.own
+    (stands (keys_of g) g.W.Weighing.weighs g.P.Rule.rules g.W.Weighing.ready c.args.row.now.key c.args.i c.args.me.now.me.0 c.lock.new.me.me.0 c.leave.new.me.me.0 got.log c.slot_mut-cache.result.now c.invalidate_entries_if_notifying.new.self _
+    (call_of c.slot_mut-cache.result.now (InvalidateEntriesIf (leavers g.K.PartialEq.eq c.slot_mut-cache.result.now.contents.entries c.invalidate_entries_if_notifying.new.self.contents.entries)) Done c.invalidate_entries_if_notifying.new.self ∷ []) (ap (λ m. m.0) got.now) (its_account g d) (refl, its_step g d, refl) ((tt, tt), (c.requires.owns, tt)) (its_ready g d) (ap (λ k. k ∷ []) (its_call g d)) got.saw got.own
     (ap (λ m. m.0) c.leave.ensures.left)) in
     record {
-      answers = (leavers g.K.PartialEq.eq c.slot_mut-cache.result.now.contents.entries c.invalidate_entries_if.new.self.contents.entries);
-      made = record { call = call_of c.slot_mut-cache.result.now (InvalidateEntriesIf (leavers g.K.PartialEq.eq c.slot_mut-cache.result.now.contents.entries c.invalidate_entries_if.new.self.contents.entries)) Done c.invalidate_entries_if.new.self; asked = refl; answered = refl; visit = all.made };
-      told = c.invalidate_entries_if.ensures.step.0;
-      asked = c.invalidate_entries_if.ensures.step.1;
-      left = c.invalidate_entries_if.ensures.step.2;
+      answers = (leavers g.K.PartialEq.eq c.slot_mut-cache.result.now.contents.entries c.invalidate_entries_if_notifying.new.self.contents.entries);
+      made = record { call = call_of c.slot_mut-cache.result.now (InvalidateEntriesIf (leavers g.K.PartialEq.eq c.slot_mut-cache.result.now.contents.entries c.invalidate_entries_if_notifying.new.self.contents.entries)) Done c.invalidate_entries_if_notifying.new.self; asked = refl; answered = refl; visit = all.made };
+      told = c.invalidate_entries_if_notifying.ensures.step.0;
+      asked = c.invalidate_entries_if_notifying.ensures.step.1;
+      left = c.invalidate_entries_if_notifying.ensures.step.2;
     }
 
 pub returns-clause-others : goal.returns-clause-others
@@ -69,7 +70,13 @@ returns-clause-others g c =
     let d = (goal.at.returns-clause-others g c).After-of-after in
     let got = c.lock.ensures.got in
     let all =
-    (stands (keys_of g) g.W.Weighing.weighs g.P.Rule.rules g.W.Weighing.ready c.args.row.now.key c.args.i c.args.me.now.me.0 c.lock.new.me.me.0 c.leave.new.me.me.0 got.log c.slot_mut-cache.result.now c.invalidate_entries_if.new.self _
-    (call_of c.slot_mut-cache.result.now (InvalidateEntriesIf (leavers g.K.PartialEq.eq c.slot_mut-cache.result.now.contents.entries c.invalidate_entries_if.new.self.contents.entries)) Done c.invalidate_entries_if.new.self ∷ []) (ap (λ m. m.0) got.now) (its_account g d) (refl, its_step g d, refl) ((tt, tt), (c.requires.owns, tt)) (its_ready g d) (ap (λ k. k ∷ []) (its_call g d)) got.saw got.own
+    (stands (keys_of g) g.W.Weighing.weighs g.P.Rule.rules g.W.Weighing.ready c.args.row.now.key c.args.i c.args.me.now.me.0 c.lock.new.me.me.0 c.leave.new.me.me.0 got.log c.slot_mut-cache.result.now c.invalidate_entries_if_notifying.new.self _
+    (call_of c.slot_mut-cache.result.now (InvalidateEntriesIf (leavers g.K.PartialEq.eq c.slot_mut-cache.result.now.contents.entries c.invalidate_entries_if_notifying.new.self.contents.entries)) Done c.invalidate_entries_if_notifying.new.self ∷ []) (ap (λ m. m.0) got.now) (its_account g d) (refl, its_step g d, refl) ((tt, tt), (c.requires.owns, tt)) (its_ready g d) (ap (λ k. k ∷ []) (its_call g d)) got.saw got.own
     (ap (λ m. m.0) c.leave.ensures.left)) in
     all.others
+
+pub returns-clause-told : goal.returns-clause-told
+returns-clause-told g c =
+    let d = (goal.at.returns-clause-told g c).After-of-after in
+    call_tells g.L.Listener.hears (keys_of g) c.args.i c.lock.new.me.me.0 c.leave.new.me.me.0 _ (call_of c.slot_mut-cache.result.now (InvalidateEntriesIf (leavers g.K.PartialEq.eq c.slot_mut-cache.result.now.contents.entries c.invalidate_entries_if_notifying.new.self.contents.entries)) Done c.invalidate_entries_if_notifying.new.self)
+    c.args.listener.now c.invalidate_entries_if_notifying.new.listener (ap (λ m. m.0) c.leave.ensures.left) (ap (λ k. k ∷ []) (its_call g d)) c.invalidate_entries_if_notifying.ensures.told

@@ -3,8 +3,11 @@ use Rattle.std.proofs.Common.{◌∙◌, ◌∷◌, ap, subst, sym}
 use Rattle.moka_common.specs.Keys.{Keys, keys_by}
 use Rattle.atomic_table.specs.Table.{rest}
 use Rattle.moka_segments.specs.History.{IsAccount}
+use Rattle.moka_segments.specs.Notifying.{TellsLast}
 use Rattle.moka_segments.specs.Put.{visit_of}
+use Rattle.moka_segments.specs.Visits.{at}
 use Rattle.moka_segments.proofs.CallLemmas.{its_hash, none_behind, same_head, stands, visited}
+use Rattle.moka_segments.proofs.NotifyLemmas.{visit_tells}
 use Rattle.moka_segments.proofs.PutLemmas.{befits, tells_there}
 use Rattle.moka_segments.proofs.make.get_or_insert_with.Given.{Over}
 use Rattle.moka_segments.proofs.make.get_or_insert_with.Goals.{After-of-after}
@@ -44,7 +47,7 @@ leave-requires-clause-kept g c =
       none_behind c.args.i got.content c.get_or_put-result.new.cache c.lock.new.me.me.1 (ap (λ m. m.1) got.now),
       visited (keys_of g) g.W.Weighing.weighs g.P.Rule.rules g.W.Weighing.ready c.args.row.now.key c.args.i c.args.me.now.me.0 c.lock.new.me.me.0 got.log c.slot_mut-cache.result.now c.get_or_put-result.new.cache _
           (visit_of c.slot_mut-cache.result.now c.args.key c.args.now (option_map (λ s. s.value) c.get_or_put-result.result.1.0) c.get_or_put-result.result.1.1.value (option_map (λ p. (p.0.value, p.1)) c.get_or_put-result.result.1.2) c.get_or_put-result.new.cache) (ap (λ m. m.0) got.now) (its_account g d) c.get_or_put-result.ensures.leads
-          (befits (keys_of g) g.W.Weighing.weighs g.P.Rule.rules g.W.Weighing.ready c.args.row.now.key c.args.i g.V.Clone.is_clone _ c.slot_mut-cache.result.now c.args.key c.args.now c.get_or_put-result.result.1.1.value c.get_or_put-result.new.cache c.args.me.now.me.0.by c.requires.place c.requires.owns c.requires.holds (option_map (λ s. s.value) c.get_or_put-result.result.1.0) (option_map (λ p. (p.0.value, p.1)) c.get_or_put-result.result.1.2) c.get_or_put-result.result.0 c.get_or_put-result.ensures.told)
+          (befits (keys_of g) g.W.Weighing.weighs g.P.Rule.rules g.W.Weighing.ready c.args.row.now.key c.args.i g.V.Clone.is_clone _ c.slot_mut-cache.result.now c.args.key c.args.now c.get_or_put-result.result.1.1.value c.get_or_put-result.new.cache c.args.me.now.me.0.by c.requires.place c.requires.owns c.requires.holds (option_map (λ s. s.value) c.get_or_put-result.result.1.0) (option_map (λ p. (p.0.value, p.1)) c.get_or_put-result.result.1.2) c.get_or_put-result.result.0 c.get_or_put-result.ensures.answered)
           c.get_or_put-result.ensures.ready (λ j. visit_of (c.of-before.ensures j) (c.of-asked.ensures j) (c.of-moment.ensures j) (option_map (λ s. s.value) c.get_or_put-result.result.1.0) c.get_or_put-result.result.1.1.value (option_map (λ p. (p.0.value, p.1)) c.get_or_put-result.result.1.2) (c.of-after.ensures j)),
     )
 
@@ -52,9 +55,16 @@ pub returns-clause-made : goal.returns-clause-made
 returns-clause-made g c =
     let d = (goal.at.returns-clause-made g c).After-of-after in
     let got = c.lock.ensures.got in
-    tells_there (keys_of g) g.W.Weighing.weighs g.P.Rule.rules g.W.Weighing.ready c.args.row.now.key c.args.i g.V.Clone.is_clone _ c.slot_mut-cache.result.now c.args.key c.args.now c.get_or_put-result.result.1.1.value c.get_or_put-result.new.cache c.args.me.now.me.0 c.leave.new.me.me.0 c.requires.place (option_map (λ s. s.value) c.get_or_put-result.result.1.0) (option_map (λ p. (p.0.value, p.1)) c.get_or_put-result.result.1.2) c.get_or_put-result.result.0 c.get_or_put-result.ensures.told
+    tells_there (keys_of g) g.W.Weighing.weighs g.P.Rule.rules g.W.Weighing.ready c.args.row.now.key c.args.i g.V.Clone.is_clone _ c.slot_mut-cache.result.now c.args.key c.args.now c.get_or_put-result.result.1.1.value c.get_or_put-result.new.cache c.args.me.now.me.0 c.leave.new.me.me.0 c.requires.place (option_map (λ s. s.value) c.get_or_put-result.result.1.0) (option_map (λ p. (p.0.value, p.1)) c.get_or_put-result.result.1.2) c.get_or_put-result.result.0 c.get_or_put-result.ensures.answered
     (stands (keys_of g) g.W.Weighing.weighs g.P.Rule.rules g.W.Weighing.ready c.args.row.now.key c.args.i c.args.me.now.me.0 c.lock.new.me.me.0 c.leave.new.me.me.0 got.log c.slot_mut-cache.result.now c.get_or_put-result.new.cache _
     (visit_of c.slot_mut-cache.result.now c.args.key c.args.now (option_map (λ s. s.value) c.get_or_put-result.result.1.0) c.get_or_put-result.result.1.1.value (option_map (λ p. (p.0.value, p.1)) c.get_or_put-result.result.1.2) c.get_or_put-result.new.cache) (ap (λ m. m.0) got.now) (its_account g d) c.get_or_put-result.ensures.leads
-    (befits (keys_of g) g.W.Weighing.weighs g.P.Rule.rules g.W.Weighing.ready c.args.row.now.key c.args.i g.V.Clone.is_clone _ c.slot_mut-cache.result.now c.args.key c.args.now c.get_or_put-result.result.1.1.value c.get_or_put-result.new.cache c.args.me.now.me.0.by c.requires.place c.requires.owns c.requires.holds (option_map (λ s. s.value) c.get_or_put-result.result.1.0) (option_map (λ p. (p.0.value, p.1)) c.get_or_put-result.result.1.2) c.get_or_put-result.result.0 c.get_or_put-result.ensures.told)
+    (befits (keys_of g) g.W.Weighing.weighs g.P.Rule.rules g.W.Weighing.ready c.args.row.now.key c.args.i g.V.Clone.is_clone _ c.slot_mut-cache.result.now c.args.key c.args.now c.get_or_put-result.result.1.1.value c.get_or_put-result.new.cache c.args.me.now.me.0.by c.requires.place c.requires.owns c.requires.holds (option_map (λ s. s.value) c.get_or_put-result.result.1.0) (option_map (λ p. (p.0.value, p.1)) c.get_or_put-result.result.1.2) c.get_or_put-result.result.0 c.get_or_put-result.ensures.answered)
     c.get_or_put-result.ensures.ready (λ j. visit_of (c.of-before.ensures j) (c.of-asked.ensures j) (c.of-moment.ensures j) (option_map (λ s. s.value) c.get_or_put-result.result.1.0) c.get_or_put-result.result.1.1.value (option_map (λ p. (p.0.value, p.1)) c.get_or_put-result.result.1.2) (c.of-after.ensures j)) got.saw got.own
     (ap (λ m. m.0) c.leave.ensures.left))
+
+pub returns-clause-told : goal.returns-clause-told
+returns-clause-told g c =
+    subst (λ i. TellsLast g.L.Listener.hears (keys_of g) (at c.leave.new.me.me.0.seen i) c.args.listener.now c.get_or_put-result.new.listener) (sym c.requires.place)
+    (visit_tells g.L.Listener.hears (keys_of g) c.args.i c.lock.new.me.me.0 c.leave.new.me.me.0 _
+    (visit_of c.slot_mut-cache.result.now c.args.key c.args.now (option_map (λ s. s.value) c.get_or_put-result.result.1.0) c.get_or_put-result.result.1.1.value (option_map (λ p. (p.0.value, p.1)) c.get_or_put-result.result.1.2) c.get_or_put-result.new.cache)
+    c.args.listener.now c.get_or_put-result.new.listener (ap (λ m. m.0) c.leave.ensures.left) (λ j. visit_of (c.of-before.ensures j) (c.of-asked.ensures j) (c.of-moment.ensures j) (option_map (λ s. s.value) c.get_or_put-result.result.1.0) c.get_or_put-result.result.1.1.value (option_map (λ p. (p.0.value, p.1)) c.get_or_put-result.result.1.2) (c.of-after.ensures j)) c.get_or_put-result.ensures.told)

@@ -4,6 +4,7 @@ use Rattle.moka_unsync_model.specs.Step.{IsStep, Done, Invalidate}
 use Rattle.atomic_table.specs.Table.{rest}
 use Rattle.moka_segments.specs.History.{IsAccount}
 use Rattle.moka_segments.proofs.CallLemmas.{call_of, its_hash, none_behind, one_call, same_head, stands, visited}
+use Rattle.moka_segments.proofs.NotifyLemmas.{call_tells}
 use Rattle.moka_segments.proofs.visit.invalidate.Given.{Over}
 use Rattle.moka_segments.proofs.visit.invalidate.Goals.{After-of-after}
 use Rattle.moka_segments.proofs.visit.invalidate.Goals as goal
@@ -22,41 +23,47 @@ its_account g c =
     let got = c.lock.ensures.got in
     subst (λ x. IsAccount (keys_of g) g.W.Weighing.weighs g.P.Rule.rules g.W.Weighing.ready c.args.row.now.key c.args.i got.log x) (sym (same_head c.args.i c.slot_mut-cache.result.now got.content c.lock.new.me.me.1 c.slot_mut-cache.ensures.value (ap (λ m. m.1) got.now))) (got.kept c.args.row.now.key c.requires.idle.3)
 
-pub invalidate_hashed-requires : goal.invalidate_hashed-requires
-invalidate_hashed-requires g c =
+pub invalidate_notifying-requires : goal.invalidate_notifying-requires
+invalidate_notifying-requires g c =
     let got = c.lock.ensures.got in
     its_hash (keys_of g) g.W.Weighing.weighs g.P.Rule.rules c.args.row.now.key c.args.i got.log got.content c.slot_mut-cache.result.now c.args.hash c.args.key.now (got.kept c.args.row.now.key c.requires.idle.3).0
     (same_head c.args.i c.slot_mut-cache.result.now got.content c.lock.new.me.me.1 c.slot_mut-cache.ensures.value (ap (λ m. m.1) got.now))
     c.requires.hashed
 
 -- the step that was made
-its_step : (g : Over) (c : After-of-after g) → IsStep (keys_of g) g.W.Weighing.weighs c.slot_mut-cache.result.now (Invalidate c.args.key.now c.args.now) Done c.invalidate_hashed.new.self
-its_step g c = (refl, c.invalidate_hashed.ensures.step)
+its_step : (g : Over) (c : After-of-after g) → IsStep (keys_of g) g.W.Weighing.weighs c.slot_mut-cache.result.now (Invalidate c.args.key.now c.args.now) Done c.invalidate_notifying.new.self
+its_step g c = (refl, c.invalidate_notifying.ensures.step)
 
 -- the call, as it is noted
 its_call : (g : Over) (c : After-of-after g)
     → call_of c.of-before.result.value (Invalidate c.of-asked.result.value c.of-moment.result.value) Done c.of-after.result.value
-    ≡ call_of c.slot_mut-cache.result.now (Invalidate c.args.key.now c.args.now) Done c.invalidate_hashed.new.self
+    ≡ call_of c.slot_mut-cache.result.now (Invalidate c.args.key.now c.args.now) Done c.invalidate_notifying.new.self
 its_call g c = λ j. call_of (c.of-before.ensures j) (Invalidate (c.of-asked.ensures j) (c.of-moment.ensures j)) Done (c.of-after.ensures j)
 
-its_ready : (g : Over) (c : After-of-after g) → g.W.Weighing.ready c.invalidate_hashed.new.self.weigher
-its_ready g c = subst (λ x. g.W.Weighing.ready x.weigher) (sym c.invalidate_hashed.ensures.step) (its_account g c).1
+its_ready : (g : Over) (c : After-of-after g) → g.W.Weighing.ready c.invalidate_notifying.new.self.weigher
+its_ready g c = subst (λ x. g.W.Weighing.ready x.weigher) (sym c.invalidate_notifying.ensures.step) (its_account g c).1
 
 pub leave-requires-clause-kept : goal.leave-requires-clause-kept
 leave-requires-clause-kept g c =
     let d = (goal.at.leave-requires-clause-kept g c).After-of-after in
     let got = c.lock.ensures.got in (
-      c.invalidate_hashed.new.self,
-      none_behind c.args.i got.content c.invalidate_hashed.new.self c.lock.new.me.me.1 (ap (λ m. m.1) got.now),
-      visited (keys_of g) g.W.Weighing.weighs g.P.Rule.rules g.W.Weighing.ready c.args.row.now.key c.args.i c.args.me.now.me.0 c.lock.new.me.me.0 got.log c.slot_mut-cache.result.now c.invalidate_hashed.new.self _
-          (call_of c.slot_mut-cache.result.now (Invalidate c.args.key.now c.args.now) Done c.invalidate_hashed.new.self ∷ []) (ap (λ m. m.0) got.now) (its_account g d) (refl, its_step g d, refl) ((c.requires.place, tt), (c.requires.owns, tt)) (its_ready g d) (ap (λ k. k ∷ []) (its_call g d)),
+      c.invalidate_notifying.new.self,
+      none_behind c.args.i got.content c.invalidate_notifying.new.self c.lock.new.me.me.1 (ap (λ m. m.1) got.now),
+      visited (keys_of g) g.W.Weighing.weighs g.P.Rule.rules g.W.Weighing.ready c.args.row.now.key c.args.i c.args.me.now.me.0 c.lock.new.me.me.0 got.log c.slot_mut-cache.result.now c.invalidate_notifying.new.self _
+          (call_of c.slot_mut-cache.result.now (Invalidate c.args.key.now c.args.now) Done c.invalidate_notifying.new.self ∷ []) (ap (λ m. m.0) got.now) (its_account g d) (refl, its_step g d, refl) ((c.requires.place, tt), (c.requires.owns, tt)) (its_ready g d) (ap (λ k. k ∷ []) (its_call g d)),
     )
 
 pub returns-clause-made : goal.returns-clause-made
 returns-clause-made g c =
     let d = (goal.at.returns-clause-made g c).After-of-after in
     let got = c.lock.ensures.got in
-    one_call (keys_of g) g.W.Weighing.weighs g.P.Rule.rules g.W.Weighing.ready c.args.row.now.key c.args.me.now.me.0 c.leave.new.me.me.0 c.args.i (call_of c.slot_mut-cache.result.now (Invalidate c.args.key.now c.args.now) Done c.invalidate_hashed.new.self) (Invalidate c.args.key.now c.args.now) Done refl refl
-    (stands (keys_of g) g.W.Weighing.weighs g.P.Rule.rules g.W.Weighing.ready c.args.row.now.key c.args.i c.args.me.now.me.0 c.lock.new.me.me.0 c.leave.new.me.me.0 got.log c.slot_mut-cache.result.now c.invalidate_hashed.new.self _
-    (call_of c.slot_mut-cache.result.now (Invalidate c.args.key.now c.args.now) Done c.invalidate_hashed.new.self ∷ []) (ap (λ m. m.0) got.now) (its_account g d) (refl, its_step g d, refl) ((c.requires.place, tt), (c.requires.owns, tt)) (its_ready g d) (ap (λ k. k ∷ []) (its_call g d)) got.saw got.own
+    one_call (keys_of g) g.W.Weighing.weighs g.P.Rule.rules g.W.Weighing.ready c.args.row.now.key c.args.me.now.me.0 c.leave.new.me.me.0 c.args.i (call_of c.slot_mut-cache.result.now (Invalidate c.args.key.now c.args.now) Done c.invalidate_notifying.new.self) (Invalidate c.args.key.now c.args.now) Done refl refl
+    (stands (keys_of g) g.W.Weighing.weighs g.P.Rule.rules g.W.Weighing.ready c.args.row.now.key c.args.i c.args.me.now.me.0 c.lock.new.me.me.0 c.leave.new.me.me.0 got.log c.slot_mut-cache.result.now c.invalidate_notifying.new.self _
+    (call_of c.slot_mut-cache.result.now (Invalidate c.args.key.now c.args.now) Done c.invalidate_notifying.new.self ∷ []) (ap (λ m. m.0) got.now) (its_account g d) (refl, its_step g d, refl) ((c.requires.place, tt), (c.requires.owns, tt)) (its_ready g d) (ap (λ k. k ∷ []) (its_call g d)) got.saw got.own
     (ap (λ m. m.0) c.leave.ensures.left))
+
+pub returns-clause-told : goal.returns-clause-told
+returns-clause-told g c =
+    let d = (goal.at.returns-clause-told g c).After-of-after in
+    call_tells g.L.Listener.hears (keys_of g) c.args.i c.lock.new.me.me.0 c.leave.new.me.me.0 _ (call_of c.slot_mut-cache.result.now (Invalidate c.args.key.now c.args.now) Done c.invalidate_notifying.new.self)
+    c.args.listener.now c.invalidate_notifying.new.listener (ap (λ m. m.0) c.leave.ensures.left) (ap (λ k. k ∷ []) (its_call g d)) c.invalidate_notifying.ensures.told

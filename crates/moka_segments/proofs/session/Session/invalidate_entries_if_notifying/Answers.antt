@@ -3,8 +3,8 @@ use Rattle.moka_common.specs.Keys.{Keys, keys_by}
 use Rattle.moka_segments.specs.declared.plan.Plan.{Plan}
 use Rattle.moka_segments.specs.History.{Knows}
 use Rattle.moka_segments.specs.TellsAll.{InvalidatesAllIf}
-use Rattle.moka_segments.proofs.session.Session.invalidate_entries_if.Given.{Over}
-use Rattle.moka_segments.proofs.session.Session.invalidate_entries_if.Goals as goal
+use Rattle.moka_segments.proofs.session.Session.invalidate_entries_if_notifying.Given.{Over}
+use Rattle.moka_segments.proofs.session.Session.invalidate_entries_if_notifying.Goals as goal
 
 abbrev keys_of : (g : Over) → Keys g.row.K.Denot g.row.S.Denot
 keys_of g = keys_by (record { eq = g.K.PartialEq.eq; hash_input = g.K.Hash.hash_input }) g.S.BuildHasher g.S.Hasher.Hasher

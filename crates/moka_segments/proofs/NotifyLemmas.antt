@@ -1,0 +1,53 @@
+-- What a visit tells a listener, where it stands in the history.
+use Rattle.std.proofs.Common.{◌≡◌, ◌≢◌, ℕ, zero, suc, ◌+◌, ◌<◌, ◌∙◌, List, [], ◌∷◌, Option, Some, Result, Ok, Err, OnOk, OnErr, ap, arith, refl, subst, sym}
+use Rattle.moka_common.specs.declared.error.InsertError.{InsertError}
+use Rattle.moka_common.specs.Keys.{Keys}
+use Rattle.moka_unsync_model.specs.declared.listener.Cause.{Cause}
+use Rattle.moka_unsync_model.specs.CacheState.{CacheState}
+use Rattle.moka_unsync_model.specs.History.{Transition}
+use Rattle.moka_unsync_model.specs.ToldCalls.{TellsInsert}
+use Rattle.moka_segments.specs.Visits.{Lists, after_visit, at}
+use Rattle.moka_segments.specs.History.{Knows, Log, Visit}
+use Rattle.moka_segments.specs.Calls.{SameIn}
+use Rattle.moka_segments.specs.Tells.{answer_of}
+use Rattle.moka_segments.specs.Notifying.{TellsCall, TellsEach, TellsInserted, TellsLast, TellsVisit}
+use Rattle.moka_segments.proofs.Rules.{put_here}
+
+module _ {L K V S W : Type 0} (hears : L → K → V → Cause → L → Type 0) (keys : Keys K S) where
+  -- a visit that was noted stands last
+  pub visit_tells : (i : ℕ) (u w : Knows K V S W) (visit other : Visit K V S W) (before after : L) → w ≡ after_visit i (Some visit) u → visit ≡ other
+      → TellsVisit hears keys other before after → TellsLast hears keys (at w.seen i) before after
+  visit_tells i u w visit other before after left same tells =
+      subst (λ (l : Log K V S W). TellsLast hears keys l before after)
+      (sym (ap (λ (k : Knows K V S W). at k.seen i) left ∙ (put_here u.seen i ((u.by, visit) ∷ at u.seen i) ∙ ap (λ x. (u.by, x) ∷ at u.seen i) same)))
+      tells
+
+  -- and so does one of a single call
+  pub call_tells : (i : ℕ) (u w : Knows K V S W) (visit : Visit K V S W) (call : Transition K V S W) (before after : L) → w ≡ after_visit i (Some visit) u → visit ≡ call ∷ []
+      → TellsCall hears keys call.before call.request call.answer call.after before after → TellsLast hears keys (at w.seen i) before after
+  call_tells i u w visit call before after left same tells = visit_tells i u w visit (call ∷ []) before after left same (before, refl, tells)
+
+  -- what an insert tells, by its result
+  pub insert_tells : (old new : CacheState K V S W) (key : K) (value : V) (now : ℕ) (r : Result (Unit {0}) InsertError) (before after : L)
+      → OnOk r (TellsInsert hears keys old now key value new before after) → OnErr r (after ≡ before)
+      → TellsInserted hears keys old key value now (answer_of r) new before after
+  insert_tells old new key value now (Ok done) before after told untold = told
+  insert_tells old new key value now (Err error) before after told untold = untold
+
+  -- what was told of some segments is told where their histories are the same
+  each_same : (count : ℕ) (seen other : Lists (ℕ × Visit K V S W)) (before after : L) → ((j : ℕ) → j < count → at other j ≡ at seen j)
+      → TellsEach hears keys seen count before after → TellsEach hears keys other count before after
+  each_same zero seen other before after same told = told
+  each_same (suc count) seen other before after same told = (
+    told.0,
+    each_same count seen other before told.0 (λ j lt. same j (omega arith)) told.1,
+    subst (λ (l : Log K V S W). TellsLast hears keys l told.0 after) (sym (same count (omega arith))) told.2,
+  )
+
+  -- one segment more tells
+  pub one_more_tells : (count : ℕ) (u w : Knows K V S W) (before between after : L) → TellsEach hears keys u.seen count before between
+      → ((j : ℕ) → j ≢ count → SameIn u j w) → TellsLast hears keys (at w.seen count) between after → TellsEach hears keys w.seen (count + 1) before after
+  one_more_tells count u w before between after told others last =
+      let next : suc count ≡ count + 1 = omega arith in
+      subst (λ n. TellsEach hears keys w.seen n before after) next
+      (between, each_same count u.seen w.seen before between (λ j lt. (others j (λ e. omega arith)).0) told, last)
