@@ -25,10 +25,10 @@ use Rattle.std.specs.contracts.impls.GlobalAllocator.TheImpl.{ghosts}
 use Rattle.std.specs.declared.option.Option.{Option}
 use Rattle.std.specs.declared.option.Option.TheVariants.{None, Some}
 use Rattle.std_alloc.specs.Box.Ownership.{box_owns}
-use Rattle.mini_moka_c.proofs.LooseValues.{both_tt}
-use Rattle.mini_moka_c.specs.declared.handle.Kept.{Kept}
+use Rattle.mini_moka_c.proofs.RawBoxValues.{both_tt}
+use Rattle.mini_moka_c.specs.declared.handle.AnyCache.{AnyCache}
 use Rattle.mini_moka_c.specs.declared.handle.Handle.{Handle}
-use Rattle.mini_moka_c.specs.contracts.handle.Kept as kept
+use Rattle.mini_moka_c.specs.contracts.handle.AnyCache as kept
 use Rattle.mini_moka_c.specs.contracts.handle.Handle as handle
 use Rattle.mini_moka_c.specs.Held.{held}
 
@@ -54,7 +54,7 @@ module _ {M : Type 1} {𝓤 : Ura M} {𝓛 : Logic 𝓤} {K : Type 0} {Γ : List
       (subst (λ (cs : List Val). vs ≡ vstruct (of_list (ptr_val d.at ∷ (cs ++ (vss.1.1.0 ++ [])))) ∷ []) ec
       (subst (λ (ps : List Val). vs ≡ vstruct (of_list (ps ++ (vss.1.0 ++ (vss.1.1.0 ++ [])))) ∷ []) ep ev))) fits)))))
 
-  pub handle_in : K → (p : Ptr) (c : Bool) (h : Val) (a : Global) (x : Option Kept)
+  pub handle_in : K → (p : Ptr) (c : Bool) (h : Val) (a : Global) (x : Option AnyCache)
       → Step K 𝓛 (‵ ((handle.the_row).own_val (record { at = p; is_open = c; alloc = a; value = x }) (word p c h ∷ [])) ∷ Γ) G
       (‵ (held c x (box_owns (ghosts.dealloc_token a) kept.the_row p)) ∷ ‵ (Z.own_val a (h ∷ [])) ∷ Γ) G
   handle_in t p c h a x = step (λ s. let v : Val = word p c h in
@@ -63,8 +63,8 @@ module _ {M : Type 1} {𝓤 : Ura M} {𝓛 : Logic 𝓤} {K : Type 0} {Γ : List
       fpack t (Valss (RawPtr ∷ bool ∷ Z ∷ [])) (within (shape handle.the_type) (p, (c, (((tt, tt), tt), tt))) (v ∷ [])) (ptr_val p ∷ [], (vbool c ∷ [], (h ∷ [], tt))) $ fjoin t $ s)
 
   -- a handle is closed, or it is open and owns a value
-  pub held_is : K → (c : Bool) (x : Option Kept) (own : Kept → Fml)
-      → (c ≡ false → x ≡ None → Seq K 𝓛 Γ G) → ((y : Kept) → c ≡ true → x ≡ Some y → Seq K 𝓛 (‵ (own y) ∷ Γ) G) → Seq K 𝓛 (‵ (held c x own) ∷ Γ) G
+  pub held_is : K → (c : Bool) (x : Option AnyCache) (own : AnyCache → Fml)
+      → (c ≡ false → x ≡ None → Seq K 𝓛 Γ G) → ((y : AnyCache) → c ≡ true → x ≡ Some y → Seq K 𝓛 (‵ (own y) ∷ Γ) G) → Seq K 𝓛 (‵ (held c x own) ∷ Γ) G
   held_is t true (Some y) own shut kept-open = kept-open y refl refl
   held_is t true None own shut kept-open = fpick t (λ e. absurd e)
   held_is t false (Some y) own shut kept-open = fpick t (λ e. absurd e)

@@ -54,7 +54,7 @@ TellsBytesGet key now buffer status filled written old new =
 abbrev pub TellsBytesPeek : List ℕ → ℕ → List ℕ → ℕ → List ℕ → ℕ → ByteCache → ByteCache → Type 0
 TellsBytesPeek key now buffer status filled written old new =
     (TellsBytesFound (found_by_peek byte_keys old.cache key now) buffer status filled written
-    × (new ≡ record old { sought = new.sought }))
+    × (new ≡ record old { lookup_key = new.lookup_key }))
     ⊎ TellsLongRefused key status old new
 
 -- yes or no
@@ -97,11 +97,11 @@ pub record IsWalked (keys values filled_keys filled_values : List ℕ) (status k
   pub key_shown : filled_keys ≡ copied_to keys (option_map (λ p. p.0) (fitting next keys values))
   pub value_shown : filled_values ≡ copied_to values (option_map (λ p. p.1) (fitting next keys values))
   pub walk : new.walk ≡ walk_after old.walk (fitting next keys values)
-  pub met : new.met ≡ met_after old.met (fitting next keys values)
+  pub walk_key : new.walk_key ≡ met_after old.walk_key (fitting next keys values)
   pub cache : new.cache ≡ old.cache
   pub leaving : new.leaving ≡ old.leaving
 
 abbrev pub TellsWalk : ℕ → List ℕ → List ℕ → ℕ → List ℕ → List ℕ → ℕ → ℕ → ByteCache → ByteCache → Type 0
 TellsWalk now keys values status filled_keys filled_values key value old new =
-    IsWalked keys values filled_keys filled_values status key value old new (next_pair old.walk old.cache old.met now)
-    ⊎ (IsLong (next_pair old.walk old.cache old.met now) × TellsRefusal status old new)
+    IsWalked keys values filled_keys filled_values status key value old new (next_pair old.walk old.cache old.walk_key now)
+    ⊎ (IsLong (next_pair old.walk old.cache old.walk_key now) × TellsRefusal status old new)

@@ -7,27 +7,27 @@ use Rattle.moka_unsync_model.specs.declared.listener.Cause.TheVariants.{Explicit
 use Rattle.mini_moka_c.specs.declared.cache.ByteCache.{ByteCache}
 use Rattle.mini_moka_c.specs.declared.steps.Walk.TheVariants.{AtStart, Ended}
 use Rattle.mini_moka_c.specs.declared.constants.TheConstants.{ABSENT, CLOSED, DONE, OTHER_KIND, TOO_SHORT}
-use Rattle.mini_moka_c.specs.declared.handle.Kept.{Kept}
-use Rattle.mini_moka_c.specs.declared.handle.Kept.TheVariants.{Bytes, Numbers}
+use Rattle.mini_moka_c.specs.declared.handle.AnyCache.{AnyCache}
+use Rattle.mini_moka_c.specs.declared.handle.AnyCache.TheVariants.{Bytes, Numbers}
 use Rattle.mini_moka_c.specs.declared.number_cache.NumberCache.{NumberCache}
 use Rattle.mini_moka_c.specs.Removed.{queues}
 use Rattle.mini_moka_c.specs.Statistics.{with_clearing}
 use Rattle.mini_moka_c.specs.declared.statistics.Report.{Report}
 
 -- a closed handle answers that it is closed, and stays so; an open one stays open, and what it keeps becomes this of that
-abbrev pub OnOpen : Option Kept → ℕ → Option Kept → (Kept → Kept → Type 0) → Type 0
+abbrev pub OnOpen : Option AnyCache → ℕ → Option AnyCache → (AnyCache → AnyCache → Type 0) → Type 0
 OnOpen None status new makes = (status ≡ CLOSED) × (new ≡ None)
 OnOpen (Some old) status None makes = ⊥
 OnOpen (Some old) status (Some new) makes = makes old new
 
 -- a cache of numbers becomes this of that; one of bytes answers that it is of the other kind, and stays as it is
-abbrev pub OnNumbers : ℕ → (NumberCache → NumberCache → Type 0) → Kept → Kept → Type 0
+abbrev pub OnNumbers : ℕ → (NumberCache → NumberCache → Type 0) → AnyCache → AnyCache → Type 0
 OnNumbers status makes (Numbers old) (Numbers new) = makes old new
 OnNumbers status makes (Numbers old) (Bytes new) = ⊥
 OnNumbers status makes (Bytes old) new = (status ≡ OTHER_KIND) × (new ≡ Bytes old)
 
 -- and the other way round
-abbrev pub OnBytes : ℕ → (ByteCache → ByteCache → Type 0) → Kept → Kept → Type 0
+abbrev pub OnBytes : ℕ → (ByteCache → ByteCache → Type 0) → AnyCache → AnyCache → Type 0
 OnBytes status makes (Bytes old) (Bytes new) = makes old new
 OnBytes status makes (Bytes old) (Numbers new) = ⊥
 OnBytes status makes (Numbers old) new = (status ≡ OTHER_KIND) × (new ≡ Numbers old)
@@ -35,12 +35,12 @@ OnBytes status makes (Numbers old) new = (status ≡ OTHER_KIND) × (new ≡ Num
 -- ---- either kind
 
 -- how many entries there are
-abbrev pub count_of : Kept → ℕ
+abbrev pub count_of : AnyCache → ℕ
 count_of (Numbers numbers) = length numbers.cache.contents.entries
 count_of (Bytes bytes) = length bytes.cache.contents.entries
 
 -- what they weigh
-abbrev pub weight_of : Kept → ℕ
+abbrev pub weight_of : AnyCache → ℕ
 weight_of (Numbers numbers) = weighted_size numbers.cache.contents.entries
 weight_of (Bytes bytes) = weighted_size bytes.cache.contents.entries
 
@@ -56,19 +56,19 @@ pub record IsBytesEmptied (old new : ByteCache) : Type 0 where
   pub counts : new.leaving.statistics ≡ with_clearing old.cache old.leaving.statistics
   pub removed : TellsWhatLeft queues Explicit (λ e. ⊤) old.cache.contents.entries [] old.leaving.removed new.leaving.removed
 
-abbrev pub IsEmptied : Kept → Kept → Type 0
+abbrev pub IsEmptied : AnyCache → AnyCache → Type 0
 IsEmptied (Numbers old) (Numbers new) = IsNumbersEmptied old new
 IsEmptied (Numbers old) (Bytes new) = ⊥
 IsEmptied (Bytes old) (Numbers new) = ⊥
 IsEmptied (Bytes old) (Bytes new) = IsBytesEmptied old new
 
 -- what is kept once a walk was begun
-abbrev pub walking : Kept → Kept
+abbrev pub walking : AnyCache → AnyCache
 walking (Numbers numbers) = Numbers (record numbers { walk = AtStart })
 walking (Bytes bytes) = Bytes (record bytes { walk = AtStart })
 
 -- what the calls have met, and how many entries the queue has lost
-abbrev pub statistics_of : Kept → Report
+abbrev pub statistics_of : AnyCache → Report
 statistics_of (Numbers numbers) = record { statistics = numbers.leaving.statistics; lost = numbers.leaving.removed.lost }
 statistics_of (Bytes bytes) = record { statistics = bytes.leaving.statistics; lost = bytes.leaving.removed.lost }
 

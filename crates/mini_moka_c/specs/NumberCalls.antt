@@ -103,8 +103,8 @@ TellsStep (step.Pair k v) status key value = (status ≡ DONE) × (key ≡ k) ×
 -- a step of a walk at a moment
 abbrev pub TellsNumberWalk : ℕ → ℕ → ℕ → ℕ → NumberCache → NumberCache → Type 0
 TellsNumberWalk now status key value old new =
-    TellsStep (step_of old.walk (next_pair old.walk old.cache old.met now)) status key value
+    TellsStep (step_of old.walk (next_pair old.walk old.cache old.walk_key now)) status key value
     × (new ≡ record old {
-      walk = walk_after old.walk (next_pair old.walk old.cache old.met now);
-      met = met_after old.met (next_pair old.walk old.cache old.met now);
+      walk = walk_after old.walk (next_pair old.walk old.cache old.walk_key now);
+      walk_key = met_after old.walk_key (next_pair old.walk old.cache old.walk_key now);
     })

@@ -18,9 +18,9 @@ first_pair (pair ∷ pairs) = Some pair
 
 -- the pair that a walk comes to, which met this key last: the first of an iterator, or the one behind the key
 abbrev pub next_pair : Walk → NumberCacheState → ℕ → ℕ → Option NumberPair
-next_pair Ended cache met now = None
-next_pair AtStart cache met now = first_pair (pairs_at cache now)
-next_pair Behind cache met now = pair_behind number_keys cache met now
+next_pair Ended cache walk_key now = None
+next_pair AtStart cache walk_key now = first_pair (pairs_at cache now)
+next_pair Behind cache walk_key now = pair_behind number_keys cache walk_key now
 
 -- what a step gives of that
 abbrev pub step_of : Walk → Option NumberPair → NumberStep
@@ -37,5 +37,5 @@ walk_after walk (Some pair) = Behind
 
 -- and the key that it met last
 abbrev pub met_after : ℕ → Option NumberPair → ℕ
-met_after met None = met
-met_after met (Some pair) = pair.0
+met_after walk_key None = walk_key
+met_after walk_key (Some pair) = pair.0

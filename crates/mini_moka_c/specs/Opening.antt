@@ -10,8 +10,8 @@ use Rattle.mini_moka_c.specs.declared.weight.ByteWeight.TheVariants as weight
 use Rattle.mini_moka_c.specs.Removed.{empty_queue}
 use Rattle.mini_moka_c.specs.Statistics.{no_statistics}
 use Rattle.mini_moka_c.specs.declared.constants.TheConstants.{ALREADY_OPEN, DONE, OUT_OF_MEMORY, UNLIMITED, ZERO_DURATION}
-use Rattle.mini_moka_c.specs.declared.handle.Kept.{Kept}
-use Rattle.mini_moka_c.specs.declared.handle.Kept.TheVariants.{Bytes, Numbers}
+use Rattle.mini_moka_c.specs.declared.handle.AnyCache.{AnyCache}
+use Rattle.mini_moka_c.specs.declared.handle.AnyCache.TheVariants.{Bytes, Numbers}
 use Rattle.mini_moka_c.specs.declared.settings.ByteSettings.{ByteSettings}
 use Rattle.mini_moka_c.specs.declared.settings.NumberSettings.{NumberSettings}
 use Rattle.mini_moka_c.specs.declared.number_cache.NumberCache.{NumberCache}
@@ -58,16 +58,16 @@ pub record IsBytesNew (settings : ByteSettings) (bytes : ByteCache) : Type 0 whe
   pub walk : bytes.walk ≡ Ended
 
 -- what is kept is such a cache
-abbrev pub IsNumbersKept : NumberSettings → Kept → Type 0
+abbrev pub IsNumbersKept : NumberSettings → AnyCache → Type 0
 IsNumbersKept settings (Numbers numbers) = IsNumbersNew settings numbers
 IsNumbersKept settings (Bytes bytes) = ⊥
 
-abbrev pub IsBytesKept : ByteSettings → Kept → Type 0
+abbrev pub IsBytesKept : ByteSettings → AnyCache → Type 0
 IsBytesKept settings (Numbers numbers) = ⊥
 IsBytesKept settings (Bytes bytes) = IsBytesNew settings bytes
 
 -- a closed handle keeps such a cache then, unless a duration is 0 or memory was refused; an open one keeps what it kept
-abbrev pub IsOpening : Bool → (Kept → Type 0) → Option Kept → ℕ → Option Kept → Type 0
+abbrev pub IsOpening : Bool → (AnyCache → Type 0) → Option AnyCache → ℕ → Option AnyCache → Type 0
 IsOpening is_zero IsNew (Some kept) status new = (status ≡ ALREADY_OPEN) × (new ≡ Some kept)
 IsOpening true IsNew None status new = (status ≡ ZERO_DURATION) × (new ≡ None)
 IsOpening false IsNew None status (Some kept) = (status ≡ DONE) × IsNew kept

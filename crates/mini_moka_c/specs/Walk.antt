@@ -19,9 +19,9 @@ first_pair (pair ∷ pairs) = Some pair
 
 -- the pair that a walk comes to, which met this key last: the first of an iterator, or the one behind the key
 abbrev pub next_pair : Walk → ByteCacheState → List ℕ → ℕ → Option BytePair
-next_pair Ended cache met now = None
-next_pair AtStart cache met now = first_pair (pairs_at cache now)
-next_pair Behind cache met now = pair_behind byte_keys cache met now
+next_pair Ended cache walk_key now = None
+next_pair AtStart cache walk_key now = first_pair (pairs_at cache now)
+next_pair Behind cache walk_key now = pair_behind byte_keys cache walk_key now
 
 -- what a step gives of that
 abbrev pub step_of : Walk → Option BytePair → Step
@@ -44,8 +44,8 @@ walk_after walk (Some pair) = Behind
 
 -- and the key that it met last
 abbrev pub met_after : List ℕ → Option BytePair → List ℕ
-met_after met None = met
-met_after met (Some pair) = pair.0
+met_after walk_key None = walk_key
+met_after walk_key (Some pair) = pair.0
 
 -- there is one, and its key is a long one
 abbrev pub IsLong : Option BytePair → Type 0

@@ -6,7 +6,7 @@ ghost use Rattle.mini_moka_c.specs.Calls.{OnBytes, OnOpen, TellsLength};
 ghost use Rattle.mini_moka_c.specs.Opening.{IsBytesKept, IsOpening, has_zero_duration, refusal_of};
 
 use crate::constants::{ABSENT, ALREADY_OPEN, DONE, OUT_OF_MEMORY, TOO_SHORT, ZERO_DURATION};
-use crate::handle::{Handle, Kept};
+use crate::handle::{AnyCache, Handle};
 use crate::settings::{ByteSettings, build_bytes};
 use moka_common::error::OutOfMemory;
 use moka_common::time::Instant;
@@ -20,7 +20,7 @@ pub extern "C" fn mini_moka_open(alloc: Global, handle: &mut Handle, settings: &
 {
     match handle.kept() {
         Some(_) => ALREADY_OPEN,
-        None => match kept_of(alloc, settings) {
+        None => match cache_of(alloc, settings) {
             Ok(kept) => {
                 handle.put(kept);
                 DONE
@@ -31,7 +31,7 @@ pub extern "C" fn mini_moka_open(alloc: Global, handle: &mut Handle, settings: &
 }
 
 /// Makes a new cache of the settings in a box. The error is a status: a duration is 0, or memory is refused.
-fn kept_of(alloc: Global, settings: &ByteSettings) -> Result<Box<Kept>, u32>
+fn cache_of(alloc: Global, settings: &ByteSettings) -> Result<Box<AnyCache>, u32>
     ensures ok { IfOk result (λ kept. (has_zero_duration settings.now.time_to_live settings.now.time_to_idle ≡ false)
         × IsBytesKept settings.now kept.value) }
     ensures err { IfErr result (λ status. status ≡ refusal_of (has_zero_duration settings.now.time_to_live settings.now.time_to_idle)) }
@@ -42,7 +42,7 @@ fn kept_of(alloc: Global, settings: &ByteSettings) -> Result<Box<Kept>, u32>
     let Some(cache) = build_bytes(alloc, settings) else {
         return Err(OUT_OF_MEMORY);
     };
-    Box::new(alloc, Kept::Bytes(cache)).map_err(|_| OUT_OF_MEMORY)
+    Box::new(alloc, AnyCache::Bytes(cache)).map_err(|_| OUT_OF_MEMORY)
 }
 
 /// Inserts a copy of the key and the value. If a new entry exceeds the capacity, the admission policy may reject it: `REJECTED`.

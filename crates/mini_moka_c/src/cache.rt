@@ -42,10 +42,10 @@ pub struct ByteCache {
     /// What was counted, and the entries that left and aren't drained.
     pub leaving: Leaving<Key, Value>,
     // The key that is looked for.
-    sought: Key,
+    lookup_key: Key,
     walk: Walk,
     // The key that the walk met last.
-    met: Key,
+    walk_key: Key,
 }
 
 impl ByteCache {
@@ -69,9 +69,9 @@ impl ByteCache {
                 removed,
                 inserted: Inserted::Stored,
             },
-            sought: Key::new(alloc),
+            lookup_key: Key::new(alloc),
             walk: Walk::Ended,
-            met: Key::new(alloc),
+            walk_key: Key::new(alloc),
         })
     }
 
@@ -125,12 +125,12 @@ impl ByteCache {
         ensures refused { OnErr result ((self.new ≡ self.old) × (buffer.new ≡ buffer.old)) }
         ensures short { OnErr result (SHORT_KEY < length key.now) }
     {
-        self.sought.set(key)?;
+        self.lookup_key.set(key)?;
         self.walk = Walk::Ended;
-        let hash = self.cache.hash_of(&self.sought);
+        let hash = self.cache.hash_of(&self.lookup_key);
         let value = self
             .cache
-            .get_notifying(&self.sought, hash, now, &mut self.leaving);
+            .get_notifying(&self.lookup_key, hash, now, &mut self.leaving);
         let found = copied(value, buffer);
         self.leaving.statistics.count_get(found.is_some());
         Ok(found)
@@ -145,12 +145,12 @@ impl ByteCache {
     ) -> Result<Option<usize>, OutOfMemory>
         ensures value { IfOk result (λ found. found ≡ option_map length (found_by_peek byte_keys self.old.cache key.now now)) }
         ensures copied { OnOk result (buffer.new ≡ copied_to buffer.old (found_by_peek byte_keys self.old.cache key.now now)) }
-        ensures rest { self.new ≡ record self.old { sought = self.new.sought } }
+        ensures rest { self.new ≡ record self.old { lookup_key = self.new.lookup_key } }
         ensures refused { OnErr result ((self.new ≡ self.old) × (buffer.new ≡ buffer.old)) }
         ensures short { OnErr result (SHORT_KEY < length key.now) }
     {
-        self.sought.set(key)?;
-        Ok(copied(self.cache.peek(&self.sought, now), buffer))
+        self.lookup_key.set(key)?;
+        Ok(copied(self.cache.peek(&self.lookup_key, now), buffer))
     }
 
     /// Returns `true` if the key has an unexpired entry, as `Cache::contains_key` does.
@@ -163,12 +163,12 @@ impl ByteCache {
         ensures refused { OnErr result (self.new ≡ self.old) }
         ensures short { OnErr result (SHORT_KEY < length key.now) }
     {
-        self.sought.set(key)?;
+        self.lookup_key.set(key)?;
         self.walk = Walk::Ended;
-        let hash = self.cache.hash_of(&self.sought);
+        let hash = self.cache.hash_of(&self.lookup_key);
         Ok(
             self.cache
-                .contains_notifying(&self.sought, hash, now, &mut self.leaving),
+                .contains_notifying(&self.lookup_key, hash, now, &mut self.leaving),
         )
     }
 
@@ -189,18 +189,18 @@ impl ByteCache {
             (is_longer (found_by_peek byte_keys self.old.cache key.now now) buffer.old) key.now self.old.leaving.removed self.new.leaving.removed) }
         ensures short { OnErr result (SHORT_KEY < length key.now) }
     {
-        self.sought.set(key)?;
+        self.lookup_key.set(key)?;
         self.walk = Walk::Ended;
-        if let Some(value) = self.cache.peek(&self.sought, now) {
+        if let Some(value) = self.cache.peek(&self.lookup_key, now) {
             let length = value.as_slice().len();
             if length > buffer.len() {
                 return Ok(Some(length));
             }
         }
-        let hash = self.cache.hash_of(&self.sought);
+        let hash = self.cache.hash_of(&self.lookup_key);
         let value = self
             .cache
-            .remove_notifying(&self.sought, hash, now, &mut self.leaving);
+            .remove_notifying(&self.lookup_key, hash, now, &mut self.leaving);
         self.leaving.statistics.count_removal(value.is_some());
         Ok(copied(value.as_ref(), buffer))
     }
@@ -214,11 +214,11 @@ impl ByteCache {
         ensures removed { OnOk result (TellsInvalidate queues byte_keys self.old.cache now key.now self.old.leaving.removed self.new.leaving.removed) }
         ensures short { OnErr result (SHORT_KEY < length key.now) }
     {
-        self.sought.set(key)?;
+        self.lookup_key.set(key)?;
         self.walk = Walk::Ended;
-        let hash = self.cache.hash_of(&self.sought);
+        let hash = self.cache.hash_of(&self.lookup_key);
         self.cache
-            .invalidate_notifying(&self.sought, hash, now, &mut self.leaving);
+            .invalidate_notifying(&self.lookup_key, hash, now, &mut self.leaving);
         Ok(())
     }
 
@@ -273,27 +273,27 @@ impl ByteCache {
         keys: &mut [u8],
         values: &mut [u8],
     ) -> Result<Step, OutOfMemory>
-        ensures told { IfOk result (λ step. step ≡ step_of self.old.walk (next_pair self.old.walk self.old.cache self.old.met now)) }
+        ensures told { IfOk result (λ step. step ≡ step_of self.old.walk (next_pair self.old.walk self.old.cache self.old.walk_key now)) }
         ensures key { OnOk result (keys.new ≡ copied_to keys.old (option_map (λ p. p.0)
-            (fitting (next_pair self.old.walk self.old.cache self.old.met now) keys.old values.old))) }
+            (fitting (next_pair self.old.walk self.old.cache self.old.walk_key now) keys.old values.old))) }
         ensures value { OnOk result (values.new ≡ copied_to values.old (option_map (λ p. p.1)
-            (fitting (next_pair self.old.walk self.old.cache self.old.met now) keys.old values.old))) }
+            (fitting (next_pair self.old.walk self.old.cache self.old.walk_key now) keys.old values.old))) }
         ensures walk { OnOk result (self.new.walk ≡ walk_after self.old.walk
-            (fitting (next_pair self.old.walk self.old.cache self.old.met now) keys.old values.old)) }
-        ensures met { OnOk result (self.new.met ≡ met_after self.old.met
-            (fitting (next_pair self.old.walk self.old.cache self.old.met now) keys.old values.old)) }
+            (fitting (next_pair self.old.walk self.old.cache self.old.walk_key now) keys.old values.old)) }
+        ensures walk_key { OnOk result (self.new.walk_key ≡ met_after self.old.walk_key
+            (fitting (next_pair self.old.walk self.old.cache self.old.walk_key now) keys.old values.old)) }
         ensures refused { OnErr result ((self.new ≡ self.old) × (keys.new ≡ keys.old) × (values.new ≡ values.old)) }
-        ensures long { OnErr result (IsLong (next_pair self.old.walk self.old.cache self.old.met now)) }
+        ensures long { OnErr result (IsLong (next_pair self.old.walk self.old.cache self.old.walk_key now)) }
         ensures cache { self.new.cache ≡ self.old.cache }
         ensures leaving { self.new.leaving ≡ self.old.leaving }
     {
         let ByteCache {
             cache,
             walk,
-            met,
+            walk_key,
             ..
         } = self;
-        let Some((key, value)) = next_of(cache, *walk, met, now) else {
+        let Some((key, value)) = next_of(cache, *walk, walk_key, now) else {
             return Ok(end_of(*walk));
         };
         let (key, value) = (key.as_slice(), value.as_slice());
@@ -302,7 +302,7 @@ impl ByteCache {
             value: value.len(),
         };
         if key.len() <= keys.len() && value.len() <= values.len() {
-            met.set(key)?;
+            walk_key.set(key)?;
             *walk = Walk::Behind;
             keys[..key.len()].copy_from_slice(key);
             values[..value.len()].copy_from_slice(value);
@@ -315,15 +315,15 @@ impl ByteCache {
 fn next_of<'a>(
     cache: &'a Cache<Key, Value, Seed, ByteWeight>,
     walk: Walk,
-    met: &Key,
+    walk_key: &Key,
     now: Instant,
 ) -> Option<(&'a Key, &'a Value)>
-    ensures { option_map deref_pair result ≡ next_pair walk cache.now met.now now }
+    ensures { option_map deref_pair result ≡ next_pair walk cache.now walk_key.now now }
 {
     match walk {
         Walk::Ended => None,
         Walk::AtStart => cache.iter(now).next(),
-        Walk::Behind => cache.next_after(met, now),
+        Walk::Behind => cache.next_after(walk_key, now),
     }
 }
 

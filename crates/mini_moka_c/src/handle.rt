@@ -1,11 +1,11 @@
 // A handle: what C keeps of a cache between its calls. The handle lies in C's memory, and the cache in a box in the library's. Raw pointers are only here
-// and in `handle/loose.rt`.
+// and in `handle/raw_box.rt`.
 //
 // | Value | Owns |
 // |---|---|
-// | `Kept` | the cache |
-// | `Loose` | what a box owns: the value at its pointer, and the right to free the block |
-// | `Handle`, open | the same, at `Kept` |
+// | `AnyCache` | the cache |
+// | `RawBox` | what a box owns: the value at its pointer, and the right to free the block |
+// | `Handle`, open | the same, at `AnyCache` |
 // | `Handle`, closed | nothing, whatever its pointer is, so a handle of zeros is closed |
 //
 // Six functions are proved by hand, and that a handle is `Send`. All others are ordinary code over them.
@@ -14,8 +14,8 @@
 // |---|---|
 // | `Handle::closed`, `open` | make a handle |
 // | `Handle::kept` | lends what an open handle keeps: a call reaches the cache by it, or by `bytes` or `numbers` over it |
-// | `Handle::into_loose` | takes a handle apart, for `take` and `put`, by which a handle is closed and opened |
-// | `Loose::of`, `into_box` | take a box apart, and put it together again |
+// | `Handle::into_raw` | takes a handle apart, for `take` and `put`, by which a handle is closed and opened |
+// | `RawBox::of`, `into_box` | take a box apart, and put it together again |
 
 ghost use Rattle.std.specs.Prelude.{◌≡◌, IfErr, IfOk};
 ghost use Rattle.std.specs.Option.{MatchOption};
@@ -24,17 +24,17 @@ ghost use Rattle.std.specs.declared.option.Option.TheVariants.{None, Some};
 ghost use Rattle.std.specs.Borrow.{sem};
 ghost use Rattle.std.specs.Box.Ownership.{box_owns};
 ghost use Rattle.std.specs.contracts.impls.GlobalAllocator.TheImpl.{ghosts};
-ghost use Rattle.mini_moka_c.specs.declared.handle.Kept.{Kept};
-ghost use Rattle.mini_moka_c.specs.contracts.handle.Kept.{the_row};
+ghost use Rattle.mini_moka_c.specs.declared.handle.AnyCache.{AnyCache};
+ghost use Rattle.mini_moka_c.specs.contracts.handle.AnyCache.{the_row};
 ghost use Rattle.mini_moka_c.specs.Held.{held};
 
-mod loose;
+mod raw_box;
 
 use crate::cache::ByteCache;
 use crate::constants::{CLOSED, OTHER_KIND};
 use crate::number_cache::NumberCache;
 use crate::statistics::Report;
-use loose::Loose;
+use raw_box::RawBox;
 use std::alloc::Global;
 use std::marker::Model;
 use std::mem::replace;
@@ -42,12 +42,12 @@ use std::ptr::null_mut;
 
 /// The cache of a handle: of numbers, or of bytes.
 #[derive(Drop)]
-pub enum Kept {
+pub enum AnyCache {
     Numbers(NumberCache),
     Bytes(ByteCache),
 }
 
-impl Kept {
+impl AnyCache {
     ghost use Rattle.mini_moka_c.specs.Calls.{IsEmptied, count_of, statistics_of, walking, weight_of};
 
     /// Removes all entries.
@@ -55,8 +55,8 @@ impl Kept {
         ensures { IsEmptied self.old self.new }
     {
         match self {
-            Kept::Numbers(numbers) => numbers.invalidate_all(),
-            Kept::Bytes(bytes) => bytes.invalidate_all(),
+            AnyCache::Numbers(numbers) => numbers.invalidate_all(),
+            AnyCache::Bytes(bytes) => bytes.invalidate_all(),
         }
     }
 
@@ -65,8 +65,8 @@ impl Kept {
         ensures { result ≡ count_of self.now }
     {
         match self {
-            Kept::Numbers(numbers) => numbers.cache.entry_count(),
-            Kept::Bytes(bytes) => bytes.cache.entry_count(),
+            AnyCache::Numbers(numbers) => numbers.cache.entry_count(),
+            AnyCache::Bytes(bytes) => bytes.cache.entry_count(),
         }
     }
 
@@ -75,8 +75,8 @@ impl Kept {
         ensures { result ≡ weight_of self.now }
     {
         match self {
-            Kept::Numbers(numbers) => numbers.cache.weighted_size(),
-            Kept::Bytes(bytes) => bytes.cache.weighted_size(),
+            AnyCache::Numbers(numbers) => numbers.cache.weighted_size(),
+            AnyCache::Bytes(bytes) => bytes.cache.weighted_size(),
         }
     }
 
@@ -85,8 +85,8 @@ impl Kept {
         ensures { self.new ≡ walking self.old }
     {
         match self {
-            Kept::Numbers(numbers) => numbers.begin_walk(),
-            Kept::Bytes(bytes) => bytes.begin_walk(),
+            AnyCache::Numbers(numbers) => numbers.begin_walk(),
+            AnyCache::Bytes(bytes) => bytes.begin_walk(),
         }
     }
 
@@ -95,8 +95,8 @@ impl Kept {
         ensures { result ≡ statistics_of self.now }
     {
         match self {
-            Kept::Numbers(numbers) => numbers.leaving.report(),
-            Kept::Bytes(bytes) => bytes.leaving.report(),
+            AnyCache::Numbers(numbers) => numbers.leaving.report(),
+            AnyCache::Bytes(bytes) => bytes.leaving.report(),
         }
     }
 }
@@ -109,7 +109,7 @@ pub struct Handle {
     at: *mut u8,
     is_open: bool,
     alloc: Global,
-    pub ghost value: { Option Kept },
+    pub ghost value: { Option AnyCache },
 }
 
 impl Model for Handle {
@@ -131,10 +131,10 @@ impl Handle {
     }
 
     /// Makes an open handle, which keeps what is in the box.
-    pub(crate) fn open(loose: Loose<Kept, Global>) -> Handle
-        ensures { result.value ≡ Some loose.value }
+    pub(crate) fn open(raw_box: RawBox<AnyCache, Global>) -> Handle
+        ensures { result.value ≡ Some raw_box.value }
     {
-        let Loose { at, alloc } = loose;
+        let RawBox { at, alloc } = raw_box;
         Handle {
             at: at as *mut u8,
             is_open: true,
@@ -143,13 +143,13 @@ impl Handle {
     }
 
     /// Takes the handle apart, and returns the box of an open one.
-    pub(crate) fn into_loose(self) -> Option<Loose<Kept, Global>>
-        ensures { MatchOption result (self.value ≡ None) (λ loose. self.value ≡ Some loose.value) }
+    pub(crate) fn into_raw(self) -> Option<RawBox<AnyCache, Global>>
+        ensures { MatchOption result (self.value ≡ None) (λ raw_box. self.value ≡ Some raw_box.value) }
     {
         let Handle { at, is_open, alloc } = self;
         if is_open {
-            Some(Loose {
-                at: at as *mut Kept,
+            Some(RawBox {
+                at: at as *mut AnyCache,
                 alloc,
             })
         } else {
@@ -158,12 +158,12 @@ impl Handle {
     }
 
     /// Lends what an open handle keeps.
-    pub(crate) fn kept(&mut self) -> Option<&mut Kept>
+    pub(crate) fn kept(&mut self) -> Option<&mut AnyCache>
         ensures* writes_back { sem 𝓛 (lends_kept self.entry result) }
         ensures value { MatchOption result (self.old.value ≡ None) (λ kept. self.old.value ≡ Some kept.now) }
     {
         if self.is_open {
-            Some(unsafe { &mut *(self.at as *mut Kept) })
+            Some(unsafe { &mut *(self.at as *mut AnyCache) })
         } else {
             None
         }
@@ -172,12 +172,12 @@ impl Handle {
     /// Lends the cache of bytes. The error is the status of a call on a handle without one: `CLOSED` or `OTHER_KIND`.
     pub(crate) fn bytes(&mut self) -> Result<&mut ByteCache, u32>
         ensures* writes_back { sem 𝓛 (lends_bytes self.entry result) }
-        ensures ok { IfOk result (λ bytes. self.old.value ≡ Some (Kept.Bytes bytes.now)) }
+        ensures ok { IfOk result (λ bytes. self.old.value ≡ Some (AnyCache.Bytes bytes.now)) }
         ensures err { IfErr result (KeepsNoBytes self.old.value) }
     {
         match self.kept() {
-            Some(Kept::Bytes(bytes)) => Ok(bytes),
-            Some(Kept::Numbers(_)) => Err(OTHER_KIND),
+            Some(AnyCache::Bytes(bytes)) => Ok(bytes),
+            Some(AnyCache::Numbers(_)) => Err(OTHER_KIND),
             None => Err(CLOSED),
         }
     }
@@ -185,33 +185,33 @@ impl Handle {
     /// Lends the cache of numbers. The error is the status of a call on a handle without one: `CLOSED` or `OTHER_KIND`.
     pub(crate) fn numbers(&mut self) -> Result<&mut NumberCache, u32>
         ensures* writes_back { sem 𝓛 (lends_numbers self.entry result) }
-        ensures ok { IfOk result (λ numbers. self.old.value ≡ Some (Kept.Numbers numbers.now)) }
+        ensures ok { IfOk result (λ numbers. self.old.value ≡ Some (AnyCache.Numbers numbers.now)) }
         ensures err { IfErr result (KeepsNoNumbers self.old.value) }
     {
         match self.kept() {
-            Some(Kept::Numbers(numbers)) => Ok(numbers),
-            Some(Kept::Bytes(_)) => Err(OTHER_KIND),
+            Some(AnyCache::Numbers(numbers)) => Ok(numbers),
+            Some(AnyCache::Bytes(_)) => Err(OTHER_KIND),
             None => Err(CLOSED),
         }
     }
 
     /// Closes the handle, and returns what it kept.
-    pub(crate) fn take(&mut self, alloc: Global) -> Option<Box<Kept>>
+    pub(crate) fn take(&mut self, alloc: Global) -> Option<Box<AnyCache>>
         ensures left { self.new.value ≡ None }
         ensures taken { MatchOption result (self.old.value ≡ None) (λ kept. self.old.value ≡ Some kept.value) }
     {
-        match replace(self, Handle::closed(alloc)).into_loose() {
-            Some(loose) => Some(loose.into_box()),
+        match replace(self, Handle::closed(alloc)).into_raw() {
+            Some(raw_box) => Some(raw_box.into_box()),
             None => None,
         }
     }
 
     /// Opens the handle with `kept`, and drops what it kept before.
-    pub(crate) fn put(&mut self, kept: Box<Kept>)
+    pub(crate) fn put(&mut self, kept: Box<AnyCache>)
         ensures { self.new.value ≡ Some kept.value }
     {
-        if let Some(loose) = replace(self, Handle::open(Loose::of(kept))).into_loose() {
-            let _before = loose.into_box();
+        if let Some(raw_box) = replace(self, Handle::open(RawBox::of(kept))).into_raw() {
+            let _before = raw_box.into_box();
         }
     }
 }

@@ -33,7 +33,7 @@ pub struct NumberCache {
     pub leaving: Leaving<u64, u64>,
     walk: Walk,
     // The key that the walk met last.
-    met: u64,
+    walk_key: u64,
 }
 
 impl NumberCache {
@@ -56,7 +56,7 @@ impl NumberCache {
                 inserted: Inserted::Stored,
             },
             walk: Walk::Ended,
-            met: 0,
+            walk_key: 0,
         })
     }
 
@@ -192,16 +192,16 @@ impl NumberCache {
 
     /// Goes on to the next entry of the walk.
     pub fn step(&mut self, now: Instant) -> NumberStep
-        ensures told { result ≡ step_of self.old.walk (next_pair self.old.walk self.old.cache self.old.met now) }
+        ensures told { result ≡ step_of self.old.walk (next_pair self.old.walk self.old.cache self.old.walk_key now) }
         ensures rest { self.new ≡ record self.old {
-          walk = walk_after self.old.walk (next_pair self.old.walk self.old.cache self.old.met now);
-          met = met_after self.old.met (next_pair self.old.walk self.old.cache self.old.met now);
+          walk = walk_after self.old.walk (next_pair self.old.walk self.old.cache self.old.walk_key now);
+          walk_key = met_after self.old.walk_key (next_pair self.old.walk self.old.cache self.old.walk_key now);
         } }
     {
-        match next_of(&self.cache, self.walk, self.met, now) {
+        match next_of(&self.cache, self.walk, self.walk_key, now) {
             Some((key, value)) => {
                 self.walk = Walk::Behind;
-                self.met = key;
+                self.walk_key = key;
                 NumberStep::Pair { key, value }
             }
             None => end_of(self.walk),
@@ -210,13 +210,13 @@ impl NumberCache {
 }
 
 /// The entry that a walk comes to next.
-fn next_of(cache: &Cache<u64, u64>, walk: Walk, met: u64, now: Instant) -> Option<(u64, u64)>
-    ensures { result ≡ next_pair walk cache.now met now }
+fn next_of(cache: &Cache<u64, u64>, walk: Walk, walk_key: u64, now: Instant) -> Option<(u64, u64)>
+    ensures { result ≡ next_pair walk cache.now walk_key now }
 {
     match walk {
         Walk::Ended => None,
         Walk::AtStart => copied(cache.iter(now).next()),
-        Walk::Behind => copied(cache.next_after(&met, now)),
+        Walk::Behind => copied(cache.next_after(&walk_key, now)),
     }
 }
 

@@ -7,7 +7,7 @@ ghost use Rattle.mini_moka_c.specs.NumberCalls.{TellsPeek, TellsRemove, TellsSte
 ghost use Rattle.mini_moka_c.specs.Opening.{IsNumbersKept, IsOpening, has_zero_duration, refusal_of};
 
 use crate::constants::{ABSENT, ALREADY_OPEN, CHANGED, DONE, OUT_OF_MEMORY, ZERO_DURATION};
-use crate::handle::{Handle, Kept};
+use crate::handle::{AnyCache, Handle};
 use crate::removed::{Removed, number_of};
 use crate::settings::{NumberSettings, build_numbers};
 use crate::steps::NumberStep;
@@ -27,7 +27,7 @@ pub extern "C" fn mini_moka_u64_open(
 {
     match handle.kept() {
         Some(_) => ALREADY_OPEN,
-        None => match kept_of(alloc, settings) {
+        None => match cache_of(alloc, settings) {
             Ok(kept) => {
                 handle.put(kept);
                 DONE
@@ -38,7 +38,7 @@ pub extern "C" fn mini_moka_u64_open(
 }
 
 /// Makes a new cache of the settings in a box. The error is a status: a duration is 0, or memory is refused.
-fn kept_of(alloc: Global, settings: &NumberSettings) -> Result<Box<Kept>, u32>
+fn cache_of(alloc: Global, settings: &NumberSettings) -> Result<Box<AnyCache>, u32>
     ensures ok { IfOk result (λ kept. (has_zero_duration settings.now.time_to_live settings.now.time_to_idle ≡ false)
         × IsNumbersKept settings.now kept.value) }
     ensures err { IfErr result (λ status. status ≡ refusal_of (has_zero_duration settings.now.time_to_live settings.now.time_to_idle)) }
@@ -49,7 +49,7 @@ fn kept_of(alloc: Global, settings: &NumberSettings) -> Result<Box<Kept>, u32>
     let Some(cache) = build_numbers(alloc, settings) else {
         return Err(OUT_OF_MEMORY);
     };
-    Box::new(alloc, Kept::Numbers(cache)).map_err(|_| OUT_OF_MEMORY)
+    Box::new(alloc, AnyCache::Numbers(cache)).map_err(|_| OUT_OF_MEMORY)
 }
 
 /// Inserts the key and the value. If a new entry exceeds the capacity, the admission policy may reject it: `REJECTED`.

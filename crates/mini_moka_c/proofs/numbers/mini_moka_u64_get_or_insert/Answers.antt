@@ -1,7 +1,7 @@
 use Rattle.std.proofs.Common.{◌≡◌, None, Some, inl, inr, refl, rules, subst, sym}
 use Rattle.mini_moka_c.specs.Calls.{OnNumbers, OnOpen}
 use Rattle.mini_moka_c.specs.NumberCalls.{IsNumberGet, IsNumberInsert, TellsGotOrInserted}
-use Rattle.mini_moka_c.specs.declared.handle.Kept.TheVariants.{Numbers}
+use Rattle.mini_moka_c.specs.declared.handle.AnyCache.TheVariants.{Numbers}
 use Rattle.mini_moka_c.proofs.numbers.mini_moka_u64_get_or_insert.Goals as goal
 
 pub returns-in-Ok-insert_hashed-clause-step : goal.returns-in-Ok-insert_hashed-clause-step

@@ -21,13 +21,13 @@ returns-clause-counts c =
     let new = c.remove_notifying-value.new in
     let cache : looked.cache ≡ old.cache = search rules in
     let leaving : looked.leaving ≡ old.leaving = search rules in
-    let sought : looked.sought ≡ c.args.key.now = search rules in
+    let lookup_key : looked.lookup_key ≡ c.args.key.now = search rules in
     let short : is_longer (found_by_peek byte_keys old.cache c.args.key.now c.args.now) c.args.buffer.now ≡ false = search rules in
     let is_found : c.is_some.result ≡ is_some (found_by_get byte_keys old.cache c.args.key.now c.args.now) = search rules in
     let told =
-    subst (λ key. Tells old.cache c.args.now key old.leaving new.listener) sought
-    (subst (λ leaving. Tells old.cache c.args.now looked.sought leaving new.listener) leaving
-    (subst (λ cache. Tells cache c.args.now looked.sought looked.leaving new.listener) cache c.remove_notifying-value.ensures.told)) in
+    subst (λ key. Tells old.cache c.args.now key old.leaving new.listener) lookup_key
+    (subst (λ leaving. Tells old.cache c.args.now looked.lookup_key leaving new.listener) leaving
+    (subst (λ cache. Tells cache c.args.now looked.lookup_key looked.leaving new.listener) cache c.remove_notifying-value.ensures.told)) in
     subst (λ long. c.count_removal.new.self ≡ with_taken byte_keys old.cache c.args.now long c.args.key.now old.leaving.statistics) (sym short)
     (c.count_removal.ensures
     ∙ (ap (λ found. with_removal found new.listener.statistics) is_found
@@ -40,11 +40,11 @@ returns-clause-removed c =
     let new = c.remove_notifying-value.new in
     let cache : looked.cache ≡ old.cache = search rules in
     let leaving : looked.leaving ≡ old.leaving = search rules in
-    let sought : looked.sought ≡ c.args.key.now = search rules in
+    let lookup_key : looked.lookup_key ≡ c.args.key.now = search rules in
     let short : is_longer (found_by_peek byte_keys old.cache c.args.key.now c.args.now) c.args.buffer.now ≡ false = search rules in
     let told =
-    subst (λ key. Tells old.cache c.args.now key old.leaving new.listener) sought
-    (subst (λ leaving. Tells old.cache c.args.now looked.sought leaving new.listener) leaving
-    (subst (λ cache. Tells cache c.args.now looked.sought looked.leaving new.listener) cache c.remove_notifying-value.ensures.told)) in
+    subst (λ key. Tells old.cache c.args.now key old.leaving new.listener) lookup_key
+    (subst (λ leaving. Tells old.cache c.args.now looked.lookup_key leaving new.listener) leaving
+    (subst (λ cache. Tells cache c.args.now looked.lookup_key looked.leaving new.listener) cache c.remove_notifying-value.ensures.told)) in
     subst (λ long. QueuesTaken byte_keys old.cache c.args.now long c.args.key.now old.leaving.removed new.listener.removed) (sym short)
     (removal_queued byte_keys old.cache c.args.now old.leaving new.listener c.args.key.now told)

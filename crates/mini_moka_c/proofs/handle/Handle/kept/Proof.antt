@@ -35,9 +35,9 @@ use Rattle.std.specs.declared.option.Option.TheVariants.{None, Some}
 use Rattle.std.specs.contracts.impls.GlobalAllocator.TheImpl.{ghosts}
 use Rattle.std_alloc.specs.Box.Ownership.{box_owns}
 use Rattle.mini_moka_c.specs.declared.handle.Handle.{Handle}
-use Rattle.mini_moka_c.specs.declared.handle.Kept.{Kept}
+use Rattle.mini_moka_c.specs.declared.handle.AnyCache.{AnyCache}
 use Rattle.mini_moka_c.specs.contracts.handle.Handle as handle
-use Rattle.mini_moka_c.specs.contracts.handle.Kept as kept
+use Rattle.mini_moka_c.specs.contracts.handle.AnyCache as kept
 use Rattle.mini_moka_c.specs.Held.{held}
 use Rattle.mini_moka_c.specs.HandleLends.{with_kept}
 use Rattle.mini_moka_c.proofs.HandleValues.{Z, word, handle_out, handle_in, held_is}
@@ -68,7 +68,7 @@ module _ (me : Handle) (h : Val) (b o : ℕ) where
 
   -- the handle with anything there
   module _ {M : Type 1} {𝓤 : Ura M} (𝓛 : Logic 𝓤) where
-    back : (there at : ℕ) → me.at ≡ block_ptr there at → me.is_open ≡ true → (w : Kept)
+    back : (there at : ℕ) → me.at ≡ block_ptr there at → me.is_open ≡ true → (w : AnyCache)
         → ent 𝓤 (sep 𝓤 (sem 𝓛 ((mem R).own_at w there at)) (sem 𝓛 (Rest there at))) (sem 𝓛 ((mem S).own_at (with_kept me w) b o))
     unfolding part_of
     back there at lies is_open w =
@@ -95,7 +95,7 @@ kept_spec 𝓤 𝓛 𝓜 𝓡 wired =
     let me = a.0.now in let b = a.0.ref_ptr.0 in let o = a.0.ref_ptr.1 in let γ = a.0.ghost_name in let κ = κs.0 in let q = qs.0 in
     let z : (walk_of 𝓛 ended hs c).Ghost = ((κs, qs, bounds, a, (mut_vals a.0, tt)), g) in
     let Post : Val → SProp 𝓤 = (walk_of 𝓛 ended hs c).post z in
-    let Lent : RattleType = MutRef (named 0) κ R in let Own : Kept → Fml = box_owns (ghosts.dealloc_token me.alloc) R me.at in
+    let Lent : RattleType = MutRef (named 0) κ R in let Own : AnyCache → Fml = box_owns (ghosts.dealloc_token me.alloc) R me.at in
     qed 𝓛 (((‵ (flft κ q) ⊛ ‵ ftrue) ⊛ ‵ (owns (types_at ended.signature.params κs) a (mut_vals a.0, tt))) ∷ ‵ ftrue ∷ []) ∵
     move ! (1 ∷ []) $ drop ! $ split ! $ move ! (1 ∷ []) $ fsplit ! $ fsplit3 ! $ drop ! $ move ! (3 ∷ []) $ split ! $
     move ! (2 ∷ 3 ∷ 0 ∷ []) $
@@ -114,7 +114,7 @@ kept_spec 𝓤 𝓛 𝓜 𝓡 wired =
     -- the borrow is closed over the same handle
     rewrite ! 1 (λ (t : Bool). ‵ (Cell me h b o me.at t)) (sym is_closed) refl $ nothing ! $
     rewrite ! 0 (λ (t : Bool). ‵ (held t None Own)) (sym is_closed) refl $
-    rewrite ! 0 (λ (x : Option Kept). ‵ (held me.is_open x Own)) (sym is_none) refl $
+    rewrite ! 0 (λ (x : Option AnyCache). ‵ (held me.is_open x Own)) (sym is_none) refl $
     handle_in ! me.at me.is_open h me.alloc me.value $ move ! (1 ∷ 0 ∷ []) $
     closes ! tt S me (word me.at me.is_open h ∷ []) b o $
     use1 𝓛 (‵ (fres γ (S.coded.code me))) (𝓛.names.obs-res γ (S.coded.code me)) $ move ! (1 ∷ []) $ drop ! $
@@ -126,7 +126,7 @@ kept_spec 𝓤 𝓛 𝓜 𝓡 wired =
     (λ x is_open is_some.
     in_a_block ! me.at (λ p. box_owns (ghosts.dealloc_token me.alloc) R p x) (fst∗ 𝓤 (never 𝓤) (sem 𝓛 (Frees me h b o null_ptr)))
     (λ there at lies. let v : Val = live 1 (vcons (vptr there at) vnil) in
-    let to : GName → MutBor Kept = λ δ. record { ref_ptr = (there, at); ghost_name = δ; now = x } in
+    let to : GName → MutBor AnyCache = λ δ. record { ref_ptr = (there, at); ghost_name = δ; now = x } in
     -- [what it keeps; the right to free that; the allocator; the handle's memory; the open borrow, in three]
     fsplit ! $ rewrite ! 3 (λ (t : Bool). ‵ (Cell me h b o me.at t)) is_open refl $
     rewrite ! 3 (λ (p : Ptr). ‵ (Cell me h b o p true)) lies refl $

@@ -23,8 +23,8 @@ use Rattle.std.proofs.raw_atomic.Walks.{proved_at, leaves}
 use Rattle.std.proofs.alloc.Global.TheLaws as heap_laws
 use Rattle.std.specs.contracts.impls.GlobalAllocator.TheImpl.{ghosts}
 use Rattle.std.specs.declared.option.Option.TheVariants.{Some}
-use Rattle.mini_moka_c.proofs.LooseValues.{both, Loose, loose_good, loose_out}
-use Rattle.mini_moka_c.specs.contracts.handle.Kept as kept
+use Rattle.mini_moka_c.proofs.RawBoxValues.{both, RawBox, loose_good, loose_out}
+use Rattle.mini_moka_c.specs.contracts.handle.AnyCache as kept
 use Rattle.mini_moka_c.proofs.HandleValues.{Z, word, word_good, handle_in}
 use Rattle.mini_moka_c.specs.contracts.handle.Handle.open.{ended, clauses}
 use Rattle.mini_moka_c.specs.contracts.handle.Handle.open.Key.{name as #self}
@@ -33,7 +33,7 @@ use Rattle.mini_moka_c.proofs.handle.Handle.open.Code as code
 
 pub open_spec : {M : Type 1} → statement M
 open_spec 𝓤 𝓛 𝓜 𝓡 wired =
-    let H = 𝓛.H in let 𝓣 = tables 𝓤 H 𝓜 𝓡 𝓡.env in let R : RattleType = kept.the_row in let LZ = heap_laws.the_row_laws in let Lr : RattleType = Loose R Z LZ ghosts in
+    let H = 𝓛.H in let 𝓣 = tables 𝓤 H 𝓜 𝓡 𝓡.env in let R : RattleType = kept.the_row in let LZ = heap_laws.the_row_laws in let Lr : RattleType = RawBox R Z LZ ghosts in
     let c = clauses 𝓛 𝓜.mem 𝓡.returns in let fn : Fn = code.function in
     let hs : Stays ended.signature.params ended.kept = (stay_dropped (plain (λ _. Lr)) ended.kept.0, tt) in
     proved_at 𝓛 ended hs c 𝓜 𝓡 (Goes-blank 𝓛 0 (plain (λ _. Lr)) ended.kept.0 (λ κs x f. tt), tt) #self fn (code.unfolded 𝓤 H 𝓜 𝓡 wired) (λ z are.

@@ -31,20 +31,20 @@ use Rattle.core.proofs.cell.Inside.{Good}
 use Rattle.std_alloc.proofs.BoxSteps.Form as box
 use Rattle.std_alloc.proofs.BoxSteps.Steps.{box_out, box_in}
 use Rattle.std.proofs.raw_atomic.Walks.{proved_at, leaves}
-use Rattle.mini_moka_c.proofs.LooseValues.{both, Loose, loose_good, loose_out}
+use Rattle.mini_moka_c.proofs.RawBoxValues.{both, RawBox, loose_good, loose_out}
 use Rattle.std_alloc.specs.contracts.boxed.Box.from_raw as callee
 use Rattle.std_alloc.proofs.boxed.Box.from_raw.Met.{met}
-use Rattle.mini_moka_c.specs.contracts.handle.loose.Loose.into_box.{ended, clauses}
-use Rattle.mini_moka_c.specs.contracts.handle.loose.Loose.into_box.Key.{name as #self}
-use Rattle.mini_moka_c.proofs.handle.loose.Loose.into_box.Statement.{statement}
-use Rattle.mini_moka_c.proofs.handle.loose.Loose.into_box.Code as code
+use Rattle.mini_moka_c.specs.contracts.handle.raw_box.RawBox.into_box.{ended, clauses}
+use Rattle.mini_moka_c.specs.contracts.handle.raw_box.RawBox.into_box.Key.{name as #self}
+use Rattle.mini_moka_c.proofs.handle.raw_box.RawBox.into_box.Statement.{statement}
+use Rattle.mini_moka_c.proofs.handle.raw_box.RawBox.into_box.Code as code
 
 pub into_box_spec : {M : Type 1} → statement M
 into_box_spec 𝓤 𝓛 𝓜 𝓡 wired T A L LA g d dx dd allocator glue glued =
     let H = 𝓛.H in let 𝓣 = tables 𝓤 H 𝓜 𝓡 𝓡.env in let R : RattleType = param 0 T in let Z : RattleType = param 1 A in let LZ = param_laws 1 A LA in let En = ended T A g d dx dd in let c = clauses T A g d dx dd 𝓛 𝓜.mem 𝓡.returns in
     let E : box.Bx = record { row = T; laws = L; al = record { row = A; laws = LA; g = g; d = d; drops = dd } } in let fn = inst_fn (bounded (a_type ∷ a_type ∷ []) (T, (A, tt)) (dcons d (dcons dx (dcons dd dnil)))) code.function in
-    let hs : Stays En.signature.params En.kept = (stay_dropped (plain (λ _. Loose R Z LZ g)) no, tt) in
-    proved_at 𝓛 En hs c 𝓜 𝓡 (Goes-blank 𝓛 2 (plain (λ _. Loose R Z LZ g)) no (λ κs x f. tt), tt) (#self (bounded (a_type ∷ a_type ∷ []) (T, (A, tt)) (dcons d (dcons dx (dcons dd dnil))))) fn (code.unfolded 𝓤 H 𝓜 𝓡 wired (T, (A, tt)) d dx dd) (λ z are.
+    let hs : Stays En.signature.params En.kept = (stay_dropped (plain (λ _. RawBox R Z LZ g)) no, tt) in
+    proved_at 𝓛 En hs c 𝓜 𝓡 (Goes-blank 𝓛 2 (plain (λ _. RawBox R Z LZ g)) no (λ κs x f. tt), tt) (#self (bounded (a_type ∷ a_type ∷ []) (T, (A, tt)) (dcons d (dcons dx (dcons dd dnil))))) fn (code.unfolded 𝓤 H 𝓜 𝓡 wired (T, (A, tt)) d dx dd) (λ z are.
     let κs = z.0.0 in let qs = z.0.1 in let v = z.0.3.0 in let a = v.alloc in let Post : Val → SProp 𝓤 = (walk_of 𝓛 En hs c).post z in let Run : List Val → SProp 𝓤 = λ ws. WpFn 𝓤 H 𝓣.C 𝓣.Λ fn ws Post in
     let toks = ‵ (flft κs.0 qs.0) ⊛ ‵ (flft κs.1.0 qs.1.0) ⊛ ‵ ftrue in let asked = raw ((c κs z.0.3).requires z.1) in
     qed 𝓛 ((toks ⊛ ‵ (owns (types_at En.signature.params κs) z.0.3 z.0.4)) ∷ asked ∷ []) ∵ split ! $ move ! (1 ∷ []) $ fsplit ! $ loose_out R Z LZ g ! v z.0.4.0 (λ b o h e ws fits.

@@ -1,4 +1,4 @@
--- `into_loose` hands over what an open handle owns. Assumes `Logic`.
+-- `into_raw` hands over what an open handle owns. Assumes `Logic`.
 use Rattle.std.proofs.Common.{◌≡◌, List, [], ◌∷◌, ◌++◌, refl, sym, subst, lit<}
 use mathlib.Core.Bool.{Bool, true, false}
 use mir.Syntax.{Fn}
@@ -34,19 +34,19 @@ use Rattle.std.proofs.alloc.Global.TheLaws as heap_laws
 use Rattle.std.specs.contracts.impls.GlobalAllocator.TheImpl.{ghosts}
 use Rattle.std_alloc.specs.Box.Ownership.{box_owns}
 use Rattle.std_alloc.proofs.ResultValues.{and_tt}
-use Rattle.mini_moka_c.proofs.LooseValues.{both, Loose, loose_good, loose_in}
-use Rattle.mini_moka_c.specs.contracts.handle.Kept as kept
+use Rattle.mini_moka_c.proofs.RawBoxValues.{both, RawBox, loose_good, loose_in}
+use Rattle.mini_moka_c.specs.contracts.handle.AnyCache as kept
 use Rattle.mini_moka_c.specs.contracts.handle.Handle as handle
 use Rattle.mini_moka_c.proofs.HandleValues.{Z, word, word_good, handle_out, held_is}
-use Rattle.mini_moka_c.specs.contracts.handle.Handle.into_loose.{ended, clauses}
-use Rattle.mini_moka_c.specs.contracts.handle.Handle.into_loose.Key.{name as #self}
-use Rattle.mini_moka_c.proofs.handle.Handle.into_loose.Statement.{statement}
-use Rattle.mini_moka_c.proofs.handle.Handle.into_loose.Code as code
+use Rattle.mini_moka_c.specs.contracts.handle.Handle.into_raw.{ended, clauses}
+use Rattle.mini_moka_c.specs.contracts.handle.Handle.into_raw.Key.{name as #self}
+use Rattle.mini_moka_c.proofs.handle.Handle.into_raw.Statement.{statement}
+use Rattle.mini_moka_c.proofs.handle.Handle.into_raw.Code as code
 
-pub into_loose_spec : {M : Type 1} → statement M
-into_loose_spec 𝓤 𝓛 𝓜 𝓡 wired =
+pub into_raw_spec : {M : Type 1} → statement M
+into_raw_spec 𝓤 𝓛 𝓜 𝓡 wired =
     let H = 𝓛.H in let 𝓣 = tables 𝓤 H 𝓜 𝓡 𝓡.env in let c = clauses 𝓛 𝓜.mem 𝓡.returns in let fn : Fn = code.function in
-    let R : RattleType = kept.the_row in let LZ = heap_laws.the_row_laws in let Lr : RattleType = Loose R Z LZ ghosts in
+    let R : RattleType = kept.the_row in let LZ = heap_laws.the_row_laws in let Lr : RattleType = RawBox R Z LZ ghosts in
     let hs : Stays ended.signature.params ended.kept = (stay_dropped (plain (λ _. handle.the_row)) ended.kept.0, tt) in
     proved_at 𝓛 ended hs c 𝓜 𝓡 (Goes-blank 𝓛 0 (plain (λ _. handle.the_row)) ended.kept.0 (λ κs x f. tt), tt) #self fn (code.unfolded 𝓤 H 𝓜 𝓡 wired) (λ z are.
     let v = z.0.3.0 in let a = v.alloc in let Post : Val → SProp 𝓤 = (walk_of 𝓛 ended hs c).post z in let Run : List Val → SProp 𝓤 = λ ws. WpFn 𝓤 H 𝓣.C 𝓣.Λ fn ws Post in
