@@ -66,6 +66,7 @@ static uint64_t below(uint64_t bound) {
 struct known {
     bool is_there;
     uint64_t version, written, used;
+    bool may_remain; /* its entry is expired, and a call found none: upkeep removes at most a hundred in a call, and a peek none */
 };
 
 /* What a call put: another version of a key's value, until it has left. */
@@ -270,7 +271,7 @@ static void note_drained(struct model *model, uint64_t key, uint64_t number, con
         if (can_leave(model, put, cause) && has_value(model, key, put, number, value, length)) {
             model->drained[cause]++;
             if (put->version == model->keys[key].version)
-                model->keys[key].is_there = false;
+                model->keys[key].is_there = model->keys[key].may_remain = false;
             return;
         }
         model->skipped++;
@@ -346,8 +347,10 @@ static void meet(struct model *model, struct known *key, uint32_t status) {
     bool is_known = knows_what_left(model) || model->capacity == MINI_MOKA_UNLIMITED;
     require(!is_found(status) || is_alive(model, key), "an entry was found that has left or is expired");
     require(is_found(status) || !is_alive(model, key) || !is_known, "an entry is missing");
-    if (!is_found(status))
+    if (!is_found(status)) {
+        key->may_remain |= key->is_there && !is_alive(model, key);
         key->is_there = false;
+    }
 }
 
 /* The same of a look-up of a key, which may ask for memory only where the key isn't a short one, and is longer than all before it. */
@@ -364,7 +367,7 @@ static bool is_look_up_refused(struct model *model, uint64_t key, uint32_t statu
 }
 
 static void write_down(struct model *model, struct known *key, uint64_t version) {
-    *key = (struct known){true, version, model->now, model->now};
+    *key = (struct known){true, version, model->now, model->now, false};
 }
 
 static void play_insert(struct model *model, uint64_t key) {
@@ -382,6 +385,7 @@ static void play_insert(struct model *model, uint64_t key) {
     uint32_t found = look_up(model, mini_moka_peek, mini_moka_u64_peek, key);
     require(!is_look_up_refused(model, key, found) && is_found(found) == (status == MINI_MOKA_DONE), "another status of an insert");
     model->keys[key].is_there = status == MINI_MOKA_DONE;
+    model->keys[key].may_remain = false;
 }
 
 static void play_look_up(struct model *model, uint64_t key) {
@@ -410,7 +414,7 @@ static void play_remove(struct model *model, uint64_t key) {
         return;
     meet(model, &model->keys[key], status);
     if (status == MINI_MOKA_DONE) {
-        model->keys[key].is_there = false;
+        model->keys[key].is_there = model->keys[key].may_remain = false;
         model->puts[model->last_put[key]].has_left = true;
         model->returned++;
     }
@@ -422,7 +426,7 @@ static void play_invalidate(struct model *model, uint64_t key) {
         return;
     require(status == MINI_MOKA_DONE, "an invalidation was not made");
     note_invalidation(model, key);
-    model->keys[key].is_there = false;
+    model->keys[key].is_there = model->keys[key].may_remain = false;
 }
 
 static void play_get_or_insert(struct model *model, uint64_t key) {
@@ -449,6 +453,7 @@ static void play_get_or_insert(struct model *model, uint64_t key) {
     bool has_left = model->puts[model->last_put[key]].has_left;
     write_down(model, known, version);
     known->is_there = !has_left;
+    known->may_remain = false;
 }
 
 /* Once all is drained, each entry that was put is there, or was drained, returned or lost, and those of a cause are as many as the statistics say. */
@@ -475,7 +480,7 @@ static void play_counts(struct model *model) {
     require(mini_moka_count(&model->cache, &count) == MINI_MOKA_DONE && mini_moka_weight(&model->cache, &weight) == MINI_MOKA_DONE, "counts are there");
     for (size_t i = 0; i < KEYS; i++) {
         alive += is_alive(model, &model->keys[i]);
-        there += model->keys[i].is_there;
+        there += model->keys[i].is_there || model->keys[i].may_remain;
     }
     require(model->capacity != MINI_MOKA_UNLIMITED || (alive <= count && count <= there), "another count");
     require(model->is_weighed || (weight == count && count <= model->capacity), "another weight, or more than the capacity");
@@ -591,7 +596,7 @@ static void play_call(struct model *model) {
     case 7:
         require(mini_moka_invalidate_all(&model->cache) == MINI_MOKA_DONE, "not all left");
         for (size_t i = 0; i < KEYS; i++) {
-            model->keys[i].is_there = false;
+            model->keys[i].is_there = model->keys[i].may_remain = false;
             note_invalidation(model, i);
         }
         break;
