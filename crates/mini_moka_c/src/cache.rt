@@ -39,7 +39,7 @@ use std::alloc::Global;
 #[derive(Drop)]
 pub struct ByteCache {
     pub cache: Cache<Key, Value, Seed, ByteWeight>,
-    /// What was counted, and the entries that left and aren't drained.
+    /// Counts of the calls, and entries that left and aren't drained.
     pub leaving: Leaving<Key, Value>,
     // The key that is looked for.
     lookup_key: Key,
@@ -232,8 +232,8 @@ impl ByteCache {
         self.cache.invalidate_all_notifying(&mut self.leaving);
     }
 
-    /// Drains the removed entry that left first: copies its key and its value to the beginnings of the buffers, if both fit, and answers their lengths. If one
-    /// doesn't fit, the entry stays in front.
+    /// Drains the entry that left first, if its key and value fit in the buffers, and returns their lengths. They are copied to the beginnings. If one doesn't fit,
+    /// the entry stays in front.
     pub fn drain(&mut self, keys: &mut [u8], values: &mut [u8]) -> Option<Drained>
         ensures told { result ≡ option_map drained_of (oldest self.old.leaving.removed) }
         ensures key { keys.new ≡ copied_to keys.old (option_map (λ p. p.0)

@@ -7,8 +7,8 @@ use crate::constants::{ABSENT, DONE, TOO_SHORT};
 use crate::handle::Handle;
 use crate::removed::{Drained, number_of};
 
-/// Drains the removed entry that left first: copies its key and its value to the beginnings of the buffers, and writes why it left. If one doesn't fit, the
-/// answer is `TOO_SHORT`, and the entry stays in front. Their lengths are written in both cases. The answer is `ABSENT` if there is none.
+/// Drains the entry that left first. Copies its key and its value to the beginnings of the buffers, and writes the cause. If one doesn't fit, the answer is
+/// `TOO_SHORT`, and the entry stays in front. Their lengths are written in both cases. The answer is `ABSENT` if there is none.
 #[unsafe(no_mangle)]
 pub extern "C" fn mini_moka_removed(
     handle: &mut Handle,
@@ -42,7 +42,7 @@ pub extern "C" fn mini_moka_removed(
     }
 }
 
-/// Writes the lengths of a removed entry. If it fits in buffers of `keys` and `values` bytes, writes why it left and answers `DONE`, else `TOO_SHORT`.
+/// Writes the lengths of a removed entry. If it fits in buffers of `keys` and `values` bytes, writes the cause and answers `DONE`, else `TOO_SHORT`.
 fn tell_drained(
     drained: Option<Drained>,
     keys: usize,

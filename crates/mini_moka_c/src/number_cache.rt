@@ -29,7 +29,7 @@ use moka_unsync::cache::Cache;
 #[derive(Drop)]
 pub struct NumberCache {
     pub cache: Cache<u64, u64>,
-    /// What was counted, and the entries that left and aren't drained.
+    /// Counts of the calls, and entries that left and aren't drained.
     pub leaving: Leaving<u64, u64>,
     walk: Walk,
     // The key that the walk met last.

@@ -1,4 +1,4 @@
-//! What left a cache: it is counted, and kept until the program drains it.
+//! Entries that left a cache: each is counted, and queued until the program drains it.
 ghost use Rattle.std.specs.Prelude.{◌≡◌, IfOk};
 ghost use Rattle.mini_moka_c.specs.Removed.{QueueKeepsItsCapacity, after_leaving, empty_queue, number_of, oldest, queued, without_oldest};
 
@@ -67,7 +67,7 @@ pub struct Leaving<K, V> {
 }
 
 impl<K, V> Leaving<K, V> {
-    /// Returns what a program is told.
+    /// Returns the counts for C.
     pub(crate) fn report(&self) -> Report
         ensures { result ≡ record { statistics = self.now.statistics; lost = self.now.removed.lost } }
     {
@@ -88,7 +88,7 @@ impl<K: Drop, V: Drop> Listener<K, V> for Leaving<K, V> {
     }
 }
 
-/// The lengths of a removed entry's key and value, and why it left.
+/// The lengths of a removed entry's key and value, and its cause.
 #[derive(Clone, Copy, Drop)]
 pub struct Drained {
     pub key: usize,

@@ -84,7 +84,7 @@ impl Statistics {
     }
 }
 
-/// What a program is told: the counts, and how many entries the queue of removed ones has lost.
+/// The counts as C reads them: those of the calls, and of entries that a full queue dropped.
 #[repr(C)]
 #[derive(Clone, Copy, Drop)]
 pub struct Report {

@@ -1,5 +1,6 @@
 // Calls of the cache of segments with a listener.
 use moka_common::error::OutOfMemory;
+use moka_common::hash::FixedState;
 use moka_common::time::Instant;
 use moka_segments::cache::SegmentedCache;
 use moka_segments::notifying_cache::NotifyingCache;
@@ -75,8 +76,8 @@ fn found<R: Wait>(
     ))
 }
 
-/// Returns the counts of what leaves in two sessions: 3 gets another value and 0 is invalidated in one; in the other 2 is chosen by a predicate, 1 is over at 11,
-/// and 3 is left to the end.
+/// Returns the counts of two sessions. In one, 3 gets another value and 0 is invalidated. In the other, a predicate chooses 2, 1 expires at 11, and 3 is left to
+/// the end.
 fn counts<R: Wait>(rt: &R, cache: &Squares) -> Result<[u64; 4], Fail> {
     let mut one = cache.session()?;
     let mut other = cache.session()?;
@@ -95,6 +96,30 @@ fn counts<R: Wait>(rt: &R, cache: &Squares) -> Result<[u64; 4], Fail> {
         late,
         digits(&other.into_listener()),
     ])
+}
+
+/// Returns what calls with a listener beside the session find, and its counts; then those of a session with a listener of its own.
+fn told_beside<R: Wait>(rt: &R, alloc: Global) -> Result<(([Option<u64>; 3], u64), u64), Fail> {
+    let mut session = SegmentedCache::builder(alloc)
+        .max_capacity(4)
+        .build()?
+        .session()?;
+    let mut counts = Statistics::default();
+    session.insert_notifying(rt, 1, 4, at(0), &mut counts)?;
+    session.insert_notifying(rt, 1, 5, at(0), &mut counts)?;
+    let found = [
+        session.get_notifying(rt, &1, at(0), &mut counts)?,
+        session
+            .get_or_insert_notifying(rt, 1, at(0), || 8, &mut counts)
+            .ok(),
+        session
+            .get_or_insert_notifying(rt, 2, at(0), || 9, &mut counts)
+            .ok(),
+    ];
+    let mut told = session.with_listener(Statistics::default());
+    told.insert(rt, 2, 7, at(0))?;
+    told.invalidate(rt, &1, at(0));
+    Ok(((found, digits(&counts)), digits(told.listener())))
 }
 
 /// Inserts keys, from one on, and returns the number of entries that left for want of room or were not let in.
@@ -153,5 +178,26 @@ fn what_leaves_goes_to_the_sessions_listener(rt: HostRuntime) -> Result<(), Fail
 #[test]
 fn threads_are_told_of_all_that_leaves(rt: HostRuntime) -> Result<(), Fail> {
     assert_eq!(rt; left_of_all_inserts(rt, rt.alloc())?, (3700, 300));
+    Ok(())
+}
+
+#[test]
+fn a_call_tells_a_listener_beside_its_session(rt: HostRuntime) -> Result<(), Fail> {
+    let wanted = (([Some(5), Some(5), Some(9)], 10), 110);
+    assert_eq!(rt; told_beside(&rt, rt.alloc())?, wanted);
+    Ok(())
+}
+
+#[test]
+fn a_notifying_session_lists_the_pairs(rt: HostRuntime) -> Result<(), Fail> {
+    let builder = SegmentedCache::builder(rt.alloc())
+        .max_capacity(4)
+        .num_segments(1)
+        .eviction_listener(Statistics::default());
+    let mut session = builder.build_with_hasher(FixedState::new())?.session()?;
+    fill(&rt, &mut session)?;
+    let pairs = session.iter(&rt, rt.alloc(), at(4))?;
+    let wanted: [(u64, u64); 4] = [(0, 0), (1, 1), (2, 4), (3, 9)];
+    assert_eq!(rt; pairs.as_slice(), wanted.as_slice());
     Ok(())
 }
