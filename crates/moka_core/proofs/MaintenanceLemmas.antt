@@ -14,7 +14,7 @@ use Rattle.moka_sync_model.specs.declared.operation.Write.TheVariants.{Remove, U
 use Rattle.moka_sync_model.specs.Entry.{entry_of}
 use Rattle.moka_sync_model.specs.declared.place.Place.TheVariants as name
 use Rattle.moka_sync_model.specs.Place as place
-use Rattle.moka_sync_model.specs.declared.at_hand.Work.{Work}
+use Rattle.moka_sync_model.specs.declared.progress.Work.{Work}
 use Rattle.moka_sync_model.specs.Place.{Place, is_idle, name_of}
 use Rattle.moka_sync_model.specs.CoreState.{CoreState}
 use Rattle.moka_sync_model.specs.Consistent.{IsConsistent}

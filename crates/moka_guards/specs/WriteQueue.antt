@@ -5,8 +5,8 @@ use Rattle.moka_sync_model.specs.declared.operation.Write.{Write}
 -- those in the log, the first one first; and how many have left it together, and may not be applied yet
 pub record WriteQueue : Type 0 where
   pub log : List Write
-  pub at_hand : ℕ
+  pub taken : ℕ
 
 -- how many that are
 abbrev pub on_their_way : WriteQueue → ℕ
-on_their_way queue = length queue.log + queue.at_hand
+on_their_way queue = length queue.log + queue.taken

@@ -20,7 +20,7 @@ use std::marker::Model;
 #[derive(Drop)]
 pub struct WriteQueue<A: Allocator + Clone + Drop = Global> {
     log: WriteLog<A>,
-    at_hand: usize,
+    taken: usize,
 }
 
 impl<A: Allocator + Clone + Drop> Model for WriteQueue<A> {
@@ -30,19 +30,19 @@ impl<A: Allocator + Clone + Drop> Model for WriteQueue<A> {
 
     ghost Value = { QueueState };
 
-    ghost view = { λ q. record { log = q.log; at_hand = q.at_hand } };
+    ghost view = { λ q. record { log = q.log; taken = q.taken } };
 
-    ghost invariant = { λ q. length q.log + q.at_hand ≤ WRITE_LOG_SIZE };
+    ghost invariant = { λ q. length q.log + q.taken ≤ WRITE_LOG_SIZE };
 }
 
 impl<A: Allocator + Clone + Drop> WriteQueue<A> {
     /// An empty one, with room for all that it will hold.
     pub(crate) fn new(alloc: A) -> Result<Self, OutOfMemory>
-        ensures { IfOk result (λ queue. queue ≡ record { log = []; at_hand = 0 }) }
+        ensures { IfOk result (λ queue. queue ≡ record { log = []; taken = 0 }) }
     {
         Ok(WriteQueue {
             log: WriteLog::new(alloc)?,
-            at_hand: 0,
+            taken: 0,
         })
     }
 
@@ -50,7 +50,7 @@ impl<A: Allocator + Clone + Drop> WriteQueue<A> {
     pub fn len(&self) -> usize
         ensures { result ≡ on_their_way self.now }
     {
-        self.log.len() + self.at_hand
+        self.log.len() + self.taken
     }
 
     /// Puts a write behind the others. Answers whether there was room.
@@ -70,18 +70,18 @@ impl<A: Allocator + Clone + Drop> WriteQueue<A> {
         requires { taken.old ≡ [] }
         ensures count { length taken.new ≡ min (min wanted 16) (length self.old.log) }
         ensures taken { taken.new ≡ take (length taken.new) self.old.log }
-        ensures rest { self.new ≡ record { log = drop (length taken.new) self.old.log; at_hand = length taken.new } }
+        ensures rest { self.new ≡ record { log = drop (length taken.new) self.old.log; taken = length taken.new } }
     {
         let before = self.log.len();
         taken.take_batch(&mut self.log, wanted);
-        self.at_hand = before - self.log.len();
+        self.taken = before - self.log.len();
     }
 
     /// Those that were taken are applied.
     pub(crate) fn note_applied(&mut self)
-        ensures { self.new ≡ record self.old { at_hand = 0 } }
+        ensures { self.new ≡ record self.old { taken = 0 } }
     {
-        self.at_hand = 0;
+        self.taken = 0;
     }
 
     /// A turn of the maintenance that looks at the log, where it has applied all that it has taken.
@@ -90,7 +90,7 @@ impl<A: Allocator + Clone + Drop> WriteQueue<A> {
             × (need_of (turn_at {K = K} {V = V} settings valid_after false maintenance.old.place maintenance.old) ≡ NeedsWrites) }
         ensures turn { (settings : SettingsState S) → (valid_after : ℕ)
             → TurnsWithWrites K V settings valid_after false maintenance.old maintenance.new self.old.log self.new.log }
-        ensures applied { self.new.at_hand ≡ 0 }
+        ensures applied { self.new.taken ≡ 0 }
     {
         self.note_applied();
         maintenance.turn_with_writes::<K, V, S>(&mut self.log);

@@ -131,7 +131,7 @@ impl<
             → IsTrue (is_some (unexpired settings.now valid_after now (entry_at K.eq key.now (entries_in self.now.slots)))) }
     {
         let slot = self.shard.find(key, hash);
-        self.shard.counts(slot, settings, valid_after, now)
+        self.shard.is_live(slot, settings, valid_after, now)
     }
 
     /// Puts the value at the key, and returns the ticket of its entry. A key that isn't there is hashed again, since no lock's type says whose hash this is. If
@@ -155,7 +155,7 @@ impl<
         if let Some(slot) = self.shard.find(key.get(), hash) {
             return self.shard.update(slot, key, value, weigher, now);
         }
-        if hash != self.shard.hash_of(key.get()) || !self.shard.is_of(hash) {
+        if hash != self.shard.hash_of(key.get()) || !self.shard.owns(hash) {
             wait_forever(rt);
         }
         self.shard.add(hash, key, value, weigher, now)

@@ -13,7 +13,7 @@ use Rattle.moka_sync_model.specs.declared.place.Place.TheVariants as name
 use Rattle.moka_sync_model.specs.CoreState.{Maintenance}
 use Rattle.moka_sync_model.specs.Parts.{TurnsAlone, TurnsWithReads, TurnsWithWrites}
 use Rattle.moka_sync_model.specs.Place as place
-use Rattle.moka_sync_model.specs.declared.at_hand.Work.{Work}
+use Rattle.moka_sync_model.specs.declared.progress.Work.{Work}
 use Rattle.moka_sync_model.specs.Place.{Idle, is_idle, name_of}
 use Rattle.moka_sync_model.specs.Turn.Plan.{AtReads, AtWrites, gone_to}
 use Rattle.moka_sync_model.specs.Turn.Turn.{after_read_taken, after_write_taken, turn_at}
@@ -70,13 +70,13 @@ given_back w place is idle =
 
 -- a maintenance with these
 abbrev pub holding : List Write → Maintenance → Working
-holding at_hand m = record { maintenance = m; at_hand = at_hand }
+holding batch m = record { maintenance = m; taken = batch }
 
 module _ (K V : Type 0) {S : Type 0} (settings : Settings S) where
   -- a turn that takes no write leaves them
-  pub keeping : (at_hand : List Write) (old new : Maintenance) → (TakesWrite old → ⊥) → length at_hand ≤ writes_left old.place
-      → IsTurn K V settings old new → IsWorkingTurn K V settings (holding at_hand old) (holding at_hand new)
-  keeping at_hand old new other left turn = record {
+  pub keeping : (batch : List Write) (old new : Maintenance) → (TakesWrite old → ⊥) → length batch ≤ writes_left old.place
+      → IsTurn K V settings old new → IsWorkingTurn K V settings (holding batch old) (holding batch new)
+  keeping batch old new other left turn = record {
     turn = turn;
     takes = λ takes. absurd (other takes);
     keeps = λ _. refl;
@@ -84,18 +84,18 @@ module _ (K V : Type 0) {S : Type 0} (settings : Settings S) where
   }
 
   -- it may be all
-  pub keeping_all : (at_hand : List Write) (old new : Maintenance) → (TakesWrite old → ⊥) → length at_hand ≤ writes_left old.place
-      → IsTurn K V settings old new → AreTurns K V settings (holding at_hand old) (holding at_hand new)
-  keeping_all at_hand old new other left turn =
-      OneTurn (holding at_hand old) (holding at_hand new) (keeping at_hand old new other left turn)
+  pub keeping_all : (batch : List Write) (old new : Maintenance) → (TakesWrite old → ⊥) → length batch ≤ writes_left old.place
+      → IsTurn K V settings old new → AreTurns K V settings (holding batch old) (holding batch new)
+  keeping_all batch old new other left turn =
+      OneTurn (holding batch old) (holding batch new) (keeping batch old new other left turn)
 
 -- this was found first of those at hand, if there are any, and these are left of them
 abbrev pub IsFirst : List Write → List Write → Option Write → Type 0
-IsFirst at_hand left found = 0 < length at_hand → (found ≡ slice_get at_hand 0) × (left ≡ drop 1 at_hand)
+IsFirst batch left found = 0 < length batch → (found ≡ slice_get batch 0) × (left ≡ drop 1 batch)
 
 -- a write that is first at hand is the one that is taken
-pub takes_first : (at_hand left : List Write) (found : Option Write) (write : Write) (old : Maintenance)
-    → IsFirst at_hand left found → found ≡ Some write → TakesFirst at_hand old (holding left (having_taken_write write old))
+pub takes_first : (batch left : List Write) (found : Option Write) (write : Write) (old : Maintenance)
+    → IsFirst batch left found → found ≡ Some write → TakesFirst batch old (holding left (having_taken_write write old))
 takes_first [] left found write old first is = tt
 takes_first (next ∷ others) left found write old first is =
     let (there, rest) = first (omega arith) in
@@ -103,7 +103,7 @@ takes_first (next ∷ others) left found write old first is =
     (ap (λ w. having_taken_write w old) same, rest)
 
 -- where none is taken, none was at hand
-pub none_first : (at_hand left : List Write) (found : Option Write) → IsFirst at_hand left found → found ≡ None → at_hand ≡ []
+pub none_first : (batch left : List Write) (found : Option Write) → IsFirst batch left found → found ≡ None → batch ≡ []
 none_first [] left found first is = refl
 none_first (next ∷ others) left found first is =
     let (there, rest) = first (omega arith) in
@@ -199,17 +199,17 @@ module _ (K V : Type 0) {S : Type 0} (settings : Settings S) (m : Maintenance) (
       absurd (cc)
 
   -- two turns, of which the first takes the first of those at hand
-  pub written : (at_hand left : List Write) (found : Option Write) (write : Write) (new : Maintenance) → IsFirst at_hand left found
+  pub written : (batch left : List Write) (found : Option Write) (write : Write) (new : Maintenance) → IsFirst batch left found
       → found ≡ Some write → length left < writes_left m.place → IsTurn K V settings (having_taken_write write m) new
-      → AreTurns K V settings (holding at_hand m) (holding left new)
-  written at_hand left found write new first taken less applied =
+      → AreTurns K V settings (holding batch m) (holding left new)
+  written batch left found write new first taken less applied =
       let is : gone_to (place_with_write write m.place) m ≡ (after_write_taken takes.0 m (write ∷ [])).0 =
       ap (λ p. gone_to (place_with_write write p) m) takes.1 in
-      MoreTurns (holding at_hand m) (holding left (having_taken_write write m)) (holding left new)
+      MoreTurns (holding batch m) (holding left (having_taken_write write m)) (holding left new)
       (ap (λ p. is_idle (place_with_write write p)) takes.1)
       (record {
         turn = subst (IsTurn K V settings m) (sym is) (with_write_log (write ∷ []));
-        takes = λ _. takes_first at_hand left found write m first taken;
+        takes = λ _. takes_first batch left found write m first taken;
         keeps = λ other. absurd (other takes);
         within = within;
       })
@@ -219,12 +219,12 @@ module _ (K V : Type 0) {S : Type 0} (settings : Settings S) (m : Maintenance) (
       within = omega (arith, less, ap writes_left takes.1, ap (λ p. writes_left (place_with_write write p)) takes.1)
 
   -- of which the second applies a removal
-  pub removed : (at_hand left : List Write) (found : Option Write) (valid_after : ℕ) (t : Ticket) (new : Maintenance)
-      → IsFirst at_hand left found → found ≡ Some (Remove t) → length left < writes_left m.place
+  pub removed : (batch left : List Write) (found : Option Write) (valid_after : ℕ) (t : Ticket) (new : Maintenance)
+      → IsFirst batch left found → found ≡ Some (Remove t) → length left < writes_left m.place
       → TurnsAlone K V settings valid_after false (having_taken_write (Remove t) m) new
-      → AreTurns K V settings (holding at_hand m) (holding left new)
-  removed at_hand left found valid_after t new first taken less turn =
-      written at_hand left found (Remove t) new first taken less
+      → AreTurns K V settings (holding batch m) (holding left new)
+  removed batch left found valid_after t new first taken less turn =
+      written batch left found (Remove t) new first taken less
       (alone K V settings valid_after false (having_taken_write (Remove t) m) new turn)
 
 -- ---- turns of a locked cache

@@ -1,4 +1,4 @@
--- What turns of the maintenance do behind its lock, with the writes that it has at hand.
+-- What turns of the maintenance do behind its lock, with the writes that it has taken.
 use Rattle.std.specs.Prelude.{◌≡◌, ◌≤◌, false, List, [], ◌∷◌, length}
 use Rattle.moka_common.specs.Settings.{Settings}
 use Rattle.moka_sync_model.specs.declared.operation.Write.{Write}
@@ -7,27 +7,27 @@ use Rattle.moka_sync_model.specs.Place.{is_idle}
 use Rattle.moka_guards.specs.LockedTurn.{IsTurn}
 use Rattle.moka_maintenance.specs.Taken.{TakesWrite, having_taken_write, writes_left}
 
--- a maintenance, and the writes that have left their log and are not taken yet, the next one first
+-- a maintenance, and the writes taken from their log that are not applied yet, the next one first
 pub record Working : Type 0 where
   pub maintenance : Maintenance
-  pub at_hand : List Write
+  pub taken : List Write
 
--- none is at hand
+-- no write is taken
 abbrev pub empty_handed : Maintenance → Working
-empty_handed m = record { maintenance = m; at_hand = [] }
+empty_handed m = record { maintenance = m; taken = [] }
 
--- a turn that takes a write takes the first of those at hand, and leaves the others there; where there is none, some may leave their log
+-- a turn that takes a write takes the first of those taken from the log, and leaves the others; where there is none, some may leave the log
 abbrev pub TakesFirst : List Write → Maintenance → Working → Type 0
 TakesFirst [] old new = Unit {0}
-TakesFirst (write ∷ others) old new = (new.maintenance ≡ having_taken_write write old) × (new.at_hand ≡ others)
+TakesFirst (write ∷ others) old new = (new.maintenance ≡ having_taken_write write old) × (new.taken ≡ others)
 
 -- one turn with the writes at hand, of which any but one that takes a write leaves all. There are never more of them than its round is
 -- still to take, so none where it ends
 pub record IsWorkingTurn (K V : Type 0) {S : Type 0} (settings : Settings S) (old new : Working) : Type 0 where
   pub turn : IsTurn K V settings old.maintenance new.maintenance
-  pub takes : TakesWrite old.maintenance → TakesFirst old.at_hand old.maintenance new
-  pub keeps : (TakesWrite old.maintenance → ⊥) → new.at_hand ≡ old.at_hand
-  pub within : length new.at_hand ≤ writes_left new.maintenance.place
+  pub takes : TakesWrite old.maintenance → TakesFirst old.taken old.maintenance new
+  pub keeps : (TakesWrite old.maintenance → ⊥) → new.taken ≡ old.taken
+  pub within : length new.taken ≤ writes_left new.maintenance.place
 
 -- one such turn, or several, of which only the last may end the maintenance
 pub data AreTurns (K V : Type 0) {S : Type 0} (settings : Settings S) : Working → Working → Type 0 where

@@ -40,7 +40,7 @@ impl<'a, A: Allocator + Clone + Drop> Model for RunningMaintenance<'a, A> {
 
     ghost Value = { AtWork };
 
-    ghost view = { λ r. record { keeps_writes = r.keeps_writes; working = record { maintenance = r.maintenance.value; at_hand = r.taken } } };
+    ghost view = { λ r. record { keeps_writes = r.keeps_writes; working = record { maintenance = r.maintenance.value; taken = r.taken } } };
 
     ghost invariant = { λ r. (length r.taken ≤ writes_left r.maintenance.value.place) × HasBothOrders r.keeps_writes r.maintenance.value.orders
         × IfSome r.publisher (λ p. IsAccounted r.maintenance.value p.published) };

@@ -5,8 +5,8 @@ use Rattle.std.proofs.lemmas.Bool.{cases_Bool, false≢true}
 use Rattle.std.specs.List.{IsDistinct}
 use Rattle.std.specs.Map.{lookup, keys_of}
 use Rattle.moka_list.specs.Nodes.{first_id}
-use Rattle.moka_sync_model.specs.declared.at_hand.Candidate.{Candidate}
-use Rattle.moka_sync_model.specs.declared.at_hand.Tally.{Tally}
+use Rattle.moka_sync_model.specs.declared.progress.Candidate.{Candidate}
+use Rattle.moka_sync_model.specs.declared.progress.Tally.{Tally}
 use Rattle.moka_sync_model.specs.Place.{Seen}
 use Rattle.moka_sync_model.specs.CoreState.{Maintenance}
 use Rattle.moka_sync_model.specs.declared.ticket.Ticket.{Ticket}
@@ -16,7 +16,7 @@ use Rattle.moka_sync_model.specs.Turn.Admission.{after_rejection, after_removing
 use Rattle.moka_sync_model.specs.Turn.Admission.{after_victim, is_admitted, is_decided, next_if, next_seen, removing_or_enter}
 use Rattle.moka_queues.specs.declared.orders.Node.{Node}
 use Rattle.moka_queues.specs.OrdersState.{OrdersState, access_of, charged, orders_of}
-use Rattle.moka_sync_model.specs.declared.at_hand.Work.{Work}
+use Rattle.moka_sync_model.specs.declared.progress.Work.{Work}
 use Rattle.moka_maintenance.specs.declared.maintenance.place.Scan.{Scan}
 use Rattle.moka_maintenance.specs.declared.maintenance.place.Removal.{Removal}
 use Rattle.moka_maintenance.specs.Held.{Held, IsScanning, IsRemoving}

@@ -19,13 +19,13 @@ use Rattle.moka_sync_model.proofs.TicketLemmas.{cases_ticket}
 use Rattle.moka_sync_model.proofs.OrdersLemmas.{ChangesNode-without, charge_of-without}
 use Rattle.moka_queues.specs.declared.orders.Node.{Node}
 use Rattle.moka_queues.specs.OrdersState.{OrdersState, orders_of}
-use Rattle.moka_sync_model.specs.declared.at_hand.Work.{Work}
-use Rattle.moka_sync_model.specs.declared.at_hand.Candidate.{Candidate}
-use Rattle.moka_sync_model.specs.declared.at_hand.Tally.{Tally}
+use Rattle.moka_sync_model.specs.declared.progress.Work.{Work}
+use Rattle.moka_sync_model.specs.declared.progress.Candidate.{Candidate}
+use Rattle.moka_sync_model.specs.declared.progress.Tally.{Tally}
 use Rattle.moka_maintenance.specs.declared.maintenance.place.Scan.{Scan}
 use Rattle.moka_maintenance.specs.declared.maintenance.place.Removal.{Removal}
 use Rattle.moka_maintenance.specs.declared.maintenance.place.Stage.TheVariants as stage
-use Rattle.moka_maintenance.specs.Held.{IsAtHand, IsScanning, IsRemoving, place_of}
+use Rattle.moka_maintenance.specs.Held.{HoldsIn, IsScanning, IsRemoving, place_of}
 use Rattle.moka_maintenance.specs.Held.{first_seen, first_tickets, seen_node, next_id_if, stage_of_removal}
 use Rattle.moka_maintenance.proofs.NextLemmas.{IsNext, next_of, some_next}
 use Rattle.moka_maintenance.proofs.WalkLemmas.{drop_front}
@@ -97,12 +97,12 @@ removal_place work c t k (suc l) next nodes within = by (drop k nodes) refl
 -- and what holds there
 pub removal_holds : (work : Work) (o : OrdersState) (c : Candidate) (t : Tally) (k l : ℕ) (next : Option ℕ) → work.round ≤ MAX_ROUNDS
     → IsRemoving o (record { candidate = c; tally = t; skipped = k; left = l; next = next })
-    → IsAtHand o (stage_of_removal work (record { candidate = c; tally = t; skipped = k; left = l; next = next }))
+    → HoldsIn o (stage_of_removal work (record { candidate = c; tally = t; skipped = k; left = l; next = next }))
 removal_holds work o c t k Prim.Native.Nat.zero next round s =
     let within : k + 0 ≤ length o.nodes = s.within in
     (round, record { awaited = s.awaited; within = omega (arith, within) })
 removal_holds work o c t k (suc l) next round s =
-    subst (λ b. IsAtHand o (cond b (stage.Enter work c k)
+    subst (λ b. HoldsIn o (cond b (stage.Enter work c k)
     (stage.Removing work (record { candidate = c; tally = t; skipped = k; left = suc l; next = next })))) (sym (unzero l))
     (round, omega arith, s)
 
@@ -138,7 +138,7 @@ module _ (o : OrdersState) (work : Work) (r : Removal) (once : IsDistinct nat_eq
       (left_seen (r.left - 1) (sym fewer) (drop (r.skipped + 1) o.nodes) (ap (λ m. drop m o.nodes) one ∙ next_node.behind) i))
 
   pub skipped_holds : work.round ≤ MAX_ROUNDS → (next : Option ℕ) → next ≡ next_id id o.nodes
-      → IsAtHand o (stage_of_removal work
+      → HoldsIn o (stage_of_removal work
       (record { candidate = r.candidate; tally = r.tally; skipped = r.skipped + 1; left = r.left - 1; next = next }))
   skipped_holds round next next_is =
       let one : r.skipped + 1 ≡ suc r.skipped = omega arith in
@@ -176,7 +176,7 @@ module _ (o : OrdersState) (work : Work) (r : Removal) (once : IsDistinct nat_eq
 
     pub removed_holds : work.round ≤ MAX_ROUNDS → (next : Option ℕ) → next ≡ next_id id o.nodes → o.room ≤ new.room
         → ((n : Node) → lookup (nat_eq id) o.nodes ≡ Some n → orders_of new ≡ without_node n.ticket (orders_of o))
-        → IsAtHand new (stage_of_removal work
+        → HoldsIn new (stage_of_removal work
         (record { candidate = r.candidate; tally = r.tally; skipped = r.skipped; left = r.left - 1; next = next }))
     removed_holds round next next_is room step =
         removal_holds work new r.candidate r.tally r.skipped (r.left - 1) next round (record {

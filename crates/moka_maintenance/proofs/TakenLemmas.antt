@@ -16,7 +16,7 @@ use Rattle.moka_sync_model.specs.Entry.{Entry}
 use Rattle.moka_sync_model.specs.Orders.{charge_of, charged_weight}
 use Rattle.moka_sync_model.specs.Parts.{NeedsShard, TurnsAlone, TurnsAtEntry, need_of}
 use Rattle.moka_sync_model.specs.Place as place
-use Rattle.moka_sync_model.specs.declared.at_hand.Work.{Work}
+use Rattle.moka_sync_model.specs.declared.progress.Work.{Work}
 use Rattle.moka_sync_model.specs.Place.{Place, is_idle}
 use Rattle.moka_sync_model.specs.Turn.Apply.{after_entry, after_first_upsert, after_present_upsert}
 use Rattle.moka_sync_model.specs.Turn.Apply.{after_refusal, after_removal, after_upsert, no_tally}

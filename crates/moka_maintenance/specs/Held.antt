@@ -20,8 +20,8 @@ use Rattle.moka_sync_model.specs.Turn.Admission.{after_removing, after_scan, nex
 use Rattle.moka_sync_model.specs.Turn.Apply.{no_tally}
 use Rattle.moka_queues.specs.declared.orders.Node.{Node}
 use Rattle.moka_queues.specs.OrdersState.{OrdersState, orders_of}
-use Rattle.moka_sync_model.specs.declared.at_hand.Work.{Work}
-use Rattle.moka_sync_model.specs.declared.at_hand.Candidate.{Candidate}
+use Rattle.moka_sync_model.specs.declared.progress.Work.{Work}
+use Rattle.moka_sync_model.specs.declared.progress.Candidate.{Candidate}
 use Rattle.moka_maintenance.specs.declared.maintenance.place.Scan.{Scan}
 use Rattle.moka_maintenance.specs.declared.maintenance.place.Removal.{Removal}
 use Rattle.moka_maintenance.specs.declared.maintenance.place.Stage.{Stage}
@@ -129,25 +129,25 @@ pub record IsEntering (orders : OrdersState) (candidate : Candidate) (skipped : 
   pub within : skipped ≤ length orders.nodes
 
 -- what holds of the orders and of the numbers at a stage
-abbrev pub IsAtHand : OrdersState → Stage → Type 0
-IsAtHand orders (stage.ReadCount round) = round ≤ MAX_ROUNDS
-IsAtHand orders (stage.Reads work) = work.round ≤ MAX_ROUNDS
-IsAtHand orders (stage.ReadApply work read) = work.round ≤ MAX_ROUNDS
-IsAtHand orders (stage.WriteCount round) = round ≤ MAX_ROUNDS
-IsAtHand orders (stage.Writes work) = work.round ≤ MAX_ROUNDS
-IsAtHand orders (stage.Apply work write) = work.round ≤ MAX_ROUNDS
-IsAtHand orders (stage.Scanning work scan) = (work.round ≤ MAX_ROUNDS) × IsScanning orders scan
-IsAtHand orders (stage.Removing work removal) = (work.round ≤ MAX_ROUNDS) × (0 < removal.left) × IsRemoving orders removal
-IsAtHand orders (stage.Enter work candidate skipped) = (work.round ≤ MAX_ROUNDS) × IsEntering orders candidate skipped
-IsAtHand orders (stage.Sketch round) = round ≤ MAX_ROUNDS
-IsAtHand orders (stage.MoreReads round) = round ≤ MAX_ROUNDS
-IsAtHand orders (stage.MoreWrites round) = round < MAX_ROUNDS
-IsAtHand orders other = Unit {0}
+abbrev pub HoldsIn : OrdersState → Stage → Type 0
+HoldsIn orders (stage.ReadCount round) = round ≤ MAX_ROUNDS
+HoldsIn orders (stage.Reads work) = work.round ≤ MAX_ROUNDS
+HoldsIn orders (stage.ReadApply work read) = work.round ≤ MAX_ROUNDS
+HoldsIn orders (stage.WriteCount round) = round ≤ MAX_ROUNDS
+HoldsIn orders (stage.Writes work) = work.round ≤ MAX_ROUNDS
+HoldsIn orders (stage.Apply work write) = work.round ≤ MAX_ROUNDS
+HoldsIn orders (stage.Scanning work scan) = (work.round ≤ MAX_ROUNDS) × IsScanning orders scan
+HoldsIn orders (stage.Removing work removal) = (work.round ≤ MAX_ROUNDS) × (0 < removal.left) × IsRemoving orders removal
+HoldsIn orders (stage.Enter work candidate skipped) = (work.round ≤ MAX_ROUNDS) × IsEntering orders candidate skipped
+HoldsIn orders (stage.Sketch round) = round ≤ MAX_ROUNDS
+HoldsIn orders (stage.MoreReads round) = round ≤ MAX_ROUNDS
+HoldsIn orders (stage.MoreWrites round) = round < MAX_ROUNDS
+HoldsIn orders other = Unit {0}
 
 -- the stage is this place whatever the nodes are
 pub record IsPlain (stage : Stage) (place : Place) : Type 0 where
   pub is : (nodes : List (ℕ × Node)) → place_of nodes stage ≡ place
-  pub holds : (orders : OrdersState) → IsAtHand orders stage
+  pub holds : (orders : OrdersState) → HoldsIn orders stage
 
 module _ {K V : Type 0} where
   -- what a scan plans to do

@@ -58,13 +58,13 @@ pub struct Maintenance<A: Allocator + Clone + Drop = Global> {
 
 impl<A: Allocator + Clone + Drop> Model for Maintenance<A> {
     ghost use Rattle.moka_sync_model.specs.CoreState.{Maintenance as MaintenanceState};
-    ghost use Rattle.moka_maintenance.specs.Held.{IsAtHand, maintenance_of};
+    ghost use Rattle.moka_maintenance.specs.Held.{HoldsIn, maintenance_of};
 
     ghost Value = { MaintenanceState };
 
     ghost view = { λ m. maintenance_of m.state };
 
-    ghost invariant = { λ m. IsAtHand m.state.orders m.state.stage };
+    ghost invariant = { λ m. HoldsIn m.state.orders m.state.stage };
 }
 
 impl<A: Allocator + Clone + Drop> Maintenance<A> {

@@ -131,7 +131,7 @@ impl<K: Eq + Hash + Drop, V: Drop, S: BuildHasher + Drop, A: Allocator + Clone +
     }
 
     /// Returns `true` if keys of this hash belong to this shard.
-    pub fn is_of(&self, hash: u64) -> bool
+    pub fn owns(&self, hash: u64) -> bool
         ensures { IsTrue result ↔ shard_of hash ≡ self.now.number }
     {
         (hash % SHARDS as u64) as usize == self.number
@@ -218,7 +218,7 @@ impl<K: Eq + Hash + Drop, V: Drop, S: BuildHasher + Drop, A: Allocator + Clone +
     }
 
     /// Returns `true` if a search has found a live entry.
-    pub fn counts(
+    pub fn is_live(
         &self,
         slot: Option<usize>,
         settings: &Settings<S, A>,
@@ -263,7 +263,7 @@ impl<K: Eq + Hash + Drop, V: Drop, S: BuildHasher + Drop, A: Allocator + Clone +
         requires { hash ≡ (keys_by K.Hash S.BuildHasher S.Hasher.Hasher).hash_of self.now.hash_state key.now }
         ensures { result ≡ is_some (unexpired settings.now valid_after now (entry_at K.eq key.now (entries_in self.now.slots))) }
     {
-        self.counts(self.find(key, hash), settings, valid_after, now)
+        self.is_live(self.find(key, hash), settings, valid_after, now)
     }
 
     /// Returns the value of a key's live entry, shared, its ticket, and the slot in which it may be found again. The hash must be the key's.
@@ -400,9 +400,9 @@ impl<K: Eq + Hash + Drop, V: Drop, S: BuildHasher + Drop, A: Allocator + Clone +
         let Some(slot) = self.find(key, hash) else {
             return (None, None);
         };
-        let counts = self.counts(Some(slot), settings, valid_after, now);
+        let is_live = self.is_live(Some(slot), settings, valid_after, now);
         let (value, ticket) = self.take_out(slot);
-        if !counts {
+        if !is_live {
             return (None, Some(ticket));
         }
         (Some(value), Some(ticket))

@@ -10,9 +10,9 @@ use Rattle.moka_sync_model.specs.Ticket.{same_ticket, without}
 use Rattle.moka_sync_model.specs.Entry.{Entry, entry_of}
 use Rattle.moka_sync_model.specs.Orders.{Node, without_node, all_used}
 use Rattle.moka_sync_model.specs.Place as place
-use Rattle.moka_sync_model.specs.declared.at_hand.Work.{Work}
-use Rattle.moka_sync_model.specs.declared.at_hand.Candidate.{Candidate}
-use Rattle.moka_sync_model.specs.declared.at_hand.Tally.{Tally}
+use Rattle.moka_sync_model.specs.declared.progress.Work.{Work}
+use Rattle.moka_sync_model.specs.declared.progress.Candidate.{Candidate}
+use Rattle.moka_sync_model.specs.declared.progress.Tally.{Tally}
 use Rattle.moka_sync_model.specs.Place.{Seen}
 use Rattle.moka_sync_model.specs.CoreState.{CoreState}
 use Rattle.moka_common.specs.Settings.{keeps_writes}

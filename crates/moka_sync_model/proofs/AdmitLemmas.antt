@@ -12,8 +12,8 @@ use Rattle.moka_sync_model.specs.Entry.{Entry, entry_of}
 use Rattle.moka_sync_model.specs.declared.operation.Write.TheVariants.{Upsert}
 use Rattle.moka_sync_model.specs.Orders.{Node, charge_of, charged_weight}
 use Rattle.moka_sync_model.specs.Place as place
-use Rattle.moka_sync_model.specs.declared.at_hand.Work.{Work}
-use Rattle.moka_sync_model.specs.declared.at_hand.Candidate.{Candidate}
+use Rattle.moka_sync_model.specs.declared.progress.Work.{Work}
+use Rattle.moka_sync_model.specs.declared.progress.Candidate.{Candidate}
 use Rattle.moka_sync_model.specs.CoreState.{CoreState, Maintenance}
 use Rattle.moka_sync_model.specs.Turn.Plan.{Stays, Outcome, outcome, after_change, after_plan, after_plan_at}
 use Rattle.moka_sync_model.specs.Turn.Apply.{no_tally, after_upsert, after_present_upsert, after_first_upsert, after_entry, after_refusal}

@@ -15,7 +15,7 @@ use Rattle.moka_sync_model.specs.declared.operation.Write.TheVariants.{Upsert, R
 use Rattle.moka_sync_model.specs.Operation.{same_write, count_of, count_pending}
 use Rattle.moka_sync_model.specs.Orders.{Orders, charge_of, is_written, charged_weight, without_node, with_node, used, renewed, recharged}
 use Rattle.moka_sync_model.specs.Place as place
-use Rattle.moka_sync_model.specs.declared.at_hand.Work.{Work}
+use Rattle.moka_sync_model.specs.declared.progress.Work.{Work}
 use Rattle.moka_sync_model.specs.Place.{Place, held}
 use Rattle.moka_sync_model.specs.CoreState.{CoreState}
 use Rattle.moka_common.specs.Settings.{keeps_writes}

@@ -13,9 +13,9 @@ use Rattle.moka_sync_model.specs.declared.operation.Write.{Write}
 use Rattle.moka_sync_model.specs.declared.operation.Write.TheVariants.{Upsert, Remove}
 use Rattle.moka_sync_model.specs.Orders.{Node, Orders, charge_of, charged_weight, used, rewritten}
 use Rattle.moka_sync_model.specs.Place as place
-use Rattle.moka_sync_model.specs.declared.at_hand.Work.{Work}
-use Rattle.moka_sync_model.specs.declared.at_hand.Candidate.{Candidate}
-use Rattle.moka_sync_model.specs.declared.at_hand.Tally.{Tally}
+use Rattle.moka_sync_model.specs.declared.progress.Work.{Work}
+use Rattle.moka_sync_model.specs.declared.progress.Candidate.{Candidate}
+use Rattle.moka_sync_model.specs.declared.progress.Tally.{Tally}
 use Rattle.moka_sync_model.specs.Place.{Place, Seen}
 use Rattle.moka_sync_model.specs.CoreState.{CoreState, Maintenance}
 use Rattle.moka_sync_model.specs.Turn.Plan.{Outcome, Plan, Alone, AtReads, AtWrites, AtEntry, after_plan, reads_or_on, writes_or_on}

@@ -21,8 +21,8 @@ use Rattle.moka_sync_model.specs.declared.operation.Operation.TheVariants.{Readi
 use Rattle.moka_sync_model.specs.Operation.{same_write, count_of, count_in, count_pending}
 use Rattle.moka_sync_model.specs.Orders.{Orders, charge_of}
 use Rattle.moka_sync_model.specs.Place as place
-use Rattle.moka_sync_model.specs.declared.at_hand.Work.{Work}
-use Rattle.moka_sync_model.specs.declared.at_hand.Candidate.{Candidate}
+use Rattle.moka_sync_model.specs.declared.progress.Work.{Work}
+use Rattle.moka_sync_model.specs.declared.progress.Candidate.{Candidate}
 use Rattle.moka_sync_model.specs.Place.{Place, held, is_idle}
 use Rattle.moka_sync_model.specs.CoreState.{CoreState, pending_of, with_pending, without_pending}
 use Rattle.moka_common.specs.Settings.{keeps_writes}

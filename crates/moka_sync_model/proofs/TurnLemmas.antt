@@ -6,7 +6,7 @@ use Rattle.moka_sync_model.specs.declared.constants.TheConstants.{FLUSH_POINT, M
 use Rattle.moka_sync_model.specs.Operation.{count_of, count_pending}
 use Rattle.moka_sync_model.specs.Orders.{used, rewritten}
 use Rattle.moka_sync_model.specs.Place as place
-use Rattle.moka_sync_model.specs.declared.at_hand.Work.{Work}
+use Rattle.moka_sync_model.specs.declared.progress.Work.{Work}
 use Rattle.moka_sync_model.specs.Place.{Place, held}
 use Rattle.moka_sync_model.specs.CoreState.{CoreState, Maintenance}
 use Rattle.moka_sync_model.specs.Turn.Plan.{reads_or_on, writes_or_on, after_plan}

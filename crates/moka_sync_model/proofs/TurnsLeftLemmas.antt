@@ -11,7 +11,7 @@ use Rattle.moka_sync_model.specs.declared.operation.Read.{Read}
 use Rattle.moka_sync_model.specs.declared.operation.Write.{Write}
 use Rattle.moka_sync_model.specs.Orders.{Node, Orders, without_node, with_node, used, recharged, all_used}
 use Rattle.moka_sync_model.specs.Place as place
-use Rattle.moka_sync_model.specs.declared.at_hand.Work.{Work}
+use Rattle.moka_sync_model.specs.declared.progress.Work.{Work}
 use Rattle.moka_sync_model.specs.Place.{Place, held}
 use Rattle.moka_sync_model.specs.TurnsLeft.{round_turns, place_turns, write_cost, nodes_to_come, turns_with}
 use Rattle.moka_sync_model.specs.Queues.{IsRound}

@@ -8,8 +8,8 @@ use Rattle.std.proofs.lemmas.List.Sums.{sum_by-cons}
 use Rattle.moka_common.specs.Prefix.{shortest_prefix}
 use Rattle.moka_sync_model.specs.declared.constants.TheConstants.{MAX_ABSENT}
 use Rattle.moka_sync_model.specs.Orders.{Node}
-use Rattle.moka_sync_model.specs.declared.at_hand.Candidate.{Candidate}
-use Rattle.moka_sync_model.specs.declared.at_hand.Tally.{Tally}
+use Rattle.moka_sync_model.specs.declared.progress.Candidate.{Candidate}
+use Rattle.moka_sync_model.specs.declared.progress.Tally.{Tally}
 use Rattle.moka_sync_model.specs.Turn.Admission.{is_decided, is_admitted}
 
 -- the front that the scan comes to from what it has found, or nothing where it rejects

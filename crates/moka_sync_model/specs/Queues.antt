@@ -10,7 +10,7 @@ use Rattle.moka_sync_model.specs.declared.operation.Read.TheVariants.{Hit, Miss}
 use Rattle.moka_sync_model.specs.declared.ticket.Ticket.{Ticket}
 use Rattle.moka_sync_model.specs.Ticket.{IsToCome, same_ticket}
 use Rattle.moka_sync_model.specs.Place as place
-use Rattle.moka_sync_model.specs.declared.at_hand.Tally.{Tally}
+use Rattle.moka_sync_model.specs.declared.progress.Tally.{Tally}
 use Rattle.moka_sync_model.specs.Place.{Place, Seen}
 use Rattle.moka_sync_model.specs.CoreState.{CoreState}
 

@@ -7,8 +7,8 @@ use Rattle.moka_sync_model.specs.Entry.{Entry}
 use Rattle.moka_sync_model.specs.declared.operation.Write.TheVariants.{Upsert}
 use Rattle.moka_sync_model.specs.Orders.{charge_of, charged_weight}
 use Rattle.moka_sync_model.specs.Place as place
-use Rattle.moka_sync_model.specs.declared.at_hand.Candidate.{Candidate}
-use Rattle.moka_sync_model.specs.declared.at_hand.Tally.{Tally}
+use Rattle.moka_sync_model.specs.declared.progress.Candidate.{Candidate}
+use Rattle.moka_sync_model.specs.declared.progress.Tally.{Tally}
 use Rattle.moka_sync_model.specs.Place.{Place, Seen}
 use Rattle.moka_sync_model.specs.CoreState.{CoreState}
 use Rattle.moka_sync_model.specs.Turn.Admission.{is_admitted, next_seen}

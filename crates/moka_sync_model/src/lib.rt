@@ -2,7 +2,6 @@
 //! such steps.
 #![tactic(auto)]
 
-pub mod at_hand;
 pub mod call;
 pub mod constants;
 pub mod entry;
@@ -11,6 +10,7 @@ pub mod housekeeper;
 pub mod laws;
 pub mod operation;
 pub mod place;
+pub mod progress;
 pub mod published;
 pub mod settings;
 pub mod steps;

@@ -32,8 +32,8 @@ impl<
         taken: &mut TakenWrites,
     )
         requires { length taken.old ≤ writes_left maintenance.old.place }
-        ensures turns { AreTurns K V self.now.settings (record { maintenance = maintenance.old; at_hand = taken.old })
-            (record { maintenance = maintenance.new; at_hand = taken.new }) }
+        ensures turns { AreTurns K V self.now.settings (record { maintenance = maintenance.old; taken = taken.old })
+            (record { maintenance = maintenance.new; taken = taken.new }) }
         ensures left { length taken.new ≤ writes_left maintenance.new.place }
     {
         if maintenance.takes_read() {
@@ -133,8 +133,8 @@ impl<
     )
         requires takes { TakesWrite maintenance.old }
         requires left { length taken.old ≤ writes_left maintenance.old.place }
-        ensures turns { AreTurns K V self.now.settings (record { maintenance = maintenance.old; at_hand = taken.old })
-            (record { maintenance = maintenance.new; at_hand = taken.new }) }
+        ensures turns { AreTurns K V self.now.settings (record { maintenance = maintenance.old; taken = taken.old })
+            (record { maintenance = maintenance.new; taken = taken.new }) }
         ensures left { length taken.new ≤ writes_left maintenance.new.place }
     {
         let Some(write) = self.next_write(rt, maintenance, taken) else {

@@ -5,13 +5,13 @@ ghost use Rattle.moka_common.specs.Settings.{keeps_writes};
 ghost use Rattle.moka_sync_model.specs.Entry.{Entry as EntryState};
 ghost use Rattle.moka_sync_model.specs.Turn.Plan.{Alone, gone_to, moved_on};
 ghost use Rattle.moka_sync_model.specs.Parts.{NeedsNothing, NeedsShard, need_of};
-ghost use Rattle.moka_sync_model.specs.declared.at_hand.Work.{Work};
+ghost use Rattle.moka_sync_model.specs.declared.progress.Work.{Work};
 ghost use Rattle.moka_maintenance.specs.Need.{need_named};
 ghost use Rattle.moka_sync_model.specs.Orders.{without_node};
 ghost use Rattle.moka_sync_model.specs.Turn.Admission.{after_entering, after_finding, after_rejection, after_seeing};
 ghost use Rattle.moka_sync_model.specs.Turn.Admission.{after_victim, is_decided, next_seen, removing_or_enter};
 ghost use Rattle.moka_queues.specs.OrdersState.{AtNode, orders_of};
-ghost use Rattle.moka_maintenance.specs.Held.{IsAtHand, IsEntering, IsRemoving, IsScanning, LooksAt, first_seen, first_tickets};
+ghost use Rattle.moka_maintenance.specs.Held.{HoldsIn, IsEntering, IsRemoving, IsScanning, LooksAt, first_seen, first_tickets};
 ghost use Rattle.moka_maintenance.specs.Held.{maintenance_of, next_id_if, outcome_of, removal_plan, scan_plan, stage_of_removal};
 
 use crate::maintenance::Need;
@@ -20,9 +20,9 @@ use crate::maintenance::place::{Removal, Scan, Stage};
 use crate::maintenance::state::State;
 use crate::maintenance::writes::writes_or_on;
 use moka_list::chain::NodeId;
-use moka_sync_model::at_hand::{Candidate, Tally, Work};
 use moka_sync_model::constants::MAX_ABSENT;
 use moka_sync_model::entry::{Entry, EntryChange};
+use moka_sync_model::progress::{Candidate, Tally, Work};
 use moka_sync_model::settings::Settings;
 use moka_sync_model::ticket::Ticket;
 use std::alloc::Allocator;
@@ -69,7 +69,7 @@ impl<A: Allocator + Clone + Drop> State<A> {
             → AtNode self.old.orders id (λ n. outcome_of EntryChange.Stays self.new
             ≡ after_seeing work scan.candidate scan.tally (first_seen scan.seen self.old.orders.nodes)
             n.ticket (maintenance_of self.old) found) }
-        ensures holds { IsAtHand self.new.orders self.new.stage }
+        ensures holds { HoldsIn self.new.orders self.new.stage }
     {
         let ticket = self.orders.get(id).ticket;
         let tally = self.with_found::<K, V>(scan.tally, ticket, weight);
@@ -117,7 +117,7 @@ impl<A: Allocator + Clone + Drop> State<A> {
         requires scanning { IsScanning self.old.orders scan }
         ensures step { (found : Option (EntryState K V)) → outcome_of result self.new
             ≡ after_rejection work (first_seen scan.seen self.old.orders.nodes) (maintenance_of self.old) found }
-        ensures holds { IsAtHand self.new.orders self.new.stage }
+        ensures holds { HoldsIn self.new.orders self.new.stage }
     {
         requeue_missing(&mut self.orders, scan.seen);
         self.stage = writes_or_on(work);
@@ -130,7 +130,7 @@ impl<A: Allocator + Clone + Drop> State<A> {
         requires scanning { IsScanning self.old.orders scan }
         ensures step { maintenance_of self.new ≡ gone_to (removing_or_enter work scan.candidate scan.tally []
             (first_seen scan.seen self.old.orders.nodes)) (maintenance_of self.old) }
-        ensures holds { IsAtHand self.new.orders self.new.stage }
+        ensures holds { HoldsIn self.new.orders self.new.stage }
     {
         self.stage = removing_or_enter(
             work,
@@ -154,7 +154,7 @@ impl<A: Allocator + Clone + Drop> State<A> {
             ≡ gone_to (removing_or_enter work removal.candidate removal.tally
             (first_tickets removal.skipped self.old.orders.nodes ++ n.ticket ∷ [])
             (drop 1 (first_seen removal.left (drop removal.skipped self.old.orders.nodes)))) (maintenance_of self.old)) }
-        ensures holds { IsAtHand self.new.orders self.new.stage }
+        ensures holds { HoldsIn self.new.orders self.new.stage }
     {
         self.stage = removing_or_enter(
             work,
@@ -179,7 +179,7 @@ impl<A: Allocator + Clone + Drop> State<A> {
             (removing_or_enter work removal.candidate removal.tally
             (first_tickets removal.skipped self.old.orders.nodes)
             (drop 1 (first_seen removal.left (drop removal.skipped self.old.orders.nodes))))) }
-        ensures holds { IsAtHand self.new.orders self.new.stage }
+        ensures holds { HoldsIn self.new.orders self.new.stage }
     {
         let next = self.orders.next(id);
         self.orders.remove(id);
@@ -211,7 +211,7 @@ impl<A: Allocator + Clone + Drop> State<A> {
             ≡ after_victim work removal.candidate removal.tally
             (first_tickets removal.skipped self.old.orders.nodes) (record { ticket = n.ticket; is_present = n.is_present })
             (drop 1 (first_seen removal.left (drop removal.skipped self.old.orders.nodes))) (maintenance_of self.old) (option_copied found.entry)) }
-        ensures holds { IsAtHand self.new.orders self.new.stage }
+        ensures holds { HoldsIn self.new.orders self.new.stage }
     {
         if found.is_none() {
             self.skip(work, removal, id);
@@ -235,7 +235,7 @@ impl<A: Allocator + Clone + Drop> State<A> {
         ensures step { outcome_of result self.new
             ≡ after_entering (keeps_writes settings.now.policy) work candidate
             (first_tickets skipped self.old.orders.nodes) (maintenance_of self.old) (option_copied found.entry) }
-        ensures holds { IsAtHand self.new.orders self.new.stage }
+        ensures holds { HoldsIn self.new.orders self.new.stage }
     {
         let Some(standing) = found else {
             requeue_front(&mut self.orders, skipped);
@@ -278,7 +278,7 @@ impl<A: Allocator + Clone + Drop> State<A> {
         requires need { (t : Ticket) × (need_of (scan_plan {K = K} {V = V} work scan self.old) ≡ NeedsShard t) }
         ensures step { (found : Option (EntryState K V)) → option_map (λ e. e.weight) found ≡ weight
             → LooksAt (scan_plan work scan self.old) found result self.new }
-        ensures holds { IsAtHand self.new.orders self.new.stage }
+        ensures holds { HoldsIn self.new.orders self.new.stage }
     {
         let Some(id) = scan.next_seen() else {
             return self.reject::<K, V>(work, scan);
@@ -310,7 +310,7 @@ impl<A: Allocator + Clone + Drop> State<A> {
         requires removing { IsRemoving self.old.orders removal }
         requires need { need_of (removal_plan {K = K} {V = V} work removal self.old) ≡ NeedsNothing }
         ensures step { removal_plan {K = K} {V = V} work removal self.old ≡ Alone (maintenance_of self.new) }
-        ensures holds { IsAtHand self.new.orders self.new.stage }
+        ensures holds { HoldsIn self.new.orders self.new.stage }
     {
         if let Some(id) = removal.next {
             self.skip(work, removal, id);
@@ -329,7 +329,7 @@ impl<A: Allocator + Clone + Drop> State<A> {
         requires removing { IsRemoving self.old.orders removal }
         requires need { (t : Ticket) × (need_of (removal_plan {K = K} {V = V} work removal self.old) ≡ NeedsShard t) }
         ensures step { LooksAt (removal_plan work removal self.old) (option_copied found.entry) result self.new }
-        ensures holds { IsAtHand self.new.orders self.new.stage }
+        ensures holds { HoldsIn self.new.orders self.new.stage }
     {
         let Some(id) = removal.next else {
             return EntryChange::Stays;

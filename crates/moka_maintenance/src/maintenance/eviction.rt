@@ -4,7 +4,7 @@ ghost use Rattle.moka_sync_model.specs.declared.constants.TheConstants.{SYNC_BAT
 ghost use Rattle.moka_sync_model.specs.Turn.Expiry.{after_eviction, eviction_front};
 ghost use Rattle.moka_queues.specs.OrdersState.{orders_of};
 ghost use Rattle.moka_maintenance.specs.Fronts.{front_of};
-ghost use Rattle.moka_maintenance.specs.Held.{IsAtHand, maintenance_of, outcome_of};
+ghost use Rattle.moka_maintenance.specs.Held.{HoldsIn, maintenance_of, outcome_of};
 
 use crate::maintenance::fronts::{front_ticket, remove_front, touch_front, touch_front_both};
 use crate::maintenance::place::Stage;
@@ -43,7 +43,7 @@ impl<A: Allocator + Clone + Drop> State<A> {
         requires below { turns < SYNC_BATCH_SIZE }
         ensures step { outcome_of result self.new
             ≡ after_eviction turns ticket (maintenance_of self.old) (option_copied found.entry) }
-        ensures holds { IsAtHand self.new.orders self.new.stage }
+        ensures holds { HoldsIn self.new.orders self.new.stage }
     {
         let _ = ticket;
         self.stage = Stage::Evict { turns: turns + 1 };

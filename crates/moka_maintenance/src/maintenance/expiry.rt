@@ -4,7 +4,7 @@ ghost use Rattle.moka_sync_model.specs.Orders.{rewritten, used};
 ghost use Rattle.moka_sync_model.specs.Place.{Evict, ExpireAccess, ExpireWrite};
 ghost use Rattle.moka_sync_model.specs.Turn.Expiry.{access_front, after_front, is_past_tti_or_hidden, is_past_ttl_or_hidden, write_front};
 ghost use Rattle.moka_queues.specs.OrdersState.{orders_of};
-ghost use Rattle.moka_maintenance.specs.Held.{IsAtHand, maintenance_of, outcome_of};
+ghost use Rattle.moka_maintenance.specs.Held.{HoldsIn, maintenance_of, outcome_of};
 
 use crate::maintenance::fronts::{front_ticket, remove_front, remove_ticket, touch_front};
 use crate::maintenance::place::Stage;
@@ -84,7 +84,7 @@ impl<A: Allocator + Clone + Drop> State<A> {
         ensures step { outcome_of result self.new
             ≡ after_front (is_past_ttl_or_hidden settings.now valid_after self.old.moment) rewritten (ExpireWrite (turns + 1)) (ExpireAccess 0)
             ticket (maintenance_of self.old) (option_copied found.entry) }
-        ensures holds { IsAtHand self.new.orders self.new.stage }
+        ensures holds { HoldsIn self.new.orders self.new.stage }
     {
         let Some(entry) = found else {
             self.orders.requeue_oldest_write();
@@ -113,7 +113,7 @@ impl<A: Allocator + Clone + Drop> State<A> {
         ensures step { outcome_of result self.new
             ≡ after_front (is_past_tti_or_hidden settings.now valid_after self.old.moment) used (ExpireAccess (turns + 1)) (Evict 0)
             ticket (maintenance_of self.old) (option_copied found.entry) }
-        ensures holds { IsAtHand self.new.orders self.new.stage }
+        ensures holds { HoldsIn self.new.orders self.new.stage }
     {
         let _ = ticket;
         let Some(entry) = found else {

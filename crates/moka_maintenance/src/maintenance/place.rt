@@ -5,9 +5,9 @@ ghost use Rattle.moka_queues.specs.declared.orders.Node.{Node};
 ghost use Rattle.moka_maintenance.specs.Held.{place_of};
 
 use moka_list::chain::NodeId;
-use moka_sync_model::at_hand::{Candidate, Tally, Work};
 use moka_sync_model::operation::{Read, Write};
 use moka_sync_model::place::Place;
+use moka_sync_model::progress::{Candidate, Tally, Work};
 
 /// A scan from the front of the order of use on. What it has seen is marked in the nodes.
 #[derive(Clone, Copy)]

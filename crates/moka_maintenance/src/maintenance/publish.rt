@@ -2,7 +2,7 @@
 ghost use Rattle.std.specs.Prelude.{◌≡◌};
 ghost use Rattle.moka_sync_model.specs.Place.{Idle};
 ghost use Rattle.moka_sync_model.specs.Turn.Turn.{next_published};
-ghost use Rattle.moka_maintenance.specs.Held.{IsAtHand, maintenance_of};
+ghost use Rattle.moka_maintenance.specs.Held.{HoldsIn, maintenance_of};
 
 use crate::maintenance::place::Stage;
 use crate::maintenance::state::State;
@@ -14,7 +14,7 @@ impl<A: Allocator + Clone + Drop> State<A> {
     pub(crate) fn publish(&mut self)
         ensures step { maintenance_of self.new
             ≡ record (maintenance_of self.old) { place = Idle; published = next_published (maintenance_of self.old) } }
-        ensures holds { IsAtHand self.new.orders self.new.stage }
+        ensures holds { HoldsIn self.new.orders self.new.stage }
     {
         self.published = Published {
             number: self.published.number.saturating_add(1),

@@ -7,7 +7,7 @@ ghost use Rattle.moka_sync_model.specs.Turn.Plan.{gone_to, moved_on, reads_or_on
 ghost use Rattle.moka_sync_model.specs.Turn.Apply.{after_miss};
 ghost use Rattle.moka_sync_model.specs.Turn.Turn.{after_more_reads, after_read_taken};
 ghost use Rattle.moka_queues.specs.OrdersState.{orders_of};
-ghost use Rattle.moka_maintenance.specs.Held.{IsAtHand, IsPlain, maintenance_of};
+ghost use Rattle.moka_maintenance.specs.Held.{HoldsIn, IsPlain, maintenance_of};
 ghost use Rattle.moka_queues.specs.LoggedReads.{reads_of};
 ghost use Rattle.moka_maintenance.specs.Taken.{counted, hash_of_read, having_applied, used_by};
 
@@ -17,9 +17,9 @@ use crate::maintenance::state::State;
 use moka_common::frequency_sketch::FrequencySketch;
 use moka_queues::logs::{LoggedRead, ReadLog};
 use moka_queues::orders::Orders;
-use moka_sync_model::at_hand::Work;
 use moka_sync_model::constants::{FLUSH_POINT, MAX_ROUNDS};
 use moka_sync_model::operation::Read;
+use moka_sync_model::progress::Work;
 use moka_sync_model::ticket::Ticket;
 use std::alloc::Allocator;
 
@@ -91,7 +91,7 @@ impl<A: Allocator + Clone + Drop> State<A> {
         requires { round ≤ MAX_ROUNDS }
         ensures step { maintenance_of self.new
             ≡ gone_to (reads_or_on (record { round = round; left = len })) (maintenance_of self.old) }
-        ensures holds { IsAtHand self.new.orders self.new.stage }
+        ensures holds { HoldsIn self.new.orders self.new.stage }
     {
         self.stage = reads_or_on(Work { round, left: len });
     }
@@ -99,9 +99,9 @@ impl<A: Allocator + Clone + Drop> State<A> {
     /// The first read leaves the log.
     pub(crate) fn take_read(&mut self, work: Work, log: &mut ReadLog<A>)
         requires round { work.round ≤ MAX_ROUNDS }
-        requires holds { IsAtHand self.old.orders self.old.stage }
+        requires holds { HoldsIn self.old.orders self.old.stage }
         ensures step { (maintenance_of self.new, log.new) ≡ after_read_taken work (maintenance_of self.old) log.old }
-        ensures holds { IsAtHand self.new.orders self.new.stage }
+        ensures holds { HoldsIn self.new.orders self.new.stage }
     {
         if let Some(read) = log.pop() {
             self.stage = Stage::ReadApply {
@@ -115,7 +115,7 @@ impl<A: Allocator + Clone + Drop> State<A> {
     pub(crate) fn look_for_reads(&mut self, round: usize, len: usize)
         requires { round ≤ MAX_ROUNDS }
         ensures step { maintenance_of self.new ≡ gone_to (after_more_reads round len) (maintenance_of self.old) }
-        ensures holds { IsAtHand self.new.orders self.new.stage }
+        ensures holds { HoldsIn self.new.orders self.new.stage }
     {
         self.stage = after_more_reads(round, len);
     }
@@ -124,7 +124,7 @@ impl<A: Allocator + Clone + Drop> State<A> {
     pub(crate) fn apply_miss(&mut self, work: Work, hash: u64)
         requires { work.round ≤ MAX_ROUNDS }
         ensures step { maintenance_of self.new ≡ after_miss work hash (maintenance_of self.old) }
-        ensures holds { IsAtHand self.new.orders self.new.stage }
+        ensures holds { HoldsIn self.new.orders self.new.stage }
     {
         self.sketch.increment(hash);
         self.stage = reads_or_on(work);
@@ -135,7 +135,7 @@ impl<A: Allocator + Clone + Drop> State<A> {
         requires { work.round ≤ MAX_ROUNDS }
         ensures step { maintenance_of self.new ≡ moved_on (after_miss work ticket.hash (maintenance_of self.old))
             (used ticket (orders_of self.old.orders)) (reads_or_on work) }
-        ensures holds { IsAtHand self.new.orders self.new.stage }
+        ensures holds { HoldsIn self.new.orders self.new.stage }
     {
         touch_ticket(&mut self.orders, ticket, place);
         self.apply_miss(work, ticket.hash);
@@ -145,7 +145,7 @@ impl<A: Allocator + Clone + Drop> State<A> {
     pub(crate) fn apply_reads(&mut self, work: Work, reads: &[LoggedRead])
         requires { work.round ≤ MAX_ROUNDS }
         ensures step { maintenance_of self.new ≡ having_applied work (reads_of reads.now) (maintenance_of self.old) }
-        ensures holds { IsAtHand self.new.orders self.new.stage }
+        ensures holds { HoldsIn self.new.orders self.new.stage }
     {
         count_hashes(&mut self.sketch, reads);
         use_nodes(&mut self.orders, reads);

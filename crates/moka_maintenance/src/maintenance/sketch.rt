@@ -5,7 +5,7 @@ ghost use Rattle.moka_sync_model.specs.Place.{MoreReads};
 ghost use Rattle.moka_sync_model.specs.Turn.Turn.{load_of};
 ghost use Rattle.moka_queues.specs.OrdersState.{orders_of};
 ghost use Rattle.moka_common.specs.Enabling.{after_enabling};
-ghost use Rattle.moka_maintenance.specs.Held.{IsAtHand, maintenance_of};
+ghost use Rattle.moka_maintenance.specs.Held.{HoldsIn, maintenance_of};
 
 use crate::maintenance::place::Stage;
 use crate::maintenance::state::State;
@@ -22,7 +22,7 @@ impl<A: Allocator + Clone + Drop> State<A> {
           sketch = after_enabling settings.now.policy.max_capacity (load_of settings.now (orders_of self.old.orders)) refused self.old.sketch;
           place = MoreReads round;
         }) }
-        ensures holds { IsAtHand self.new.orders self.new.stage }
+        ensures holds { HoldsIn self.new.orders self.new.stage }
     {
         self.enable_sketch(settings);
         self.stage = Stage::MoreReads { round };

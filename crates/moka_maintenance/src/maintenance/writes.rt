@@ -8,17 +8,17 @@ ghost use Rattle.moka_sync_model.specs.Turn.Apply.{after_first_upsert, after_rem
 ghost use Rattle.moka_sync_model.specs.Parts.{NeedsShard, need_of};
 ghost use Rattle.moka_sync_model.specs.Turn.Turn.{after_more_writes, after_write_taken, write_turn};
 ghost use Rattle.moka_queues.specs.OrdersState.{orders_of};
-ghost use Rattle.moka_maintenance.specs.Held.{IsAtHand, IsPlain, LooksAt, maintenance_of, outcome_of, scan_begun};
+ghost use Rattle.moka_maintenance.specs.Held.{HoldsIn, IsPlain, LooksAt, maintenance_of, outcome_of, scan_begun};
 
 use crate::maintenance::fronts::remove_ticket;
 use crate::maintenance::place::{Scan, Stage};
 use crate::maintenance::state::State;
 use moka_common::limits::Limits;
 use moka_queues::logs::WriteLog;
-use moka_sync_model::at_hand::{Candidate, Tally, Work};
 use moka_sync_model::constants::{FLUSH_POINT, MAX_ROUNDS};
 use moka_sync_model::entry::{Entry, EntryChange};
 use moka_sync_model::operation::Write;
+use moka_sync_model::progress::{Candidate, Tally, Work};
 use moka_sync_model::settings::Settings;
 use moka_sync_model::ticket::Ticket;
 use std::alloc::Allocator;
@@ -61,7 +61,7 @@ impl<A: Allocator + Clone + Drop> State<A> {
         requires { round ≤ MAX_ROUNDS }
         ensures step { maintenance_of self.new
             ≡ gone_to (writes_or_on (record { round = round; left = len })) (maintenance_of self.old) }
-        ensures holds { IsAtHand self.new.orders self.new.stage }
+        ensures holds { HoldsIn self.new.orders self.new.stage }
     {
         self.stage = writes_or_on(Work { round, left: len });
     }
@@ -69,9 +69,9 @@ impl<A: Allocator + Clone + Drop> State<A> {
     /// The first write leaves the log.
     pub(crate) fn take_write(&mut self, work: Work, log: &mut WriteLog<A>)
         requires round { work.round ≤ MAX_ROUNDS }
-        requires holds { IsAtHand self.old.orders self.old.stage }
+        requires holds { HoldsIn self.old.orders self.old.stage }
         ensures step { (maintenance_of self.new, log.new) ≡ after_write_taken work (maintenance_of self.old) log.old }
-        ensures holds { IsAtHand self.new.orders self.new.stage }
+        ensures holds { HoldsIn self.new.orders self.new.stage }
     {
         if let Some(write) = log.pop() {
             self.stage = Stage::Apply {
@@ -85,7 +85,7 @@ impl<A: Allocator + Clone + Drop> State<A> {
     pub(crate) fn look_for_writes(&mut self, round: usize, len: usize)
         requires { round < MAX_ROUNDS }
         ensures step { maintenance_of self.new ≡ gone_to (after_more_writes round len) (maintenance_of self.old) }
-        ensures holds { IsAtHand self.new.orders self.new.stage }
+        ensures holds { HoldsIn self.new.orders self.new.stage }
     {
         self.stage = after_more_writes(round, len);
     }
@@ -94,7 +94,7 @@ impl<A: Allocator + Clone + Drop> State<A> {
     pub(crate) fn apply_removal(&mut self, work: Work, ticket: Ticket)
         requires { work.round ≤ MAX_ROUNDS }
         ensures step { maintenance_of self.new ≡ after_removal work ticket (maintenance_of self.old) }
-        ensures holds { IsAtHand self.new.orders self.new.stage }
+        ensures holds { HoldsIn self.new.orders self.new.stage }
     {
         remove_ticket(&mut self.orders, ticket);
         self.stage = writes_or_on(work);
@@ -112,7 +112,7 @@ impl<A: Allocator + Clone + Drop> State<A> {
         requires { work.round ≤ MAX_ROUNDS }
         ensures step { (refused : Bool) × (outcome_of result self.new
             ≡ after_upsert settings.now refused work ticket (maintenance_of self.old) (option_copied found.entry)) }
-        ensures holds { IsAtHand self.new.orders self.new.stage }
+        ensures holds { HoldsIn self.new.orders self.new.stage }
     {
         let Some(entry) = found else {
             self.stage = writes_or_on(work);
@@ -141,7 +141,7 @@ impl<A: Allocator + Clone + Drop> State<A> {
         ensures step { (refused : Bool) × ((valid_after : ℕ)
             → LooksAt (write_turn settings.now valid_after refused work write (maintenance_of self.old))
             (option_copied found.entry) result self.new) }
-        ensures holds { IsAtHand self.new.orders self.new.stage }
+        ensures holds { HoldsIn self.new.orders self.new.stage }
     {
         match write {
             Write::Upsert { ticket } => self.apply_upsert(settings, work, ticket, found),
@@ -161,7 +161,7 @@ impl<A: Allocator + Clone + Drop> State<A> {
         requires absent { charge_of ticket (orders_of self.old.orders) ≡ None }
         ensures step { (refused : Bool) × (outcome_of result self.new
             ≡ after_first_upsert settings.now refused work ticket entry.now (maintenance_of self.old)) }
-        ensures holds { IsAtHand self.new.orders self.new.stage }
+        ensures holds { HoldsIn self.new.orders self.new.stage }
     {
         let weight = entry.weight();
         if self.orders.reserve(settings.limits()).is_err() {
@@ -191,7 +191,7 @@ impl<A: Allocator + Clone + Drop> State<A> {
         requires absent { charge_of ticket (orders_of self.old.orders) ≡ None }
         ensures step { maintenance_of self.new
             ≡ gone_to (scan_begun work ticket weight self.old.sketch) (maintenance_of self.old) }
-        ensures holds { IsAtHand self.new.orders self.new.stage }
+        ensures holds { HoldsIn self.new.orders self.new.stage }
     {
         // No id stands twice, and there are fewer nodes than 2^64.
         let _ = self.orders.len();

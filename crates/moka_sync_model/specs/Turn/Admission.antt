@@ -6,9 +6,9 @@ use Rattle.moka_sync_model.specs.declared.constants.TheConstants.{MAX_ABSENT}
 use Rattle.moka_sync_model.specs.declared.ticket.Ticket.{Ticket}
 use Rattle.moka_sync_model.specs.Entry.{Entry, with_upsert_done}
 use Rattle.moka_sync_model.specs.Orders.{Node, Orders, without_node, with_node, all_used}
-use Rattle.moka_sync_model.specs.declared.at_hand.Work.{Work}
-use Rattle.moka_sync_model.specs.declared.at_hand.Candidate.{Candidate}
-use Rattle.moka_sync_model.specs.declared.at_hand.Tally.{Tally}
+use Rattle.moka_sync_model.specs.declared.progress.Work.{Work}
+use Rattle.moka_sync_model.specs.declared.progress.Candidate.{Candidate}
+use Rattle.moka_sync_model.specs.declared.progress.Tally.{Tally}
 use Rattle.moka_sync_model.specs.Place.{Place, Seen, Scan, Removing, Enter}
 use Rattle.moka_sync_model.specs.CoreState.{Maintenance}
 use Rattle.moka_sync_model.specs.Turn.Plan.{Stays, Becomes, Leaves, Outcome, outcome, writes_or_on, Plan, Alone, AtEntry, gone_to}

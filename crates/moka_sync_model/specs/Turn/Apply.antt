@@ -5,8 +5,8 @@ use Rattle.moka_common.specs.Sketch.{estimate, after_increment}
 use Rattle.moka_sync_model.specs.declared.ticket.Ticket.{Ticket}
 use Rattle.moka_sync_model.specs.Entry.{Entry, touched, with_upsert_done}
 use Rattle.moka_sync_model.specs.Orders.{charge_of, charged_weight, without_node, with_node, used, renewed, recharged}
-use Rattle.moka_sync_model.specs.declared.at_hand.Work.{Work}
-use Rattle.moka_sync_model.specs.declared.at_hand.Tally.{Tally}
+use Rattle.moka_sync_model.specs.declared.progress.Work.{Work}
+use Rattle.moka_sync_model.specs.declared.progress.Tally.{Tally}
 use Rattle.moka_sync_model.specs.Place.{Scan}
 use Rattle.moka_common.specs.Settings.{Settings, keeps_writes}
 use Rattle.moka_sync_model.specs.CoreState.{Maintenance}

@@ -6,7 +6,7 @@ use Rattle.moka_sync_model.specs.Entry.{Entry, entry_of}
 use Rattle.moka_sync_model.specs.declared.operation.Read.{Read}
 use Rattle.moka_sync_model.specs.declared.operation.Write.{Write}
 use Rattle.moka_sync_model.specs.Orders.{Orders}
-use Rattle.moka_sync_model.specs.declared.at_hand.Work.{Work}
+use Rattle.moka_sync_model.specs.declared.progress.Work.{Work}
 use Rattle.moka_sync_model.specs.Place.{Place, Reads, WriteCount, Writes, Sketch}
 use Rattle.moka_sync_model.specs.CoreState.{CoreState, Maintenance}
 

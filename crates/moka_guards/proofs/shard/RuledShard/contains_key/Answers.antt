@@ -6,10 +6,10 @@ use Rattle.moka_guards.proofs.shard.RuledShard.contains_key.Goals as goal
 pub returns-clause-value : goal.returns-clause-value
 returns-clause-value g c =
     rw (← c.self.view_is) (λ its.
-    c.counts.ensures ∙ ap (λ o. is_some (unexpired c.args.settings.now c.args.valid_after c.args.now o)) (c.find-slot.ensures.value its))
+    c.is_live.ensures ∙ ap (λ o. is_some (unexpired c.args.settings.now c.args.valid_after c.args.now o)) (c.find-slot.ensures.value its))
 
 pub returns-clause-found : goal.returns-clause-found
 returns-clause-found g c =
     rw (← c.self.view_is) (λ said.
     counts_is c.args.settings.now c.args.valid_after c.args.now g.K.PartialEq.eq c.args.key.now c.self.inside.shard.slots c.find-slot.result
-    c.find-slot.ensures.same (sym c.counts.ensures ∙ said))
+    c.find-slot.ensures.same (sym c.is_live.ensures ∙ said))

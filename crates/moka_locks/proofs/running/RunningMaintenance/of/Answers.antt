@@ -12,7 +12,7 @@ returns-clause-begun g c =
     let old = c.idle.inside.maintenance.value in
     let begun : Maintenance → Maintenance = λ m. record m { place = ReadCount 1; moment = c.args.now } in
     let at_work : Maintenance → List Write → AtWork =
-    λ m writes. record { keeps_writes = keeps; working = record { maintenance = m; at_hand = writes } } in
+    λ m writes. record { keeps_writes = keeps; working = record { maintenance = m; taken = writes } } in
     let is : c.begin.new.self ≡ begun old = c.begin.ensures ∙ ap begun c.deref_mut.ensures.value in (
       record { keeps_writes = keeps; working = empty_handed old },
       c.idle.view_is,

@@ -9,15 +9,15 @@ use Rattle.moka_locks.proofs.running.RunningMaintenance.turn.Goals as goal
 
 -- the maintenance before its turns, and after them
 abbrev before : (g : Over) (c : After-place g) → Working
-before g c = record { maintenance = c.self.inside.maintenance.value; at_hand = c.self.inside.taken }
+before g c = record { maintenance = c.self.inside.maintenance.value; taken = c.self.inside.taken }
 
 abbrev after : (g : Over) (c : After-place g) → Working
-after g c = record { maintenance = c.turn.new.maintenance; at_hand = c.turn.new.taken }
+after g c = record { maintenance = c.turn.new.maintenance; taken = c.turn.new.taken }
 
 -- the turns between
 turns : (g : Over) (c : After-place g) → AreTurns g.row.K.Denot g.row.V.Denot c.args.inner.now.settings (before g c) (after g c)
 turns g c =
-    subst (λ m. AreTurns g.row.K.Denot g.row.V.Denot c.args.inner.now.settings (record { maintenance = m; at_hand = c.self.inside.taken })
+    subst (λ m. AreTurns g.row.K.Denot g.row.V.Denot c.args.inner.now.settings (record { maintenance = m; taken = c.self.inside.taken })
     (after g c)) c.deref_mut.ensures.value c.turn.ensures.turns
 
 -- the turns were by settings with a time to live, where the flag says so

@@ -8,7 +8,7 @@ use Rattle.moka_maintenance.proofs.maintenance.state.State.need_of_removal.Goals
 
 pub get-node-requires : goal.get-node-requires
 get-node-requires g c =
-    let work : Rattle.moka_sync_model.specs.declared.at_hand.Work.Work = record { round = 0; left = 0 } in
+    let work : Rattle.moka_sync_model.specs.declared.progress.Work.Work = record { round = 0; left = 0 } in
     let once = c.requires.removing.counted.distinct in
     let held = c.args.self.now in
     subst (λ (v : Held). IsIn v.orders.nodes c.in-Some.id) (sym c.self.view_is)

@@ -8,7 +8,7 @@ use Rattle.moka_maintenance.proofs.maintenance.state.State.need_of_scan.Goals as
 
 pub get-requires : goal.get-requires
 get-requires g c =
-    let work : Rattle.moka_sync_model.specs.declared.at_hand.Work.Work = record { round = 0; left = 0 } in
+    let work : Rattle.moka_sync_model.specs.declared.progress.Work.Work = record { round = 0; left = 0 } in
     let once = c.requires.counted.distinct in
     let held = c.args.self.now in
     let is = sym c.next_seen.ensures ∙ c.in-Some.is in

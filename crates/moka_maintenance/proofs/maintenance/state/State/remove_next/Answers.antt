@@ -1,5 +1,5 @@
 use Rattle.std.proofs.Common.{ap, is_some, subst, sym}
-use Rattle.moka_maintenance.specs.Held.{IsAtHand, IsRemoving, Held}
+use Rattle.moka_maintenance.specs.Held.{HoldsIn, IsRemoving, Held}
 use Rattle.moka_maintenance.proofs.ScanLemmas.{next_node, removed_place, removed_holds}
 use Rattle.moka_maintenance.proofs.maintenance.state.State.remove_next.Goals as goal
 
@@ -32,7 +32,7 @@ returns-clause-step g c =
 pub returns-clause-holds : goal.returns-clause-holds
 returns-clause-holds g c =
     let s = subst (λ (v : Held). IsRemoving v.orders c.args.removal) (sym c.self.view_is) c.requires.removing in
-    subst (IsAtHand c.remove.new.self) (sym c.removing_or_enter-self-inside.ensures)
+    subst (HoldsIn c.remove.new.self) (sym c.removing_or_enter-self-inside.ensures)
     (removed_holds c.self.inside.orders c.args.work c.args.removal s.counted.distinct s c.requires.left c.args.id c.requires.next
     c.remove.new.self c.remove.ensures.nodes c.requires.round c.next-next.result c.next-next.ensures c.remove.ensures.room
     c.remove.ensures.orders)

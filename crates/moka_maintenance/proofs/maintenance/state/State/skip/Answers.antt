@@ -1,6 +1,6 @@
 use Rattle.std.proofs.Common.{ap, is_some, subst, sym}
 use Rattle.moka_sync_model.specs.Turn.Plan.{gone_to}
-use Rattle.moka_maintenance.specs.Held.{IsAtHand, IsRemoving, Held, maintenance_of}
+use Rattle.moka_maintenance.specs.Held.{HoldsIn, IsRemoving, Held, maintenance_of}
 use Rattle.moka_maintenance.proofs.ScanLemmas.{next_node, skipped_place, skipped_holds}
 use Rattle.moka_maintenance.proofs.maintenance.state.State.skip.Goals as goal
 
@@ -29,6 +29,6 @@ returns-clause-step g c =
 pub returns-clause-holds : goal.returns-clause-holds
 returns-clause-holds g c =
     let s = subst (λ (v : Held). IsRemoving v.orders c.args.removal) (sym c.self.view_is) c.requires.removing in
-    subst (IsAtHand c.self.inside.orders) (sym c.removing_or_enter-self-inside.ensures)
+    subst (HoldsIn c.self.inside.orders) (sym c.removing_or_enter-self-inside.ensures)
     (skipped_holds c.self.inside.orders c.args.work c.args.removal s.counted.distinct s c.requires.left c.args.id c.requires.next
     c.requires.round c.next.result c.next.ensures)
