@@ -293,7 +293,7 @@ fn turn_with_shard<
     ensures valid { IsValidShard (keys_by K.Hash S.BuildHasher S.Hasher.Hasher) (state_of shard.new) }
 {
     let slot = shard.find_ticket(ticket);
-    let change = maintenance.turn_at_entry(settings, valid_after, shard.entry(slot));
+    let change = maintenance.turn_at_entry(settings, valid_after, ticket, shard.entry(slot));
     shard.change(slot, change);
 }
 

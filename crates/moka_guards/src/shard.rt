@@ -226,7 +226,7 @@ impl<
     {
         let slot = self.shard.find_ticket(ticket);
         let found = self.shard.entry(slot);
-        let change = maintenance.turn_at_entry(settings, valid_after, found);
+        let change = maintenance.turn_at_entry(settings, valid_after, ticket, found);
         self.shard.change(slot, change);
     }
 

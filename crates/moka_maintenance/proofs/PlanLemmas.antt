@@ -1,17 +1,19 @@
 -- What a scan and the removals need, by what the orders keep of them.
 use Rattle.std.proofs.Common.{◌≡◌, ◌<◌, ◌≤◌, ℕ, suc, Bool, true, false, cond, nat_eq, List, [], ◌∷◌, ◌++◌, drop, length}
-use Rattle.std.proofs.Common.{Some, None, is_some, unwrap_or, refl, sym, ap, ◌∙◌, arith, inl, inr}
+use Rattle.std.proofs.Common.{Option, Some, None, is_some, unwrap_or, refl, sym, ap, ◌∙◌, arith, inl, inr}
 use Rattle.std.proofs.lemmas.Bool.{cases_Bool, false≢true}
 use Rattle.std.specs.List.{IsDistinct}
 use Rattle.std.specs.Map.{lookup, keys_of}
 use Rattle.moka_list.specs.Nodes.{first_id}
 use Rattle.moka_sync_model.specs.declared.progress.Candidate.{Candidate}
 use Rattle.moka_sync_model.specs.declared.progress.Tally.{Tally}
-use Rattle.moka_sync_model.specs.Place.{Seen}
+use Rattle.moka_sync_model.specs.Entry.{Entry}
+use Rattle.moka_sync_model.specs.Place.{Place, Seen}
 use Rattle.moka_sync_model.specs.CoreState.{Maintenance}
 use Rattle.moka_sync_model.specs.declared.ticket.Ticket.{Ticket}
 use Rattle.moka_sync_model.specs.Parts.{NeedsNothing, NeedsShard, need_of}
-use Rattle.moka_sync_model.specs.Turn.Plan.{Alone, AtEntry, gone_to}
+use Rattle.moka_sync_model.specs.Turn.Expiry.{after_pass}
+use Rattle.moka_sync_model.specs.Turn.Plan.{Alone, AtEntry, Outcome, gone_to}
 use Rattle.moka_sync_model.specs.Turn.Admission.{after_rejection, after_removing, after_scan, after_seeing, after_verdict}
 use Rattle.moka_sync_model.specs.Turn.Admission.{after_victim, is_admitted, is_decided, next_if, next_seen, removing_or_enter}
 use Rattle.moka_queues.specs.declared.orders.Node.{Node}
@@ -22,9 +24,11 @@ use Rattle.moka_maintenance.specs.declared.maintenance.place.Removal.{Removal}
 use Rattle.moka_maintenance.specs.Held.{Held, IsScanning, IsRemoving}
 use Rattle.moka_maintenance.specs.Held.{first_seen, first_tickets, maintenance_of, next_id_if, removal_plan}
 use Rattle.moka_maintenance.specs.Held.{place_of, scan_plan}
+use Rattle.moka_maintenance.specs.declared.maintenance.place.Stage.{Stage}
 use Rattle.moka_maintenance.specs.declared.maintenance.place.Stage.TheVariants as stage
 use Rattle.moka_common.specs.Settings.{Settings}
 use Rattle.moka_sync_model.specs.declared.operation.Write.{Write}
+use Rattle.moka_sync_model.specs.declared.operation.Write.TheVariants.{Remove, Upsert}
 use Rattle.moka_sync_model.specs.Turn.Turn.{turn_at, write_turn}
 use Rattle.moka_maintenance.proofs.ScanLemmas.{next_node, next_parts, scanned_node}
 use Rattle.moka_maintenance.proofs.NextLemmas.{some_next}
@@ -236,3 +240,23 @@ pub write_plan : (K V : Type 0) {S : Type 0} (settings : Settings S) (valid_afte
     ≡ write_turn settings valid_after refused work write (maintenance_of held)
 write_plan K V settings valid_after refused held work write is =
     ap (λ s. turn_at {K = K} {V = V} settings valid_after refused (place_of held.orders.nodes s) (maintenance_of held)) is
+
+module _ (K V : Type 0) {S : Type 0} (settings : Settings S) (valid_after : ℕ) (held : Held) (t : Ticket) where
+  -- what a turn needs, by its stage
+  pub need_at : (s : Stage) → held.stage ≡ s
+      → need_of (turn_at {K = K} {V = V} settings valid_after false (maintenance_of held).place (maintenance_of held)) ≡ NeedsShard t
+      → need_of (turn_at {K = K} {V = V} settings valid_after false (place_of held.orders.nodes s) (maintenance_of held)) ≡ NeedsShard t
+  need_at s is need =
+      ap (λ x. need_of (turn_at {K = K} {V = V} settings valid_after false (place_of held.orders.nodes x) (maintenance_of held))) (sym is) ∙ need
+
+  -- a write that needs a ticket's entry is an upsert of it
+  pub upsert_by_need : (work : Work) (write : Write)
+      → need_of (write_turn {K = K} {V = V} settings valid_after false work write (maintenance_of held)) ≡ NeedsShard t → write ≡ Upsert t
+  upsert_by_need work (Upsert u) need = ap Upsert (cc)
+  upsert_by_need work (Remove u) need = absurd (cc)
+
+-- a turn at a front that needs a ticket's entry has that ticket there
+pub front_by_need : (K V : Type 0) (t : Ticket) (m : Maintenance) (front : Option Ticket) (done : Place)
+    (looks : Ticket → Maintenance → Option (Entry K V) → Outcome K V) → need_of (after_pass front done looks m) ≡ NeedsShard t → front ≡ Some t
+front_by_need K V t m None done looks need = absurd (cc)
+front_by_need K V t m (Some u) done looks need = ap Some (cc)

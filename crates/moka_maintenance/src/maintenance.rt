@@ -336,15 +336,15 @@ impl<A: Allocator + Clone + Drop> Maintenance<A> {
         }
     }
 
-    /// A turn that needs the entry of a ticket, which is given where it stands. What becomes of it is for the owner of the entry to do.
+    /// A turn that needs the entry of this ticket, as `need` says. The entry is given if it stands. What becomes of it is for its owner to do.
     pub fn turn_at_entry<K: Drop, V: Drop, S: Drop>(
         &mut self,
         settings: &Settings<S, A>,
         valid_after: Instant,
+        ticket: Ticket,
         found: Option<&Entry<K, V, A>>,
     ) -> EntryChange
-        requires { (t : Ticket)
-            × (need_of (turn_at {K = K} {V = V} settings.now valid_after false self.old.place self.old) ≡ NeedsShard t) }
+        requires { need_of (turn_at {K = K} {V = V} settings.now valid_after false self.old.place self.old) ≡ NeedsShard ticket }
         ensures { (refused : Bool)
             × TurnsAtEntry K V settings.now valid_after refused self.old self.new (option_copied found.entry) result }
     {
@@ -356,7 +356,7 @@ impl<A: Allocator + Clone + Drop> Maintenance<A> {
                 }
                 Read::Miss { .. } => EntryChange::Stays,
             },
-            Stage::Apply { work, write } => self.state.apply_write(settings, work, write, found),
+            Stage::Apply { work, .. } => self.state.apply_upsert(settings, work, ticket, found),
             Stage::Scanning { work, scan } => {
                 self.state.scan::<K, V>(work, scan, weight_of(found))
             }
@@ -366,25 +366,14 @@ impl<A: Allocator + Clone + Drop> Maintenance<A> {
                 candidate,
                 skipped,
             } => self.state.enter(settings, work, candidate, skipped, found),
-            Stage::ExpireWrite { turns } => match self.state.write_front(settings, turns) {
-                Some(ticket) => self
-                    .state
-                    .expire_write(settings, valid_after, turns, ticket, found),
-                None => EntryChange::Stays,
-            },
-            Stage::ExpireAccess { turns } => match self
+            Stage::ExpireWrite { turns } => self
                 .state
-                .access_front(settings, valid_after, turns)
-            {
-                Some(ticket) => self
-                    .state
-                    .expire_access(settings, valid_after, turns, ticket, found),
-                None => EntryChange::Stays,
-            },
-            Stage::Evict { turns } => match self.state.eviction_front(settings, turns) {
-                Some(ticket) => self.state.evict(turns, ticket, found),
-                None => EntryChange::Stays,
-            },
+                .expire_write(settings, valid_after, turns, ticket, found),
+            Stage::ExpireAccess { turns } => {
+                self.state
+                    .expire_access(settings, valid_after, turns, found)
+            }
+            Stage::Evict { turns } => self.state.evict(turns, found),
             _ => EntryChange::Stays,
         }
     }

@@ -1,5 +1,5 @@
 // The turns that evict entries while more is charged than the limit.
-ghost use Rattle.std.specs.Prelude.{◌≡◌, ◌<◌, ◌+◌, Some, option_copied};
+ghost use Rattle.std.specs.Prelude.{◌≡◌, ◌<◌, ◌+◌, IsSome, Some, option_copied};
 ghost use Rattle.moka_sync_model.specs.declared.constants.TheConstants.{SYNC_BATCH_SIZE};
 ghost use Rattle.moka_sync_model.specs.Turn.Expiry.{after_eviction, eviction_front};
 ghost use Rattle.moka_queues.specs.OrdersState.{orders_of};
@@ -36,16 +36,14 @@ impl<A: Allocator + Clone + Drop> State<A> {
     pub(crate) fn evict<K: Drop, V: Drop>(
         &mut self,
         turns: usize,
-        ticket: Ticket,
         found: Option<&Entry<K, V, A>>,
     ) -> EntryChange
-        requires front { front_of self.old.orders ≡ Some ticket }
         requires below { turns < SYNC_BATCH_SIZE }
-        ensures step { outcome_of result self.new
-            ≡ after_eviction turns ticket (maintenance_of self.old) (option_copied found.entry) }
+        requires front { IsSome (front_of self.old.orders) }
+        ensures step { (ticket : Ticket) → front_of self.old.orders ≡ Some ticket
+            → outcome_of result self.new ≡ after_eviction turns ticket (maintenance_of self.old) (option_copied found.entry) }
         ensures holds { HoldsIn self.new.orders self.new.stage }
     {
-        let _ = ticket;
         self.stage = Stage::Evict { turns: turns + 1 };
         let Some(entry) = found else {
             touch_front(&mut self.orders);

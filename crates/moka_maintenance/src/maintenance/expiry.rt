@@ -1,5 +1,5 @@
 // The turns at the front of an order by which entries expire.
-ghost use Rattle.std.specs.Prelude.{◌≡◌, ◌+◌, Some, option_copied};
+ghost use Rattle.std.specs.Prelude.{◌≡◌, ◌+◌, IsSome, Some, option_copied};
 ghost use Rattle.moka_sync_model.specs.Orders.{rewritten, used};
 ghost use Rattle.moka_sync_model.specs.Place.{Evict, ExpireAccess, ExpireWrite};
 ghost use Rattle.moka_sync_model.specs.Turn.Expiry.{access_front, after_front, is_past_tti_or_hidden, is_past_ttl_or_hidden, write_front};
@@ -106,16 +106,15 @@ impl<A: Allocator + Clone + Drop> State<A> {
         settings: &Settings<S, A>,
         valid_after: Instant,
         turns: usize,
-        ticket: Ticket,
         found: Option<&Entry<K, V, A>>,
     ) -> EntryChange
-        requires { access_front settings.now valid_after turns (orders_of self.old.orders) ≡ Some ticket }
-        ensures step { outcome_of result self.new
+        requires { IsSome (access_front settings.now valid_after turns (orders_of self.old.orders)) }
+        ensures step { (ticket : Ticket) → access_front settings.now valid_after turns (orders_of self.old.orders) ≡ Some ticket
+            → outcome_of result self.new
             ≡ after_front (is_past_tti_or_hidden settings.now valid_after self.old.moment) used (ExpireAccess (turns + 1)) (Evict 0)
             ticket (maintenance_of self.old) (option_copied found.entry) }
         ensures holds { HoldsIn self.new.orders self.new.stage }
     {
-        let _ = ticket;
         let Some(entry) = found else {
             touch_front(&mut self.orders);
             self.stage = Stage::ExpireAccess { turns: turns + 1 };

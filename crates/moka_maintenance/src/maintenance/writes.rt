@@ -5,10 +5,9 @@ ghost use Rattle.moka_sync_model.specs.declared.constants.TheConstants.{MAX_ROUN
 ghost use Rattle.moka_sync_model.specs.Orders.{charge_of};
 ghost use Rattle.moka_sync_model.specs.Turn.Plan.{gone_to, writes_or_on};
 ghost use Rattle.moka_sync_model.specs.Turn.Apply.{after_first_upsert, after_removal, after_upsert};
-ghost use Rattle.moka_sync_model.specs.Parts.{NeedsShard, need_of};
-ghost use Rattle.moka_sync_model.specs.Turn.Turn.{after_more_writes, after_write_taken, write_turn};
+ghost use Rattle.moka_sync_model.specs.Turn.Turn.{after_more_writes, after_write_taken};
 ghost use Rattle.moka_queues.specs.OrdersState.{orders_of};
-ghost use Rattle.moka_maintenance.specs.Held.{HoldsIn, IsPlain, LooksAt, maintenance_of, outcome_of, scan_begun};
+ghost use Rattle.moka_maintenance.specs.Held.{HoldsIn, IsPlain, maintenance_of, outcome_of, scan_begun};
 
 use crate::maintenance::fronts::remove_ticket;
 use crate::maintenance::place::{Scan, Stage};
@@ -125,28 +124,6 @@ impl<A: Allocator + Clone + Drop> State<A> {
         self.orders.touch_both(id);
         self.stage = writes_or_on(work);
         EntryChange::UpsertDone
-    }
-
-    /// The turn of a write that needs an entry.
-    pub(crate) fn apply_write<K: Drop, V: Drop, S: Drop>(
-        &mut self,
-        settings: &Settings<S, A>,
-        work: Work,
-        write: Write,
-        found: Option<&Entry<K, V, A>>,
-    ) -> EntryChange
-        requires round { work.round ≤ MAX_ROUNDS }
-        requires need { (valid_after : ℕ) × (t : Ticket)
-            × (need_of (write_turn {K = K} {V = V} settings.now valid_after false work write (maintenance_of self.old)) ≡ NeedsShard t) }
-        ensures step { (refused : Bool) × ((valid_after : ℕ)
-            → LooksAt (write_turn settings.now valid_after refused work write (maintenance_of self.old))
-            (option_copied found.entry) result self.new) }
-        ensures holds { HoldsIn self.new.orders self.new.stage }
-    {
-        match write {
-            Write::Upsert { ticket } => self.apply_upsert(settings, work, ticket, found),
-            Write::Remove { .. } => EntryChange::Stays,
-        }
     }
 
     /// The upsert of an entry that isn't charged. Room for its node is made before its admission is asked.
