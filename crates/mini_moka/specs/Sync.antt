@@ -25,7 +25,7 @@ pub use Rattle.moka_sync_model.specs.Weights
 pub use Rattle.moka_sync_model.specs.CallLaws
 pub use Rattle.moka_core.specs.Core
 pub use Rattle.moka_sync.specs.Builder
-pub use Rattle.moka_guards.specs.Rule
+pub use Rattle.moka_shard.specs.Rule
 pub use Rattle.moka_locks.specs.Cache
 pub use Rattle.moka_locks.specs.Locked
 pub use Rattle.moka_locks.specs.Snapshot

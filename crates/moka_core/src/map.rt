@@ -26,6 +26,7 @@ use moka_common::shared::Shared;
 use moka_common::time::Instant;
 use moka_maintenance::maintenance::Maintenance;
 use moka_queues::logs::LoggedRead;
+use moka_shard::rule::AnyPair;
 use moka_shard::shard::Shard;
 use moka_sync_model::constants::SHARDS;
 use moka_sync_model::operation::Read;
@@ -45,7 +46,7 @@ pub struct Map<
     A: Allocator + Clone + Drop = Global,
 > {
     settings: Settings<S, A>,
-    shards: Vec<Shard<K, V, S, A>, A>,
+    shards: Vec<Shard<K, V, S, AnyPair, A>, A>,
 }
 
 impl<K: Eq + Hash + Drop, V: Drop, S: BuildHasher + Drop, A: Allocator + Clone + Drop> Model
@@ -282,7 +283,7 @@ fn turn_with_shard<
     A: Allocator + Clone + Drop,
 >(
     maintenance: &mut Maintenance<A>,
-    shard: &mut Shard<K, V, S, A>,
+    shard: &mut Shard<K, V, S, AnyPair, A>,
     ticket: Ticket,
     settings: &Settings<S, A>,
     valid_after: Instant,
@@ -304,7 +305,7 @@ fn scan_with_shard<
     V: Drop,
     S: BuildHasher + Drop,
     A: Allocator + Clone + Drop,
->(maintenance: &mut Maintenance<A>, shard: &mut Shard<K, V, S, A>, ticket: Ticket)
+>(maintenance: &mut Maintenance<A>, shard: &mut Shard<K, V, S, AnyPair, A>, ticket: Ticket)
     requires scans { IsScan maintenance.old.place }
     requires need { (settings : SettingsState S) × (valid_after : ℕ)
         × (need_of (turn_at {K = K} {V = V} settings valid_after false maintenance.old.place maintenance.old) ≡ NeedsShard ticket) }
@@ -322,7 +323,7 @@ fn scan_with_shard<
 #[inline(always)]
 fn apply_upsert<K: Eq + Hash + Drop, V: Drop, S: BuildHasher + Drop, A: Allocator + Clone + Drop>(
     maintenance: &mut Maintenance<A>,
-    shard: &mut Shard<K, V, S, A>,
+    shard: &mut Shard<K, V, S, AnyPair, A>,
     ticket: Ticket,
     settings: &Settings<S, A>,
 )
@@ -347,7 +348,7 @@ fn shards_as_built<
     alloc: A,
     hash_state: &Shared<S, A>,
     capacity: usize,
-) -> Result<Vec<Shard<K, V, S, A>, A>, OutOfMemory>
+) -> Result<Vec<Shard<K, V, S, AnyPair, A>, A>, OutOfMemory>
     ensures own { IfOk result (λ shards.
         AreOwn (keys_by K.Hash S.BuildHasher S.Hasher.Hasher) hash_state.now (states_of shards.items)) }
     ensures empty { IfOk result (λ shards. entries_of (states_of shards.items) ≡ []) }
@@ -363,7 +364,7 @@ fn shards_as_built<
 
 /// Each shard gives out the numbers from this one on.
 fn start_all_at<K: Eq + Hash + Drop, V: Drop, S: BuildHasher + Drop, A: Allocator + Clone + Drop>(
-    shards: &mut Vec<Shard<K, V, S, A>, A>,
+    shards: &mut Vec<Shard<K, V, S, AnyPair, A>, A>,
     first: u64,
 )
     requires { All (λ shard. entries_in shard.slots ≡ []) shards.old.items }
@@ -376,7 +377,7 @@ fn start_all_at<K: Eq + Hash + Drop, V: Drop, S: BuildHasher + Drop, A: Allocato
 
 /// Returns `true` if no shard has an entry, and each gives out this number next.
 fn are_as_built<K: Eq + Hash + Drop, V: Drop, S: BuildHasher + Drop, A: Allocator + Clone + Drop>(
-    shards: &[Shard<K, V, S, A>],
+    shards: &[Shard<K, V, S, AnyPair, A>],
     number: u64,
 ) -> bool
     ensures { IsTrue result ↔ All (λ shard. IsAsBuilt number (state_of shard)) shards.now }

@@ -1,5 +1,3 @@
 pub mod LogLemmas
-pub mod RuleLemmas
 pub mod TurnLemmas
-pub mod FindLemmas
 pub mod PermittedLemmas

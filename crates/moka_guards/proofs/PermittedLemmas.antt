@@ -1,6 +1,6 @@
 -- What a call by a hash answers is what some shard that the type permits answers: the one that was locked, or one without the key where the hash is not by
 -- the state of that shard.
-use Rattle.std.proofs.Common.{◌≡◌, ◌==◌, ℕ, Bool, true, false, [], Option, Some, None, Result, Ok, Err, IfOk, IfSome, IsErr}
+use Rattle.std.proofs.Common.{◌≡◌, ◌==◌, ℕ, Bool, true, false, [], Option, Some, None, Result, Ok, Err, IfOk, IfSome, IsErr, OnOk}
 use Rattle.std.proofs.Common.{IsSome, IsTrue, is_some, refl, sym, subst, eqb-true, arith, inl, inr}
 use Rattle.std.specs.Option.{option_map}
 use Rattle.std.specs.List.{IsDistinct}
@@ -14,13 +14,13 @@ use Rattle.moka_common.specs.declared.error.OutOfMemory.{OutOfMemory as MemoryEr
 use Rattle.moka_sync_model.specs.declared.ticket.Ticket.{Ticket}
 use Rattle.moka_sync_model.specs.Entry.{Entry, entry_at}
 use Rattle.moka_sync_model.specs.Parts.{ShardState}
+use Rattle.moka_sync_model.specs.Reply.{IsHanded}
 use Rattle.moka_sync_model.specs.Ticket.{shard_of}
 use Rattle.moka_shard.specs.Shard.{unexpired}
-use Rattle.moka_shard.specs.ShardStep.{IsInvalidation}
-use Rattle.moka_guards.specs.Permitted.{ContainsIn, FindsIn, InsertsIn, InvalidatesIn, IsPermitted, TakesIn, first_of_ok}
-use Rattle.moka_guards.specs.RuledTake.{IsTakeBy, counted_value}
-use Rattle.moka_sync_model.specs.Reply.{IsHanded}
-use Rattle.moka_guards.specs.RuledInsert.{IsInsertBy}
+use Rattle.moka_shard.specs.Permitted.{IsPermitted}
+use Rattle.moka_shard.specs.ShardStep.{IsInsert, IsInvalidation}
+use Rattle.moka_shard.specs.ShardTake.{IsTakeBy, counted_value}
+use Rattle.moka_guards.specs.Permitted.{ContainsIn, FindsIn, InsertsIn, InvalidatesIn, TakesIn, first_of_ok}
 
 module _ {K V S : Type 0} (keys : Keys K S) (holds : K → V → Type 0) where
   -- a shard that has no entries
@@ -162,21 +162,37 @@ module _ {K V S : Type 0} (keys : Keys K S) (holds : K → V → Type 0) where
   )
 
   module _ (weighs : K → V → ℕ → Type 0) (state : S) (key : K) (value : V) (now : ℕ) where
-    -- an insert by this hash, which is the key's by this state
-    pub inserts_in : (old new : ShardState K V S) → IsPermitted keys holds old → (hash : ℕ) → hash ≡ keys.hash_of state key
-        → (answer : Result Ticket InsertError) → IsInsertBy keys weighs old hash key value now answer new
-        → InsertsIn keys holds weighs state key value now answer
-    inserts_in old new permitted hash its answer by =
-        let step = subst (λ h. IsInsertBy keys weighs old h key value now answer new) its by in
-        record {
-          old = old;
-          new = new;
-          permitted = permitted;
-          weight = step.weight;
-          refused = step.refused;
-          weighed = step.weighed;
-          step = step.step;
-        }
+    -- an insert that gives the entry that was found another value
+    pub updates_in : (old new : ShardState K V S) → IsPermitted keys holds old → (found : Option (Entry K V)) → IsSome found
+        → found ≡ entry_at keys.eq key old.entries → (answer : Result Ticket InsertError) → (weight : ℕ) → OnOk answer (weighs key value weight)
+        → IsInsert old 0 key value weight now false found answer new → InsertsIn keys holds weighs state key value now answer
+    updates_in old new permitted None some own answer weight weighed step = let h : false ≡ true = some in absurd (cc)
+    updates_in old new permitted (Some e) some own answer weight weighed step = record {
+      old = old;
+      new = new;
+      permitted = permitted;
+      weight = weight;
+      refused = false;
+      weighed = weighed;
+      step = subst (λ found. IsInsert old (keys.hash_of state key) key value weight now false found answer new) own step;
+    }
+
+    -- an insert that adds an entry by this hash, which is the key's by this state
+    pub adds_in : (old new : ShardState K V S) → IsPermitted keys holds old → (hash : ℕ) → hash ≡ keys.hash_of state key
+        → entry_at keys.eq key old.entries ≡ None → (answer : Result Ticket InsertError) → (weight : ℕ) (refused : Bool)
+        → OnOk answer (weighs key value weight)
+        → IsInsert old hash key value weight now refused None answer new → InsertsIn keys holds weighs state key value now answer
+    adds_in old new permitted hash its absent answer weight refused weighed step = record {
+      old = old;
+      new = new;
+      permitted = permitted;
+      weight = weight;
+      refused = refused;
+      weighed = weighed;
+      step =
+          subst (λ h. IsInsert old h key value weight now refused (entry_at keys.eq key old.entries) answer new) its
+          (subst (λ found. IsInsert old hash key value weight now refused found answer new) (sym absent) step);
+    }
 
     -- some shard refuses it for want of memory
     pub no_memory_in : InsertsIn keys holds weighs state key value now (Err name.OutOfMemory)

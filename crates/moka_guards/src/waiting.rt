@@ -27,7 +27,7 @@ pub(crate) const WRITE_BATCH: usize = 16;
 /// Never returns. It stands where a case can't come and no type says so: any answer would be a wrong one.
 #[cold]
 #[inline(never)]
-pub(crate) fn wait_forever<R: Wait>(rt: &R) -> ! {
+pub fn wait_forever<R: Wait>(rt: &R) -> ! {
     for _ in rt.forever() {}
     unreachable!()
 }

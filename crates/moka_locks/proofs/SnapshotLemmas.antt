@@ -6,7 +6,7 @@ use Rattle.std.specs.List.{AllByRecursion, IsDistinct}
 use Rattle.std.proofs.lemmas.Bool.{cases_Bool, eqb-true, eq-eqb, false_from_ne_true}
 use Rattle.std.proofs.lemmas.List.Elements.{All-append, All-filter, All-from_recursion, All-nil, recursion_from_All}
 use Rattle.moka_sync_model.specs.Ticket.{shard_of}
-use Rattle.moka_guards.specs.Rule.{PairsMeet}
+use Rattle.moka_shard.specs.Rule.{PairsMeet}
 use Rattle.moka_locks.specs.Snapshot.{IsSnapshot, own_pairs}
 
 -- what follows from an answer's clause

@@ -2,7 +2,7 @@
 use Rattle.std.specs.Prelude.{◌<◌, ◌==◌, ℕ, Bool, List, filter, map}
 use Rattle.std.specs.List.{All, IsDistinct}
 use Rattle.moka_sync_model.specs.Ticket.{shard_of}
-use Rattle.moka_guards.specs.Rule.{PairsMeet}
+use Rattle.moka_shard.specs.Rule.{PairsMeet}
 
 module _ {K V : Type 0} where
   -- the pairs whose keys are of this shard, by the hash of the cache

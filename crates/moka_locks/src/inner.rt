@@ -1,5 +1,5 @@
 //! What all clones of a cache share: its shards, its logs and its maintenance, each behind a lock, and some words.
-ghost use Rattle.std.specs.Prelude.{◌≡◌, ◌<◌, ◌≤◌, ◌+◌, ◌++◌, [], ◌∷◌, List, Some, map, IfOk, IfSome, OnErr, OnOk, Option};
+ghost use Rattle.std.specs.Prelude.{◌≡◌, ◌<◌, ◌≤◌, ◌+◌, ◌++◌, [], ◌∷◌, List, Some, map, IfOk, IfSome, OnOk};
 ghost use Rattle.std.specs.List.{IsDistinct};
 ghost use Rattle.std.specs.Vec.{vec_len};
 ghost use Rattle.moka_sync_model.specs.declared.constants.TheConstants.{SHARDS};
@@ -8,16 +8,16 @@ ghost use Rattle.moka_locks.specs.Cache.{new_cache};
 ghost use Rattle.moka_locks.specs.Charged.{counts_of};
 ghost use Rattle.moka_guards.specs.Log.{IsChain, IsSuffix};
 ghost use Rattle.moka_sync_model.specs.Published.{opening};
-ghost use Rattle.moka_guards.specs.Permitted.{ContainsIn, CopiesIn, FindsIn, InsertsIn, InvalidatesIn, StandsIn, TakesIn, first_of_ok};
-ghost use Rattle.moka_guards.specs.Rule.{PairsMeet};
+ghost use Rattle.moka_guards.specs.Permitted.{ContainsIn, CopiesIn, FindsIn, first_of_ok};
+ghost use Rattle.moka_shard.specs.Rule.{PairsMeet};
 ghost use Rattle.moka_locks.specs.Snapshot.{IsSnapshot, own_pairs};
 ghost use Rattle.moka_common.specs.Settings.{keeps_writes};
 ghost use Rattle.moka_sync_model.specs.CoreState.{new_maintenance};
 ghost use Rattle.moka_sync_model.specs.Place.{Idle};
-ghost use Rattle.moka_sync_model.specs.Reply.{IsHanded};
 ghost use Rattle.moka_locks.specs.SameTickets.{AtWork, IsOrdered, just_begun};
 
 mod assemble;
+mod changes;
 mod turns;
 
 use crate::housekeeper::Housekeeper;
@@ -25,19 +25,18 @@ use crate::idle::IdleMaintenance;
 use crate::inner::assemble::{counts_of, logs_and_maintenance, settings_and_shards};
 use crate::running::RunningMaintenance;
 use crossbeam_utils::CachePadded;
-use moka_common::error::{InsertError, OutOfMemory};
+use moka_common::error::OutOfMemory;
 use moka_common::shared::Shared;
 use moka_common::time::Instant;
 use moka_guards::counts::{CountPass, Counts, Publisher};
 use moka_guards::logs::Logs;
-use moka_guards::rule::PairRule;
-use moka_guards::shard::RuledShard;
 use moka_guards::waiting::lock;
+use moka_shard::rule::PairRule;
+use moka_shard::shard::Shard;
 use moka_sync_model::constants::{FLUSH_POINT, SHARDS};
 use moka_sync_model::published::Published;
 use moka_sync_model::settings::{CoreParts, Settings};
 use moka_sync_model::ticket::Ticket;
-use moka_sync_model::weigh::WeighShared;
 use std::alloc::Allocator;
 use std::hash::{BuildHasher, Hash};
 use std::marker::Model;
@@ -45,7 +44,7 @@ use std::sync::atomic::{AtomicU64, Ordering};
 use std::sync::{Mutex, Wait};
 
 /// The shards, each behind its lock and on lines of its own.
-pub(crate) type LockedShards<K, V, S, P, A> = Vec<CachePadded<Mutex<RuledShard<K, V, S, P, A>>>, A>;
+pub(crate) type LockedShards<K, V, S, P, A> = Vec<CachePadded<Mutex<Shard<K, V, S, P, A>>>, A>;
 
 /// The locks of a cache, and what lies beside them. What threads write to lies on lines of its own.
 #[derive(Drop)]
@@ -162,7 +161,7 @@ impl<
     }
 
     /// The lock of the shard that a hash belongs to.
-    fn shard(&self, hash: u64) -> &Mutex<RuledShard<K, V, S, P, A>> {
+    fn shard(&self, hash: u64) -> &Mutex<Shard<K, V, S, P, A>> {
         &self.shards[(hash % SHARDS as u64) as usize]
     }
 
@@ -202,15 +201,6 @@ impl<
         let hash = self.hash_of(key);
         let shard = lock(rt, self.shard(hash));
         shard.contains_key(key, hash, &self.settings, self.valid_after(), now)
-    }
-
-    /// Takes out the entry of a key. The answer is its ticket.
-    pub(crate) fn invalidate<R: Wait>(&self, rt: &R, key: &K) -> Option<Ticket>
-        ensures { InvalidatesIn (keys_by K.Hash S.BuildHasher S.Hasher.Hasher) P.holds key.now result }
-    {
-        let hash = self.hash_of(key);
-        let mut shard = lock(rt, self.shard(hash));
-        shard.invalidate(key, hash)
     }
 
     /// The pairs of a shard that count at a moment, shared once more.
@@ -332,58 +322,5 @@ impl<
         self.entry_count.store(published.count, Ordering::Release);
         self.weighted_size
             .store(published.weight, Ordering::Release);
-    }
-}
-
-impl<
-    K: Eq + Hash + Drop,
-    V: Drop,
-    S: BuildHasher + Drop,
-    P: PairRule<K, V>,
-    W: WeighShared<K, V>,
-    A: Allocator + Clone + Drop,
-> Inner<K, V, S, P, W, A> {
-    /// Puts the value at the key. The answer is the entry's ticket.
-    pub(crate) fn insert<R: Wait>(
-        &self,
-        rt: &R,
-        key: Shared<K, A>,
-        value: Shared<V, A>,
-        now: Instant,
-    ) -> Result<Ticket, InsertError>
-        requires ruled { P.holds key value }
-        requires ready { W.ready self.now.weigher }
-        ensures { InsertsIn (keys_by K.Hash S.BuildHasher S.Hasher.Hasher) P.holds (W.weighs self.now.weigher) self.now.settings.hash_state
-            key value now result }
-    {
-        let hash = self.hash_of(key.get());
-        let mut shard = lock(rt, self.shard(hash));
-        shard.insert(rt, hash, key, value, &self.weigher, now)
-    }
-}
-
-impl<
-    K: Eq + Hash + Drop,
-    V: Clone,
-    S: BuildHasher + Drop,
-    P: PairRule<K, V>,
-    W: Drop,
-    A: Allocator + Clone + Drop,
-> Inner<K, V, S, P, W, A> {
-    /// Removes the entry of a key, and returns a clone of its value, if it is live, and its ticket. If the clone is refused, the entry stays.
-    pub(crate) fn take<R: Wait>(
-        &self,
-        rt: &R,
-        key: &K,
-        now: Instant,
-    ) -> Result<(Option<V>, Option<Ticket>), OutOfMemory>
-        ensures taken { IfOk result (λ taken. (found : Option V) × IsHanded V.is_clone found taken.0
-            × TakesIn (keys_by K.Hash S.BuildHasher S.Hasher.Hasher) P.holds self.now.settings key.now now found taken.1) }
-        ensures refused { OnErr result ((value : V) × (¬ (V.is_infallible value))
-            × StandsIn (keys_by K.Hash S.BuildHasher S.Hasher.Hasher) P.holds self.now.settings key.now now value) }
-    {
-        let hash = self.hash_of(key);
-        let mut shard = lock(rt, self.shard(hash));
-        shard.take(key, hash, &self.settings, self.valid_after(), now)
     }
 }

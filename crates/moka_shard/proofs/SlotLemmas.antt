@@ -19,9 +19,11 @@ use Rattle.moka_common.specs.declared.error.InsertError.{InsertError}
 use Rattle.moka_common.specs.declared.error.InsertError.TheVariants.{TicketsUsedUp}
 use Rattle.moka_sync_model.specs.declared.constants.TheConstants.{MAX_OUTSTANDING, NO_TICKET}
 use Rattle.moka_sync_model.specs.Turn.Plan.{Change, Stays, Becomes, Leaves, after_change}
+use Rattle.moka_shard.specs.Rule.{AllMeet}
 use Rattle.moka_shard.specs.Shard.{Shard, entry_in, entries_in, state_of}
 use Rattle.moka_shard.specs.ShardStep.{IsInsert, IsInvalidation, fresh_entry}
 use Rattle.moka_shard.specs.Slots.{Belongs, AreSlots, IsIndexed}
+use Rattle.moka_shard.proofs.RuleLemmas.{slots_meet}
 use Rattle.moka_shard.proofs.SlotListLemmas.{none_is, adds, each_value, values_apart, find-none, find-is, filter-is}
 use Rattle.moka_shard.proofs.SlotListLemmas.{map-is, count-once}
 
@@ -322,12 +324,13 @@ module _ {K V : Type 0} where
     pub set_others : (j : ℕ) → j ≢ i → entry_in (set slots i o) j ≡ entry_in slots j
     set_others j other = get_or-set_other slots i j o None other
 
-module _ {K V S : Type 0} (keys : Keys K S) {state : S} {number next : ℕ} {slots : List (Option (Entry K V))} {index : HashIndex}
-    (s : AreSlots keys state number next slots × IsIndexed slots index) (i : ℕ) (e : Entry K V) (here : entry_in slots i ≡ Some e) where
-  -- an entry is rewritten, with its key and its ticket
-  pub rewritten : (x : Entry K V) → x.key ≡ e.key → x.ticket ≡ e.ticket
+module _ {K V S : Type 0} (keys : Keys K S) (holds : K → V → Type 0) {state : S} {number next : ℕ} {slots : List (Option (Entry K V))}
+    {index : HashIndex} (s : AreSlots keys state number next slots × IsIndexed slots index × AllMeet holds (entries_in slots)) (i : ℕ) (e : Entry K V) (here : entry_in slots i ≡ Some e) where
+  -- an entry is rewritten, with its key and its ticket, and a value that meets the rule
+  pub rewritten : (x : Entry K V) → x.key ≡ e.key → x.ticket ≡ e.ticket → holds x.key x.value
       → AreSlots keys state number next (set slots i (Some x)) × IsIndexed (set slots i (Some x)) index
-  rewritten x key ticket =
+      × AllMeet holds (entries_in (set slots i (Some x)))
+  rewritten x key ticket meets =
       let there = set_here slots i e here (Some x) in
       let others = set_others slots i e here (Some x) in (
         AreSlots-fewer keys slots (set slots i (Some x)) (λ j y h. elim (cases_eq j i) [
@@ -342,11 +345,14 @@ module _ {K V S : Type 0} (keys : Keys K S) {state : S} {number next : ℕ} {slo
           | inr other ↦ (y, sym (others j other) ∙ h, refl, refl)
         ]) s.0,
         IsIndexed-rewrite slots (set slots i (Some x)) index i e x s.1 here there ticket others,
+        slots_meet holds slots (set slots i (Some x)) i
+            (λ y h. subst (λ (z : Entry K V). holds z.key z.value) (some_parts x y (sym there ∙ h)) meets) others s.2,
       )
 
   -- an entry leaves
   pub removed : (left : HashIndex) → Unlists index i left
       → AreSlots keys state number next (set slots i None) × IsIndexed (set slots i None) left
+      × AllMeet holds (entries_in (set slots i None))
   removed left step =
       let gone = set_here slots i e here None in
       let others = set_others slots i e here None in (
@@ -355,6 +361,7 @@ module _ {K V S : Type 0} (keys : Keys K S) {state : S} {number next : ℕ} {slo
           | inr other ↦ (y, sym (others j other) ∙ h, refl, refl)
         ]) s.0,
         IsIndexed-remove slots (set slots i None) index left i s.1 step gone others,
+        slots_meet holds slots (set slots i None) i (λ y h. absurd (none_is y (sym gone ∙ h))) others s.2,
       )
 
 -- the steps that a shard takes at a slot

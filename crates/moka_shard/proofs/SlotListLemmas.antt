@@ -2,7 +2,7 @@
 use Rattle.std.proofs.Common.{◌≡◌, ◌≢◌, ℕ, zero, suc, ◌≤◌, Bool, true, false, cond, not, List, [], ◌∷◌, ◌++◌, map, get_or, set}
 use Rattle.std.proofs.Common.{Option, None, Some, refl, sym, ap, ◌∙◌, subst, inl, inr, arith}
 use Rattle.std.specs.List.{find, filter, filter_map, count_by, IsDistinct, AllByRecursion}
-use Rattle.std.proofs.lemmas.Bool.{cases_Bool, false_from_ne_true}
+use Rattle.std.proofs.lemmas.Bool.{cases_Bool, cases_eq, false_from_ne_true}
 use Rattle.moka_sync_model.proofs.ListLemmas.{count-cons}
 
 module _ {X : Type 0} where
@@ -75,6 +75,23 @@ module _ {X : Type 0} where
   each_value P [] each = tt
   each_value P (None ∷ rest) each = each_value P rest (λ i. each (suc i))
   each_value P (Some x ∷ rest) each = (each 0 x refl, each_value P rest (λ i. each (suc i)))
+
+  -- what holds of all holds in each slot
+  pub in_each : (P : X → Type 0) (slots : List (Option X)) → AllByRecursion P (values slots) → (i : ℕ) (x : X) → at slots i ≡ Some x → P x
+  in_each P [] all i x here = absurd (none_is x here)
+  in_each P (None ∷ rest) all zero x here = absurd (none_is x here)
+  in_each P (None ∷ rest) all (suc i) x here = in_each P rest all i x here
+  in_each P (Some y ∷ rest) all zero x here = subst P (some_is y x here) all.0
+  in_each P (Some y ∷ rest) all (suc i) x here = in_each P rest all.1 i x here
+
+  -- so it holds of all still, once one slot has something else of which it holds
+  pub each_but : (P : X → Type 0) (old new : List (Option X)) (i : ℕ) → ((x : X) → at new i ≡ Some x → P x)
+      → ((j : ℕ) → j ≢ i → at new j ≡ at old j) → AllByRecursion P (values old) → AllByRecursion P (values new)
+  each_but P old new i here others all =
+      each_value P new (λ j x a. elim (cases_eq j i) [
+        | inl is ↦ here x (ap (at new) (sym is) ∙ a)
+        | inr other ↦ in_each P old all j x (sym (others j other) ∙ a)
+      ])
 
   -- two slots have two keys
   pub values_apart : {Y : Type 0} (key : X → Y) (eq : Y → Y → Bool) (slots : List (Option X))

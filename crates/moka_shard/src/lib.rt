@@ -1,4 +1,5 @@
 //! One shard of the map of the cache that threads share.
 #![tactic(auto)]
 
+pub mod rule;
 pub mod shard;

@@ -14,7 +14,7 @@ use moka_common::settings::duration_fault;
 use moka_common::weigh::UnitWeight;
 use moka_core::engine::Core;
 use moka_guards::counts::{CountPass, Publisher};
-use moka_guards::rule::{AnyPair, PairRule};
+use moka_shard::rule::{AnyPair, PairRule};
 use moka_sync_model::constants::{SHARDS, WRITE_LOG_SIZE};
 use moka_sync_model::settings::CoreParts;
 use moka_sync_model::weigh::WeighShared;

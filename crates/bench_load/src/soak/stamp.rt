@@ -5,9 +5,9 @@ ghost use Rattle.std.proofs.lemmas.Bool.{eqb-true};
 ghost use Rattle.bench_load.specs.declared.soak.constants.TheConstants.{HEAVIEST};
 
 use crate::soak::constants::HEAVIEST;
-use moka_guards::rule::PairRule;
 use moka_segments::rule::Rule;
 use moka_segments::weigher::Weighing;
+use moka_shard::rule::PairRule;
 use moka_sync_model::weigh::WeighShared;
 
 /// A value that names the key that it was inserted at. Its number says what it weighs.

@@ -12,9 +12,8 @@ use moka_common::policy::Policy;
 use moka_common::shared::Shared;
 use moka_guards::counts::{Counts, Publisher};
 use moka_guards::logs::Logs;
-use moka_guards::rule::PairRule;
-use moka_guards::shard::RuledShard;
 use moka_maintenance::maintenance::Maintenance;
+use moka_shard::rule::PairRule;
 use moka_shard::shard::Shard;
 use moka_sync_model::constants::SHARDS;
 use moka_sync_model::settings::Settings;
@@ -101,10 +100,9 @@ fn empty_shard<
     hash_state: &Shared<S, A>,
     number: usize,
     capacity: usize,
-) -> Result<RuledShard<K, V, S, P, A>, OutOfMemory>
+) -> Result<Shard<K, V, S, P, A>, OutOfMemory>
     requires { number < SHARDS }
 {
     let hash_state = hash_state.try_clone()?;
-    let shard = Shard::new(alloc.clone()?, number, 0, capacity, hash_state)?;
-    Ok(RuledShard::new(shard))
+    Shard::new(alloc.clone()?, number, 0, capacity, hash_state)
 }

@@ -5,11 +5,12 @@ ghost use Rattle.moka_locks.specs.MaintenanceTurn.{AreTurns, empty_handed};
 ghost use Rattle.moka_maintenance.specs.Taken.{TakesRead, TakesWrite, writes_left};
 
 use crate::inner::Inner;
-use moka_guards::rule::PairRule;
+use moka_guards::turns::{apply_upsert, turn_with_shard};
 use moka_guards::waiting::lock;
 use moka_maintenance::maintenance::{Maintenance, Need};
 use moka_queues::logs::{LoggedRead, NO_READ, READS_AT_ONCE};
 use moka_queues::taken::TakenWrites;
+use moka_shard::rule::PairRule;
 use moka_sync_model::operation::{Read, Write};
 use std::alloc::Allocator;
 use std::hash::{BuildHasher, Hash};
@@ -72,7 +73,7 @@ impl<
             Need::Entry(ticket) => {
                 let mut shard = lock(rt, self.shard(ticket.hash));
                 let valid_after = self.valid_after_since(valid_after);
-                shard.turn(maintenance, ticket, &self.settings, valid_after);
+                turn_with_shard(maintenance, &mut shard, ticket, &self.settings, valid_after);
             }
         }
     }
@@ -143,7 +144,7 @@ impl<
         match write {
             Write::Upsert { ticket } => {
                 let mut shard = lock(rt, self.shard(ticket.hash));
-                shard.turn_with_upsert(maintenance, ticket, &self.settings);
+                apply_upsert(maintenance, &mut shard, ticket, &self.settings);
             }
             Write::Remove { ticket } => maintenance.turn_with_removal::<K, V, S>(ticket),
         }

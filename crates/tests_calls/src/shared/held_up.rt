@@ -4,7 +4,7 @@ ghost use Rattle.std.specs.Prelude.{⊤};
 use crate::hashers::OwnState;
 use crossbeam_utils::Backoff;
 use moka_common::time::Instant;
-use moka_guards::rule::AnyPair;
+use moka_shard::rule::AnyPair;
 use moka_sync::builder::CacheBuilder;
 use moka_sync::cache::{Cache, ConcurrentCacheExt};
 use moka_sync_model::weigh::WeighShared;

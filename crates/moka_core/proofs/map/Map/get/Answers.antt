@@ -8,15 +8,17 @@ use Rattle.moka_shard.specs.Shard.{entries_in}
 use Rattle.moka_core.specs.Shards.{states_of}
 use Rattle.moka_core.proofs.ShardsLemmas.{entry_at-own, here_own, here_state}
 use Rattle.moka_core.proofs.map.Map.get.Given.{Over}
-use Rattle.moka_core.proofs.map.Map.get.Goals.{After-get}
+use Rattle.moka_core.proofs.map.Map.get.Goals.{After-get, After-index-shard}
 use Rattle.moka_core.proofs.map.Map.get.Goals as goal
 
 -- the keys of the map
 abbrev keys : (g : Over) → Keys g.row.K.Denot g.row.S.Denot
 keys g = keys_by (record { eq = g.K.PartialEq.eq; hash_input = g.K.Hash.hash_input }) g.S.BuildHasher g.S.Hasher.Hasher
 
-pub get-requires : goal.get-requires
-get-requires g c =
+-- the hash is the key's, by the hash state of its shard
+own_hash : (g : Over) (c : After-index-shard g)
+    → c.args.hash ≡ (keys g).hash_of c.index-shard.result.now.hash_state c.args.key.now
+own_hash g c =
     let hashed = rw (← c.self.view_is) at c.requires in
     rw (here_own (keys g) _ c.self.inside.shards.items c.self.invariant c.args.hash _ c.index-shard.ensures).shared hashed
 
@@ -36,7 +38,7 @@ same_entry g c =
 pub returns-clause-value : goal.returns-clause-value
 returns-clause-value g c =
     let same = same_entry g (goal.at.returns-clause-value g c).After-get in
-    rw (← c.self.view_is, ← same) c.get.ensures.value
+    rw (← c.self.view_is, ← same) (c.get.ensures.value (own_hash g (goal.at.returns-clause-value g c).After-index-shard))
 
 pub returns-clause-refused : goal.returns-clause-refused
 returns-clause-refused g c =

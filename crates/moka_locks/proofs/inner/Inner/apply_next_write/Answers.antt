@@ -16,16 +16,16 @@ pub returns-in-Upsert-clause-turns : goal.returns-in-Upsert-clause-turns
 returns-in-Upsert-clause-turns g c =
     rw (← c.self.view_is) (
     written g.row.K.Denot g.row.V.Denot c.self.inside.settings c.args.maintenance.now c.requires.takes c.args.taken.now
-    c.next_write.new.taken c.next_write.result (Upsert c.in-Upsert.ticket) c.turn_with_upsert.new.maintenance
-    c.next_write.ensures.first (c.in-Some.is ∙ ap Some c.in-Upsert.is) c.in-Some.ensures.some c.turn_with_upsert.ensures.turn
+    c.next_write.new.taken c.next_write.result (Upsert c.in-Upsert.ticket) c.apply_upsert.new.maintenance
+    c.next_write.ensures.first (c.in-Some.is ∙ ap Some c.in-Upsert.is) c.in-Some.ensures.some c.apply_upsert.ensures.turn
     )
 
 pub returns-in-Upsert-clause-left : goal.returns-in-Upsert-clause-left
 returns-in-Upsert-clause-left g c =
-    let new = c.turn_with_upsert.new.maintenance in
+    let new = c.apply_upsert.new.maintenance in
     let kept : writes_left c.args.maintenance.now.place ≤ writes_left new.place + 1 =
     takes_one g.row.K.Denot g.row.V.Denot c.self.inside.settings (Upsert c.in-Upsert.ticket) c.args.maintenance.now new c.requires.takes
-    c.turn_with_upsert.ensures.turn in
+    c.apply_upsert.ensures.turn in
     omega (arith, c.in-Some.ensures.some, kept)
 
 pub returns-in-Remove-clause-turns : goal.returns-in-Remove-clause-turns

@@ -3,7 +3,8 @@ use Rattle.moka_common.specs.Keys.{Keys, keys_by}
 use Rattle.moka_common.specs.Settings.{Settings}
 use Rattle.moka_sync_model.specs.Parts.{ShardState}
 use Rattle.moka_shard.specs.ShardStep.{pairs_at}
-use Rattle.moka_guards.specs.Permitted.{CopiesIn, IsPermitted}
+use Rattle.moka_shard.specs.Permitted.{IsPermitted}
+use Rattle.moka_guards.specs.Permitted.{CopiesIn}
 use Rattle.moka_locks.proofs.inner.Inner.pairs.Given.{Over}
 use Rattle.moka_locks.proofs.inner.Inner.pairs.Goals as goal
 

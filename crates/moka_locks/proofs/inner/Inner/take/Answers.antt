@@ -20,17 +20,17 @@ err_leads (Err e) leads p = leads p
 
 pub returns-clause-taken : goal.returns-clause-taken
 returns-clause-taken g c =
-    let took = c.take.ensures in
+    let took = c.take_clone.ensures in
     rw (← c.self.view_is)
-    (ok_leads c.take.result
+    (ok_leads c.take_clone.result
     (λ taken step. takes_in (keys_of g) g.P.PairRule.holds g.V.Clone.is_clone c.self.inside.settings c.valid_after.result
     c.hash_of-hash.result c.args.key.now c.args.now _ _ took.permitted taken.0 taken.1 step) took.step)
 
 pub returns-clause-refused : goal.returns-clause-refused
 returns-clause-refused g c =
-    let took = c.take.ensures in
+    let took = c.take_clone.ensures in
     rw (← c.self.view_is)
-    (err_leads c.take.result
+    (err_leads c.take_clone.result
     (λ refused. (
       refused.1.0,
       refused.1.1,

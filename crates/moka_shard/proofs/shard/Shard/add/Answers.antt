@@ -1,6 +1,8 @@
 use Rattle.std.proofs.Common.{◌∙◌, false, Some, ap, refl, subst, sym}
+use Rattle.moka_sync_model.specs.Entry.{Entry}
 use Rattle.moka_shard.specs.Shard.{entry_in}
-use Rattle.moka_shard.proofs.SlotLemmas.{absent_in_each, addition, AreSlots-add, IsIndexed-add, valid}
+use Rattle.moka_shard.proofs.RuleLemmas.{slots_meet}
+use Rattle.moka_shard.proofs.SlotLemmas.{absent_in_each, addition, AreSlots-add, IsIndexed-add, some_parts, valid}
 use Rattle.moka_shard.proofs.shard.Shard.add.Goals as goal
 
 pub invariant_of-self-2 : goal.invariant_of-self-2
@@ -16,6 +18,9 @@ invariant_of-self-2 g c =
           (λ j other. others j other ∙ ap (λ slots. entry_in slots j) c.make_room.ensures.unchanged) requires.here requires.hashed refl
           (absent_in_each _ c.self.invariant.0 g.met.K.Eq.laws c.args.key requires.absent),
       IsIndexed-add room new c.make_room.new.index c.add.new.self slot _ (c.make_room.ensures.indexed) c.add.ensures.step here others,
+      slots_meet g.P.PairRule.holds old new slot
+          (λ e there. subst (λ (x : Entry g.row.K.Denot g.row.V.Denot). g.P.PairRule.holds x.key x.value) (some_parts _ e (sym here ∙ there))
+          requires.ruled) (λ j other. others j other ∙ ap (λ slots. entry_in slots j) c.make_room.ensures.unchanged) c.self.invariant.2,
     )
 
 pub returns : goal.returns

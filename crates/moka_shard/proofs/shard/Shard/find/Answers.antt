@@ -65,5 +65,5 @@ returns-clause-found g c = rw (← c.self.view_is) (of_found g c c.find.result c
 pub returns-clause-same : goal.returns-clause-same
 returns-clause-same g c = rw (← c.self.view_is) (of_found g c c.find.result c.find.ensures (λ i s. (found g c i s).1))
 
-pub returns-clause-valid : goal.returns-clause-valid
-returns-clause-valid g c = rw (← c.self.view_is) (valid _ c.self.invariant.0)
+pub returns-clause-permitted : goal.returns-clause-permitted
+returns-clause-permitted g c = rw (← c.self.view_is) (record { valid = valid _ c.self.invariant.0; ruled = c.self.invariant.2 })

@@ -12,7 +12,7 @@ remove-requires g c =
 pub invariant_of-self : goal.invariant_of-self
 invariant_of-self g c =
     rw c.remove-entry.ensures.slots
-    (removed _ c.self.invariant c.args.slot c.remove-entry.result c.remove-entry.ensures.value c.remove.new.self c.remove.ensures.step)
+    (removed _ g.P.PairRule.holds c.self.invariant c.args.slot c.remove-entry.result c.remove-entry.ensures.value c.remove.new.self c.remove.ensures.step)
 
 pub returns-clause-step : goal.returns-clause-step
 returns-clause-step g c =
@@ -23,5 +23,5 @@ returns-clause-step g c =
 pub returns-clause-valid : goal.returns-clause-valid
 returns-clause-valid g c =
     rw c.remove-entry.ensures.slots
-    (valid _ (removed _ c.self.invariant c.args.slot c.remove-entry.result c.remove-entry.ensures.value c.remove.new.self
+    (valid _ (removed _ g.P.PairRule.holds c.self.invariant c.args.slot c.remove-entry.result c.remove-entry.ensures.value c.remove.new.self
     c.remove.ensures.step).0)

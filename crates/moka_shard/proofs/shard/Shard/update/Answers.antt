@@ -1,11 +1,22 @@
-use Rattle.std.proofs.Common.{◌∙◌, ap, Ok, refl, set, Some, subst}
+use Rattle.std.proofs.Common.{◌∙◌, ap, Ok, refl, set, Some, subst, sym}
+use Rattle.moka_shard.specs.Shard.{entries_in}
+use Rattle.moka_shard.proofs.RuleLemmas.{entry_agrees, slot_meets}
 use Rattle.moka_shard.proofs.SlotLemmas.{rewritten, update_at, valid}
+use Rattle.moka_shard.proofs.shard.Shard.update.Goals.{After-weigh-weight}
 use Rattle.moka_shard.proofs.shard.Shard.update.Goals as goal
+
+-- the entry's key has the new value
+meets : (g : _) (c : After-weigh-weight g) → g.P.PairRule.holds c.index_mut-entry.result.now.key c.args.value
+meets g c =
+    let requires = rw (← c.self.view_is) at c.requires in
+    entry_agrees g.P.PairRule.holds g.K.PartialEq.eq g.met.P.PairRule.agrees c.args.key c.args.value
+    (entries_in c.self.inside.slots.slots) c.index_mut-entry.result.now (sym requires.same ∙ c.index_mut-entry.ensures.value) requires.ruled
 
 pub invariant_of-self-2 : goal.invariant_of-self-2
 invariant_of-self-2 g c =
     rw c.update.ensures
-    (rewritten _ c.self.invariant c.args.slot c.index_mut-entry.result.now c.index_mut-entry.ensures.value _ refl refl)
+    (rewritten _ g.P.PairRule.holds c.self.invariant c.args.slot c.index_mut-entry.result.now c.index_mut-entry.ensures.value _ refl refl
+    (meets g (goal.at.invariant_of-self-2 g c).After-weigh-weight))
 
 pub returns : goal.returns
 returns g c =
@@ -26,9 +37,11 @@ returns g c =
       );
       valid =
           rw c.update.ensures
-          (valid _ (rewritten _ c.self.invariant c.args.slot c.index_mut-entry.result.now c.index_mut-entry.ensures.value _ refl refl).0);
+          (valid _ (rewritten _ g.P.PairRule.holds c.self.invariant c.args.slot c.index_mut-entry.result.now c.index_mut-entry.ensures.value _
+          refl refl (meets g (goal.at.returns g c).After-weigh-weight)).0);
     })
 
 pub returns-then-outstanding-clause-valid : goal.returns-then-outstanding-clause-valid
 returns-then-outstanding-clause-valid g c =
-    valid _ (rewritten _ c.self.invariant c.args.slot c.index_mut-entry.result.now c.index_mut-entry.ensures.value _ refl refl).0
+    valid _ (rewritten _ g.P.PairRule.holds c.self.invariant c.args.slot c.index_mut-entry.result.now c.index_mut-entry.ensures.value _ refl refl
+    (slot_meets g.P.PairRule.holds _ c.self.invariant.2 c.args.slot _ c.index_mut-entry.ensures.value)).0

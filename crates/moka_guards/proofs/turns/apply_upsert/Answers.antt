@@ -1,21 +1,11 @@
-use Rattle.std.proofs.Common.{◌∙◌, ap, subst, sym}
-use Rattle.moka_sync_model.specs.Parts.{ShardState}
+use Rattle.std.proofs.Common.{◌∙◌}
 use Rattle.moka_sync_model.specs.declared.operation.Write.TheVariants.{Upsert}
 use Rattle.moka_maintenance.specs.Taken.{having_taken_write}
-use Rattle.moka_shard.specs.Shard.{entries_in, state_of}
-use Rattle.moka_guards.specs.Rule.{AllMeet}
-use Rattle.moka_guards.proofs.RuleLemmas.{after_change_meet}
+use Rattle.moka_shard.specs.Shard.{state_of}
 use Rattle.moka_guards.proofs.TurnLemmas.{at_entry}
 use Rattle.moka_maintenance.proofs.TakenLemmas.{upsert_needs}
 use Rattle.moka_shard.proofs.ShardTurnLemmas.{turns_on_shard}
-use Rattle.moka_guards.proofs.shard.RuledShard.turn_with_upsert.Goals as goal
-
-pub invariant_of-self : goal.invariant_of-self
-invariant_of-self g c =
-    let changed = c.change.ensures.step c.args.ticket c.find_ticket-slot.ensures.value in
-    subst (AllMeet g.P.PairRule.holds) (sym (ap (λ (s : ShardState g.row.K.Denot g.row.V.Denot g.row.S.Denot). s.entries) changed))
-    (after_change_meet g.P.PairRule.holds c.args.ticket c.turn_with_upsert-change.result (entries_in c.self.inside.shard.slots)
-    c.self.invariant)
+use Rattle.moka_guards.proofs.turns.apply_upsert.Goals as goal
 
 pub returns-clause-turn : goal.returns-clause-turn
 returns-clause-turn g c =
@@ -28,11 +18,10 @@ returns-clause-shard g c =
     let (refused, turn) = c.turn_with_upsert-change.ensures in
     let here = c.find_ticket-slot.ensures.value in (
       refused,
-      rw (← c.self.view_is)
-          (λ valid_after.
+      λ valid_after.
           turns_on_shard c.args.settings.now valid_after refused (having_taken_write (Upsert c.args.ticket) c.args.maintenance.now)
           c.turn_with_upsert-change.new.self c.args.ticket
           (upsert_needs g.row.K.Denot g.row.V.Denot c.args.settings.now valid_after c.args.ticket c.args.maintenance.now c.requires)
-          _ c.turn_with_upsert-change.result (turn valid_after) (state_of c.self.inside.shard) _ (c.entry-found.ensures ∙ here)
-          (c.change.ensures.step c.args.ticket here)),
+          _ c.turn_with_upsert-change.result (turn valid_after) (state_of c.args.shard.now) _ (c.entry-found.ensures ∙ here)
+          (c.change.ensures.step c.args.ticket here),
     )
