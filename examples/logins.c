@@ -36,10 +36,11 @@ static void answer(struct logins *logins, const char *word, uint64_t number) {
     uint64_t user;
     if (strcmp(word, "login") == 0) {
         uint64_t token = ++logins->last_token;
-        if (mini_moka_u64_insert(&logins->users, token, number, now()) == MINI_MOKA_DONE)
+        uint32_t status = mini_moka_u64_insert(&logins->users, token, number, now());
+        if (status == MINI_MOKA_DONE)
             printf("token %" PRIu64 "\n", token);
         else
-            puts("no memory");
+            printf("no login: %s\n", mini_moka_status_text(status));
     } else if (strcmp(word, "who") == 0) {
         if (mini_moka_u64_get(&logins->users, number, now(), &user) == MINI_MOKA_DONE)
             printf("user %" PRIu64 "\n", user);

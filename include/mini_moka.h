@@ -1,5 +1,5 @@
 /*
- * A cache that a program keeps between calls: mini-moka's cache for one thread, proved. Keys and values are bytes of any length, or numbers of 64 bits, which
+ * mini-moka's cache for one thread, proved. Keys and values are bytes of any length, or numbers of 64 bits, which
  * take no memory of their own. docs/C_AND_RUST.md says how the library is built and linked.
  *
  * Moments and durations are nanoseconds. Moments count from a start of the program's choice, as by CLOCK_MONOTONIC; one may be before an earlier call's. Each
@@ -10,8 +10,11 @@
  *
  * The size of a cache:
  *
- * - A weighed cache may exceed its capacity after an update with a longer value, until the next insert, get or mini_moka_contains. Any other cache never does.
- * - An insert doubles the memory of a cache that is full of entries. It moves each entry then, so a big cache pauses. A cache with an initial_capacity of the
+ * - An update with a longer value may leave a weighed cache above its capacity. Then each insert, get, mini_moka_contains, mini_moka_remove and
+ *   mini_moka_invalidate first evicts up to 100 entries, least recently used first, until the others fit. An update that is heavier than the whole capacity is
+ *   stored, so these calls evict most entries, and it: remove its key instead. Any other cache never exceeds its capacity.
+ * - A cache has at most 2,000,000,000 entries; another new key gets MINI_MOKA_OUT_OF_MEMORY. An entry weighs at most UINT32_MAX, even if it has more bytes.
+ * - An insert that finds the cache's memory full doubles it, and moves each entry, so a big cache pauses. A cache with an initial_capacity of the
  *   most entries that it will have never grows.
  *
  * A program keeps these rules, since no proof sees it:
@@ -19,7 +22,7 @@
  * - A handle is all zeros at first, which is a closed one: struct mini_moka cache = {0}; From then on the program only passes its address on. It neither changes
  *   nor copies a handle, and closes it in the end.
  * - One call of a handle is made at a time. Threads that share one hold a lock for each call; mini_moka_segments.h has a cache that does so.
- * - No pointer is null, not even one to no bytes.
+ * - No pointer is null, not even one to zero bytes.
  * - What a call writes to (the handle, a buffer, a length, a value, a count, a cause, statistics) overlaps nothing else that the call gets. So the two lengths
  *   of mini_moka_next and mini_moka_removed are two places. The key and the value of an insert, which are only read, may overlap each other. What is only
  *   written, as a buffer, needn't be initialised.
@@ -46,7 +49,7 @@ extern "C" {
 
 enum mini_moka_status {
     MINI_MOKA_DONE = 0,
-    MINI_MOKA_ABSENT = 1,        /* the call was made, and the key has no unexpired entry; or a walk has met each entry */
+    MINI_MOKA_ABSENT = 1,        /* the call was made, and the key has no unexpired entry; or a walk has met each entry; or no removed entry is queued */
     MINI_MOKA_CLOSED = 2,        /* the handle is closed, and nothing was done */
     MINI_MOKA_ALREADY_OPEN = 3,  /* the handle is open, and stays as it was */
     MINI_MOKA_OUT_OF_MEMORY = 4, /* memory was refused, and no entry was written */
@@ -75,7 +78,7 @@ static inline bool mini_moka_is_error(uint32_t status) {
 static inline const char *mini_moka_status_text(uint32_t status) {
     static const char *const texts[] = {
         "done",
-        "no unexpired entry",
+        "no such entry",
         "the handle is closed",
         "the handle is open already",
         "memory was refused",
@@ -101,7 +104,7 @@ struct mini_moka_settings {
     uint64_t capacity;       /* the most entries; or if is_weighed is set, the most bytes of keys and values */
     uint64_t time_to_live;   /* how long an entry lives after it was last written */
     uint64_t time_to_idle;   /* how long an entry lives after it was last read or written */
-    size_t initial_capacity; /* number of entries that fit from the start: up to there an insert asks only for the memory of its value, and of a key of more
+    size_t initial_capacity; /* number of entries that fit from the start: up to there an insert is refused memory only for its value, or for a key of more
                                 than 24 bytes */
     uint64_t seed[2];        /* the key of the hash: if strangers choose the cache's keys, 16 bytes that they can't know */
     bool is_weighed;         /* true if an entry weighs its bytes of key and value, and not 1 */
@@ -118,15 +121,16 @@ struct mini_moka_settings {
 uint32_t mini_moka_open(struct mini_moka *handle, const struct mini_moka_settings *settings);
 
 /*
- * Puts a copy of the value at a copy of the key. If the cache is full, a new key may be rejected for one that is used more: MINI_MOKA_REJECTED, and the cache has
- * no entry of the key. After MINI_MOKA_DONE it has one.
+ * Puts a copy of the value at a copy of the key, so that the cache has this entry: MINI_MOKA_DONE. A new entry begins in a window, a hundredth of the capacity,
+ * rounded down. If that is full, an entry of it may leave for those that are used more (MINI_MOKA_CAUSE_SIZE). An entry that is too heavy for the window, as
+ * any is with a capacity below 100, may be rejected in this call: MINI_MOKA_REJECTED, and the cache has no entry of the key.
  */
 uint32_t mini_moka_insert(struct mini_moka *handle, const void *key, size_t key_length, const void *value, size_t value_length, uint64_t now);
 
 /*
  * Looks the key up, and makes its entry the most recently used one. The value is copied to the beginning of the buffer, and its length is written; if the
- * buffer is shorter, MINI_MOKA_TOO_SHORT. Here and below only a key of more than 24 bytes can be refused memory: it is copied into memory that the handle
- * keeps, which grows if it is shorter than the key.
+ * buffer is shorter, the answer is MINI_MOKA_TOO_SHORT, which counts as a hit too. (mini_moka_peek tells the length without counting.) Here and below only a key
+ * of more than 24 bytes can be refused memory: it is copied into memory that the handle keeps, which grows if it is shorter than the key.
  */
 uint32_t mini_moka_get(struct mini_moka *handle, const void *key, size_t key_length, uint64_t now, void *buffer, size_t buffer_length, size_t *length);
 
@@ -190,14 +194,17 @@ uint32_t mini_moka_u64_invalidate(struct mini_moka *handle, uint64_t key, uint64
 uint32_t mini_moka_u64_next(struct mini_moka *handle, uint64_t now, uint64_t *key, uint64_t *value);
 uint32_t mini_moka_u64_removed(struct mini_moka *handle, uint64_t *key, uint64_t *value, uint32_t *cause);
 
-/* Gets the value of the key, or inserts `otherwise` if there is none. It writes the value that was found, or `otherwise`, even if its entry was rejected. */
+/*
+ * Gets the value of the key, or inserts `otherwise` if there is none, and writes the value that it got or inserted. The answer is MINI_MOKA_DONE, even if the new
+ * entry was rejected.
+ */
 uint32_t mini_moka_u64_get_or_insert(struct mini_moka *handle, uint64_t key, uint64_t otherwise, uint64_t now, uint64_t *value);
 
 /* ---- either kind */
 
 /*
- * Counts of the calls of a handle since it was opened, and of the entries that left. Each count stays at its greatest value once it has reached that. Until then
- * inserts - updates - rejections is evictions + expirations + removals and the number of entries.
+ * Counts of the calls of a handle since it was opened, and of the entries that left. Each count stops at UINT64_MAX. Until then
+ * inserts - updates - rejections = evictions + expirations + removals + the number of entries.
  */
 struct mini_moka_statistics {
     uint64_t hits;        /* gets that found a value */
@@ -227,9 +234,9 @@ uint32_t mini_moka_weight(struct mini_moka *handle, uint64_t *weight);
 uint32_t mini_moka_statistics(struct mini_moka *handle, struct mini_moka_statistics *statistics);
 
 /*
- * Begins a walk through the unexpired entries, in order of use, least recently used first. Each mini_moka_next of bytes, or mini_moka_u64_next of numbers,
- * writes one entry; after the last it returns MINI_MOKA_ABSENT. A program may peek within a walk, drain removed entries, and ask for the count, the weight and
- * the statistics. Each other call ends the walk, unless it returns MINI_MOKA_OUT_OF_MEMORY.
+ * Begins a walk through the unexpired entries, least recently used first, those of the window last. Each mini_moka_next of bytes, or mini_moka_u64_next of
+ * numbers, writes one entry; after the last it returns MINI_MOKA_ABSENT. A program may peek within a walk, drain removed entries, and ask for the count, the
+ * weight and the statistics. Each other call ends the walk, unless it returns MINI_MOKA_OUT_OF_MEMORY.
  */
 uint32_t mini_moka_walk(struct mini_moka *handle);
 

@@ -3,8 +3,9 @@
  * libmini_moka.a, and pthreads. The caches inside are proved. The hand-over between threads is tested: dev/c_library/run runs threads under ThreadSanitizer.
  *
  * A key belongs to one segment, which has its part of the capacity and an admission policy of its own. A call waits only for calls in the same segment. Each
- * call is the one of mini_moka.h, and has its status. An entry that weighs more than its segment's part of the capacity is rejected. Keys that strangers choose
- * may all belong to one segment, which makes that one busy, and no slower.
+ * call is the one of mini_moka.h, and has its status. A new entry that weighs more than its segment's part of the capacity is rejected; an update to such a
+ * weight may empty the segment (mini_moka.h, the size of a cache). Keys that strangers choose may all belong to one segment: then the capacity of the others is
+ * not used. There is no walk.
  *
  * A program keeps these rules:
  *
@@ -23,7 +24,8 @@
 extern "C" {
 #endif
 
-/* The most segments that mini_moka_segments_open chooses, and the least capacity that it gives one, in entries and in bytes: a smaller cache has no window. */
+/* The most segments that mini_moka_segments_open chooses, and the least capacity that it gives one, in entries and in bytes. With
+ * fewer entries a segment has no window, and with fewer bytes only small entries fit in it, so more new entries are rejected. */
 #define MINI_MOKA_SEGMENTS_MOST 16
 #define MINI_MOKA_SEGMENT_LEAST 100
 #define MINI_MOKA_SEGMENT_LEAST_BYTES (UINT64_C(1) << 20)
@@ -106,7 +108,8 @@ static inline uint64_t mini_moka_segments_part(uint64_t whole, size_t count, siz
 
 /*
  * Opens a cache of `count` segments. If that is 0 there are 16, or as many as leave each a capacity of 100 entries, or of 1 MiB if bytes are weighed. Each has
- * its part of the capacity, of initial_capacity and of removed_room, which is rounded up. If a segment is refused, nothing stays open.
+ * its part of the capacity, of initial_capacity and of removed_room, which is rounded up. With more segments than the capacity some keep nothing. If a segment
+ * is refused, nothing stays open.
  */
 static inline uint32_t mini_moka_segments_open(struct mini_moka_segments *all, const struct mini_moka_settings *settings, size_t count) {
     if (all->segments != NULL)
@@ -201,8 +204,8 @@ static inline uint32_t mini_moka_segments_invalidate_all(struct mini_moka_segmen
 }
 
 /*
- * Drains a removed entry of the first segment that has one, as mini_moka_removed does; entries of one key come in the order in which they left. If threads drain
- * at once, a call after MINI_MOKA_TOO_SHORT may meet another entry.
+ * Drains a removed entry of the first segment that has one, as mini_moka_removed does; entries of one key come in the order in which they left. If other threads
+ * make calls, a call after MINI_MOKA_TOO_SHORT may meet another entry.
  */
 static inline uint32_t mini_moka_segments_removed(struct mini_moka_segments *all, void *key, size_t key_room, void *value, size_t value_room,
                                                   size_t *key_length, size_t *value_length, uint32_t *cause) {

@@ -423,7 +423,7 @@ static void statuses_have_texts(void) {
     CHECK(strcmp(mini_moka_status_text(UINT32_MAX), "an unknown status") == 0);
 }
 
-/* An update with a longer value stays, above the capacity, until the next call that removes. */
+/* An update with a longer value is stored, above the capacity. The next call evicts. */
 static void updates_may_exceed_the_capacity(void) {
     struct mini_moka cache = {0};
     struct mini_moka_settings weighed = MINI_MOKA_SETTINGS_INIT;
@@ -434,6 +434,48 @@ static void updates_may_exceed_the_capacity(void) {
     CHECK(insert(&cache, "2", "1234567890123456789", 0) == MINI_MOKA_DONE && number_of(mini_moka_weight, &cache) == 30);
     CHECK(contains(&cache, "2", 0) == MINI_MOKA_DONE && number_of(mini_moka_weight, &cache) == 20);
     CHECK(mini_moka_close(&cache) == MINI_MOKA_DONE);
+}
+
+/* A call evicts up to 100 entries. If an update is heavier than the capacity, its entry leaves last. */
+static void heavy_updates_empty_the_cache(void) {
+    struct mini_moka cache = {0};
+    struct mini_moka_settings weighed = MINI_MOKA_SETTINGS_INIT;
+    char key[12], value[3000] = "";
+    weighed.capacity = 2000;
+    weighed.is_weighed = true;
+    CHECK(mini_moka_open(&cache, &weighed) == MINI_MOKA_DONE);
+    for (int number = 100; number < 340; number++) {
+        snprintf(key, sizeof key, "%d", number);
+        CHECK(insert(&cache, key, "value", 0) == MINI_MOKA_DONE);
+    }
+    CHECK(mini_moka_insert(&cache, "339", 3, value, sizeof value, 0) == MINI_MOKA_DONE && number_of(mini_moka_count, &cache) == 240);
+    CHECK(contains(&cache, "0", 0) == MINI_MOKA_ABSENT && number_of(mini_moka_count, &cache) == 140);
+    CHECK(invalidate(&cache, "0", 0) == MINI_MOKA_DONE && number_of(mini_moka_count, &cache) == 40);
+    CHECK(finds(mini_moka_remove, &cache, "0", 0, MINI_MOKA_ABSENT, NULL) && number_of(mini_moka_count, &cache) == 0);
+    CHECK(mini_moka_close(&cache) == MINI_MOKA_DONE);
+}
+
+/* A full cache lets a new entry into its window if that can hold it. A look-up with a short buffer is a hit, and a peek isn't counted. */
+static void full_caches_have_a_window(void) {
+    struct mini_moka cache = {0};
+    struct mini_moka_settings settings = BYTES;
+    struct mini_moka_statistics counts;
+    uint8_t buffer[1];
+    size_t length = 0;
+    for (int window = 0; window < 2; window++) {
+        settings.capacity = window == 0 ? 99 : 100;
+        CHECK(mini_moka_open(&cache, &settings) == MINI_MOKA_DONE);
+        for (int number = 0; number < 100; number++) {
+            uint32_t status = mini_moka_insert(&cache, &number, sizeof number, "1234", 4, 0);
+            CHECK(status == MINI_MOKA_DONE || (number == 99 && window == 0 && status == MINI_MOKA_REJECTED));
+            CHECK(mini_moka_get(&cache, &number, sizeof number, 0, buffer, 1, &length) == (status == MINI_MOKA_DONE ? MINI_MOKA_TOO_SHORT : MINI_MOKA_ABSENT));
+            CHECK(mini_moka_peek(&cache, &number, sizeof number, 0, buffer, 1, &length) == (status == MINI_MOKA_DONE ? MINI_MOKA_TOO_SHORT : MINI_MOKA_ABSENT));
+        }
+        CHECK(insert(&cache, "new", "1234", 0) == (window == 0 ? MINI_MOKA_REJECTED : MINI_MOKA_DONE));
+        CHECK(mini_moka_statistics(&cache, &counts) == MINI_MOKA_DONE && counts.hits == (window == 0 ? 99 : 100) && counts.misses == (window == 0));
+        CHECK(counts.rejections == (window == 0 ? 2 : 0) && counts.evictions == (window == 0 ? 0 : 1));
+        CHECK(mini_moka_close(&cache) == MINI_MOKA_DONE);
+    }
 }
 
 /* ---- refusals */
@@ -513,6 +555,8 @@ int main(void) {
     durations_of_zero_are_refused();
     statuses_have_texts();
     updates_may_exceed_the_capacity();
+    heavy_updates_empty_the_cache();
+    full_caches_have_a_window();
     calls_are_refused();
     too_much_room_is_refused();
     return failures != 0;

@@ -12,6 +12,7 @@ const ARCHIVE: &str = "libmini_moka.a";
 
 fn main() {
     println!("cargo:rerun-if-changed=build.rs");
+    println!("cargo:rustc-check-cfg=cfg(mini_moka_watched)");
     println!("cargo:rerun-if-env-changed={FOLDER}");
     let folder = match env::var_os(FOLDER) {
         Some(folder) => named(Path::new(&folder)),

@@ -32,7 +32,8 @@ pub struct Builder {
 }
 
 impl Builder {
-    /// Sets the most entries, or with [`weigh_bytes`](Self::weigh_bytes) the most bytes.
+    /// Sets the most entries, or with [`weigh_bytes`](Self::weigh_bytes) the most bytes. With 0 the
+    /// cache keeps nothing.
     pub fn max_capacity(mut self, max_capacity: u64) -> Builder {
         self.limits.max_capacity = Some(max_capacity);
         self
@@ -41,7 +42,10 @@ impl Builder {
     /// Makes the capacity count the bytes of keys and values, and not entries.
     ///
     /// An entry weighs at most `u32::MAX`. An update with a longer value may leave the cache above
-    /// its capacity, until the next insert, get or `contains_key`.
+    /// its capacity. Then each insert, get, `contains_key`, `remove` and `invalidate` first evicts up
+    /// to 100 entries, least recently used first, until the others fit. An update that is heavier
+    /// than the whole capacity is stored, so these calls evict most entries and it: remove its key
+    /// instead.
     pub fn weigh_bytes(mut self) -> Builder {
         self.weighs_bytes = true;
         self
@@ -60,8 +64,8 @@ impl Builder {
         self
     }
 
-    /// Reserves memory for so many entries from the start. Up to there an insert allocates only its
-    /// value, and a key of more than 24 bytes.
+    /// Reserves memory for so many entries from the start. Up to there an insert is refused
+    /// memory only for its value, or for a key of more than 24 bytes.
     ///
     /// A cache that is full of entries doubles its memory within one insert, which takes time
     /// linear in their number. With the most entries that it will have, it never does.
@@ -120,7 +124,7 @@ impl Builder {
     ///
     /// [`BuildError::ZeroDuration`] if a duration is 0, and [`BuildError::DurationTooLong`] if one
     /// has 2^64 - 1 nanoseconds or more. [`BuildError::OutOfMemory`] if memory is refused, or if the
-    /// initial capacity is above the 2^31 entries that a cache can have.
+    /// initial capacity is above the 2,000,000,000 entries that a cache can have.
     pub fn build(self) -> Result<Cache, BuildError> {
         self.build_with(self.clock())
     }

@@ -29,9 +29,11 @@ const SHORT: usize = 256;
 ///
 /// # Size
 ///
-/// A full cache may reject a new key: it is admitted only if its estimated frequency exceeds the
-/// sum of its victims', which are the least recently used entries. From a capacity of 100 on, a
-/// hundredth of it is a window, in which new entries stay at first.
+/// A full cache admits an entry only if its estimated frequency exceeds the sum of its victims',
+/// which are the least recently used entries. From a capacity of 100 on, a hundredth of it is a
+/// window, in which a new entry begins if it fits; it is judged when it leaves that, and if it isn't
+/// admitted then, it is evicted. A new entry that doesn't fit in the window is judged at once, and
+/// may be rejected: [`Inserted::Rejected`].
 ///
 /// # Moments
 ///
@@ -290,8 +292,8 @@ impl Cache {
         Ok(value)
     }
 
-    /// Puts a copy of the value at a copy of the key. A full cache may reject a new key for one that
-    /// is used more: [`Inserted::Rejected`].
+    /// Puts a copy of the value at a copy of the key. If the cache is full, a new entry that doesn't
+    /// fit in the window may be rejected: [`Inserted::Rejected`].
     ///
     /// ```
     /// use mini_moka_proved::{Cache, Inserted};
@@ -443,7 +445,7 @@ impl Cache {
     /// Returns the number of entries, including expired ones that no call has removed yet. It takes
     /// constant time.
     pub fn len(&self) -> usize {
-        // A cache has at most 2^31 entries.
+        // A cache has at most 2,000,000,000 entries.
         self.handle.len() as usize
     }
 

@@ -20,8 +20,8 @@
 //! ```
 //!
 //! The calls of the library are proved; this package, which makes them, is tested. That threads may
-//! hand a cache of the library to each other is tested too, under ThreadSanitizer, by a program in
-//! C. The `unsafe` of this package is in two modules: `handle`, and the coarse clock in `clock`.
+//! share a cache is tested too, under ThreadSanitizer, which also watches the library. The `unsafe` of
+//! this package is in two modules: `handle`, and the coarse clock in `clock`.
 
 #![deny(missing_docs, unsafe_code)]
 

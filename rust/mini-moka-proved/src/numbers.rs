@@ -159,8 +159,8 @@ impl NumberCache {
         Ok(value)
     }
 
-    /// Puts the value at the key. A full cache may reject a new key for one that is used more:
-    /// [`Inserted::Rejected`].
+    /// Puts the value at the key. If the cache is full and its capacity is below 100, so that it has
+    /// no window, a new entry may be rejected: [`Inserted::Rejected`].
     ///
     /// # Errors
     ///
@@ -276,7 +276,7 @@ impl NumberCache {
     /// Returns the number of entries, including expired ones that no call has removed yet. It takes
     /// constant time.
     pub fn len(&self) -> usize {
-        // A cache has at most 2^31 entries.
+        // A cache has at most 2,000,000,000 entries.
         self.handle.len() as usize
     }
 

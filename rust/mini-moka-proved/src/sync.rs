@@ -1,7 +1,7 @@
 //! A cache that threads share: segments, each a [`crate::Cache`] behind a lock of its own.
 //!
 //! The caches inside are proved. The hand-over between threads is tested: by this package's tests,
-//! and under ThreadSanitizer by a program in C over the same library.
+//! and by its example `threads` under ThreadSanitizer, which also watches the library.
 
 use crate::builder;
 use crate::clock::Clock;
@@ -238,8 +238,8 @@ impl Cache {
         Ok(value)
     }
 
-    /// Puts a copy of the value at a copy of the key. A full segment may reject a new key for one
-    /// that is used more: [`Inserted::Rejected`].
+    /// Puts a copy of the value at a copy of the key. If the segment is full, a new entry that doesn't
+    /// fit in its window may be rejected: [`Inserted::Rejected`].
     ///
     /// # Errors
     ///
@@ -428,8 +428,23 @@ impl Cache {
 
 impl Segment {
     /// Locks the cache. A call that panicked in another thread left it whole.
+    #[cfg(not(mini_moka_watched))]
     fn lock(&self) -> MutexGuard<'_, crate::Cache> {
         self.cache.lock().unwrap_or_else(PoisonError::into_inner)
+    }
+
+    /// Locks the cache for ThreadSanitizer, which doesn't see a thread that waits within std, since
+    /// std isn't compiled for it.
+    #[cfg(mini_moka_watched)]
+    fn lock(&self) -> MutexGuard<'_, crate::Cache> {
+        use std::sync::TryLockError;
+        loop {
+            match self.cache.try_lock() {
+                Ok(cache) => return cache,
+                Err(TryLockError::Poisoned(cache)) => return PoisonError::into_inner(cache),
+                Err(TryLockError::WouldBlock) => std::thread::yield_now(),
+            }
+        }
     }
 
     /// Copies the unexpired entries.
@@ -596,7 +611,8 @@ impl Builder {
 
     /// Makes the capacity count the bytes of keys and values, and not entries.
     ///
-    /// An entry that weighs more than its segment's part of the capacity is rejected.
+    /// A new entry that weighs more than its segment's part of the capacity is rejected. An update to
+    /// such a weight may empty the segment, as [`crate::Builder::weigh_bytes`] says.
     pub fn weigh_bytes(mut self) -> Builder {
         self.whole = self.whole.weigh_bytes();
         self
@@ -641,10 +657,12 @@ impl Builder {
         self
     }
 
-    /// Sets the number of segments, at least 1 and at most 65,536.
+    /// Sets the number of segments, from 1 to 65,536; a number outside becomes the nearer of the two.
+    /// With more segments than the capacity some keep nothing.
     ///
     /// Without one, a cache has 16, or as many as leave each a capacity of 100 entries, or of 1 MiB
-    /// if bytes are weighed. A smaller segment has no window, so it rejects more new entries.
+    /// if bytes are weighed. A smaller segment has no window, or one that fits only small entries, so
+    /// more new entries are rejected.
     pub fn segments(mut self, segments: usize) -> Builder {
         self.segments = Some(segments.clamp(1, 1 << 16));
         self

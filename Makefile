@@ -1,0 +1,10 @@
+# The library for C and Rust: `make` proves and builds it in library/, and `make install PREFIX=FOLDER` installs it with its headers.
+PREFIX ?= /usr/local
+
+.PHONY: library install
+
+library:
+	./build_library
+
+install:
+	./build_library --install "$(PREFIX)"
