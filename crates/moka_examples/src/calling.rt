@@ -1,5 +1,5 @@
 //! Callers of the public types, each proved to meet a contract of its own, whose words all come from `mini_moka`.
-ghost use Rattle.std.specs.Prelude.{◌≡◌, ◌+◌, ◌-◌, ◌^◌, List, Some, None, Ok, IfOk, IfSome, IsTrue, Bool, false, map, min, reverse, slice_get};
+ghost use Rattle.std.specs.Prelude.{◌≡◌, ◌+◌, ◌-◌, ◌^◌, ◌∷◌, [], List, Some, None, Ok, IfOk, IfSome, IsTrue, Bool, false, map, min, reverse, slice_get};
 ghost use Rattle.std.specs.List.Sorted.{IsPermutation};
 ghost use Rattle.std.specs.Map.{values_of};
 ghost use Rattle.mini_moka.specs.Common.Keys.{keys_by};
@@ -9,8 +9,12 @@ ghost use Rattle.mini_moka.specs.Unsync.CacheState.{new_cache};
 ghost use Rattle.mini_moka.specs.Unsync.History.{IsCurrent, Transition, exchanges};
 ghost use Rattle.mini_moka.specs.Unsync.Lookup.{is_contained};
 ghost use Rattle.mini_moka.specs.Unsync.Runs.{AreServed};
+ghost use Rattle.mini_moka.specs.Unsync.Step.{Invalidate};
 ghost use Rattle.mini_moka.specs.Unsync.Told.{HearsAll, unplaced};
+ghost use Rattle.mini_moka.specs.Unsync.ToldCalls.{TellsInvalidate};
 ghost use Rattle.mini_moka.specs.Unsync.Iterate.{pairs_at};
+ghost use Rattle.mini_moka.specs.Segmented.Plan.{place_of};
+ghost use Rattle.mini_moka.specs.Segmented.Visits.{at};
 ghost use Rattle.mini_moka.specs.Sync.Consistent.{IsTrimmed};
 ghost use Rattle.mini_moka.specs.Sync.CoreCall.{IsAtRest, IsCall, entries_evicted};
 ghost use Rattle.mini_moka.specs.Sync.CoreState.{CoreState};
@@ -43,12 +47,14 @@ use mini_moka::sync::laws::{
     upserts_of_left_entries_are_dropped,
 };
 use mini_moka::sync::recorded::{Answer, NotRecorded, Record, SharedCall};
+use mini_moka::sync::segmented::{NotifyingSession, Weighing};
 use mini_moka::unsync::history::{hits_are_current, runs_have_a_history};
 use mini_moka::unsync::{Cache, Cause, Listener, NotifyingCache};
 use mini_moka::{script, unsync};
 use std::alloc::Global;
 use std::hash::{BuildHasher, Hash};
 use std::rc::Rc;
+use std::sync::Wait;
 use std::time::Duration;
 
 /// Removes the entry of a key, and says whether it was there, unexpired. What was counted stays.
@@ -114,6 +120,23 @@ pub fn empty_out<K: Eq + Hash + Drop, V: Drop, L: Listener<K, V> + Drop>(
         × IsPermutation (unplaced cache.old.cache.contents.entries) (unplaced told) }
 {
     cache.invalidate_all();
+}
+
+/// Forgets a key. The session's listener gets what has expired in the key's segment, and then the key's entry. The session remembers the call.
+pub fn forget<
+    K: Eq + Hash + Drop,
+    V: Drop,
+    L: Listener<K, V> + Drop,
+    S: BuildHasher + Drop,
+    W: Weighing<K, V>,
+    R: Wait,
+>(rt: &R, session: &mut NotifyingSession<K, V, L, S, W>, key: &K, now: Instant)
+    ensures { (call : Transition K V S W) × (call.request ≡ Invalidate key.now now)
+        × (at session.new.session.knows.mine (place_of session.old.session.cache.plan (keys_by K.Hash S.BuildHasher S.Hasher.Hasher) key.now)
+        ≡ (call ∷ []) ∷ at session.old.session.knows.mine (place_of session.old.session.cache.plan (keys_by K.Hash S.BuildHasher S.Hasher.Hasher) key.now))
+        × TellsInvalidate L.hears (keys_by K.Hash S.BuildHasher S.Hasher.Hasher) call.before now key.now session.old.listener session.new.listener }
+{
+    session.invalidate(rt, key, now);
 }
 
 /// The least recently used unexpired pair, copied.
