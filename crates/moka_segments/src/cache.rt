@@ -34,7 +34,7 @@ use std::sync::{Arc, Wait};
 /// own. A clone is the same cache.
 ///
 /// A call takes the lock of its key's segment and no other, so calls of different segments don't wait for each other. There is no log and no maintenance: each
-/// call does all its work at once, and the counts are exact. A segment has its part of the limit, so an entry that is heavier than that is never kept.
+/// call does all its work at once, and the counts are exact. A segment has its part of the limit, so a new entry that is heavier than that is rejected.
 ///
 /// The calls here are those of a caller who knows nothing of earlier ones. A thread that wants to be sure to find what it wrote calls by a `Session`.
 #[derive(Drop)]
