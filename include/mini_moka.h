@@ -1,6 +1,6 @@
 /*
- * mini-moka's cache for one thread, proved. Keys and values are bytes of any length, or numbers of 64 bits, which
- * take no memory of their own. docs/C_AND_RUST.md says how the library is built and linked.
+ * mini-moka's cache for one thread, proved. Keys and values are bytes of any length, or numbers of 64 bits, which take no memory of their own.
+ * docs/C_AND_RUST.md says how the library is built and linked.
  *
  * Moments and durations are nanoseconds. Moments count from a start of the program's choice, as by CLOCK_MONOTONIC; one may be before an earlier call's. Each
  * call returns a mini_moka_status, and none aborts. A call writes through a pointer only if it returns MINI_MOKA_DONE, and a length at MINI_MOKA_TOO_SHORT too.

@@ -24,8 +24,10 @@
 extern "C" {
 #endif
 
-/* The most segments that mini_moka_segments_open chooses, and the least capacity that it gives one, in entries and in bytes. With
- * fewer entries a segment has no window, and with fewer bytes only small entries fit in it, so more new entries are rejected. */
+/*
+ * The most segments that mini_moka_segments_open chooses, and the least capacity that it gives one, in entries and in bytes. With fewer entries a segment has no
+ * window, and with fewer bytes only small entries fit in it, so more new entries are rejected.
+ */
 #define MINI_MOKA_SEGMENTS_MOST 16
 #define MINI_MOKA_SEGMENT_LEAST 100
 #define MINI_MOKA_SEGMENT_LEAST_BYTES (UINT64_C(1) << 20)
