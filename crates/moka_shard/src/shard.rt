@@ -206,7 +206,7 @@ impl<
     }
 
     /// Returns the entry in a slot, if a search has found one and it is live.
-    pub fn unexpired(
+    fn unexpired(
         &self,
         slot: Option<usize>,
         settings: &Settings<S, A>,
@@ -223,7 +223,7 @@ impl<
     }
 
     /// Returns `true` if a search has found a live entry.
-    pub fn is_live(
+    fn is_live(
         &self,
         slot: Option<usize>,
         settings: &Settings<S, A>,
@@ -236,7 +236,7 @@ impl<
     }
 
     /// Returns the value of a live entry that a search has found, shared, and its ticket.
-    pub fn value(
+    fn value(
         &self,
         slot: Option<usize>,
         settings: &Settings<S, A>,

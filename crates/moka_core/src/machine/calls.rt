@@ -105,7 +105,7 @@ impl<
             self.old.state (call.Invalidate key.now now) result self.new.state }
         ensures weigher { self.new.weigher ≡ self.old.weigher }
     {
-        let Some(write) = self.take_from_map(key) else {
+        let Some(write) = self.remove_from_map(key) else {
             return Reply::Done;
         };
         self.log_write(write, now);
@@ -119,7 +119,7 @@ impl<
             self.old.state (call.Remove key.now now) result self.new.state }
         ensures weigher { self.new.weigher ≡ self.old.weigher }
     {
-        let (found, write) = self.take_value(key, now);
+        let (found, write) = self.remove_value(key, now);
         let Some(write) = write else {
             return Reply::Found(found);
         };

@@ -146,7 +146,7 @@ impl<
         if self.pending.of(caller).is_some() {
             return Reply::NotPossible;
         }
-        let Some(write) = self.take_from_map(key) else {
+        let Some(write) = self.remove_from_map(key) else {
             return Reply::Done;
         };
         self.pending.put(caller, Operation::Writing(write));
@@ -154,7 +154,7 @@ impl<
     }
 
     /// Invalidates a key for a caller who has nothing pending, and returns the write that it leaves pending, if there was an entry.
-    pub(super) fn take_from_map(&mut self, key: &K) -> Option<Write>
+    pub(super) fn remove_from_map(&mut self, key: &K) -> Option<Write>
         ensures taken { TakesFor (keys_by K.Hash S.BuildHasher S.Hasher.Hasher) (W.weighs self.old.weigher)
             self.old.state self.new.state key.now result }
         ensures kept { KeepsAllButMap self.old self.new }
@@ -173,7 +173,7 @@ impl<
         if self.pending.of(caller).is_some() {
             return Reply::NotPossible;
         }
-        let (found, write) = self.take_value(key, now);
+        let (found, write) = self.remove_value(key, now);
         let Some(write) = write else {
             return Reply::Found(found);
         };
@@ -182,7 +182,7 @@ impl<
     }
 
     /// Removes a key for a caller who has nothing pending. It returns the key's live value, and the write that it leaves pending if there was an entry.
-    pub(super) fn take_value(
+    pub(super) fn remove_value(
         &mut self,
         key: &K,
         now: Instant,

@@ -143,7 +143,8 @@ impl<
         ensures valid { IsValidShard (keys_by K.Hash S.BuildHasher S.Hasher.Hasher) (state_of self.new) }
     {
         let slot = self.find(key, hash)?;
-        Some(self.remove(slot))
+        let (_, ticket) = self.remove(slot);
+        Some(ticket)
     }
 
     /// Removes the entry of a key as `invalidate` does, and returns its value if it is live.
@@ -165,25 +166,15 @@ impl<
             return (None, None);
         };
         let is_live = self.is_live(Some(slot), settings, valid_after, now);
-        let (value, ticket) = self.take_out(slot);
+        let (value, ticket) = self.remove(slot);
         if !is_live {
             return (None, Some(ticket));
         }
         (Some(value), Some(ticket))
     }
 
-    /// Removes the entry in a slot, and returns its ticket.
-    pub fn remove(&mut self, slot: usize) -> Ticket
-        requires { IsSome (entry_in self.old.slots slot) }
-        ensures step { IsInvalidation (state_of self.old) (entry_in self.old.slots slot) (Some result) (state_of self.new) }
-        ensures valid { IsValidShard (keys_by K.Hash S.BuildHasher S.Hasher.Hasher) (state_of self.new) }
-    {
-        let (_, ticket) = self.take_out(slot);
-        ticket
-    }
-
     /// Removes the entry in a slot, and returns its value and its ticket.
-    fn take_out(&mut self, slot: usize) -> (Shared<V, A>, Ticket)
+    fn remove(&mut self, slot: usize) -> (Shared<V, A>, Ticket)
         requires { IsSome (entry_in self.old.slots slot) }
         ensures value { option_map (λ e. e.value) (entry_in self.old.slots slot) ≡ Some result.0 }
         ensures step { IsInvalidation (state_of self.old) (entry_in self.old.slots slot) (Some result.1) (state_of self.new) }
@@ -258,7 +249,8 @@ impl<
             return Ok((None, None));
         };
         let copy = try_clone_of(self.unexpired(Some(slot), settings, valid_after, now))?;
-        Ok((copy, Some(self.remove(slot))))
+        let (_, ticket) = self.remove(slot);
+        Ok((copy, Some(ticket)))
     }
 }
 

@@ -17,9 +17,9 @@ pub returns-in_default-clause-step : goal.returns-in_default-clause-step
 returns-in_default-clause-step g c =
     let weighs = g.W.WeighShared.weighs c.args.self.now.weigher in
     let old = c.args.self.now.state in
-    let new = c.take_from_map.new.self.state in
+    let new = c.remove_from_map.new.self.state in
     let none = none_pending (keys g) g.met.K.Eq.laws weighs old c.requires.rest.pending in
-    let same = ap (λ s. s.pending) c.take_from_map.ensures.kept.state in
+    let same = ap (λ s. s.pending) c.remove_from_map.ensures.kept.state in
     idle_invalidate (keys g) g.met.K.Eq.laws weighs old new c.requires.good c.requires.rest c.args.key.now c.args.now Done
     (none_pending (keys g) g.met.K.Eq.laws weighs new (same ∙ c.requires.rest.pending)) (c.in_default.ensures.taken CALLER c.args.now none)
 
@@ -27,9 +27,9 @@ pub log_write-requires-clause-pends : goal.log_write-requires-clause-pends
 log_write-requires-clause-pends g c =
     let weighs = g.W.WeighShared.weighs c.args.self.now.weigher in
     let old = c.args.self.now.state in
-    let new = c.take_from_map.new.self.state in
+    let new = c.remove_from_map.new.self.state in
     let none = none_pending (keys g) g.met.K.Eq.laws weighs old c.requires.rest.pending in
-    let same = ap (λ s. s.pending) c.take_from_map.ensures.kept.state in
+    let same = ap (λ s. s.pending) c.remove_from_map.ensures.kept.state in
     let write = Writing c.in-Some.write in
     taken_pends (keys g) g.met.K.Eq.laws weighs old (having write new) c.requires.good c.requires.rest c.args.key.now c.args.now Done write
     (left_is_pending (keys g) g.met.K.Eq.laws weighs old new write c.requires.rest.pending same)
@@ -39,12 +39,12 @@ pub returns-clause-step : goal.returns-clause-step
 returns-clause-step g c =
     let weighs = g.W.WeighShared.weighs c.args.self.now.weigher in
     let old = c.args.self.now.state in
-    let new = c.take_from_map.new.self.state in
+    let new = c.remove_from_map.new.self.state in
     let none = none_pending (keys g) g.met.K.Eq.laws weighs old c.requires.rest.pending in
-    let same = ap (λ s. s.pending) c.take_from_map.ensures.kept.state in
+    let same = ap (λ s. s.pending) c.remove_from_map.ensures.kept.state in
     let write = Writing c.in-Some.write in
     called_invalidate (keys g) g.met.K.Eq.laws weighs old (having write new) c.requires.good c.requires.rest c.args.key.now c.args.now
     c.log_write.new.self.state Done write (left_is_pending (keys g) g.met.K.Eq.laws weighs old new write c.requires.rest.pending same)
     (c.in-Some.ensures.taken CALLER c.args.now none)
     (subst (λ w. CorePushesWrite (keys g) (g.W.WeighShared.weighs w) c.args.now (having write new) c.log_write.new.self.state)
-    c.take_from_map.ensures.kept.weigher c.log_write.ensures.step)
+    c.remove_from_map.ensures.kept.weigher c.log_write.ensures.step)

@@ -16,8 +16,8 @@ returns-in_default-clause-step g c =
     let none : pending_of c.args.caller c.args.self.now.state ≡ None =
     rw (← c.self.view_is) (sym c.of.ensures ∙ none_found c.of.result c.if-is_some.ensures) in
     let taken =
-    subst (RemovesFor (keys g) weighs c.args.self.now.state c.take_value-found.new.self.state c.args.key.now c.args.now
-    c.take_value-found.result.0) c.in_default.is c.take_value-found.ensures.taken in
+    subst (RemovesFor (keys g) weighs c.args.self.now.state c.remove_value-found.new.self.state c.args.key.now c.args.now
+    c.remove_value-found.result.0) c.in_default.is c.remove_value-found.ensures.taken in
     taken c.args.caller none
 
 pub returns-clause-step : goal.returns-clause-step
@@ -26,7 +26,7 @@ returns-clause-step g c =
     let none : pending_of c.args.caller c.args.self.now.state ≡ None =
     rw (← c.self.view_is) (sym c.of.ensures ∙ none_found c.of.result c.if-is_some.ensures) in
     let taken =
-    subst (RemovesFor (keys g) weighs c.args.self.now.state c.take_value-found.new.self.state c.args.key.now c.args.now
-    c.take_value-found.result.0) c.in-Some.is c.take_value-found.ensures.taken in
+    subst (RemovesFor (keys g) weighs c.args.self.now.state c.remove_value-found.new.self.state c.args.key.now c.args.now
+    c.remove_value-found.result.0) c.in-Some.is c.remove_value-found.ensures.taken in
     let step = taken c.args.caller none in
     rw (c.put.ensures.operations) (rw (← c.self-2.view_is) at step)

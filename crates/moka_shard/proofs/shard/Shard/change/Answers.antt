@@ -63,7 +63,7 @@ pub returns-in-Leaves : goal.returns-in-Leaves
 returns-in-Leaves g c =
     let some = rw c.in-Some.is at c.requires.found in
     rw (c.in-Some.is, c.in-Leaves.is)
-    (record { step = λ t found. leaves _ _ _ c.remove.result t some c.remove.ensures.step found; valid = λ was. c.remove.ensures.valid })
+    (record { step = λ t found. leaves _ _ _ c.remove.result.1 t some c.remove.ensures.step found; valid = λ was. c.remove.ensures.valid })
 
 pub returns-in-Stays-clause-valid : goal.returns-in-Stays-clause-valid
 returns-in-Stays-clause-valid g c = λ was. was

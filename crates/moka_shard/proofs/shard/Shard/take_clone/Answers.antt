@@ -18,6 +18,6 @@ returns-clause-step g c =
           subst (λ o. IsHanded g.V.Clone.is_clone (option_map (λ e. e.value) o) c.in_ok-copy.copy)
           (c.unexpired.ensures ∙ ap (unexpired settings c.args.valid_after c.args.now) own) (c.in_ok-copy.ensures {u = tt}).ok;
       step =
-          subst (λ o. IsInvalidation (state_of c.args.self.now) o (Some c.remove.result) (state_of c.remove.new.self)) own
+          subst (λ o. IsInvalidation (state_of c.args.self.now) o (Some c.remove.result.1) (state_of c.remove.new.self)) own
           c.remove.ensures.step;
     }

@@ -2,7 +2,7 @@ use Rattle.moka_list.specs.HashIndex.{is_candidate}
 use Rattle.std.proofs.Common.{◌≡◌, subst, sym, true}
 use Rattle.moka_sync_model.specs.declared.ticket.Ticket.{Ticket}
 use Rattle.moka_shard.proofs.SlotLemmas.{invalidation_at, removed, valid}
-use Rattle.moka_shard.proofs.shard.Shard.take_out.Goals as goal
+use Rattle.moka_shard.proofs.shard.Shard.remove.Goals as goal
 
 pub remove-requires : goal.remove-requires
 remove-requires g c =
