@@ -66,7 +66,7 @@ static uint64_t below(uint64_t bound) {
 struct known {
     bool is_there;
     uint64_t version, written, used;
-    bool may_remain; /* its entry is expired, and a call found none: upkeep removes at most a hundred in a call, and a peek none */
+    bool may_remain; /* its entry is expired, and a call found none: cleanup removes at most a hundred in a call, and a peek none */
 };
 
 /* What a call put: another version of a key's value, until it has left. */

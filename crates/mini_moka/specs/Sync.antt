@@ -3,7 +3,7 @@ pub use Rattle.moka_sync_model.specs.Ticket
 pub use Rattle.moka_sync_model.specs.Entry
 pub use Rattle.moka_sync_model.specs.Operation
 pub use Rattle.moka_sync_model.specs.Orders
-pub use Rattle.moka_sync_model.specs.Place
+pub use Rattle.moka_sync_model.specs.Phase
 pub use Rattle.moka_sync_model.specs.CoreState
 pub use Rattle.moka_sync_model.specs.Turn
 pub use Rattle.moka_sync_model.specs.EntryChange

@@ -3,7 +3,7 @@ pub use Rattle.moka_unsync.specs.Contents
 pub use Rattle.moka_unsync.specs.CacheState
 pub use Rattle.moka_unsync.specs.Builder
 pub use Rattle.moka_unsync.specs.Shares
-pub use Rattle.moka_unsync.specs.Upkeep
+pub use Rattle.moka_unsync.specs.Cleanup
 pub use Rattle.moka_unsync.specs.Lookup
 pub use Rattle.moka_unsync.specs.Window
 pub use Rattle.moka_unsync.specs.Insert

@@ -7,7 +7,7 @@ use Rattle.moka_common.specs.Policy.{Policy}
 use Rattle.moka_unsync_model.specs.CacheState.{CacheState, room_of, windowed}
 use Rattle.moka_unsync_model.specs.Contents.{Contents, entry_at}
 use Rattle.moka_unsync_model.specs.Insert.{IsInserted, after_put, new_entry}
-use Rattle.moka_unsync_model.specs.Told.{HearsAll, TellsPut, TellsUpkeep}
+use Rattle.moka_unsync_model.specs.Told.{HearsAll, TellsPut, TellsCleanup}
 use Rattle.moka_unsync_model.specs.ToldCalls.{TellsInsert, TellsNew, kept, main_max}
 use Rattle.moka_unsync_model.specs.declared.entry.Entry.{Entry}
 use Rattle.moka_unsync_model.specs.declared.listener.Cause.{Cause}
@@ -46,10 +46,10 @@ module _ {K V L : Type 0} (hears : L → K → V → Cause → L → Type 0) (an
   same c keeps a b [] is = ap answer is
   same c keeps a b (e ∷ es) h = same c keeps h.0 b es h.2 ∙ (turns a h.0 e.key e.value c h.1 ∙ keeps (answer a))
 
-  -- so upkeep doesn't
-  upkept : (eq : K → K → Bool) (policy : Policy) (now : ℕ) (contents : Contents K V) (a b : L) → TellsUpkeep hears eq policy now contents a b
+  -- so cleanup doesn't
+  cleaned : (eq : K → K → Bool) (policy : Policy) (now : ℕ) (contents : Contents K V) (a b : L) → TellsCleanup hears eq policy now contents a b
       → answer b ≡ answer a
-  upkept eq policy now contents a b t =
+  cleaned eq policy now contents a b t =
       same cause.Size (λ i. refl) t.between b t.above.told t.above.heard
       ∙ same cause.Expired (λ i. refl) a t.between t.expired.told t.expired.heard
 
@@ -70,7 +70,7 @@ module _ {K V S W : Type 0} (keys : Keys K S) (laws : IsEquivalence keys.eq) {L 
       by (entry_at keys.eq key (kept hears keys old now).entries) refl t.put
     where
       before : answer t.between ≡ Stored
-      before = upkept hears answer turns keys.eq old.settings.policy now old.contents a t.between t.upkeep ∙ stored
+      before = cleaned hears answer turns keys.eq old.settings.policy now old.contents a t.between t.cleanup ∙ stored
 
       by : (o : Option (Entry K V)) → entry_at keys.eq key (kept hears keys old now).entries ≡ o
           → TellsNew hears keys old now o key value new t.between b → answer b ≡ inserted_of (is_some (entry_at keys.eq key new.contents.entries))

@@ -7,9 +7,9 @@ use Rattle.moka_common.specs.Keys.{Keys}
 use Rattle.moka_common.specs.Policy.{Policy}
 use Rattle.moka_unsync_model.specs.CacheState.{CacheState}
 use Rattle.moka_unsync_model.specs.Contents.{Contents, entry_at}
-use Rattle.moka_unsync_model.specs.Told.{HearsAll, TellsExpired, TellsIf, TellsPut, TellsUpkeep, TellsWhatLeft}
+use Rattle.moka_unsync_model.specs.Told.{HearsAll, TellsExpired, TellsIf, TellsPut, TellsCleanup, TellsWhatLeft}
 use Rattle.moka_unsync_model.specs.ToldCalls.{TellsInsert, TellsInvalidate, TellsLook, TellsNew, TellsRemove, kept}
-use Rattle.moka_unsync_model.specs.Upkeep.{is_expired}
+use Rattle.moka_unsync_model.specs.Cleanup.{is_expired}
 use Rattle.moka_unsync_model.specs.declared.entry.Entry.{Entry}
 use Rattle.moka_unsync_model.specs.declared.listener.Cause.{Cause}
 use Rattle.moka_unsync_model.specs.declared.listener.Cause.TheVariants as cause
@@ -31,10 +31,10 @@ module _ {K V L Q : Type 0} (hears : L → K → V → Cause → L → Type 0) (
       → TellsWhatLeft gets c Reason were are (part a) (part b)
   left-gotten c were are a b t = record { told = t.told; heard = all-gotten c t.told a b t.heard; each = t.each; reason = t.reason }
 
-  -- what upkeep removes
-  upkeep-gotten : (eq : K → K → Bool) (policy : Policy) (now : ℕ) (contents : Contents K V) (a b : L) → TellsUpkeep hears eq policy now contents a b
-      → TellsUpkeep gets eq policy now contents (part a) (part b)
-  upkeep-gotten eq policy now contents a b t = record {
+  -- what cleanup removes
+  cleanup-gotten : (eq : K → K → Bool) (policy : Policy) (now : ℕ) (contents : Contents K V) (a b : L) → TellsCleanup hears eq policy now contents a b
+      → TellsCleanup gets eq policy now contents (part a) (part b)
+  cleanup-gotten eq policy now contents a b t = record {
     between = part t.between;
     expired = left-gotten cause.Expired _ _ a t.between t.expired;
     above = left-gotten cause.Size _ _ t.between b t.above;
@@ -72,14 +72,14 @@ turned {K} {V} a b key value cause is = ap (λ (l : Leaving K V). l.removed) is
 module _ {K V S W : Type 0} (keys : Keys K S) (old : CacheState K V S W) (now : ℕ) (a b : Leaving K V) where
   -- of a look-up
   pub look_queued : TellsLook hears_leaving keys old now a b → TellsLook queues keys old now a.removed b.removed
-  look_queued = upkeep-gotten hears_leaving queues (λ l. l.removed) turned keys.eq old.settings.policy now old.contents a b
+  look_queued = cleanup-gotten hears_leaving queues (λ l. l.removed) turned keys.eq old.settings.policy now old.contents a b
 
   -- of an insert
   pub insert_queued : (key : K) (value : V) (new : CacheState K V S W) → TellsInsert hears_leaving keys old now key value new a b
       → TellsInsert queues keys old now key value new a.removed b.removed
   insert_queued key value new t = record {
     between = t.between.removed;
-    upkeep = upkeep-gotten hears_leaving queues (λ l. l.removed) turned keys.eq old.settings.policy now old.contents a t.between t.upkeep;
+    cleanup = cleanup-gotten hears_leaving queues (λ l. l.removed) turned keys.eq old.settings.policy now old.contents a t.between t.cleanup;
     put = new-gotten hears_leaving queues (λ l. l.removed) turned keys old now (entry_at keys.eq key (kept queues keys old now).entries) key value new t.between b t.put;
   }
 
@@ -87,7 +87,7 @@ module _ {K V S W : Type 0} (keys : Keys K S) (old : CacheState K V S W) (now : 
   pub invalidation_queued : (key : K) → TellsInvalidate hears_leaving keys old now key a b → TellsInvalidate queues keys old now key a.removed b.removed
   invalidation_queued key t = record {
     between = t.between.removed;
-    upkeep = upkeep-gotten hears_leaving queues (λ l. l.removed) turned keys.eq old.settings.policy now old.contents a t.between t.upkeep;
+    cleanup = cleanup-gotten hears_leaving queues (λ l. l.removed) turned keys.eq old.settings.policy now old.contents a t.between t.cleanup;
     left = left-gotten hears_leaving queues (λ l. l.removed) turned cause.Explicit _ _ t.between b t.left;
   }
 
@@ -95,7 +95,7 @@ module _ {K V S W : Type 0} (keys : Keys K S) (old : CacheState K V S W) (now : 
   pub removal_queued : (key : K) → TellsRemove hears_leaving keys old now key a b → TellsRemove queues keys old now key a.removed b.removed
   removal_queued key t = record {
     between = t.between.removed;
-    upkeep = upkeep-gotten hears_leaving queues (λ l. l.removed) turned keys.eq old.settings.policy now old.contents a t.between t.upkeep;
+    cleanup = cleanup-gotten hears_leaving queues (λ l. l.removed) turned keys.eq old.settings.policy now old.contents a t.between t.cleanup;
     found = expired-gotten hears_leaving queues (λ l. l.removed) turned old.settings.policy now _ t.between b t.found;
   }
 

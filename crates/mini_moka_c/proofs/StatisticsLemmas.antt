@@ -10,12 +10,12 @@ use Rattle.moka_unsync_model.specs.Insert.{new_entry}
 use Rattle.moka_unsync_model.specs.Lookup.{found_by_get}
 use Rattle.moka_unsync_model.specs.Told.{HearsAll, TellsExpired, TellsIf, TellsPut, TellsWhatLeft, partless, unplaced}
 use Rattle.moka_unsync_model.specs.ToldCalls.{TellsInsert, TellsInvalidate, TellsLook, TellsNew, TellsRemove, kept, main_max}
-use Rattle.moka_unsync_model.specs.Upkeep.{after_expiry, after_upkeep, is_expired, unexpired}
+use Rattle.moka_unsync_model.specs.Cleanup.{after_expiry, after_cleanup, is_expired, unexpired}
 use Rattle.moka_unsync_model.specs.declared.entry.Entry.{Entry}
 use Rattle.moka_unsync_model.specs.declared.listener.Cause.{Cause}
 use Rattle.moka_unsync_model.specs.declared.listener.Cause.TheVariants as cause
 use Rattle.mini_moka_c.specs.Removed.{hears_leaving}
-use Rattle.mini_moka_c.specs.Statistics.{with_found, with_left, with_one, with_put, with_insertion, with_insert, with_invalidation, with_removal, with_remove, with_upkeep}
+use Rattle.mini_moka_c.specs.Statistics.{with_found, with_left, with_one, with_put, with_insertion, with_insert, with_invalidation, with_removal, with_remove, with_cleanup}
 use Rattle.mini_moka_c.specs.declared.removed.Leaving.{Leaving}
 use Rattle.mini_moka_c.specs.declared.statistics.Statistics.{Statistics}
 
@@ -74,11 +74,11 @@ module _ {K V L : Type 0} (hears : L → K → V → Cause → L → Type 0) (co
 module _ {K V S W : Type 0} (keys : Keys K S) {L : Type 0} (hears : L → K → V → Cause → L → Type 0) (counts : L → Statistics)
     (turns : (a b : L) (key : K) (value : V) (cause : Cause) → hears a key value cause b → counts b ≡ with_one cause (counts a))
     (old : CacheState K V S W) (now : ℕ) where
-  -- a look-up counts what upkeep removes
-  pub look-counted : (a b : L) → TellsLook hears keys old now a b → counts b ≡ with_upkeep keys old now (counts a)
+  -- a look-up counts what cleanup removes
+  pub look-counted : (a b : L) → TellsLook hears keys old now a b → counts b ≡ with_cleanup keys old now (counts a)
   look-counted a b t =
       let expired = (after_expiry keys.eq old.settings.policy now old.contents).entries in
-      let kept_entries = (after_upkeep keys.eq old.settings.policy now old.contents).entries in
+      let kept_entries = (after_cleanup keys.eq old.settings.policy now old.contents).entries in
       left-counted hears counts turns cause.Size expired kept_entries t.between b t.above
       ∙ ap (with_left (length expired - length kept_entries) cause.Size)
       (left-counted hears counts turns cause.Expired old.contents.entries expired a t.between t.expired)
@@ -88,7 +88,7 @@ module _ {K V S W : Type 0} (keys : Keys K S) {L : Type 0} (hears : L → K → 
       → with_insert (counts b) ≡ with_insertion keys old now key new (counts a)
   insert-counted key value new a b t = ap with_insert (by (entry_at keys.eq key (kept hears keys old now).entries) t.put ∙
       ap (with_put (is_some (entry_at keys.eq key (kept hears keys old now).entries)) (is_some (entry_at keys.eq key new.contents.entries))
-      (length (kept hears keys old now).entries) (length new.contents.entries)) (look-counted a t.between t.upkeep))
+      (length (kept hears keys old now).entries) (length new.contents.entries)) (look-counted a t.between t.cleanup))
     where
       by : (o : Option (Entry K V)) → TellsNew hears keys old now o key value new t.between b
           → counts b ≡ with_put (is_some o) (is_some (entry_at keys.eq key new.contents.entries)) (length (kept hears keys old now).entries)
@@ -105,14 +105,14 @@ module _ {K V S W : Type 0} (keys : Keys K S) {L : Type 0} (hears : L → K → 
       let were = (kept hears keys old now).entries in
       let are = entries_without keys.eq key were in
       left-counted hears counts turns cause.Explicit were are t.between b t.left
-      ∙ ap (with_left (length were - length are) cause.Explicit) (look-counted a t.between t.upkeep)
+      ∙ ap (with_left (length were - length are) cause.Explicit) (look-counted a t.between t.cleanup)
 
   -- a removal counts an expired entry, and then the one that it returns is counted
   pub removal-counted : (key : K) (a b : L) → TellsRemove hears keys old now key a b
       → with_removal (is_some (found_by_get keys old key now)) (counts b) ≡ with_remove keys old now key (counts a)
   removal-counted key a b t =
       let o = entry_at keys.eq key (kept hears keys old now).entries in
-      by o t.found ∙ ap (with_found old.settings.policy now o) (look-counted a t.between t.upkeep)
+      by o t.found ∙ ap (with_found old.settings.policy now o) (look-counted a t.between t.cleanup)
     where
       on : (e : Entry K V) (x : Bool) → TellsIf hears x e t.between b
           → with_removal (is_some (option_map (λ (e : Entry K V). e.value) (if x then None else Some e))) (counts b)
@@ -136,7 +136,7 @@ clearing_counted {K} {V} were a b t =
 
 module _ {K V S W : Type 0} (keys : Keys K S) (old : CacheState K V S W) (now : ℕ) (a b : Leaving K V) where
   -- the same, of a listener that queues too
-  pub look_counted : TellsLook hears_leaving keys old now a b → b.statistics ≡ with_upkeep keys old now a.statistics
+  pub look_counted : TellsLook hears_leaving keys old now a b → b.statistics ≡ with_cleanup keys old now a.statistics
   look_counted =
       look-counted keys hears_leaving (λ (l : Leaving K V). l.statistics) (λ a b key value cause is. ap (λ (l : Leaving K V). l.statistics) is) old now a b
 

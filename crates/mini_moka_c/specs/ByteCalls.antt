@@ -15,7 +15,7 @@ use Rattle.mini_moka_c.specs.declared.steps.Walk.TheVariants.{Ended}
 use Rattle.mini_moka_c.specs.declared.steps.Step.TheVariants as step
 use Rattle.mini_moka_c.specs.Walk.{BytePair, IsLong, fitting, met_after, next_pair, step_of, walk_after}
 use Rattle.mini_moka_c.specs.Removed.{QueuesTaken, queues}
-use Rattle.mini_moka_c.specs.Statistics.{with_get, with_insertion, with_invalidation, with_taken, with_upkeep}
+use Rattle.mini_moka_c.specs.Statistics.{with_get, with_insertion, with_invalidation, with_taken, with_cleanup}
 use Rattle.mini_moka_c.specs.declared.constants.TheConstants.{ABSENT, CHANGED, DONE, OUT_OF_MEMORY, TOO_SHORT}
 use Rattle.mini_moka_c.specs.Calls.{TellsLength, TellsTruth}
 
@@ -46,7 +46,7 @@ abbrev pub TellsBytesGet : List ℕ → ℕ → List ℕ → ℕ → List ℕ �
 TellsBytesGet key now buffer status filled written old new =
     (TellsBytesFound (found_by_get byte_keys old.cache key now) buffer status filled written
     × (new.cache ≡ after_get byte_keys old.cache key now)
-    × (new.leaving.statistics ≡ with_get (is_some (found_by_get byte_keys old.cache key now)) (with_upkeep byte_keys old.cache now old.leaving.statistics))
+    × (new.leaving.statistics ≡ with_get (is_some (found_by_get byte_keys old.cache key now)) (with_cleanup byte_keys old.cache now old.leaving.statistics))
     × told.TellsLook queues byte_keys old.cache now old.leaving.removed new.leaving.removed × (new.walk ≡ Ended))
     ⊎ TellsLongRefused key status old new
 
@@ -61,7 +61,7 @@ TellsBytesPeek key now buffer status filled written old new =
 abbrev pub TellsBytesLook : List ℕ → ℕ → ℕ → ByteCache → ByteCache → Type 0
 TellsBytesLook key now status old new =
     (TellsTruth (is_contained byte_keys old.cache key now) status × (new.cache ≡ after_look byte_keys old.cache now)
-    × (new.leaving.statistics ≡ with_upkeep byte_keys old.cache now old.leaving.statistics)
+    × (new.leaving.statistics ≡ with_cleanup byte_keys old.cache now old.leaving.statistics)
     × told.TellsLook queues byte_keys old.cache now old.leaving.removed new.leaving.removed × (new.walk ≡ Ended))
     ⊎ TellsLongRefused key status old new
 

@@ -16,7 +16,7 @@ use Rattle.mini_moka_c.specs.Inserted.{inserted_of, status_of}
 use Rattle.mini_moka_c.specs.NumberKeys.{number_keys}
 use Rattle.mini_moka_c.specs.NumberWalk.{met_after, next_pair, step_of, walk_after}
 use Rattle.mini_moka_c.specs.Removed.{queues}
-use Rattle.mini_moka_c.specs.Statistics.{with_get, with_insertion, with_invalidation, with_remove, with_upkeep}
+use Rattle.mini_moka_c.specs.Statistics.{with_get, with_insertion, with_invalidation, with_remove, with_cleanup}
 
 -- what a weigher of numbers answers
 abbrev pub weighs_one : {W : Type 0} → W → ℕ → ℕ → ℕ → W → Type 0
@@ -34,11 +34,11 @@ pub record IsNumberRefusal (old new : NumberCache) : Type 0 where
   pub refused : IsRefused old.cache new.cache
   pub same : new ≡ record old { cache = new.cache }
 
--- a get finds this value, or none, and is counted, and what upkeep removes is queued
+-- a get finds this value, or none, and is counted, and what cleanup removes is queued
 pub record IsNumberGet (key now : ℕ) (found : Option ℕ) (old new : NumberCache) : Type 0 where
   pub value : found ≡ found_by_get number_keys old.cache key now
   pub step : new.cache ≡ after_get number_keys old.cache key now
-  pub counts : new.leaving.statistics ≡ with_get (is_some found) (with_upkeep number_keys old.cache now old.leaving.statistics)
+  pub counts : new.leaving.statistics ≡ with_get (is_some found) (with_cleanup number_keys old.cache now old.leaving.statistics)
   pub removed : told.TellsLook queues number_keys old.cache now old.leaving.removed new.leaving.removed
   pub walk : new.walk ≡ Ended
 
@@ -78,7 +78,7 @@ TellsPeek key now status written old new = TellsFound (found_by_peek number_keys
 abbrev pub TellsLook : ℕ → ℕ → ℕ → NumberCache → NumberCache → Type 0
 TellsLook key now status old new =
     TellsTruth (is_contained number_keys old.cache key now) status × (new.cache ≡ after_look number_keys old.cache now)
-    × (new.leaving.statistics ≡ with_upkeep number_keys old.cache now old.leaving.statistics)
+    × (new.leaving.statistics ≡ with_cleanup number_keys old.cache now old.leaving.statistics)
     × told.TellsLook queues number_keys old.cache now old.leaving.removed new.leaving.removed × (new.walk ≡ Ended)
 
 -- what a removal finds

@@ -60,7 +60,7 @@ number_of cause.Replaced = 3
 number_of cause.Rejected = 4
 
 module _ {K V S W : Type 0} (keys : Keys K S) (old : CacheState K V S W) (now : ℕ) where
-  -- a removal whose value is too long to be told queues nothing, and another what upkeep removes and the entry of the key if that is expired
+  -- a removal whose value is too long to be told queues nothing, and another what cleanup removes and the entry of the key if that is expired
   abbrev pub QueuesTaken : Bool → K → RemovedQueue K V → RemovedQueue K V → Type 0
   QueuesTaken true key before after = after ≡ before
   QueuesTaken false key before after = TellsRemove queues keys old now key before after

@@ -6,7 +6,7 @@ use Rattle.moka_unsync_model.specs.CacheState.{CacheState}
 use Rattle.moka_unsync_model.specs.Contents.{entry_at}
 use Rattle.moka_unsync_model.specs.Invalidate.{after_invalidate}
 use Rattle.moka_unsync_model.specs.Lookup.{after_look}
-use Rattle.moka_unsync_model.specs.Upkeep.{after_expiry, is_expired}
+use Rattle.moka_unsync_model.specs.Cleanup.{after_expiry, is_expired}
 use Rattle.moka_unsync_model.specs.declared.entry.Entry.{Entry}
 use Rattle.moka_unsync_model.specs.declared.listener.Cause.{Cause}
 use Rattle.moka_unsync_model.specs.declared.listener.Cause.TheVariants as cause
@@ -60,9 +60,9 @@ with_put false true before after counts = with_left (before + 1 - after) cause.S
 with_put false false before after counts = with_one cause.Rejected (with_left (before - after) cause.Size counts)
 
 module _ {K V S W : Type 0} (keys : Keys K S) (old : CacheState K V S W) (now : ℕ) where
-  -- the counts once upkeep removed expired entries, and then entries above the limit
-  abbrev pub with_upkeep : Statistics → Statistics
-  with_upkeep counts =
+  -- the counts once cleanup removed expired entries, and then entries above the limit
+  abbrev pub with_cleanup : Statistics → Statistics
+  with_cleanup counts =
       let expired = (after_expiry keys.eq old.settings.policy now old.contents).entries in
       with_left (length expired - length (after_look keys old now).contents.entries) cause.Size
       (with_left (length old.contents.entries - length expired) cause.Expired counts)
@@ -72,12 +72,12 @@ module _ {K V S W : Type 0} (keys : Keys K S) (old : CacheState K V S W) (now : 
   with_insertion key new counts =
       let kept = (after_look keys old now).contents.entries in
       with_insert (with_put (is_some (entry_at keys.eq key kept)) (is_some (entry_at keys.eq key new.contents.entries)) (length kept)
-      (length new.contents.entries) (with_upkeep counts))
+      (length new.contents.entries) (with_cleanup counts))
 
   -- the counts once the entry of a key was removed
   abbrev pub with_remove : K → Statistics → Statistics
   with_remove key counts =
-      with_found old.settings.policy now (entry_at keys.eq key (after_look keys old now).contents.entries) (with_upkeep counts)
+      with_found old.settings.policy now (entry_at keys.eq key (after_look keys old now).contents.entries) (with_cleanup counts)
 
   -- the same, unless its value is too long to be told
   abbrev pub with_taken : Bool → K → Statistics → Statistics
@@ -88,7 +88,7 @@ module _ {K V S W : Type 0} (keys : Keys K S) (old : CacheState K V S W) (now : 
   abbrev pub with_invalidation : K → Statistics → Statistics
   with_invalidation key counts =
       with_left (length (after_look keys old now).contents.entries - length (after_invalidate keys old key now).contents.entries) cause.Explicit
-      (with_upkeep counts)
+      (with_cleanup counts)
 
 -- the counts once all entries were removed
 abbrev pub with_clearing : {K V S W : Type 0} → CacheState K V S W → Statistics → Statistics

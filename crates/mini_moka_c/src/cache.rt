@@ -16,7 +16,7 @@ ghost use Rattle.mini_moka_c.specs.Drain.{drained_by, drained_of, pair_of};
 ghost use Rattle.mini_moka_c.specs.Removed.{QueuesTaken, oldest, queues};
 ghost use Rattle.mini_moka_c.specs.Walk.{IsLong, fitting, met_after, next_pair, step_of, walk_after};
 ghost use Rattle.mini_moka_c.specs.declared.steps.Walk.TheVariants.{AtStart, Ended};
-ghost use Rattle.mini_moka_c.specs.Statistics.{no_statistics, with_clearing, with_get, with_insertion, with_invalidation, with_taken, with_upkeep};
+ghost use Rattle.mini_moka_c.specs.Statistics.{no_statistics, with_clearing, with_get, with_insertion, with_invalidation, with_taken, with_cleanup};
 
 use crate::inserted::Inserted;
 use crate::key::{Key, SHORT_KEY};
@@ -119,7 +119,7 @@ impl ByteCache {
         ensures copied { OnOk result (buffer.new ≡ copied_to buffer.old (found_by_get byte_keys self.old.cache key.now now)) }
         ensures step { OnOk result (self.new.cache ≡ after_get byte_keys self.old.cache key.now now) }
         ensures counts { OnOk result (self.new.leaving.statistics
-            ≡ with_get (is_some (found_by_get byte_keys self.old.cache key.now now)) (with_upkeep byte_keys self.old.cache now self.old.leaving.statistics)) }
+            ≡ with_get (is_some (found_by_get byte_keys self.old.cache key.now now)) (with_cleanup byte_keys self.old.cache now self.old.leaving.statistics)) }
         ensures removed { OnOk result (TellsLook queues byte_keys self.old.cache now self.old.leaving.removed self.new.leaving.removed) }
         ensures walk { OnOk result (self.new.walk ≡ Ended) }
         ensures refused { OnErr result ((self.new ≡ self.old) × (buffer.new ≡ buffer.old)) }
@@ -157,7 +157,7 @@ impl ByteCache {
     pub fn contains(&mut self, key: &[u8], now: Instant) -> Result<bool, OutOfMemory>
         ensures value { IfOk result (λ there. there ≡ is_contained byte_keys self.old.cache key.now now) }
         ensures step { OnOk result (self.new.cache ≡ after_look byte_keys self.old.cache now) }
-        ensures counts { OnOk result (self.new.leaving.statistics ≡ with_upkeep byte_keys self.old.cache now self.old.leaving.statistics) }
+        ensures counts { OnOk result (self.new.leaving.statistics ≡ with_cleanup byte_keys self.old.cache now self.old.leaving.statistics) }
         ensures removed { OnOk result (TellsLook queues byte_keys self.old.cache now self.old.leaving.removed self.new.leaving.removed) }
         ensures walk { OnOk result (self.new.walk ≡ Ended) }
         ensures refused { OnErr result (self.new ≡ self.old) }

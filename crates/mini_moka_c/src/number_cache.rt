@@ -14,7 +14,7 @@ ghost use Rattle.mini_moka_c.specs.NumberCalls.{IsNumberGet, IsNumberInsert, IsN
 ghost use Rattle.mini_moka_c.specs.NumberKeys.{number_keys};
 ghost use Rattle.mini_moka_c.specs.NumberWalk.{met_after, next_pair, step_of, walk_after};
 ghost use Rattle.mini_moka_c.specs.Removed.{oldest, queues, without_oldest};
-ghost use Rattle.mini_moka_c.specs.Statistics.{no_statistics, with_clearing, with_upkeep};
+ghost use Rattle.mini_moka_c.specs.Statistics.{no_statistics, with_clearing, with_cleanup};
 
 use crate::inserted::Inserted;
 use crate::removed::{Leaving, Removed, RemovedQueue};
@@ -130,7 +130,7 @@ impl NumberCache {
     pub fn contains(&mut self, key: u64, now: Instant) -> bool
         ensures value { result ≡ is_contained number_keys self.old.cache key now }
         ensures step { self.new.cache ≡ after_look number_keys self.old.cache now }
-        ensures counts { self.new.leaving.statistics ≡ with_upkeep number_keys self.old.cache now self.old.leaving.statistics }
+        ensures counts { self.new.leaving.statistics ≡ with_cleanup number_keys self.old.cache now self.old.leaving.statistics }
         ensures removed { TellsLook queues number_keys self.old.cache now self.old.leaving.removed self.new.leaving.removed }
         ensures walk { self.new.walk ≡ Ended }
     {

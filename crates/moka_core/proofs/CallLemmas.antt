@@ -13,7 +13,7 @@ use Rattle.moka_sync_model.specs.declared.call.Call.TheVariants as call
 use Rattle.moka_sync_model.specs.declared.event.Event.TheVariants.{Insert, Get, Invalidate, Take, Push, Turn}
 use Rattle.moka_sync_model.specs.declared.event.Event.{Event}
 use Rattle.moka_sync_model.specs.declared.event.Reply.TheVariants.{At, Done, Found, Discarded, NotPossible, OutOfMemory, TicketsUsedUp}
-use Rattle.moka_sync_model.specs.declared.place.Place.TheVariants as name
+use Rattle.moka_sync_model.specs.declared.phase.Phase.TheVariants as name
 use Rattle.moka_sync_model.specs.declared.operation.Operation.{Operation}
 use Rattle.moka_sync_model.specs.declared.operation.Operation.TheVariants.{Reading, Writing}
 use Rattle.moka_sync_model.specs.declared.operation.Read.{Read}
@@ -46,8 +46,8 @@ module _ {K V S : Type 0} (keys : Keys K S) (laws : IsEquivalence keys.eq) (weig
   -- turns leave a core that is consistent
   pub turns_keep_good : (old new : Core) → IsConsistent keys old → CoreTurns keys weighs old new → IsConsistent keys new
   turns_keep_good old new good (LastTurn _ _ step) = law.consistent_step keys laws weighs old new Turn (At name.Idle) good step
-  turns_keep_good old new good (NextTurn _ next _ place busy step turns) =
-      turns_keep_good next new (law.consistent_step keys laws weighs old next Turn (At place) good step) turns
+  turns_keep_good old new good (NextTurn _ next _ phase busy step turns) =
+      turns_keep_good next new (law.consistent_step keys laws weighs old next Turn (At phase) good step) turns
 
   -- so does a maintenance that comes to its end, or that isn't there
   pub end_keeps_good : (old : Core) (was : Bool) (new : Core) → IsConsistent keys old → Finishes keys weighs old was new
@@ -81,7 +81,7 @@ module _ {K V S : Type 0} (keys : Keys K S) (laws : IsEquivalence keys.eq) (weig
   -- ---- pushes
 
   as_law : (operation : Operation) (core : Core) → PendsOne keys core operation → law.Pends keys laws weighs operation core
-  as_law operation core h = record { good = h.good; pending = h.pending; place = h.place }
+  as_law operation core h = record { good = h.good; pending = h.pending; phase = h.phase }
 
   -- the core is consistent once the next maintenance is scheduled
   pub scheduled_is_good : (now : ℕ) (core : Core) → IsConsistent keys core → IsConsistent keys (scheduled true now core)
@@ -226,11 +226,11 @@ module _ {K V S : Type 0} (keys : Keys K S) (laws : IsEquivalence keys.eq) (weig
 
     -- the caller has an operation pending now
     now_pends : (event : Event K V) (reply : Reply K V) (operation : Operation) → Step old event reply next
-        → next.pending ≡ with_pending CALLER operation old → next.maintenance.place ≡ old.maintenance.place → PendsOne keys next operation
-    now_pends event reply operation step pending place = record {
+        → next.pending ≡ with_pending CALLER operation old → next.maintenance.phase ≡ old.maintenance.phase → PendsOne keys next operation
+    now_pends event reply operation step pending phase = record {
       good = law.consistent_step keys laws weighs old next event reply good step;
       pending = pending ∙ ap (λ ps. ps ++ (CALLER, operation) ∷ []) rest.pending;
-      place = place ∙ rest.place;
+      phase = phase ∙ rest.phase;
     }
 
     -- what a get has found and left, or that memory was refused
@@ -248,7 +248,7 @@ module _ {K V S : Type 0} (keys : Keys K S) (laws : IsEquivalence keys.eq) (weig
             inl (
               found,
               word,
-              (read, now_pends (Get CALLER key now) reply (Reading read) step (ap (λ c. c.pending) is) (ap (λ c. c.maintenance.place) is)),
+              (read, now_pends (Get CALLER key now) reply (Reading read) step (ap (λ c. c.pending) is) (ap (λ c. c.maintenance.phase) is)),
             )
 
         here : (e : Entry K V) (expired refused : Bool)
@@ -271,19 +271,19 @@ module _ {K V S : Type 0} (keys : Keys K S) (laws : IsEquivalence keys.eq) (weig
         Put = ((reply ≡ Done) × PendsWrite keys next) ⊎ (((reply ≡ OutOfMemory) ⊎ (reply ≡ TicketsUsedUp)) × (next ≡ old))
 
         left : (write : Write) → reply ≡ Done → next.pending ≡ with_pending CALLER (Writing write) old
-            → next.maintenance.place ≡ old.maintenance.place → Put
-        left write word pending place =
-            inl (word, (write, now_pends (Insert CALLER key value now) reply (Writing write) step pending place))
+            → next.maintenance.phase ≡ old.maintenance.phase → Put
+        left write word pending phase =
+            inl (word, (write, now_pends (Insert CALLER key value now) reply (Writing write) step pending phase))
 
         updated_or_full : (e : Entry K V) (full : Bool) → MatchBool full (OnlyReplies keys old TicketsUsedUp reply next)
             (IsUpdate keys old CALLER e value now step.weight reply next) → Put
         updated_or_full e true h = inr (inr h.0, h.1)
-        updated_or_full e false h = left (Upsert e.ticket) h.0 (ap (λ c. c.pending) h.1) (ap (λ c. c.maintenance.place) h.1)
+        updated_or_full e false h = left (Upsert e.ticket) h.0 (ap (λ c. c.pending) h.1) (ap (λ c. c.maintenance.phase) h.1)
 
         added_or_full : (e : Entry K V) (full : Bool) → MatchBool full (OnlyReplies keys old TicketsUsedUp reply next)
             (IsAddition keys old CALLER e reply next) → Put
         added_or_full e true h = inr (inr h.0, h.1)
-        added_or_full e false h = left (Upsert e.ticket) h.2 (ap (λ c. c.pending) h.3) (ap (λ c. c.maintenance.place) h.3)
+        added_or_full e false h = left (Upsert e.ticket) h.2 (ap (λ c. c.pending) h.3) (ap (λ c. c.maintenance.phase) h.3)
 
         by : (refused : Bool) (present : Option (Entry K V)) → IsInsert keys old CALLER key value now step.weight refused present
             reply next → Put
@@ -304,7 +304,7 @@ module _ {K V S : Type 0} (keys : Keys K S) (laws : IsEquivalence keys.eq) (weig
           inl (
             Remove e.ticket,
             now_pends (Invalidate CALLER key now) reply (Writing (Remove e.ticket)) step (ap (λ c. c.pending) h.1)
-                (ap (λ c. c.maintenance.place) h.1),
+                (ap (λ c. c.maintenance.phase) h.1),
           ),
         )
 
@@ -321,7 +321,7 @@ module _ {K V S : Type 0} (keys : Keys K S) (laws : IsEquivalence keys.eq) (weig
             inl (
               Remove e.ticket,
               now_pends (Take CALLER key now) (Found found) (Writing (Remove e.ticket)) step (ap (λ c. c.pending) h.1)
-                  (ap (λ c. c.maintenance.place) h.1),
+                  (ap (λ c. c.maintenance.phase) h.1),
             )
 
     -- what has found out has left a read

@@ -10,10 +10,10 @@ use Rattle.moka_sync_model.specs.declared.event.Event.TheVariants.{Insert, Get, 
 use Rattle.moka_sync_model.specs.declared.event.Reply.TheVariants.{Done, Found, Discarded, At, NotPossible, OutOfMemory, TicketsUsedUp}
 use Rattle.moka_sync_model.specs.declared.operation.Operation.{Operation}
 use Rattle.moka_sync_model.specs.declared.operation.Operation.TheVariants.{Reading, Writing}
-use Rattle.moka_sync_model.specs.declared.place.Place.TheVariants as name
+use Rattle.moka_sync_model.specs.declared.phase.Phase.TheVariants as name
 use Rattle.moka_sync_model.specs.CoreCall.{Decides, IsAtRest, IsCall, has_pending}
 use Rattle.moka_sync_model.specs.CoreState.{CoreState, pending_of}
-use Rattle.moka_sync_model.specs.Place.{Place, is_idle}
+use Rattle.moka_sync_model.specs.Phase.{Phase, is_idle}
 use Rattle.moka_sync_model.specs.Reply.{Reply}
 use Rattle.moka_sync_model.specs.Run.{Happens}
 use Rattle.moka_sync_model.specs.WholeCall.{Log, OfReads, OfWrites, Turns, LastTurn, NextTurn}
@@ -54,9 +54,9 @@ module _ {K V S W : Type 0} (keys : Keys K S) (weighs : W → K → V → ℕ �
       → Turns Step Decides has_pending CALLER a.state b.state × Has b
   turns a b has (LastTurn _ _ last) =
       let (taken, kept) = step a b Turn (At name.Idle) has last in (LastTurn a.state b.state taken, kept)
-  turns a b has (NextTurn _ next _ place busy first later) =
-      let (taken, kept) = step a next Turn (At place) has first in
-      let (others, end) = turns next b kept later in (NextTurn a.state next.state b.state place busy taken others, end)
+  turns a b has (NextTurn _ next _ phase busy first later) =
+      let (taken, kept) = step a next Turn (At phase) has first in
+      let (others, end) = turns next b kept later in (NextTurn a.state next.state b.state phase busy taken others, end)
 
   maintenance : (now : ℕ) (a b : Core) → Has a → Maintains Allowed core_decides (pends_by core_caller) CALLER now a b
       → Maintains Step Decides has_pending CALLER now a.state b.state × Has b
@@ -174,9 +174,9 @@ module _ {K V S W : Type 0} (keys : Keys K S) (weighs : W → K → V → ℕ �
 -- where nothing is under way at a core, nothing is of its caller
 pub rests : {K V S W : Type 0} (core : CoreValue K V S W) → IsAtRest core.state → core_caller core ≡ at_rest
 rests core rest =
-    let both : List (ℕ × Operation) → Place → Caller =
-    λ pending place. record { pending = kind_of (lookup (nat_eq CALLER) pending); is_maintaining = not (is_idle place) } in
-    ap (λ pending. both pending core.state.maintenance.place) rest.pending ∙ ap (both []) rest.place
+    let both : List (ℕ × Operation) → Phase → Caller =
+    λ pending phase. record { pending = kind_of (lookup (nat_eq CALLER) pending); is_maintaining = not (is_idle phase) } in
+    ap (λ pending. both pending core.state.maintenance.phase) rest.pending ∙ ap (both []) rest.phase
 
 -- whole calls over the steps of a core are the core's
 pub are_calls : {K V S W : Type 0} (keys : Keys K S) (weighs : W → K → V → ℕ → Type 0) → AreCalls keys weighs

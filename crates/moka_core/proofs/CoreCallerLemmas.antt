@@ -17,9 +17,9 @@ use Rattle.moka_sync_model.specs.declared.operation.Operation.TheVariants.{Readi
 use Rattle.moka_sync_model.specs.declared.operation.Read.TheVariants.{Hit, Miss}
 use Rattle.moka_sync_model.specs.declared.operation.Write.{Write}
 use Rattle.moka_sync_model.specs.declared.operation.Write.TheVariants.{Upsert, Remove}
-use Rattle.moka_sync_model.specs.declared.place.Place.{Place as PlaceName}
-use Rattle.moka_sync_model.specs.Place as place
-use Rattle.moka_sync_model.specs.Place.{Place, is_idle, name_of}
+use Rattle.moka_sync_model.specs.declared.phase.Phase.{Phase as PhaseName}
+use Rattle.moka_sync_model.specs.Phase as phase
+use Rattle.moka_sync_model.specs.Phase.{Phase, is_idle, name_of}
 use Rattle.moka_sync_model.specs.Entry.{Entry, entry_at}
 use Rattle.moka_sync_model.specs.CoreCall.{Decides, has_pending, scheduled}
 use Rattle.moka_sync_model.specs.CoreState.{CoreState, is_expired, pending_of, with_pending}
@@ -53,25 +53,25 @@ found_last test (x ∷ es) e none passes =
       | inr there ↦ rw there (found_last test es e (rw there at none) passes)
     ]
 
--- a place goes on by its name where it isn't idle
-busy_by_name : (p : Place) → not (is_idle p) ≡ goes_on (name_of p)
-busy_by_name place.Idle = refl
-busy_by_name (place.ReadCount round) = refl
-busy_by_name (place.Reads work) = refl
-busy_by_name (place.ReadApply work read) = refl
-busy_by_name (place.WriteCount round) = refl
-busy_by_name (place.Writes work) = refl
-busy_by_name (place.Apply work write) = refl
-busy_by_name (place.Scan work c tally seen) = refl
-busy_by_name (place.Removing work c tally skipped left) = refl
-busy_by_name (place.Enter work c skipped) = refl
-busy_by_name (place.Sketch round) = refl
-busy_by_name (place.MoreReads round) = refl
-busy_by_name (place.MoreWrites round) = refl
-busy_by_name (place.ExpireWrite turns) = refl
-busy_by_name (place.ExpireAccess turns) = refl
-busy_by_name (place.Evict turns) = refl
-busy_by_name (place.Publish turns) = refl
+-- a phase goes on by its name where it isn't idle
+busy_by_name : (p : Phase) → not (is_idle p) ≡ goes_on (name_of p)
+busy_by_name phase.Idle = refl
+busy_by_name (phase.ReadCount round) = refl
+busy_by_name (phase.Reads work) = refl
+busy_by_name (phase.ReadApply work read) = refl
+busy_by_name (phase.WriteCount round) = refl
+busy_by_name (phase.Writes work) = refl
+busy_by_name (phase.Apply work write) = refl
+busy_by_name (phase.Scan work c tally seen) = refl
+busy_by_name (phase.Removing work c tally skipped left) = refl
+busy_by_name (phase.Enter work c skipped) = refl
+busy_by_name (phase.Sketch round) = refl
+busy_by_name (phase.MoreReads round) = refl
+busy_by_name (phase.MoreWrites round) = refl
+busy_by_name (phase.ExpireWrite turns) = refl
+busy_by_name (phase.ExpireAccess turns) = refl
+busy_by_name (phase.Evict turns) = refl
+busy_by_name (phase.Publish turns) = refl
 
 not_true : (b : Bool) → not b ≡ false → b ≡ true
 not_true true is = refl
@@ -85,18 +85,18 @@ module _ {K V S : Type 0} (keys : Keys K S) (weighs : K → V → ℕ → Type 0
   abbrev Step : Event K V → Reply K V → Type 0
   Step event reply = Happens keys weighs old event reply new
 
-  -- the caller, by what is pending and by its place
-  is_caller : (operation : Option Operation) (runs : Bool) → pending_of CALLER new ≡ operation → not (is_idle new.maintenance.place) ≡ runs
+  -- the caller, by what is pending and by its phase
+  is_caller : (operation : Option Operation) (runs : Bool) → pending_of CALLER new ≡ operation → not (is_idle new.maintenance.phase) ≡ runs
       → caller_of new ≡ record { pending = kind_of operation; is_maintaining = runs }
-  is_caller operation runs pending place =
+  is_caller operation runs pending phase =
       ap (λ (o : Option Operation). let k : Caller = record {
         pending = kind_of o;
-        is_maintaining = not (is_idle new.maintenance.place);
+        is_maintaining = not (is_idle new.maintenance.phase);
       } in k) pending
-      ∙ ap (λ (b : Bool). let k : Caller = record { pending = kind_of operation; is_maintaining = b } in k) place
+      ∙ ap (λ (b : Bool). let k : Caller = record { pending = kind_of operation; is_maintaining = b } in k) phase
 
-  -- the place stays
-  stays : new.maintenance.place ≡ old.maintenance.place → not (is_idle new.maintenance.place) ≡ (caller_of old).is_maintaining
+  -- the phase stays
+  stays : new.maintenance.phase ≡ old.maintenance.phase → not (is_idle new.maintenance.phase) ≡ (caller_of old).is_maintaining
   stays is = ap (λ p. not (is_idle p)) is
 
   module _ (rest : caller_of old ≡ at_rest) where
@@ -109,12 +109,12 @@ module _ {K V S : Type 0} (keys : Keys K S) (weighs : K → V → ℕ → Type 0
     free reply Happens h = subst (λ o. MatchOption o Happens (λ operation. OnlyReplies keys old NotPossible reply new)) none h
 
     -- an operation is pending now
-    pends_now : (operation : Operation) → new.pending ≡ with_pending CALLER operation old → new.maintenance.place ≡ old.maintenance.place
+    pends_now : (operation : Operation) → new.pending ≡ with_pending CALLER operation old → new.maintenance.phase ≡ old.maintenance.phase
         → caller_of new ≡ pends (kind_of (Some operation))
-    pends_now operation pending place =
+    pends_now operation pending phase =
         is_caller (Some operation) false
         (ap (lookup (nat_eq CALLER)) pending ∙ found_last (nat_eq CALLER) old.pending (CALLER, operation) none refl)
-        (stays place ∙ ap (λ k. k.is_maintaining) rest)
+        (stays phase ∙ ap (λ k. k.is_maintaining) rest)
 
     -- nothing has changed
     same : new ≡ old → caller_of new ≡ at_rest
@@ -134,14 +134,14 @@ module _ {K V S : Type 0} (keys : Keys K S) (weighs : K → V → ℕ → Type 0
             → MatchBool used (OnlyReplies keys old TicketsUsedUp reply new) (IsAddition keys old CALLER e reply new) → Put
         added e true h = inr (inr h.0, same h.1)
         added e false h =
-            inl (h.2, pends_now (Writing (Upsert e.ticket)) (ap (λ c. c.pending) h.3) (ap (λ c. c.maintenance.place) h.3))
+            inl (h.2, pends_now (Writing (Upsert e.ticket)) (ap (λ c. c.pending) h.3) (ap (λ c. c.maintenance.phase) h.3))
 
         changed : (e : Entry K V) (full : Bool)
             → MatchBool full (OnlyReplies keys old TicketsUsedUp reply new)
             (IsUpdate keys old CALLER e value now step.weight reply new) → Put
         changed e true h = inr (inr h.0, same h.1)
         changed e false h =
-            inl (h.0, pends_now (Writing (Upsert e.ticket)) (ap (λ c. c.pending) h.1) (ap (λ c. c.maintenance.place) h.1))
+            inl (h.0, pends_now (Writing (Upsert e.ticket)) (ap (λ c. c.pending) h.1) (ap (λ c. c.maintenance.phase) h.1))
 
         by : (refused : Bool) (present : Option (Entry K V)) → IsInsert keys old CALLER key value now step.weight refused present
             reply new → Put
@@ -182,7 +182,7 @@ module _ {K V S : Type 0} (keys : Keys K S) (weighs : K → V → ℕ → Type 0
               None,
               h.0,
               pends_now (Reading (Miss (keys.hash_of old.settings.hash_state key))) (ap (λ c. c.pending) h.1)
-                  (ap (λ c. c.maintenance.place) h.1),
+                  (ap (λ c. c.maintenance.phase) h.1),
             )
 
         here : (e : Entry K V) (expired refused : Bool)
@@ -191,7 +191,7 @@ module _ {K V S : Type 0} (keys : Keys K S) (weighs : K → V → ℕ → Type 0
         here e true refused h = missed h
         here e false true h = inr (h.0, same h.1)
         here e false false h =
-            inl (Some e.value, h.0, pends_now (Reading (Hit e.ticket now)) (ap (λ c. c.pending) h.1) (ap (λ c. c.maintenance.place) h.1))
+            inl (Some e.value, h.0, pends_now (Reading (Hit e.ticket now)) (ap (λ c. c.pending) h.1) (ap (λ c. c.maintenance.phase) h.1))
 
         by : (present : Option (Entry K V)) → IsGet keys old CALLER key now step.refused present reply new → Got
         by None h = missed h
@@ -222,12 +222,12 @@ module _ {K V S : Type 0} (keys : Keys K S) (weighs : K → V → ℕ → Type 0
 
     taken_out : (present : Option (Entry K V)) (reply : Reply K V) → IsInvalidation keys old CALLER present reply new → Left
     taken_out None reply h = same h.1 ∙ ap (λ o. pends (left_by_invalidate (is_some o))) (sym (ap (pending_of CALLER) h.1 ∙ none))
-    taken_out (Some e) reply h = removed (Remove e.ticket) (ap (λ c. c.pending) h.1) (ap (λ c. c.maintenance.place) h.1)
+    taken_out (Some e) reply h = removed (Remove e.ticket) (ap (λ c. c.pending) h.1) (ap (λ c. c.maintenance.phase) h.1)
       where
         removed : (write : Write) → new.pending ≡ with_pending CALLER (Writing write) old
-            → new.maintenance.place ≡ old.maintenance.place → Left
-        removed write pending place =
-            pends_now (Writing write) pending place
+            → new.maintenance.phase ≡ old.maintenance.phase → Left
+        removed write pending phase =
+            pends_now (Writing write) pending phase
             ∙ ap (λ o. pends (left_by_invalidate (is_some o)))
             (sym (ap (lookup (nat_eq CALLER)) pending ∙ found_last (nat_eq CALLER) old.pending (CALLER, Writing write) none refl))
 
@@ -248,10 +248,10 @@ module _ {K V S : Type 0} (keys : Keys K S) (weighs : K → V → ℕ → Type 0
         let h = free reply (IsTaking keys old CALLER now (entry_at keys.eq key old.entries) reply new) step.step in
         (h.0, taken_out (entry_at keys.eq key old.entries) Done h.1)
 
-  -- nothing is pending any more, and the place stays
+  -- nothing is pending any more, and the phase stays
   module _ (kind : Pending) (was : caller_of old ≡ pends kind) where
-    left_none : pending_of CALLER new ≡ None → new.maintenance.place ≡ old.maintenance.place → caller_of new ≡ at_rest
-    left_none none place = is_caller None false none (stays place ∙ ap (λ k. k.is_maintaining) was)
+    left_none : pending_of CALLER new ≡ None → new.maintenance.phase ≡ old.maintenance.phase → caller_of new ≡ at_rest
+    left_none none phase = is_caller None false none (stays phase ∙ ap (λ k. k.is_maintaining) was)
 
   -- a pending read was pushed or discarded
   pub pushed_read : caller_of old ≡ pends ARead → (reply : Reply K V) → Step (event.Push CALLER) reply
@@ -268,9 +268,9 @@ module _ {K V S : Type 0} (keys : Keys K S) (weighs : K → V → ℕ → Type 0
       by (Some (Reading read)) is p =
           elim (cases_Bool (nat_lt (length old.read_log) READ_LOG_SIZE)) [
             | inl room ↦ let (word, to) = rw room at p in
-                (inl word, left_none ARead was (gone (λ no. cc)) (ap (λ c. c.maintenance.place) to))
+                (inl word, left_none ARead was (gone (λ no. cc)) (ap (λ c. c.maintenance.phase) to))
             | inr full ↦ let (word, to) = rw full at p in
-                (inr word, left_none ARead was (gone (λ no. cc)) (ap (λ c. c.maintenance.place) to))
+                (inr word, left_none ARead was (gone (λ no. cc)) (ap (λ c. c.maintenance.phase) to))
           ]
 
   -- a pending write was pushed, or its log is full
@@ -288,7 +288,7 @@ module _ {K V S : Type 0} (keys : Keys K S) (weighs : K → V → ℕ → Type 0
       by (Some (Writing write)) is p =
           elim (cases_Bool (nat_lt (length old.write_log) WRITE_LOG_SIZE)) [
             | inl room ↦ let (word, to) = rw room at p in
-                inl (word, left_none AWrite was (gone (λ no. cc)) (ap (λ c. c.maintenance.place) to))
+                inl (word, left_none AWrite was (gone (λ no. cc)) (ap (λ c. c.maintenance.phase) to))
             | inr full ↦ let (word, to) = rw full at p in inr (word, ap caller_of to ∙ was)
           ]
 
@@ -302,7 +302,7 @@ module _ {K V S : Type 0} (keys : Keys K S) (weighs : K → V → ℕ → Type 0
       by None is p = absurd (cc)
       by (Some (Writing write)) is p = absurd (cc)
       by (Some (Reading read)) is p = let (word, to) = p in
-          (word, left_none ARead was (gone (λ no. cc)) (ap (λ c. c.maintenance.place) to))
+          (word, left_none ARead was (gone (λ no. cc)) (ap (λ c. c.maintenance.phase) to))
 
   -- ---- the maintenance
 
@@ -310,13 +310,13 @@ module _ {K V S : Type 0} (keys : Keys K S) (weighs : K → V → ℕ → Type 0
   pub begun : (now : ℕ) → (caller_of old).is_maintaining ≡ false → (reply : Reply K V) → Step (event.Begin now) reply
       → (reply ≡ Done) × (caller_of new ≡ maintaining true (caller_of old))
   begun now idle reply step =
-      by (subst (λ b. IsBeginning keys old now b reply new) (not_true (is_idle old.maintenance.place) idle) step.step)
+      by (subst (λ b. IsBeginning keys old now b reply new) (not_true (is_idle old.maintenance.phase) idle) step.step)
     where
       by : IsBeginning keys old now true reply new → (reply ≡ Done) × (caller_of new ≡ maintaining true (caller_of old))
       by h = (h.0, ap caller_of h.1)
 
   pending_kept : (refused : Bool) → (after_turn refused old).pending ≡ old.pending
-  pending_kept refused = by (turn_at old.settings old.valid_after refused old.maintenance.place old.maintenance)
+  pending_kept refused = by (turn_at old.settings old.valid_after refused old.maintenance.phase old.maintenance)
     where
       by : (look : Plan K V) → (after_plan look old).pending ≡ old.pending
       by (Alone m) = refl
@@ -326,27 +326,27 @@ module _ {K V S : Type 0} (keys : Keys K S) (weighs : K → V → ℕ → Type 0
 
   -- it has taken a turn
   pub turned : (caller_of old).is_maintaining ≡ true → (reply : Reply K V) → Step event.Turn reply
-      → (reply ≡ At (name_of new.maintenance.place))
-      × (caller_of new ≡ maintaining (goes_on (name_of new.maintenance.place)) (caller_of old))
+      → (reply ≡ At (name_of new.maintenance.phase))
+      × (caller_of new ≡ maintaining (goes_on (name_of new.maintenance.phase)) (caller_of old))
   turned busy reply step =
-      by (subst (λ b. IsTurn keys old step.refused b reply new) (not_false (is_idle old.maintenance.place) busy) step.step)
+      by (subst (λ b. IsTurn keys old step.refused b reply new) (not_false (is_idle old.maintenance.phase) busy) step.step)
     where
       by : IsTurn keys old step.refused false reply new
-          → (reply ≡ At (name_of new.maintenance.place))
-          × (caller_of new ≡ maintaining (goes_on (name_of new.maintenance.place)) (caller_of old))
+          → (reply ≡ At (name_of new.maintenance.phase))
+          × (caller_of new ≡ maintaining (goes_on (name_of new.maintenance.phase)) (caller_of old))
       by h = (
         h.0,
-        is_caller (pending_of CALLER old) (goes_on (name_of new.maintenance.place))
-            (ap (lookup (nat_eq CALLER)) (ap (λ c. c.pending) h.1 ∙ pending_kept step.refused)) (busy_by_name new.maintenance.place),
+        is_caller (pending_of CALLER old) (goes_on (name_of new.maintenance.phase))
+            (ap (lookup (nat_eq CALLER)) (ap (λ c. c.pending) h.1 ∙ pending_kept step.refused)) (busy_by_name new.maintenance.phase),
       )
 
   -- where it is then tells whether it goes on
-  pub turned_to : (caller_of old).is_maintaining ≡ true → (reply : Reply K V) → Step event.Turn reply → (p : PlaceName) → reply ≡ At p
+  pub turned_to : (caller_of old).is_maintaining ≡ true → (reply : Reply K V) → Step event.Turn reply → (p : PhaseName) → reply ≡ At p
       → caller_of new ≡ maintaining (goes_on p) (caller_of old)
   turned_to busy reply step p word =
       let facts = turned busy reply step in
       let at = facts.0 in
-      let same : name_of new.maintenance.place ≡ p = cc in
+      let same : name_of new.maintenance.phase ≡ p = cc in
       facts.1 ∙ ap (λ q. maintaining (goes_on q) (caller_of old)) same
 
   -- whether one is run was decided

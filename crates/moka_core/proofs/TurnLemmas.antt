@@ -7,7 +7,7 @@ use Rattle.moka_sync_model.specs.Entry.{entry_of}
 use Rattle.moka_sync_model.specs.Parts.{TurnsAlone, TurnsWithReads, TurnsWithWrites}
 use Rattle.moka_sync_model.specs.Turn.Plan.{after_change, after_plan, gone_to}
 use Rattle.moka_sync_model.specs.Turn.Turn.{after_turn, turn_at}
-use Rattle.moka_maintenance.specs.Taken.{TakesWrite, having_taken_write, place_with_write}
+use Rattle.moka_maintenance.specs.Taken.{TakesWrite, having_taken_write, phase_with_write}
 use Rattle.moka_core.specs.MapState.{MapState, map_of, with_map}
 use Rattle.moka_core.specs.MapTurn.{TurnsOnMap}
 
@@ -48,8 +48,8 @@ pub write_taken : {K V S : Type 0} (core : CoreState K V S) (write : Write) (res
     → record core { write_log = rest; maintenance = having_taken_write write core.maintenance } ≡ after_turn false core
 write_taken {K} {V} core write rest takes log =
     subst (λ l. record core { write_log = rest; maintenance = having_taken_write write core.maintenance }
-    ≡ after_plan (turn_at {K = K} {V = V} core.settings core.valid_after false core.maintenance.place core.maintenance)
+    ≡ after_plan (turn_at {K = K} {V = V} core.settings core.valid_after false core.maintenance.phase core.maintenance)
     (record core { write_log = l })) (sym log)
-    (subst (λ p. record core { write_log = rest; maintenance = gone_to (place_with_write write p) core.maintenance }
+    (subst (λ p. record core { write_log = rest; maintenance = gone_to (phase_with_write write p) core.maintenance }
     ≡ after_plan (turn_at {K = K} {V = V} core.settings core.valid_after false p core.maintenance)
     (record core { write_log = write ∷ rest })) (sym takes.1) refl)

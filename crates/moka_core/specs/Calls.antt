@@ -7,7 +7,7 @@ use Rattle.moka_sync_model.specs.declared.operation.Operation.{Operation}
 use Rattle.moka_sync_model.specs.declared.operation.Operation.TheVariants.{Reading, Writing}
 use Rattle.moka_sync_model.specs.declared.operation.Read.{Read}
 use Rattle.moka_sync_model.specs.declared.operation.Write.{Write}
-use Rattle.moka_sync_model.specs.Place.{Idle}
+use Rattle.moka_sync_model.specs.Phase.{Idle}
 use Rattle.moka_sync_model.specs.CoreState.{CoreState, Maintenance}
 use Rattle.moka_sync_model.specs.Consistent.{IsConsistent}
 use Rattle.moka_sync_model.specs.Run.{Happens}
@@ -23,14 +23,14 @@ pub record AppliesTogether {K V S : Type 0} (reads : List Read) (old new : CoreS
   pub rest : List Read
   pub log : old.read_log ≡ reads ++ rest
   pub some : 0 < length reads
-  pub left : length reads ≤ reads_left old.maintenance.place
+  pub left : length reads ≤ reads_left old.maintenance.phase
   pub maintenance : Maintenance
   pub applies : AppliesReads reads old.maintenance maintenance
   pub is : new ≡ record old { entries = fold touched_by old.entries reads; read_log = rest; maintenance = maintenance }
 
 -- the next reads have been; where none is to be taken, or there is none, nothing is done
 abbrev pub AppliesNextReads : {K V S : Type 0} → CoreState K V S → Bool → CoreState K V S → Type 0
-AppliesNextReads old false new = (new ≡ old) × (0 < reads_left old.maintenance.place → old.read_log ≡ [])
+AppliesNextReads old false new = (new ≡ old) × (0 < reads_left old.maintenance.phase → old.read_log ≡ [])
 AppliesNextReads old true new = (reads : List Read) × AppliesTogether reads old new
 
 -- two turns, of which the first takes a write and the other applies it, for which memory may refuse a node
@@ -52,7 +52,7 @@ module _ {K V S : Type 0} (keys : Keys K S) (core : CoreState K V S) where
   pub record PendsOne (operation : Operation) : Type 0 where
     pub good : IsConsistent keys core
     pub pending : core.pending ≡ (CALLER, operation) ∷ []
-    pub place : core.maintenance.place ≡ Idle
+    pub phase : core.maintenance.phase ≡ Idle
 
   -- some operation
   abbrev pub Pends : Type 0

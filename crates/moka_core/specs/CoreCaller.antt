@@ -5,7 +5,7 @@ use Rattle.moka_sync_model.specs.declared.constants.TheConstants.{CALLER}
 use Rattle.moka_sync_model.specs.declared.event.Event.{Event}
 use Rattle.moka_sync_model.specs.CoreCall.{Decides}
 use Rattle.moka_sync_model.specs.CoreState.{CoreState, pending_of}
-use Rattle.moka_sync_model.specs.Place.{is_idle}
+use Rattle.moka_sync_model.specs.Phase.{is_idle}
 use Rattle.moka_sync_model.specs.Reply.{Reply}
 use Rattle.moka_sync_model.specs.Run.{Happens}
 use Rattle.moka_sync_model.specs.WholeCall.{Log}
@@ -14,7 +14,7 @@ use Rattle.moka_sync_model.specs.Steps.{Caller, kind_of}
 
 -- what the caller of whole calls has under way
 abbrev pub caller_of : {K V S : Type 0} → CoreState K V S → Caller
-caller_of core = record { pending = kind_of (pending_of CALLER core); is_maintaining = not (is_idle core.maintenance.place) }
+caller_of core = record { pending = kind_of (pending_of CALLER core); is_maintaining = not (is_idle core.maintenance.phase) }
 
 module _ {K V S W : Type 0} where
   -- that of a core with its weigher

@@ -19,7 +19,7 @@ module _ {K V S : Type 0} where
   pub record TurnsOnMap (old_map new_map : MapState K V S) (valid_after : ℕ) (refused : Bool) (old new : Maintenance) : Type 0 where
     pub ticket : Ticket
     pub looks : Option (Entry K V) → Outcome K V
-    pub is : turn_at old_map.settings valid_after refused old.place old ≡ AtEntry ticket looks
+    pub is : turn_at old_map.settings valid_after refused old.phase old ≡ AtEntry ticket looks
     pub maintenance : new ≡ (looks (entry_of ticket old_map.entries)).maintenance
     pub map : new_map
         ≡ record old_map { entries = after_change ticket (looks (entry_of ticket old_map.entries)).change old_map.entries }

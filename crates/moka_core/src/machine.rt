@@ -17,7 +17,7 @@ use moka_common::time::Instant;
 use moka_maintenance::maintenance::Maintenance;
 use moka_queues::logs::{ReadLog, WriteLog};
 use moka_sync_model::constants::SHARDS;
-use moka_sync_model::place::Place;
+use moka_sync_model::phase::Phase;
 use moka_sync_model::settings::{CoreParts, Settings};
 use std::alloc::Allocator;
 use std::hash::{BuildHasher, Hash};
@@ -149,7 +149,7 @@ impl<
     pub fn is_at_rest(&self) -> bool
         ensures { IsTrue result ↔ IsAtRest self.now.state }
     {
-        self.pending.is_empty() && self.maintenance.place() == Place::Idle
+        self.pending.is_empty() && self.maintenance.phase() == Phase::Idle
     }
 }
 

@@ -212,7 +212,7 @@ impl<K: Eq + Hash + Drop, V: Drop, S: BuildHasher + Drop, A: Allocator + Clone +
 > {
     /// A turn of the maintenance that needs the entry of a ticket.
     pub fn turn(&mut self, maintenance: &mut Maintenance<A>, ticket: Ticket, valid_after: Instant)
-        requires { need_of (turn_at {K = K} {V = V} self.old.settings valid_after false maintenance.old.place maintenance.old) ≡ NeedsShard ticket }
+        requires { need_of (turn_at {K = K} {V = V} self.old.settings valid_after false maintenance.old.phase maintenance.old) ≡ NeedsShard ticket }
         ensures { (refused : Bool) × TurnsOnMap self.old self.new valid_after refused maintenance.old maintenance.new }
     {
         let shard = &mut self.shards[(ticket.hash % SHARDS as u64) as usize];
@@ -222,11 +222,11 @@ impl<K: Eq + Hash + Drop, V: Drop, S: BuildHasher + Drop, A: Allocator + Clone +
     /// A turn of a scan that needs the entry of a ticket.
     #[inline(always)]
     pub fn turn_of_scan(&mut self, maintenance: &mut Maintenance<A>, ticket: Ticket)
-        requires scans { IsScan maintenance.old.place }
+        requires scans { IsScan maintenance.old.phase }
         requires need { (valid_after : ℕ)
-            × (need_of (turn_at {K = K} {V = V} self.old.settings valid_after false maintenance.old.place maintenance.old) ≡ NeedsShard ticket) }
+            × (need_of (turn_at {K = K} {V = V} self.old.settings valid_after false maintenance.old.phase maintenance.old) ≡ NeedsShard ticket) }
         ensures { (valid_after : ℕ)
-            → need_of (turn_at {K = K} {V = V} self.old.settings valid_after false maintenance.old.place maintenance.old) ≡ NeedsShard ticket
+            → need_of (turn_at {K = K} {V = V} self.old.settings valid_after false maintenance.old.phase maintenance.old) ≡ NeedsShard ticket
             → TurnsOnMap self.old self.new valid_after false maintenance.old maintenance.new }
     {
         let shard = &mut self.shards[(ticket.hash % SHARDS as u64) as usize];
@@ -244,7 +244,7 @@ impl<K: Eq + Hash + Drop, V: Drop, S: BuildHasher + Drop, A: Allocator + Clone +
         }
     }
 
-    /// Touches the entry of a ticket, and returns the place at which its node may be found.
+    /// Touches the entry of a ticket, and returns a hint for its node.
     #[inline(always)]
     fn touch_entry(&mut self, ticket: Ticket, slot: usize, moment: Instant) -> usize
         ensures { self.new ≡ record self.old { entries = after_change ticket (Becomes (touched moment)) self.old.entries } }
@@ -288,7 +288,7 @@ fn turn_with_shard<
     settings: &Settings<S, A>,
     valid_after: Instant,
 )
-    requires { need_of (turn_at {K = K} {V = V} settings.now valid_after false maintenance.old.place maintenance.old) ≡ NeedsShard ticket }
+    requires { need_of (turn_at {K = K} {V = V} settings.now valid_after false maintenance.old.phase maintenance.old) ≡ NeedsShard ticket }
     ensures turn { (refused : Bool) × TurnsOnShard settings.now valid_after refused ticket maintenance.old maintenance.new
         (state_of shard.old) (state_of shard.new) }
     ensures valid { IsValidShard (keys_by K.Hash S.BuildHasher S.Hasher.Hasher) (state_of shard.new) }
@@ -306,11 +306,11 @@ fn scan_with_shard<
     S: BuildHasher + Drop,
     A: Allocator + Clone + Drop,
 >(maintenance: &mut Maintenance<A>, shard: &mut Shard<K, V, S, AnyPair, A>, ticket: Ticket)
-    requires scans { IsScan maintenance.old.place }
+    requires scans { IsScan maintenance.old.phase }
     requires need { (settings : SettingsState S) × (valid_after : ℕ)
-        × (need_of (turn_at {K = K} {V = V} settings valid_after false maintenance.old.place maintenance.old) ≡ NeedsShard ticket) }
+        × (need_of (turn_at {K = K} {V = V} settings valid_after false maintenance.old.phase maintenance.old) ≡ NeedsShard ticket) }
     ensures turn { (settings : SettingsState S) → (valid_after : ℕ)
-        → need_of (turn_at {K = K} {V = V} settings valid_after false maintenance.old.place maintenance.old) ≡ NeedsShard ticket
+        → need_of (turn_at {K = K} {V = V} settings valid_after false maintenance.old.phase maintenance.old) ≡ NeedsShard ticket
         → TurnsOnShard settings valid_after false ticket maintenance.old maintenance.new (state_of shard.old) (state_of shard.new) }
     ensures valid { IsValidShard (keys_by K.Hash S.BuildHasher S.Hasher.Hasher) (state_of shard.new) }
 {

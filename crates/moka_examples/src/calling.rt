@@ -20,7 +20,7 @@ ghost use Rattle.mini_moka.specs.Sync.CoreCall.{IsAtRest, IsCall, entries_evicte
 ghost use Rattle.mini_moka.specs.Sync.CoreState.{CoreState};
 ghost use Rattle.mini_moka.specs.Sync.Entry.{entry_of};
 ghost use Rattle.mini_moka.specs.Sync.LastWritten.{last_written, value_at};
-ghost use Rattle.mini_moka.specs.Sync.Place.{Apply};
+ghost use Rattle.mini_moka.specs.Sync.Phase.{Apply};
 ghost use Rattle.mini_moka.specs.Sync.Quiescent.{IsQuiescent};
 ghost use Rattle.mini_moka.specs.Sync.Run.{Happening};
 ghost use Rattle.mini_moka.specs.Sync.Turn.Plan.{writes_or_on};
@@ -264,11 +264,11 @@ pub fn found_between<K: Eq + Hash + Drop, V: Drop, S: BuildHasher + Drop, W: Wei
     }
 }
 
-/// The turn that applies an upsert whose entry has left drops it: nothing changes but the place, whatever work it has there.
+/// The turn that applies an upsert whose entry has left drops it: nothing changes but the phase, whatever work it has there.
 pub fn late_upserts_are_dropped<K: Eq + Hash, V, S: BuildHasher>()
     ensures { (core : CoreState K V S) (work : Work) (t : Ticket) (refused : Bool)
-        → core.maintenance.place ≡ Apply work (Upsert t) → entry_of t core.entries ≡ None
-        → after_turn refused core ≡ record core { maintenance = record core.maintenance { place = writes_or_on work } } }
+        → core.maintenance.phase ≡ Apply work (Upsert t) → entry_of t core.entries ≡ None
+        → after_turn refused core ≡ record core { maintenance = record core.maintenance { phase = writes_or_on work } } }
 {
     upserts_of_left_entries_are_dropped::<K, V, S>();
 }

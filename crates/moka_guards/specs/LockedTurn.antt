@@ -18,4 +18,4 @@ IsPlanned {K} {V} (AtEntry t looks) new = (found : Option (Entry K V)) × (new �
 -- one turn, at some moment of invalidation, and whether or not memory refuses what it asks for
 abbrev pub IsTurn : (K V : Type 0) → {S : Type 0} → Settings S → Maintenance → Maintenance → Type 0
 IsTurn K V settings old new =
-    (valid_after : ℕ) × (refused : Bool) × IsPlanned (turn_at {K = K} {V = V} settings valid_after refused old.place old) new
+    (valid_after : ℕ) × (refused : Bool) × IsPlanned (turn_at {K = K} {V = V} settings valid_after refused old.phase old) new

@@ -87,7 +87,7 @@ impl<A: Allocator + Clone + Drop> WriteQueue<A> {
     /// A turn of the maintenance that looks at the log, where it has applied all that it has taken.
     pub fn turn_with_writes<K: Drop, V: Drop, S: Drop>(&mut self, maintenance: &mut Maintenance<A>)
         requires { (settings : SettingsState S) × (valid_after : ℕ)
-            × (need_of (turn_at {K = K} {V = V} settings valid_after false maintenance.old.place maintenance.old) ≡ NeedsWrites) }
+            × (need_of (turn_at {K = K} {V = V} settings valid_after false maintenance.old.phase maintenance.old) ≡ NeedsWrites) }
         ensures turn { (settings : SettingsState S) → (valid_after : ℕ)
             → TurnsWithWrites K V settings valid_after false maintenance.old maintenance.new self.old.log self.new.log }
         ensures applied { self.new.taken ≡ 0 }

@@ -31,7 +31,7 @@ pub fn turn_with_shard<
     settings: &Settings<S, A>,
     valid_after: Instant,
 )
-    requires { need_of (turn_at {K = K} {V = V} settings.now valid_after false maintenance.old.place maintenance.old) ≡ NeedsShard ticket }
+    requires { need_of (turn_at {K = K} {V = V} settings.now valid_after false maintenance.old.phase maintenance.old) ≡ NeedsShard ticket }
     ensures turn { IsTurn K V settings.now maintenance.old maintenance.new }
     ensures shard { (refused : Bool) × TurnsOnShard settings.now valid_after refused ticket maintenance.old maintenance.new
         (state_of shard.old) (state_of shard.new) }

@@ -14,11 +14,11 @@ use Rattle.moka_sync_model.specs.declared.ticket.Ticket.{Ticket}
 use Rattle.moka_sync_model.specs.CoreState.{Maintenance, new_maintenance}
 use Rattle.moka_sync_model.specs.Entry.{Entry}
 use Rattle.moka_sync_model.specs.Orders.{Node, Orders, charge_of, charged_weight, rewritten, used}
-use Rattle.moka_sync_model.specs.Place as place
+use Rattle.moka_sync_model.specs.Phase as phase
 use Rattle.moka_sync_model.specs.declared.progress.Candidate.{Candidate}
 use Rattle.moka_sync_model.specs.declared.progress.Tally.{Tally}
 use Rattle.moka_sync_model.specs.declared.progress.Work.{Work}
-use Rattle.moka_sync_model.specs.Place.{Place, Seen, is_idle}
+use Rattle.moka_sync_model.specs.Phase.{Phase, Seen, is_idle}
 use Rattle.moka_sync_model.specs.Turn.Plan.{Plan, Alone, AtReads, AtWrites, AtEntry, Outcome, reads_or_on, writes_or_on}
 use Rattle.moka_sync_model.specs.Turn.Apply.{after_present_upsert, after_upsert}
 use Rattle.moka_sync_model.specs.Turn.Admission.{after_entering, after_removing, after_scan, after_verdict, after_victim}
@@ -33,24 +33,24 @@ use Rattle.moka_guards.specs.Counts.{Publisher}
 use Rattle.moka_locks.specs.Charged.{IsAccounted, IsCharged, IsNewest, published_after}
 use Rattle.moka_locks.specs.MaintenanceTurn.{AreTurns, IsWorkingTurn, MoreTurns, OneTurn, Working}
 
--- the maintenance is not over at this place
-abbrev Busy : Place → Type 0
+-- the maintenance is not over at this phase
+abbrev Busy : Phase → Type 0
 Busy p = is_idle p ≡ false
 
 on_reads : (work : Work) → Busy (reads_or_on work)
-on_reads work = cond_both (eqb work.left 0) (place.WriteCount work.round) (place.Reads work) Busy (λ h. refl) (λ h. refl)
+on_reads work = cond_both (eqb work.left 0) (phase.WriteCount work.round) (phase.Reads work) Busy (λ h. refl) (λ h. refl)
 
 on_writes : (work : Work) → Busy (writes_or_on work)
-on_writes work = cond_both (eqb work.left 0) (place.Sketch work.round) (place.Writes work) Busy (λ h. refl) (λ h. refl)
+on_writes work = cond_both (eqb work.left 0) (phase.Sketch work.round) (phase.Writes work) Busy (λ h. refl) (λ h. refl)
 
 on_more_reads : (round len : ℕ) → Busy (after_more_reads round len)
 on_more_reads round len =
     cond_both (eqb round MAX_ROUNDS) _ _ Busy (λ h. refl)
-    (λ h. cond_both (leb FLUSH_POINT len) (place.ReadCount (round + 1)) (place.MoreWrites round) Busy (λ h. refl) (λ h. refl))
+    (λ h. cond_both (leb FLUSH_POINT len) (phase.ReadCount (round + 1)) (phase.MoreWrites round) Busy (λ h. refl) (λ h. refl))
 
 on_more_writes : (round len : ℕ) → Busy (after_more_writes round len)
 on_more_writes round len =
-    cond_both (leb FLUSH_POINT len) (place.ReadCount (round + 1)) (place.ExpireWrite 0) Busy (λ h. refl) (λ h. refl)
+    cond_both (leb FLUSH_POINT len) (phase.ReadCount (round + 1)) (phase.ExpireWrite 0) Busy (λ h. refl) (λ h. refl)
 
 on_removing : (work : Work) (c : Candidate) (tally : Tally) (skipped : List Ticket) (left : List Seen)
     → Busy (removing_or_enter work c tally skipped left)
@@ -60,7 +60,7 @@ on_removing work c tally skipped (s ∷ left) = refl
 module _ (K V : Type 0) (before : Published) where
   -- the maintenance goes on, and has published nothing since
   abbrev GoesOn : Maintenance → Type 0
-  GoesOn m = (m.published ≡ before) × Busy m.place
+  GoesOn m = (m.published ≡ before) × Busy m.phase
 
   -- so does this plan, whatever it finds
   abbrev GoesOnBy : Plan K V → Type 0
@@ -79,7 +79,7 @@ module _ (K V : Type 0) (before : Published) where
   going_on : (m : Maintenance) → GoesOn m → Accounts m
   going_on m (same, busy) = rw busy same
 
-  before_end : (m : Maintenance) (p : Place) → m.place ≡ p → Busy p → Accounts m → m.published ≡ before
+  before_end : (m : Maintenance) (p : Phase) → m.phase ≡ p → Busy p → Accounts m → m.published ≡ before
   before_end m p is busy accounts =
       accounts ∙ ap (λ idle. if idle then next_published (record m { published = before }) else before) (ap is_idle is ∙ busy)
 
@@ -110,12 +110,12 @@ module _ (K V : Type 0) (before : Published) where
         by None = (same, on_removing work c tally (skipped ++ s.ticket ∷ []) left)
         by (Some e) = (same, on_removing work c tally skipped left)
 
-    passed : (front : Option Ticket) (done : Place) (looks : Ticket → Maintenance → Option (Entry K V) → Outcome K V) → Busy done
+    passed : (front : Option Ticket) (done : Phase) (looks : Ticket → Maintenance → Option (Entry K V) → Outcome K V) → Busy done
         → ((t : Ticket) (found : Option (Entry K V)) → GoesOnEnd (looks t m found)) → GoesOnBy (after_pass front done looks m)
     passed None done looks busy goes = (same, busy)
     passed (Some t) done looks busy goes = λ found. goes t found
 
-    at_front : (is_over : Entry K V → Bool) (sends : Ticket → Orders → Orders) (more done : Place) → Busy more → Busy done → (t : Ticket)
+    at_front : (is_over : Entry K V → Bool) (sends : Ticket → Orders → Orders) (more done : Phase) → Busy more → Busy done → (t : Ticket)
         (found : Option (Entry K V)) → GoesOnEnd (after_front is_over sends more done t m found)
     at_front is_over sends more done later over t None = (same, later)
     at_front is_over sends more done later over t (Some e) =
@@ -146,98 +146,98 @@ module _ (K V : Type 0) (before : Published) where
       entered work c skipped (Some e) = (same, on_writes work)
 
   module _ {S : Type 0} (settings : Settings S) where
-    at_place : (valid_after : ℕ) (refused : Bool) (p : Place) (m new : Maintenance) → m.place ≡ p → Accounts m
+    at_phase : (valid_after : ℕ) (refused : Bool) (p : Phase) (m new : Maintenance) → m.phase ≡ p → Accounts m
         → IsPlanned (turn_at {K = K} {V = V} settings valid_after refused p m) new → Accounts new
-    at_place valid_after refused place.Idle m new is accounts turn = subst Accounts (sym turn) accounts
-    at_place valid_after refused (place.Publish turns) m new is accounts turn =
-        let same = before_end m (place.Publish turns) is refl accounts in
+    at_phase valid_after refused phase.Idle m new is accounts turn = subst Accounts (sym turn) accounts
+    at_phase valid_after refused (phase.Publish turns) m new is accounts turn =
+        let same = before_end m (phase.Publish turns) is refl accounts in
         subst Accounts (sym turn) (ap (λ p. next_published (record m { published = p })) same)
-    at_place valid_after refused (place.ReadCount round) m new is accounts turn =
-        let same = before_end m (place.ReadCount round) is refl accounts in
-        planned (turn_at settings valid_after refused (place.ReadCount round) m) new
+    at_phase valid_after refused (phase.ReadCount round) m new is accounts turn =
+        let same = before_end m (phase.ReadCount round) is refl accounts in
+        planned (turn_at settings valid_after refused (phase.ReadCount round) m) new
         (λ log. (same, on_reads (record { round = round; left = length log }))) turn
-    at_place valid_after refused (place.Reads work) m new is accounts turn =
-        let same = before_end m (place.Reads work) is refl accounts in
-        planned (turn_at settings valid_after refused (place.Reads work) m) new
+    at_phase valid_after refused (phase.Reads work) m new is accounts turn =
+        let same = before_end m (phase.Reads work) is refl accounts in
+        planned (turn_at settings valid_after refused (phase.Reads work) m) new
         (by same) turn
       where
         by : m.published ≡ before → (log : List Read) → GoesOn (after_read_taken work m log).0
         by same [] = (same, ap is_idle is)
         by same (read ∷ reads) = (same, refl)
-    at_place valid_after refused (place.ReadApply work (Hit t moment)) m new is accounts turn =
-        let same = before_end m (place.ReadApply work (Hit t moment)) is refl accounts in
-        planned (turn_at settings valid_after refused (place.ReadApply work (Hit t moment)) m) new
+    at_phase valid_after refused (phase.ReadApply work (Hit t moment)) m new is accounts turn =
+        let same = before_end m (phase.ReadApply work (Hit t moment)) is refl accounts in
+        planned (turn_at settings valid_after refused (phase.ReadApply work (Hit t moment)) m) new
         (λ found. (same, on_reads work)) turn
-    at_place valid_after refused (place.ReadApply work (Miss hash)) m new is accounts turn =
-        let same = before_end m (place.ReadApply work (Miss hash)) is refl accounts in
-        planned (turn_at settings valid_after refused (place.ReadApply work (Miss hash)) m) new
+    at_phase valid_after refused (phase.ReadApply work (Miss hash)) m new is accounts turn =
+        let same = before_end m (phase.ReadApply work (Miss hash)) is refl accounts in
+        planned (turn_at settings valid_after refused (phase.ReadApply work (Miss hash)) m) new
         (same, on_reads work) turn
-    at_place valid_after refused (place.WriteCount round) m new is accounts turn =
-        let same = before_end m (place.WriteCount round) is refl accounts in
-        planned (turn_at settings valid_after refused (place.WriteCount round) m) new
+    at_phase valid_after refused (phase.WriteCount round) m new is accounts turn =
+        let same = before_end m (phase.WriteCount round) is refl accounts in
+        planned (turn_at settings valid_after refused (phase.WriteCount round) m) new
         (λ log. (same, on_writes (record { round = round; left = length log }))) turn
-    at_place valid_after refused (place.Writes work) m new is accounts turn =
-        let same = before_end m (place.Writes work) is refl accounts in
-        planned (turn_at settings valid_after refused (place.Writes work) m) new
+    at_phase valid_after refused (phase.Writes work) m new is accounts turn =
+        let same = before_end m (phase.Writes work) is refl accounts in
+        planned (turn_at settings valid_after refused (phase.Writes work) m) new
         (by same) turn
       where
         by : m.published ≡ before → (log : List Write) → GoesOn (after_write_taken work m log).0
         by same [] = (same, ap is_idle is)
         by same (write ∷ writes) = (same, refl)
-    at_place valid_after refused (place.Apply work (Upsert t)) m new is accounts turn =
-        let same = before_end m (place.Apply work (Upsert t)) is refl accounts in
-        planned (turn_at settings valid_after refused (place.Apply work (Upsert t)) m) new
+    at_phase valid_after refused (phase.Apply work (Upsert t)) m new is accounts turn =
+        let same = before_end m (phase.Apply work (Upsert t)) is refl accounts in
+        planned (turn_at settings valid_after refused (phase.Apply work (Upsert t)) m) new
         (upserted m same settings refused work t) turn
-    at_place valid_after refused (place.Apply work (Remove t)) m new is accounts turn =
-        let same = before_end m (place.Apply work (Remove t)) is refl accounts in
-        planned (turn_at settings valid_after refused (place.Apply work (Remove t)) m) new
+    at_phase valid_after refused (phase.Apply work (Remove t)) m new is accounts turn =
+        let same = before_end m (phase.Apply work (Remove t)) is refl accounts in
+        planned (turn_at settings valid_after refused (phase.Apply work (Remove t)) m) new
         (same, on_writes work) turn
-    at_place valid_after refused (place.Scan work c tally seen) m new is accounts turn =
-        let same = before_end m (place.Scan work c tally seen) is refl accounts in
-        planned (turn_at settings valid_after refused (place.Scan work c tally seen) m) new
+    at_phase valid_after refused (phase.Scan work c tally seen) m new is accounts turn =
+        let same = before_end m (phase.Scan work c tally seen) is refl accounts in
+        planned (turn_at settings valid_after refused (phase.Scan work c tally seen) m) new
         (scanned m same work c tally seen (next_seen c tally seen m.orders)) turn
-    at_place valid_after refused (place.Removing work c tally skipped left) m new is accounts turn =
-        let same = before_end m (place.Removing work c tally skipped left) is refl accounts in
-        planned (turn_at settings valid_after refused (place.Removing work c tally skipped left) m) new
+    at_phase valid_after refused (phase.Removing work c tally skipped left) m new is accounts turn =
+        let same = before_end m (phase.Removing work c tally skipped left) is refl accounts in
+        planned (turn_at settings valid_after refused (phase.Removing work c tally skipped left) m) new
         (removed m same work c tally skipped left) turn
-    at_place valid_after refused (place.Enter work c skipped) m new is accounts turn =
-        let same = before_end m (place.Enter work c skipped) is refl accounts in
-        planned (turn_at settings valid_after refused (place.Enter work c skipped) m) new
+    at_phase valid_after refused (phase.Enter work c skipped) m new is accounts turn =
+        let same = before_end m (phase.Enter work c skipped) is refl accounts in
+        planned (turn_at settings valid_after refused (phase.Enter work c skipped) m) new
         (entered m same settings work c skipped) turn
-    at_place valid_after refused (place.Sketch round) m new is accounts turn =
-        let same = before_end m (place.Sketch round) is refl accounts in
-        planned (turn_at settings valid_after refused (place.Sketch round) m) new
+    at_phase valid_after refused (phase.Sketch round) m new is accounts turn =
+        let same = before_end m (phase.Sketch round) is refl accounts in
+        planned (turn_at settings valid_after refused (phase.Sketch round) m) new
         (same, refl) turn
-    at_place valid_after refused (place.MoreReads round) m new is accounts turn =
-        let same = before_end m (place.MoreReads round) is refl accounts in
-        planned (turn_at settings valid_after refused (place.MoreReads round) m) new
+    at_phase valid_after refused (phase.MoreReads round) m new is accounts turn =
+        let same = before_end m (phase.MoreReads round) is refl accounts in
+        planned (turn_at settings valid_after refused (phase.MoreReads round) m) new
         (λ log. (same, on_more_reads round (length log))) turn
-    at_place valid_after refused (place.MoreWrites round) m new is accounts turn =
-        let same = before_end m (place.MoreWrites round) is refl accounts in
-        planned (turn_at settings valid_after refused (place.MoreWrites round) m) new
+    at_phase valid_after refused (phase.MoreWrites round) m new is accounts turn =
+        let same = before_end m (phase.MoreWrites round) is refl accounts in
+        planned (turn_at settings valid_after refused (phase.MoreWrites round) m) new
         (λ log. (same, on_more_writes round (length log))) turn
-    at_place valid_after refused (place.ExpireWrite turns) m new is accounts turn =
-        let same = before_end m (place.ExpireWrite turns) is refl accounts in
-        planned (turn_at settings valid_after refused (place.ExpireWrite turns) m) new
-        (passed m same (write_front settings turns m.orders) (place.ExpireAccess 0)
-        (after_front (is_past_ttl_or_hidden settings valid_after m.moment) rewritten (place.ExpireWrite (turns + 1)) (place.ExpireAccess 0)) refl
-        (at_front m same (is_past_ttl_or_hidden settings valid_after m.moment) rewritten (place.ExpireWrite (turns + 1))
-        (place.ExpireAccess 0) refl refl)) turn
-    at_place valid_after refused (place.ExpireAccess turns) m new is accounts turn =
-        let same = before_end m (place.ExpireAccess turns) is refl accounts in
-        planned (turn_at settings valid_after refused (place.ExpireAccess turns) m) new
-        (passed m same (access_front settings valid_after turns m.orders) (place.Evict 0)
-        (after_front (is_past_tti_or_hidden settings valid_after m.moment) used (place.ExpireAccess (turns + 1)) (place.Evict 0)) refl
-        (at_front m same (is_past_tti_or_hidden settings valid_after m.moment) used (place.ExpireAccess (turns + 1)) (place.Evict 0) refl refl)) turn
-    at_place valid_after refused (place.Evict turns) m new is accounts turn =
-        let same = before_end m (place.Evict turns) is refl accounts in
-        planned (turn_at settings valid_after refused (place.Evict turns) m) new
-        (passed m same (eviction_front settings turns m.orders) (place.Publish turns) (after_eviction turns) refl (evicted m same turns)) turn
+    at_phase valid_after refused (phase.ExpireWrite turns) m new is accounts turn =
+        let same = before_end m (phase.ExpireWrite turns) is refl accounts in
+        planned (turn_at settings valid_after refused (phase.ExpireWrite turns) m) new
+        (passed m same (write_front settings turns m.orders) (phase.ExpireAccess 0)
+        (after_front (is_past_ttl_or_hidden settings valid_after m.moment) rewritten (phase.ExpireWrite (turns + 1)) (phase.ExpireAccess 0)) refl
+        (at_front m same (is_past_ttl_or_hidden settings valid_after m.moment) rewritten (phase.ExpireWrite (turns + 1))
+        (phase.ExpireAccess 0) refl refl)) turn
+    at_phase valid_after refused (phase.ExpireAccess turns) m new is accounts turn =
+        let same = before_end m (phase.ExpireAccess turns) is refl accounts in
+        planned (turn_at settings valid_after refused (phase.ExpireAccess turns) m) new
+        (passed m same (access_front settings valid_after turns m.orders) (phase.Evict 0)
+        (after_front (is_past_tti_or_hidden settings valid_after m.moment) used (phase.ExpireAccess (turns + 1)) (phase.Evict 0)) refl
+        (at_front m same (is_past_tti_or_hidden settings valid_after m.moment) used (phase.ExpireAccess (turns + 1)) (phase.Evict 0) refl refl)) turn
+    at_phase valid_after refused (phase.Evict turns) m new is accounts turn =
+        let same = before_end m (phase.Evict turns) is refl accounts in
+        planned (turn_at settings valid_after refused (phase.Evict turns) m) new
+        (passed m same (eviction_front settings turns m.orders) (phase.Publish turns) (after_eviction turns) refl (evicted m same turns)) turn
 
     one : (old new : Working) → IsWorkingTurn K V settings old new → Accounts old.maintenance → Accounts new.maintenance
     one old new turn accounts =
         let (valid_after, refused, plan) = turn.turn in
-        at_place valid_after refused old.maintenance.place old.maintenance new.maintenance refl accounts plan
+        at_phase valid_after refused old.maintenance.phase old.maintenance new.maintenance refl accounts plan
 
     all : (old new : Working) → AreTurns K V settings old new → Accounts old.maintenance → Accounts new.maintenance
     all old new (OneTurn _ _ turn) accounts = one old new turn accounts

@@ -15,11 +15,11 @@ use Rattle.moka_sync_model.specs.CoreState.{Maintenance}
 use Rattle.moka_sync_model.specs.Entry.{Entry}
 use Rattle.moka_sync_model.specs.Orders.{Node, Orders, all_used, charge_of, charged_weight, is_written, recharged, renewed, rewritten, used}
 use Rattle.moka_sync_model.specs.Orders.{with_node, without_node}
-use Rattle.moka_sync_model.specs.Place as place
+use Rattle.moka_sync_model.specs.Phase as phase
 use Rattle.moka_sync_model.specs.declared.progress.Candidate.{Candidate}
 use Rattle.moka_sync_model.specs.declared.progress.Tally.{Tally}
 use Rattle.moka_sync_model.specs.declared.progress.Work.{Work}
-use Rattle.moka_sync_model.specs.Place.{Place, Seen}
+use Rattle.moka_sync_model.specs.Phase.{Phase, Seen}
 use Rattle.moka_sync_model.specs.Ticket.{same_ticket}
 use Rattle.moka_sync_model.specs.Turn.Plan.{Plan, Alone, AtReads, AtWrites, AtEntry, Outcome}
 use Rattle.moka_sync_model.specs.Turn.Apply.{after_present_upsert, after_upsert}
@@ -136,13 +136,13 @@ module _ (K V : Type 0) where
       by None = same
       by (Some e) = taken_out s.ticket m.orders same
 
-  passed : (front : Option Ticket) (done : Place) (looks : Ticket → Maintenance → Option (Entry K V) → Outcome K V) (m : Maintenance)
+  passed : (front : Option Ticket) (done : Phase) (looks : Ticket → Maintenance → Option (Entry K V) → Outcome K V) (m : Maintenance)
       → HasSameTickets m.orders → ((t : Ticket) (found : Option (Entry K V)) → KeepsEnd (looks t m found))
       → KeepsBy (after_pass front done looks m)
   passed None done looks m same keeps = same
   passed (Some t) done looks m same keeps = λ found. keeps t found
 
-  at_front : (is_over : Entry K V → Bool) (sends : Ticket → Orders → Orders) (more done : Place) (m : Maintenance) → HasSameTickets m.orders
+  at_front : (is_over : Entry K V → Bool) (sends : Ticket → Orders → Orders) (more done : Phase) (m : Maintenance) → HasSameTickets m.orders
       → ((t : Ticket) → Reorders m.orders (sends t m.orders)) → (t : Ticket) (found : Option (Entry K V))
       → KeepsEnd (after_front is_over sends more done t m found)
   at_front is_over sends more done m same order t None = reordered m.orders (sends t m.orders) (order t) same
@@ -182,53 +182,53 @@ module _ (K V : Type 0) where
         reordered in_both (all_used skipped in_both) (Reorders-all_used skipped in_both)
         (entered_if (keeps_writes settings.policy) lives c.ticket e.weight m.orders same)
 
-    at_place : (valid_after : ℕ) (refused : Bool) (p : Place) (m : Maintenance) → HasSameTickets m.orders
+    at_phase : (valid_after : ℕ) (refused : Bool) (p : Phase) (m : Maintenance) → HasSameTickets m.orders
         → KeepsBy (turn_at {K = K} {V = V} settings valid_after refused p m)
-    at_place valid_after refused place.Idle m same = same
-    at_place valid_after refused (place.ReadCount round) m same = λ log. same
-    at_place valid_after refused (place.Reads work) m same = by
+    at_phase valid_after refused phase.Idle m same = same
+    at_phase valid_after refused (phase.ReadCount round) m same = λ log. same
+    at_phase valid_after refused (phase.Reads work) m same = by
       where
         by : (log : List Read) → HasSameTickets (after_read_taken work m log).0.orders
         by [] = same
         by (read ∷ reads) = same
-    at_place valid_after refused (place.ReadApply work (Hit t moment)) m same = λ found.
+    at_phase valid_after refused (phase.ReadApply work (Hit t moment)) m same = λ found.
         reordered m.orders (used t m.orders) (Reorders-used t m.orders) same
-    at_place valid_after refused (place.ReadApply work (Miss hash)) m same = same
-    at_place valid_after refused (place.WriteCount round) m same = λ log. same
-    at_place valid_after refused (place.Writes work) m same = by
+    at_phase valid_after refused (phase.ReadApply work (Miss hash)) m same = same
+    at_phase valid_after refused (phase.WriteCount round) m same = λ log. same
+    at_phase valid_after refused (phase.Writes work) m same = by
       where
         by : (log : List Write) → HasSameTickets (after_write_taken work m log).0.orders
         by [] = same
         by (write ∷ writes) = same
-    at_place valid_after refused (place.Apply work (Upsert t)) m same = upserted refused work t m same
-    at_place valid_after refused (place.Apply work (Remove t)) m same = taken_out t m.orders same
-    at_place valid_after refused (place.Scan work c tally seen) m same =
+    at_phase valid_after refused (phase.Apply work (Upsert t)) m same = upserted refused work t m same
+    at_phase valid_after refused (phase.Apply work (Remove t)) m same = taken_out t m.orders same
+    at_phase valid_after refused (phase.Scan work c tally seen) m same =
         scanned work c tally seen m same (next_seen c tally seen m.orders)
-    at_place valid_after refused (place.Removing work c tally skipped left) m same = removed work c tally skipped m same left
-    at_place valid_after refused (place.Enter work c skipped) m same = at_entering work c skipped m same
-    at_place valid_after refused (place.Sketch round) m same = same
-    at_place valid_after refused (place.MoreReads round) m same = λ log. same
-    at_place valid_after refused (place.MoreWrites round) m same = λ log. same
-    at_place valid_after refused (place.ExpireWrite turns) m same =
-        passed (write_front settings turns m.orders) (place.ExpireAccess 0)
-        (after_front (is_past_ttl_or_hidden settings valid_after m.moment) rewritten (place.ExpireWrite (turns + 1)) (place.ExpireAccess 0)) m same
-        (at_front (is_past_ttl_or_hidden settings valid_after m.moment) rewritten (place.ExpireWrite (turns + 1)) (place.ExpireAccess 0) m same
+    at_phase valid_after refused (phase.Removing work c tally skipped left) m same = removed work c tally skipped m same left
+    at_phase valid_after refused (phase.Enter work c skipped) m same = at_entering work c skipped m same
+    at_phase valid_after refused (phase.Sketch round) m same = same
+    at_phase valid_after refused (phase.MoreReads round) m same = λ log. same
+    at_phase valid_after refused (phase.MoreWrites round) m same = λ log. same
+    at_phase valid_after refused (phase.ExpireWrite turns) m same =
+        passed (write_front settings turns m.orders) (phase.ExpireAccess 0)
+        (after_front (is_past_ttl_or_hidden settings valid_after m.moment) rewritten (phase.ExpireWrite (turns + 1)) (phase.ExpireAccess 0)) m same
+        (at_front (is_past_ttl_or_hidden settings valid_after m.moment) rewritten (phase.ExpireWrite (turns + 1)) (phase.ExpireAccess 0) m same
         (λ t. Reorders-rewritten t m.orders))
-    at_place valid_after refused (place.ExpireAccess turns) m same =
-        passed (access_front settings valid_after turns m.orders) (place.Evict 0)
-        (after_front (is_past_tti_or_hidden settings valid_after m.moment) used (place.ExpireAccess (turns + 1)) (place.Evict 0)) m same
-        (at_front (is_past_tti_or_hidden settings valid_after m.moment) used (place.ExpireAccess (turns + 1)) (place.Evict 0) m same
+    at_phase valid_after refused (phase.ExpireAccess turns) m same =
+        passed (access_front settings valid_after turns m.orders) (phase.Evict 0)
+        (after_front (is_past_tti_or_hidden settings valid_after m.moment) used (phase.ExpireAccess (turns + 1)) (phase.Evict 0)) m same
+        (at_front (is_past_tti_or_hidden settings valid_after m.moment) used (phase.ExpireAccess (turns + 1)) (phase.Evict 0) m same
         (λ t. Reorders-used t m.orders))
-    at_place valid_after refused (place.Evict turns) m same =
-        passed (eviction_front settings turns m.orders) (place.Publish turns) (after_eviction turns) m same (evicted turns m same)
-    at_place valid_after refused (place.Publish turns) m same = same
+    at_phase valid_after refused (phase.Evict turns) m same =
+        passed (eviction_front settings turns m.orders) (phase.Publish turns) (after_eviction turns) m same (evicted turns m same)
+    at_phase valid_after refused (phase.Publish turns) m same = same
 
     one : (old new : Working) → IsWorkingTurn K V settings old new → HasSameTickets old.maintenance.orders
         → HasSameTickets new.maintenance.orders
     one old new turn same =
         let (valid_after, refused, plan) = turn.turn in
-        planned (turn_at settings valid_after refused old.maintenance.place old.maintenance) new.maintenance
-        (at_place valid_after refused old.maintenance.place old.maintenance same) plan
+        planned (turn_at settings valid_after refused old.maintenance.phase old.maintenance) new.maintenance
+        (at_phase valid_after refused old.maintenance.phase old.maintenance same) plan
 
     all : (old new : Working) → AreTurns K V settings old new → HasSameTickets old.maintenance.orders
         → HasSameTickets new.maintenance.orders

@@ -8,19 +8,19 @@ use Rattle.moka_sync_model.specs.declared.operation.Read.TheVariants.{Hit, Miss}
 use Rattle.moka_sync_model.specs.declared.operation.Write.{Write}
 use Rattle.moka_sync_model.specs.declared.operation.Write.TheVariants.{Remove}
 use Rattle.moka_sync_model.specs.declared.ticket.Ticket.{Ticket}
-use Rattle.moka_sync_model.specs.declared.place.Place.{Place as PlaceName}
-use Rattle.moka_sync_model.specs.declared.place.Place.TheVariants as name
+use Rattle.moka_sync_model.specs.declared.phase.Phase.{Phase as PhaseName}
+use Rattle.moka_sync_model.specs.declared.phase.Phase.TheVariants as name
 use Rattle.moka_sync_model.specs.CoreState.{Maintenance}
 use Rattle.moka_sync_model.specs.Parts.{TurnsAlone, TurnsWithReads, TurnsWithWrites}
-use Rattle.moka_sync_model.specs.Place as place
+use Rattle.moka_sync_model.specs.Phase as phase
 use Rattle.moka_sync_model.specs.declared.progress.Work.{Work}
-use Rattle.moka_sync_model.specs.Place.{Idle, is_idle, name_of}
+use Rattle.moka_sync_model.specs.Phase.{Idle, is_idle, name_of}
 use Rattle.moka_sync_model.specs.Turn.Plan.{AtReads, AtWrites, gone_to}
 use Rattle.moka_sync_model.specs.Turn.Turn.{after_read_taken, after_write_taken, turn_at}
-use Rattle.moka_sync_model.proofs.PlaceLemmas.{busy_by_name, is_idle_name, not_named_idle, same_idle}
+use Rattle.moka_sync_model.proofs.PhaseLemmas.{busy_by_name, is_idle_name, not_named_idle, same_idle}
 use Rattle.moka_maintenance.proofs.TakenLemmas.{applied_later, reads_on}
 use Rattle.moka_maintenance.specs.Taken.{TakesRead, TakesWrite, having_applied, having_taken}
-use Rattle.moka_maintenance.specs.Taken.{having_taken_write, place_with, place_with_write, writes_left}
+use Rattle.moka_maintenance.specs.Taken.{having_taken_write, phase_with, phase_with_write, writes_left}
 use Rattle.moka_sync_model.specs.Steps.{TakesTurns}
 use Rattle.moka_sync_model.specs.Steps as steps
 use Rattle.moka_locks.specs.Locked.{Locked, kept_running, locked_allows, running}
@@ -56,15 +56,15 @@ with_writes settings valid_after refused old new old_log new_log turn = (
 )
 
 -- a maintenance that isn't idle is kept
-pub kept_elsewhere : (w : Working) (place : PlaceName) → place ≡ name_of w.maintenance.place → (place ≡ name.Idle → ⊥)
+pub kept_elsewhere : (w : Working) (phase : PhaseName) → phase ≡ name_of w.maintenance.phase → (phase ≡ name.Idle → ⊥)
     → kept_running w ≡ Some w
-kept_elsewhere w place is elsewhere =
-    ap (λ b. if b then None else Some w) (busy_by_name w.maintenance.place (λ idle. elsewhere (is ∙ idle)))
+kept_elsewhere w phase is elsewhere =
+    ap (λ b. if b then None else Some w) (busy_by_name w.maintenance.phase (λ idle. elsewhere (is ∙ idle)))
 
 -- one that is idle is given back
-pub given_back : (w : Working) (place : PlaceName) → place ≡ name_of w.maintenance.place → place ≡ name.Idle → kept_running w ≡ None
-given_back w place is idle =
-    ap (λ b. if b then None else Some w) (sym (same_idle w.maintenance.place) ∙ ap is_idle_name (sym is ∙ idle))
+pub given_back : (w : Working) (phase : PhaseName) → phase ≡ name_of w.maintenance.phase → phase ≡ name.Idle → kept_running w ≡ None
+given_back w phase is idle =
+    ap (λ b. if b then None else Some w) (sym (same_idle w.maintenance.phase) ∙ ap is_idle_name (sym is ∙ idle))
 
 -- ---- turns with writes at hand
 
@@ -74,7 +74,7 @@ holding batch m = record { maintenance = m; taken = batch }
 
 module _ (K V : Type 0) {S : Type 0} (settings : Settings S) where
   -- a turn that takes no write leaves them
-  pub keeping : (batch : List Write) (old new : Maintenance) → (TakesWrite old → ⊥) → length batch ≤ writes_left old.place
+  pub keeping : (batch : List Write) (old new : Maintenance) → (TakesWrite old → ⊥) → length batch ≤ writes_left old.phase
       → IsTurn K V settings old new → IsWorkingTurn K V settings (holding batch old) (holding batch new)
   keeping batch old new other left turn = record {
     turn = turn;
@@ -84,7 +84,7 @@ module _ (K V : Type 0) {S : Type 0} (settings : Settings S) where
   }
 
   -- it may be all
-  pub keeping_all : (batch : List Write) (old new : Maintenance) → (TakesWrite old → ⊥) → length batch ≤ writes_left old.place
+  pub keeping_all : (batch : List Write) (old new : Maintenance) → (TakesWrite old → ⊥) → length batch ≤ writes_left old.phase
       → IsTurn K V settings old new → AreTurns K V settings (holding batch old) (holding batch new)
   keeping_all batch old new other left turn =
       OneTurn (holding batch old) (holding batch new) (keeping batch old new other left turn)
@@ -119,46 +119,46 @@ module _ (K V : Type 0) {S : Type 0} (settings : Settings S) where
   abbrev Turn : Maintenance → Maintenance → Type 0
   Turn old new = IsWorkingTurn K V settings (empty_handed old) (empty_handed new)
 
-  not_write : (work : Work) (m : Maintenance) → m.place ≡ place.Reads work → TakesWrite m → ⊥
+  not_write : (work : Work) (m : Maintenance) → m.phase ≡ phase.Reads work → TakesWrite m → ⊥
   not_write work m at (other, is) = absurd (cc)
 
-  not_write_then : (work : Work) (read : Read) (m : Maintenance) → m.place ≡ place.Reads work → TakesWrite (having_taken read m) → ⊥
+  not_write_then : (work : Work) (read : Read) (m : Maintenance) → m.phase ≡ phase.Reads work → TakesWrite (having_taken read m) → ⊥
   not_write_then work read m at (other, is) =
-      let taken : place.ReadApply (record work { left = work.left - 1 }) read ≡ place.Writes other =
-      sym (ap (place_with read) at) ∙ is in
+      let taken : phase.ReadApply (record work { left = work.left - 1 }) read ≡ phase.Writes other =
+      sym (ap (phase_with read) at) ∙ is in
       absurd (cc)
 
-  taken_turn : (work : Work) (read : Read) (m : Maintenance) → m.place ≡ place.Reads work → Turn m (having_taken read m)
+  taken_turn : (work : Work) (read : Read) (m : Maintenance) → m.phase ≡ phase.Reads work → Turn m (having_taken read m)
   taken_turn work read m at =
-      let plan : turn_at {K = K} {V = V} settings 0 false m.place m ≡ AtReads (after_read_taken work m) =
+      let plan : turn_at {K = K} {V = V} settings 0 false m.phase m ≡ AtReads (after_read_taken work m) =
       ap (λ p. turn_at settings 0 false p m) at in
-      let is : having_taken read m ≡ (after_read_taken work m (read ∷ [])).0 = ap (λ p. gone_to (place_with read p) m) at in
+      let is : having_taken read m ≡ (after_read_taken work m (read ∷ [])).0 = ap (λ p. gone_to (phase_with read p) m) at in
       keeping K V settings [] m (having_taken read m) (not_write work m at) (omega arith)
       (0, false, subst (λ plan. IsPlanned plan (having_taken read m)) (sym plan) (read ∷ [], is))
 
-  taken_busy : (work : Work) (read : Read) (m : Maintenance) → m.place ≡ place.Reads work → is_idle (having_taken read m).place ≡ false
-  taken_busy work read m at = ap (λ p. is_idle (place_with read p)) at
+  taken_busy : (work : Work) (read : Read) (m : Maintenance) → m.phase ≡ phase.Reads work → is_idle (having_taken read m).phase ≡ false
+  taken_busy work read m at = ap (λ p. is_idle (phase_with read p)) at
 
-  applied_turn : (work : Work) (read : Read) (m : Maintenance) → m.place ≡ place.Reads work
+  applied_turn : (work : Work) (read : Read) (m : Maintenance) → m.phase ≡ phase.Reads work
       → Turn (having_taken read m) (having_applied work (read ∷ []) m)
   applied_turn work read m at =
       keeping K V settings [] (having_taken read m) (having_applied work (read ∷ []) m) (not_write_then work read m at) (omega arith)
-      (subst (λ p. IsTurn K V settings (gone_to (place_with read p) m) (having_applied work (read ∷ []) m)) (sym at) (by read))
+      (subst (λ p. IsTurn K V settings (gone_to (phase_with read p) m) (having_applied work (read ∷ []) m)) (sym at) (by read))
     where
-      by : (read : Read) → IsTurn K V settings (gone_to (place_with read (place.Reads work)) m) (having_applied work (read ∷ []) m)
+      by : (read : Read) → IsTurn K V settings (gone_to (phase_with read (phase.Reads work)) m) (having_applied work (read ∷ []) m)
       by (Hit t moment) = (0, false, (None, refl))
       by (Miss hash) = (0, false, refl)
 
   -- where there is none, nothing changes
   pub takes_nothing : (m : Maintenance) → TakesRead m → Turns m m
   takes_nothing m (work, at) =
-      let plan : turn_at {K = K} {V = V} settings 0 false m.place m ≡ AtReads (after_read_taken work m) =
+      let plan : turn_at {K = K} {V = V} settings 0 false m.phase m ≡ AtReads (after_read_taken work m) =
       ap (λ p. turn_at settings 0 false p m) at in
       keeping_all K V settings [] m m (not_write work m at) (omega arith)
       (0, false, subst (λ plan. IsPlanned plan m) (sym plan) ([], refl))
 
   -- others take two turns each
-  pub reads_turn : (reads : List Read) (work : Work) (m : Maintenance) → m.place ≡ place.Reads work → 0 < length reads
+  pub reads_turn : (reads : List Read) (work : Work) (m : Maintenance) → m.phase ≡ phase.Reads work → 0 < length reads
       → length reads ≤ work.left → Turns m (having_applied work reads m)
   reads_turn [] work m at some left = absurd (omega (arith, some))
   reads_turn (read ∷ []) work m at some left =
@@ -169,7 +169,7 @@ module _ (K V : Type 0) {S : Type 0} (settings : Settings S) where
       let less : Work = record work { left = work.left - 1 } in
       let mid = having_applied work (read ∷ []) m in
       let end = having_applied work (read ∷ (next ∷ reads)) m in
-      let on : mid.place ≡ place.Reads less = reads_on less (omega (arith, left)) in
+      let on : mid.phase ≡ phase.Reads less = reads_on less (omega (arith, left)) in
       let same : having_applied less (next ∷ reads) mid ≡ end =
       applied_later work read (next ∷ reads) m (omega (arith, left)) in
       MoreTurns (empty_handed m) (empty_handed (having_taken read m)) (empty_handed end) (taken_busy work read m at)
@@ -182,7 +182,7 @@ module _ (K V : Type 0) {S : Type 0} (settings : Settings S) where
 module _ (K V : Type 0) {S : Type 0} (settings : Settings S) (m : Maintenance) (takes : TakesWrite m) where
   with_write_log : (log : List Write) → IsTurn K V settings m (after_write_taken takes.0 m log).0
   with_write_log log =
-      let is : turn_at {K = K} {V = V} settings 0 false m.place m ≡ AtWrites (after_write_taken takes.0 m) =
+      let is : turn_at {K = K} {V = V} settings 0 false m.phase m ≡ AtWrites (after_write_taken takes.0 m) =
       ap (λ p. turn_at settings 0 false p m) takes.1 in
       (0, false, subst (λ plan. IsPlanned plan (after_write_taken takes.0 m log).0) (sym is) (log, refl))
 
@@ -194,19 +194,19 @@ module _ (K V : Type 0) {S : Type 0} (settings : Settings S) (m : Maintenance) (
 
   applies_write : (write : Write) → TakesWrite (having_taken_write write m) → ⊥
   applies_write write (other, is) =
-      let taken : place.Apply (record takes.0 { left = takes.0.left - 1 }) write ≡ place.Writes other =
-      sym (ap (place_with_write write) takes.1) ∙ is in
+      let taken : phase.Apply (record takes.0 { left = takes.0.left - 1 }) write ≡ phase.Writes other =
+      sym (ap (phase_with_write write) takes.1) ∙ is in
       absurd (cc)
 
   -- two turns, of which the first takes the first of those at hand
   pub written : (batch left : List Write) (found : Option Write) (write : Write) (new : Maintenance) → IsFirst batch left found
-      → found ≡ Some write → length left < writes_left m.place → IsTurn K V settings (having_taken_write write m) new
+      → found ≡ Some write → length left < writes_left m.phase → IsTurn K V settings (having_taken_write write m) new
       → AreTurns K V settings (holding batch m) (holding left new)
   written batch left found write new first taken less applied =
-      let is : gone_to (place_with_write write m.place) m ≡ (after_write_taken takes.0 m (write ∷ [])).0 =
-      ap (λ p. gone_to (place_with_write write p) m) takes.1 in
+      let is : gone_to (phase_with_write write m.phase) m ≡ (after_write_taken takes.0 m (write ∷ [])).0 =
+      ap (λ p. gone_to (phase_with_write write p) m) takes.1 in
       MoreTurns (holding batch m) (holding left (having_taken_write write m)) (holding left new)
-      (ap (λ p. is_idle (place_with_write write p)) takes.1)
+      (ap (λ p. is_idle (phase_with_write write p)) takes.1)
       (record {
         turn = subst (IsTurn K V settings m) (sym is) (with_write_log (write ∷ []));
         takes = λ _. takes_first batch left found write m first taken;
@@ -215,12 +215,12 @@ module _ (K V : Type 0) {S : Type 0} (settings : Settings S) (m : Maintenance) (
       })
       (keeping_all K V settings left (having_taken_write write m) new (applies_write write) within applied)
     where
-      within : length left ≤ writes_left (having_taken_write write m).place
-      within = omega (arith, less, ap writes_left takes.1, ap (λ p. writes_left (place_with_write write p)) takes.1)
+      within : length left ≤ writes_left (having_taken_write write m).phase
+      within = omega (arith, less, ap writes_left takes.1, ap (λ p. writes_left (phase_with_write write p)) takes.1)
 
   -- of which the second applies a removal
   pub removed : (batch left : List Write) (found : Option Write) (valid_after : ℕ) (t : Ticket) (new : Maintenance)
-      → IsFirst batch left found → found ≡ Some (Remove t) → length left < writes_left m.place
+      → IsFirst batch left found → found ≡ Some (Remove t) → length left < writes_left m.phase
       → TurnsAlone K V settings valid_after false (having_taken_write (Remove t) m) new
       → AreTurns K V settings (holding batch m) (holding left new)
   removed batch left found valid_after t new first taken less turn =
@@ -231,19 +231,19 @@ module _ (K V : Type 0) {S : Type 0} (settings : Settings S) (m : Maintenance) (
 
 module _ {K V S W : Type 0} (keys : Keys K S) (holds : K → V → Type 0) (weighs : W → K → V → ℕ → Type 0) where
   allowed : (settings : Settings S) (w next : Working) → AreTurns K V settings w next → (old : Locked S W)
-      → old.cache.settings ≡ settings → old.working ≡ Some w → (place : PlaceName) → place ≡ name_of next.maintenance.place
-      → (new : Locked S W) → new ≡ running (kept_running next) old → TakesTurns (locked_allows keys holds weighs) place old new
-  allowed settings w next (OneTurn _ _ turn) old same had place at new is =
-      steps.OneTurn place old new (w, next, had, subst (λ s. IsWorkingTurn K V s w next) (sym same) turn, at, is)
-  allowed settings w next (MoreTurns _ mid _ more first others) old same had place at new is =
+      → old.cache.settings ≡ settings → old.working ≡ Some w → (phase : PhaseName) → phase ≡ name_of next.maintenance.phase
+      → (new : Locked S W) → new ≡ running (kept_running next) old → TakesTurns (locked_allows keys holds weighs) phase old new
+  allowed settings w next (OneTurn _ _ turn) old same had phase at new is =
+      steps.OneTurn phase old new (w, next, had, subst (λ s. IsWorkingTurn K V s w next) (sym same) turn, at, is)
+  allowed settings w next (MoreTurns _ mid _ more first others) old same had phase at new is =
       let kept : running (Some mid) old ≡ running (kept_running mid) old =
       sym (ap (λ b. running (if b then None else Some mid) old) more) in
-      steps.MoreTurns place (name_of mid.maintenance.place) old (running (Some mid) old) new (not_named_idle mid.maintenance.place more)
+      steps.MoreTurns phase (name_of mid.maintenance.phase) old (running (Some mid) old) new (not_named_idle mid.maintenance.phase more)
       (w, mid, had, subst (λ s. IsWorkingTurn K V s w mid) (sym same) first, refl, kept)
-      (allowed settings mid next others (running (Some mid) old) same refl place at new is)
+      (allowed settings mid next others (running (Some mid) old) same refl phase at new is)
 
   -- what the maintenance does is allowed
-  pub turns_allowed : (old : Locked S W) (w next : Working) → old.working ≡ Some w → (place : PlaceName)
-      → place ≡ name_of next.maintenance.place → (new : Locked S W) → new ≡ running (kept_running next) old
-      → AreTurns K V old.cache.settings w next → TakesTurns (locked_allows keys holds weighs) place old new
-  turns_allowed old w next had place at new is turns = allowed old.cache.settings w next turns old refl had place at new is
+  pub turns_allowed : (old : Locked S W) (w next : Working) → old.working ≡ Some w → (phase : PhaseName)
+      → phase ≡ name_of next.maintenance.phase → (new : Locked S W) → new ≡ running (kept_running next) old
+      → AreTurns K V old.cache.settings w next → TakesTurns (locked_allows keys holds weighs) phase old new
+  turns_allowed old w next had phase at new is turns = allowed old.cache.settings w next turns old refl had phase at new is

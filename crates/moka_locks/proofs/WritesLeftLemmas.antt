@@ -11,27 +11,27 @@ use Rattle.moka_sync_model.specs.declared.ticket.Ticket.{Ticket}
 use Rattle.moka_sync_model.specs.CoreState.{Maintenance}
 use Rattle.moka_sync_model.specs.Entry.{Entry}
 use Rattle.moka_sync_model.specs.Orders.{Node, charge_of, charged_weight}
-use Rattle.moka_sync_model.specs.Place as place
+use Rattle.moka_sync_model.specs.Phase as phase
 use Rattle.moka_sync_model.specs.declared.progress.Candidate.{Candidate}
 use Rattle.moka_sync_model.specs.declared.progress.Tally.{Tally}
 use Rattle.moka_sync_model.specs.declared.progress.Work.{Work}
-use Rattle.moka_sync_model.specs.Place.{Place, Seen}
+use Rattle.moka_sync_model.specs.Phase.{Phase, Seen}
 use Rattle.moka_sync_model.specs.Turn.Plan.{Plan, Alone, AtReads, AtWrites, AtEntry, Outcome, writes_or_on}
 use Rattle.moka_sync_model.specs.Turn.Apply.{after_present_upsert, after_upsert}
 use Rattle.moka_sync_model.specs.Turn.Admission.{after_entering, after_removing, after_scan, after_verdict, after_victim}
 use Rattle.moka_sync_model.specs.Turn.Admission.{is_admitted, next_seen, removing_or_enter}
 use Rattle.moka_sync_model.specs.Turn.Turn.{turn_at}
-use Rattle.moka_maintenance.specs.Taken.{TakesWrite, having_taken_write, place_with_write, writes_left}
+use Rattle.moka_maintenance.specs.Taken.{TakesWrite, having_taken_write, phase_with_write, writes_left}
 use Rattle.moka_guards.specs.LockedTurn.{IsPlanned, IsTurn}
 
 module _ (work : Work) where
-  -- these places leave as many
-  abbrev Leaves : Place → Type 0
+  -- these phases leave as many
+  abbrev Leaves : Phase → Type 0
   Leaves p = work.left ≤ writes_left p
 
   left_on : Leaves (writes_or_on work)
   left_on =
-      cond_both (eqb work.left 0) (place.Sketch work.round) (place.Writes work) Leaves (λ none. omega (arith, eqb-true work.left 0 none))
+      cond_both (eqb work.left 0) (phase.Sketch work.round) (phase.Writes work) Leaves (λ none. omega (arith, eqb-true work.left 0 none))
       (λ some. omega arith)
 
   left_removing : (c : Candidate) (tally : Tally) (skipped : List Ticket) (left : List Seen)
@@ -42,19 +42,19 @@ module _ (work : Work) where
   module _ (K V : Type 0) where
     -- so does this plan, whatever it finds
     abbrev LeavesBy : Plan K V → Type 0
-    LeavesBy (Alone m) = Leaves m.place
-    LeavesBy (AtReads looks) = (log : List Read) → Leaves (looks log).0.place
-    LeavesBy (AtWrites looks) = (log : List Write) → Leaves (looks log).0.place
-    LeavesBy (AtEntry t looks) = (found : Option (Entry K V)) → Leaves (looks found).maintenance.place
+    LeavesBy (Alone m) = Leaves m.phase
+    LeavesBy (AtReads looks) = (log : List Read) → Leaves (looks log).0.phase
+    LeavesBy (AtWrites looks) = (log : List Write) → Leaves (looks log).0.phase
+    LeavesBy (AtEntry t looks) = (found : Option (Entry K V)) → Leaves (looks found).maintenance.phase
 
     abbrev LeavesEnd : Outcome K V → Type 0
-    LeavesEnd end = Leaves end.maintenance.place
+    LeavesEnd end = Leaves end.maintenance.phase
 
-    planned : (plan : Plan K V) (new : Maintenance) → LeavesBy plan → IsPlanned plan new → Leaves new.place
-    planned (Alone m) new leaves is = subst (λ m. Leaves m.place) (sym is) leaves
-    planned (AtReads looks) new leaves (log, is) = subst (λ m. Leaves m.place) (sym is) (leaves log)
-    planned (AtWrites looks) new leaves (log, is) = subst (λ m. Leaves m.place) (sym is) (leaves log)
-    planned (AtEntry t looks) new leaves (found, is) = subst (λ m. Leaves m.place) (sym is) (leaves found)
+    planned : (plan : Plan K V) (new : Maintenance) → LeavesBy plan → IsPlanned plan new → Leaves new.phase
+    planned (Alone m) new leaves is = subst (λ m. Leaves m.phase) (sym is) leaves
+    planned (AtReads looks) new leaves (log, is) = subst (λ m. Leaves m.phase) (sym is) (leaves log)
+    planned (AtWrites looks) new leaves (log, is) = subst (λ m. Leaves m.phase) (sym is) (leaves log)
+    planned (AtEntry t looks) new leaves (found, is) = subst (λ m. Leaves m.phase) (sym is) (leaves found)
 
     left_verdict : (c : Candidate) (tally : Tally) (seen : List Seen) (m : Maintenance) (admitted : Bool)
         → LeavesBy (after_verdict work c tally seen admitted m)
@@ -72,7 +72,7 @@ module _ (work : Work) where
     left_victims c tally skipped m (s ∷ left) =
         cond_both s.is_present _ _ LeavesBy (λ h. by) (λ h. left_removing c tally (skipped ++ s.ticket ∷ []) left)
       where
-        by : (found : Option (Entry K V)) → Leaves (after_victim work c tally skipped s left m found).maintenance.place
+        by : (found : Option (Entry K V)) → Leaves (after_victim work c tally skipped s left m found).maintenance.phase
         by None = left_removing c tally (skipped ++ s.ticket ∷ []) left
         by (Some e) = left_removing c tally skipped left
 
@@ -96,38 +96,38 @@ module _ (work : Work) where
       left_entering c skipped m (Some e) = left_on
 
 module _ (K V : Type 0) {S : Type 0} (settings : Settings S) where
-  kept_at : (valid_after : ℕ) (refused : Bool) (p : Place) (m new : Maintenance) → ((work : Work) → p ≡ place.Writes work → ⊥)
-      → IsPlanned (turn_at {K = K} {V = V} settings valid_after refused p m) new → writes_left p ≤ writes_left new.place
-  kept_at valid_after refused (place.Writes work) m new other turn = absurd (other work refl)
-  kept_at valid_after refused (place.Apply work (Upsert t)) m new other turn =
-      planned work K V (turn_at settings valid_after refused (place.Apply work (Upsert t)) m) new
+  kept_at : (valid_after : ℕ) (refused : Bool) (p : Phase) (m new : Maintenance) → ((work : Work) → p ≡ phase.Writes work → ⊥)
+      → IsPlanned (turn_at {K = K} {V = V} settings valid_after refused p m) new → writes_left p ≤ writes_left new.phase
+  kept_at valid_after refused (phase.Writes work) m new other turn = absurd (other work refl)
+  kept_at valid_after refused (phase.Apply work (Upsert t)) m new other turn =
+      planned work K V (turn_at settings valid_after refused (phase.Apply work (Upsert t)) m) new
       (left_upsert work K V settings refused t m) turn
-  kept_at valid_after refused (place.Apply work (Remove t)) m new other turn =
-      planned work K V (turn_at settings valid_after refused (place.Apply work (Remove t)) m) new (left_on work) turn
-  kept_at valid_after refused (place.Scan work c tally seen) m new other turn =
-      planned work K V (turn_at settings valid_after refused (place.Scan work c tally seen) m) new
+  kept_at valid_after refused (phase.Apply work (Remove t)) m new other turn =
+      planned work K V (turn_at settings valid_after refused (phase.Apply work (Remove t)) m) new (left_on work) turn
+  kept_at valid_after refused (phase.Scan work c tally seen) m new other turn =
+      planned work K V (turn_at settings valid_after refused (phase.Scan work c tally seen) m) new
       (left_scan work K V c tally seen m (next_seen c tally seen m.orders)) turn
-  kept_at valid_after refused (place.Removing work c tally skipped left) m new other turn =
-      planned work K V (turn_at settings valid_after refused (place.Removing work c tally skipped left) m) new
+  kept_at valid_after refused (phase.Removing work c tally skipped left) m new other turn =
+      planned work K V (turn_at settings valid_after refused (phase.Removing work c tally skipped left) m) new
       (left_victims work K V c tally skipped m left) turn
-  kept_at valid_after refused (place.Enter work c skipped) m new other turn =
-      planned work K V (turn_at settings valid_after refused (place.Enter work c skipped) m) new
+  kept_at valid_after refused (phase.Enter work c skipped) m new other turn =
+      planned work K V (turn_at settings valid_after refused (phase.Enter work c skipped) m) new
       (left_entering work K V settings c skipped m) turn
   kept_at valid_after refused p m new other turn = omega arith
 
   -- a turn that takes no write
-  pub keeps_left : (m new : Maintenance) → (TakesWrite m → ⊥) → IsTurn K V settings m new → writes_left m.place ≤ writes_left new.place
-  keeps_left m new other (valid_after, refused, turn) = kept_at valid_after refused m.place m new (λ work at. other (work, at)) turn
+  pub keeps_left : (m new : Maintenance) → (TakesWrite m → ⊥) → IsTurn K V settings m new → writes_left m.phase ≤ writes_left new.phase
+  keeps_left m new other (valid_after, refused, turn) = kept_at valid_after refused m.phase m new (λ work at. other (work, at)) turn
 
   -- one that applies the write that was just taken
   pub takes_one : (write : Write) (m new : Maintenance) → TakesWrite m → IsTurn K V settings (having_taken_write write m) new
-      → writes_left m.place ≤ writes_left new.place + 1
+      → writes_left m.phase ≤ writes_left new.phase + 1
   takes_one write m new (work, at) turn =
-      let taken : (having_taken_write write m).place ≡ place.Apply (record work { left = work.left - 1 }) write =
-      ap (place_with_write write) at in
-      let kept : writes_left (having_taken_write write m).place ≤ writes_left new.place =
+      let taken : (having_taken_write write m).phase ≡ phase.Apply (record work { left = work.left - 1 }) write =
+      ap (phase_with_write write) at in
+      let kept : writes_left (having_taken_write write m).phase ≤ writes_left new.phase =
       keeps_left (having_taken_write write m) new (λ takes. not_taking (sym taken ∙ takes.1)) turn in
       omega (arith, ap writes_left at, ap writes_left taken, kept)
     where
-      not_taking : {left right : Work} → place.Apply left write ≡ place.Writes right → ⊥
+      not_taking : {left right : Work} → phase.Apply left write ≡ phase.Writes right → ⊥
       not_taking is = absurd (cc)

@@ -3,7 +3,7 @@ use Rattle.std.specs.Prelude.{◌≡◌, ◌-◌, ◌^◌, List, [], ◌∷◌, 
 use Rattle.atomic_table.specs.Seated.{TableId}
 use Rattle.moka_sync_model.specs.CoreState.{Maintenance}
 use Rattle.moka_sync_model.specs.Orders.{charged_weight}
-use Rattle.moka_sync_model.specs.Place.{is_idle}
+use Rattle.moka_sync_model.specs.Phase.{is_idle}
 use Rattle.moka_sync_model.specs.Turn.Turn.{next_published}
 use Rattle.moka_guards.specs.Counts.{Publisher}
 use Rattle.moka_sync_model.specs.declared.published.Published.{Published}
@@ -20,7 +20,7 @@ IsNewest m (newest ∷ older) = m.published ≡ newest
 
 -- what a maintenance that began after a publication has published last: that, and once it has ended its own
 abbrev pub published_after : Published → Maintenance → Published
-published_after before m = if is_idle m.place then next_published (record m { published = before }) else before
+published_after before m = if is_idle m.phase then next_published (record m { published = before }) else before
 
 -- it has published that, after these
 abbrev pub IsAccounted : Maintenance → List Published → Type 0

@@ -16,7 +16,7 @@ use Rattle.moka_sync_model.specs.declared.operation.Write.{Write}
 use Rattle.moka_sync_model.specs.declared.operation.Write.TheVariants.{Upsert, Remove}
 use Rattle.moka_sync_model.specs.declared.ticket.Ticket.{Ticket}
 use Rattle.moka_sync_model.specs.CoreState.{Maintenance}
-use Rattle.moka_sync_model.specs.Place.{Idle, ReadCount, name_of, is_idle}
+use Rattle.moka_sync_model.specs.Phase.{Idle, ReadCount, name_of, is_idle}
 use Rattle.moka_sync_model.specs.Reply.{Reply}
 use Rattle.moka_sync_model.specs.WholeCall.{Log}
 use Rattle.moka_sync_model.specs.Steps.{Caller, kind_of}
@@ -65,7 +65,7 @@ locked_decides old log now runs new = new ≡ old
 
 -- a maintenance that has ended is given back
 abbrev pub kept_running : Working → Option Working
-kept_running w = if is_idle w.maintenance.place then None else Some w
+kept_running w = if is_idle w.maintenance.phase then None else Some w
 
 module _ {K V S W : Type 0} (keys : Keys K S) (holds : K → V → Type 0) (weighs : W → K → V → ℕ → Type 0) where
   -- what a step may reply and leave, whatever other callers do meanwhile: what the caller has under way is exact,
@@ -103,8 +103,8 @@ module _ {K V S W : Type 0} (keys : Keys K S) (holds : K → V → Type 0) (weig
   locked_allows old (Push caller) NotPossible new = ((write : Write) × (old.pending ≡ Some (Writing write))) × (new ≡ old)
   locked_allows old (Forget caller) Done new = new ≡ leaving None old
   locked_allows old (Begin now) Done new =
-      (m : Maintenance) × (m.place ≡ Idle) × (new ≡ running (Some (empty_handed (record m { place = ReadCount 1; moment = now }))) old)
-  locked_allows old Turn (At place) new =
+      (m : Maintenance) × (m.phase ≡ Idle) × (new ≡ running (Some (empty_handed (record m { phase = ReadCount 1; moment = now }))) old)
+  locked_allows old Turn (At phase) new =
       (w : Working) × (next : Working) × (old.working ≡ Some w) × IsWorkingTurn K V old.cache.settings w next
-      × (place ≡ name_of next.maintenance.place) × (new ≡ running (kept_running next) old)
+      × (phase ≡ name_of next.maintenance.phase) × (new ≡ running (kept_running next) old)
   locked_allows old event reply new = ⊥

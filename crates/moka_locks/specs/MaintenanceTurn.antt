@@ -3,7 +3,7 @@ use Rattle.std.specs.Prelude.{◌≡◌, ◌≤◌, false, List, [], ◌∷◌, 
 use Rattle.moka_common.specs.Settings.{Settings}
 use Rattle.moka_sync_model.specs.declared.operation.Write.{Write}
 use Rattle.moka_sync_model.specs.CoreState.{Maintenance}
-use Rattle.moka_sync_model.specs.Place.{is_idle}
+use Rattle.moka_sync_model.specs.Phase.{is_idle}
 use Rattle.moka_guards.specs.LockedTurn.{IsTurn}
 use Rattle.moka_maintenance.specs.Taken.{TakesWrite, having_taken_write, writes_left}
 
@@ -27,10 +27,10 @@ pub record IsWorkingTurn (K V : Type 0) {S : Type 0} (settings : Settings S) (ol
   pub turn : IsTurn K V settings old.maintenance new.maintenance
   pub takes : TakesWrite old.maintenance → TakesFirst old.taken old.maintenance new
   pub keeps : (TakesWrite old.maintenance → ⊥) → new.taken ≡ old.taken
-  pub within : length new.taken ≤ writes_left new.maintenance.place
+  pub within : length new.taken ≤ writes_left new.maintenance.phase
 
 -- one such turn, or several, of which only the last may end the maintenance
 pub data AreTurns (K V : Type 0) {S : Type 0} (settings : Settings S) : Working → Working → Type 0 where
   OneTurn : (old new : Working) → IsWorkingTurn K V settings old new → AreTurns K V settings old new
-  MoreTurns : (old between new : Working) → is_idle between.maintenance.place ≡ false → IsWorkingTurn K V settings old between
+  MoreTurns : (old between new : Working) → is_idle between.maintenance.phase ≡ false → IsWorkingTurn K V settings old between
       → AreTurns K V settings between new → AreTurns K V settings old new

@@ -3,7 +3,7 @@ use Rattle.std.specs.Prelude.{◌≡◌, ℕ, Bool, true, is_some}
 use Rattle.moka_common.specs.Settings.{Settings, keeps_writes}
 use Rattle.moka_sync_model.specs.declared.ticket.Ticket.{Ticket}
 use Rattle.moka_sync_model.specs.Orders.{Orders, charge_of, is_written}
-use Rattle.moka_sync_model.specs.Place.{ReadCount}
+use Rattle.moka_sync_model.specs.Phase.{ReadCount}
 use Rattle.moka_locks.specs.MaintenanceTurn.{AreTurns, Working, empty_handed}
 
 -- each ticket that is charged is in the order of writing, and each that is there is charged
@@ -21,7 +21,7 @@ pub record AtWork : Type 0 where
 
 -- one that has just begun
 abbrev pub just_begun : ℕ → AtWork → AtWork
-just_begun now w = record w { working = empty_handed (record w.working.maintenance { place = ReadCount 1; moment = now }) }
+just_begun now w = record w { working = empty_handed (record w.working.maintenance { phase = ReadCount 1; moment = now }) }
 
 -- it has the same tickets in both orders, where both are kept
 abbrev pub IsOrdered : AtWork → Type 0

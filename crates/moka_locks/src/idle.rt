@@ -15,7 +15,7 @@ pub(crate) struct IdleMaintenance<A: Allocator + Clone + Drop = Global> {
 
 impl<A: Allocator + Clone + Drop> Model for IdleMaintenance<A> {
     ghost use Rattle.std.specs.Prelude.{◌≡◌, IfSome, Bool};
-    ghost use Rattle.moka_sync_model.specs.Place.{Idle};
+    ghost use Rattle.moka_sync_model.specs.Phase.{Idle};
     ghost use Rattle.moka_locks.specs.Charged.{IsCharged, IsNewest};
     ghost use Rattle.moka_locks.specs.SameTickets.{HasBothOrders};
 
@@ -23,6 +23,6 @@ impl<A: Allocator + Clone + Drop> Model for IdleMaintenance<A> {
 
     ghost view = { λ i. i.keeps_writes };
 
-    ghost invariant = { λ i. (i.maintenance.value.place ≡ Idle) × HasBothOrders i.keeps_writes i.maintenance.value.orders
+    ghost invariant = { λ i. (i.maintenance.value.phase ≡ Idle) × HasBothOrders i.keeps_writes i.maintenance.value.orders
         × IfSome i.publisher (λ p. IsNewest i.maintenance.value p.published × IsCharged i.maintenance.value p.published) };
 }

@@ -13,7 +13,7 @@ ghost use Rattle.moka_shard.specs.Rule.{PairsMeet};
 ghost use Rattle.moka_locks.specs.Snapshot.{IsSnapshot, own_pairs};
 ghost use Rattle.moka_common.specs.Settings.{keeps_writes};
 ghost use Rattle.moka_sync_model.specs.CoreState.{new_maintenance};
-ghost use Rattle.moka_sync_model.specs.Place.{Idle};
+ghost use Rattle.moka_sync_model.specs.Phase.{Idle};
 ghost use Rattle.moka_locks.specs.SameTickets.{AtWork, IsOrdered, just_begun};
 
 mod assemble;
@@ -309,7 +309,7 @@ impl<
 
     /// Begins a maintenance, once nobody else runs one.
     pub(crate) fn begin<R: Wait>(&self, rt: &R, now: Instant) -> RunningMaintenance<'_, A>
-        ensures begun { (w : AtWork) × (w.keeps_writes ≡ keeps_writes self.now.settings.policy) × (w.working.maintenance.place ≡ Idle)
+        ensures begun { (w : AtWork) × (w.keeps_writes ≡ keeps_writes self.now.settings.policy) × (w.working.maintenance.phase ≡ Idle)
             × (result ≡ just_begun now w) }
         ensures ordered { IsOrdered result }
     {

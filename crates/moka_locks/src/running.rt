@@ -1,7 +1,7 @@
 // A maintenance that is under way, with its lock.
 ghost use Rattle.std.specs.Prelude.{◌≡◌};
 ghost use Rattle.moka_common.specs.Settings.{keeps_writes};
-ghost use Rattle.moka_sync_model.specs.Place.{Idle, name_of};
+ghost use Rattle.moka_sync_model.specs.Phase.{Idle, name_of};
 ghost use Rattle.moka_locks.specs.MaintenanceTurn.{AreTurns};
 ghost use Rattle.moka_locks.specs.SameTickets.{AtWork, IsOrdered, just_begun};
 
@@ -13,7 +13,7 @@ use moka_guards::waiting::lock;
 use moka_maintenance::maintenance::Maintenance;
 use moka_queues::taken::TakenWrites;
 use moka_shard::rule::PairRule;
-use moka_sync_model::place::Place;
+use moka_sync_model::phase::Phase;
 use moka_sync_model::published::Published;
 use std::alloc::Allocator;
 use std::hash::{BuildHasher, Hash};
@@ -42,7 +42,7 @@ impl<'a, A: Allocator + Clone + Drop> Model for RunningMaintenance<'a, A> {
 
     ghost view = { λ r. record { keeps_writes = r.keeps_writes; working = record { maintenance = r.maintenance.value; taken = r.taken } } };
 
-    ghost invariant = { λ r. (length r.taken ≤ writes_left r.maintenance.value.place) × HasBothOrders r.keeps_writes r.maintenance.value.orders
+    ghost invariant = { λ r. (length r.taken ≤ writes_left r.maintenance.value.phase) × HasBothOrders r.keeps_writes r.maintenance.value.orders
         × IfSome r.publisher (λ p. IsAccounted r.maintenance.value p.published) };
 }
 
@@ -54,7 +54,7 @@ impl<'a, A: Allocator + Clone + Drop> RunningMaintenance<'a, A> {
         keeps_writes: bool,
         now: Instant,
     ) -> RunningMaintenance<'a, A>
-        ensures begun { (w : AtWork) × (w.keeps_writes ≡ keeps_writes) × (w.working.maintenance.place ≡ Idle) × (result ≡ just_begun now w) }
+        ensures begun { (w : AtWork) × (w.keeps_writes ≡ keeps_writes) × (w.working.maintenance.phase ≡ Idle) × (result ≡ just_begun now w) }
         ensures ordered { IsOrdered result }
     {
         for _ in rt.forever() {
@@ -78,7 +78,7 @@ impl<'a, A: Allocator + Clone + Drop> RunningMaintenance<'a, A> {
         idle: IdleMaintenance<A>,
         now: Instant,
     ) -> RunningMaintenance<'a, A>
-        ensures begun { (w : AtWork) × (w.keeps_writes ≡ idle) × (w.working.maintenance.place ≡ Idle) × (result ≡ just_begun now w) }
+        ensures begun { (w : AtWork) × (w.keeps_writes ≡ idle) × (w.working.maintenance.phase ≡ Idle) × (result ≡ just_begun now w) }
         ensures ordered { IsOrdered result }
     {
         let IdleMaintenance {
@@ -112,20 +112,20 @@ impl<'a, A: Allocator + Clone + Drop> RunningMaintenance<'a, A> {
         S: BuildHasher + Drop,
         P: PairRule<K, V>,
         W: Drop,
-    >(&mut self, rt: &R, inner: &Inner<K, V, S, P, W, A>) -> Place
+    >(&mut self, rt: &R, inner: &Inner<K, V, S, P, W, A>) -> Phase
         requires { self.old.keeps_writes ≡ keeps_writes inner.now.settings.policy }
         ensures turns { AreTurns K V inner.now.settings self.old.working self.new.working }
-        ensures place { result ≡ name_of self.new.working.maintenance.place }
+        ensures phase { result ≡ name_of self.new.working.maintenance.phase }
         ensures keeps { self.new.keeps_writes ≡ self.old.keeps_writes }
         ensures ordered { IsOrdered self.new }
     {
         inner.turn(rt, &mut self.maintenance, &mut self.taken);
-        self.maintenance.place()
+        self.maintenance.phase()
     }
 
     /// Publishes the counts of the maintenance, which has ended, gives it back, and frees its lock.
     pub(crate) fn end<R: Wait>(self, rt: &R)
-        requires { self.working.maintenance.place ≡ Idle }
+        requires { self.working.maintenance.phase ≡ Idle }
     {
         let RunningMaintenance {
             mut guard,

@@ -1,7 +1,7 @@
 //! The steps of one caller on a cache behind locks.
 ghost use Rattle.std.specs.Prelude.{◌≡◌, None, IfSome};
 ghost use Rattle.moka_common.specs.Settings.{keeps_writes};
-ghost use Rattle.moka_sync_model.specs.Place.{Idle};
+ghost use Rattle.moka_sync_model.specs.Phase.{Idle};
 ghost use Rattle.moka_locks.specs.Locked.{resting_at, running};
 ghost use Rattle.moka_locks.specs.SameTickets.{HasBothOrders};
 
@@ -13,7 +13,7 @@ use moka_common::time::Instant;
 use moka_queues::logs::LoggedRead;
 use moka_shard::rule::PairRule;
 use moka_sync_model::operation::{Read, Write};
-use moka_sync_model::place::Place;
+use moka_sync_model::phase::Phase;
 use moka_sync_model::steps::{ReadPush, Steps, TakingSteps, WhichLog, WritePush};
 use moka_sync_model::weigh::WeighShared;
 use std::alloc::Allocator;
@@ -118,7 +118,7 @@ impl<
 
     /// Gives back the maintenance, which has ended, and publishes what it has left.
     fn end<R: Wait>(&mut self, rt: &R)
-        requires { IfSome self.old.working (λ w. w.maintenance.place ≡ Idle) }
+        requires { IfSome self.old.working (λ w. w.maintenance.phase ≡ Idle) }
         ensures { self.new ≡ running None self.old }
     {
         let Some(running) = self.running.take() else {
@@ -257,15 +257,15 @@ impl<
         drop(self.running.replace(running));
     }
 
-    fn turn<R: Wait>(&mut self, rt: &R) -> Place {
+    fn turn<R: Wait>(&mut self, rt: &R) -> Phase {
         let Some(running) = &mut self.running else {
-            return Place::Idle;
+            return Phase::Idle;
         };
-        let place = running.turn(rt, self.inner);
-        if let Place::Idle = place {
+        let phase = running.turn(rt, self.inner);
+        if let Phase::Idle = phase {
             self.end(rt);
         }
-        place
+        phase
     }
 }
 

@@ -8,7 +8,7 @@ use Rattle.moka_list.specs.Nodes.{first_id}
 use Rattle.moka_sync_model.specs.declared.progress.Candidate.{Candidate}
 use Rattle.moka_sync_model.specs.declared.progress.Tally.{Tally}
 use Rattle.moka_sync_model.specs.Entry.{Entry}
-use Rattle.moka_sync_model.specs.Place.{Place, Seen}
+use Rattle.moka_sync_model.specs.Phase.{Phase, Seen}
 use Rattle.moka_sync_model.specs.CoreState.{Maintenance}
 use Rattle.moka_sync_model.specs.declared.ticket.Ticket.{Ticket}
 use Rattle.moka_sync_model.specs.Parts.{NeedsNothing, NeedsShard, need_of}
@@ -19,13 +19,13 @@ use Rattle.moka_sync_model.specs.Turn.Admission.{after_victim, is_admitted, is_d
 use Rattle.moka_queues.specs.declared.orders.Node.{Node}
 use Rattle.moka_queues.specs.OrdersState.{OrdersState, access_of, charged, orders_of}
 use Rattle.moka_sync_model.specs.declared.progress.Work.{Work}
-use Rattle.moka_maintenance.specs.declared.maintenance.place.Scan.{Scan}
-use Rattle.moka_maintenance.specs.declared.maintenance.place.Removal.{Removal}
+use Rattle.moka_maintenance.specs.declared.maintenance.phase.Scan.{Scan}
+use Rattle.moka_maintenance.specs.declared.maintenance.phase.Removal.{Removal}
 use Rattle.moka_maintenance.specs.Held.{Held, IsScanning, IsRemoving}
 use Rattle.moka_maintenance.specs.Held.{first_seen, first_tickets, maintenance_of, next_id_if, removal_plan}
-use Rattle.moka_maintenance.specs.Held.{place_of, scan_plan}
-use Rattle.moka_maintenance.specs.declared.maintenance.place.Stage.{Stage}
-use Rattle.moka_maintenance.specs.declared.maintenance.place.Stage.TheVariants as stage
+use Rattle.moka_maintenance.specs.Held.{phase_of, scan_plan}
+use Rattle.moka_maintenance.specs.declared.maintenance.phase.PhaseState.{PhaseState}
+use Rattle.moka_maintenance.specs.declared.maintenance.phase.PhaseState.TheVariants as state
 use Rattle.moka_common.specs.Settings.{Settings}
 use Rattle.moka_sync_model.specs.declared.operation.Write.{Write}
 use Rattle.moka_sync_model.specs.declared.operation.Write.TheVariants.{Remove, Upsert}
@@ -235,19 +235,19 @@ module _ (K V : Type 0) (work : Work) (held : Held) where
 
 -- the plan at a write
 pub write_plan : (K V : Type 0) {S : Type 0} (settings : Settings S) (valid_after : ℕ) (refused : Bool) (held : Held) (work : Work)
-    (write : Write) → held.stage ≡ stage.Apply work write
-    → turn_at {K = K} {V = V} settings valid_after refused (maintenance_of held).place (maintenance_of held)
+    (write : Write) → held.phase ≡ state.Apply work write
+    → turn_at {K = K} {V = V} settings valid_after refused (maintenance_of held).phase (maintenance_of held)
     ≡ write_turn settings valid_after refused work write (maintenance_of held)
 write_plan K V settings valid_after refused held work write is =
-    ap (λ s. turn_at {K = K} {V = V} settings valid_after refused (place_of held.orders.nodes s) (maintenance_of held)) is
+    ap (λ s. turn_at {K = K} {V = V} settings valid_after refused (phase_of held.orders.nodes s) (maintenance_of held)) is
 
 module _ (K V : Type 0) {S : Type 0} (settings : Settings S) (valid_after : ℕ) (held : Held) (t : Ticket) where
-  -- what a turn needs, by its stage
-  pub need_at : (s : Stage) → held.stage ≡ s
-      → need_of (turn_at {K = K} {V = V} settings valid_after false (maintenance_of held).place (maintenance_of held)) ≡ NeedsShard t
-      → need_of (turn_at {K = K} {V = V} settings valid_after false (place_of held.orders.nodes s) (maintenance_of held)) ≡ NeedsShard t
+  -- what a turn needs, by its state
+  pub need_at : (s : PhaseState) → held.phase ≡ s
+      → need_of (turn_at {K = K} {V = V} settings valid_after false (maintenance_of held).phase (maintenance_of held)) ≡ NeedsShard t
+      → need_of (turn_at {K = K} {V = V} settings valid_after false (phase_of held.orders.nodes s) (maintenance_of held)) ≡ NeedsShard t
   need_at s is need =
-      ap (λ x. need_of (turn_at {K = K} {V = V} settings valid_after false (place_of held.orders.nodes x) (maintenance_of held))) (sym is) ∙ need
+      ap (λ x. need_of (turn_at {K = K} {V = V} settings valid_after false (phase_of held.orders.nodes x) (maintenance_of held))) (sym is) ∙ need
 
   -- a write that needs a ticket's entry is an upsert of it
   pub upsert_by_need : (work : Work) (write : Write)
@@ -256,7 +256,7 @@ module _ (K V : Type 0) {S : Type 0} (settings : Settings S) (valid_after : ℕ)
   upsert_by_need work (Remove u) need = absurd (cc)
 
 -- a turn at a front that needs a ticket's entry has that ticket there
-pub front_by_need : (K V : Type 0) (t : Ticket) (m : Maintenance) (front : Option Ticket) (done : Place)
+pub front_by_need : (K V : Type 0) (t : Ticket) (m : Maintenance) (front : Option Ticket) (done : Phase)
     (looks : Ticket → Maintenance → Option (Entry K V) → Outcome K V) → need_of (after_pass front done looks m) ≡ NeedsShard t → front ≡ Some t
 front_by_need K V t m None done looks need = absurd (cc)
 front_by_need K V t m (Some u) done looks need = ap Some (cc)

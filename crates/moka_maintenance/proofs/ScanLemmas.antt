@@ -1,4 +1,4 @@
--- What a scan and the removals make of their place.
+-- What a scan and the removals make of their phase.
 use Rattle.std.proofs.Common.{◌≡◌, ◌<◌, ◌≤◌, ◌+◌, ◌-◌, ◌==◌, ℕ, suc, Bool, true, false, cond}
 use Rattle.std.proofs.Common.{nat_eq, List, [], ◌∷◌, ◌++◌, map, take, drop, length, Option}
 use Rattle.std.proofs.Common.{Some, None, is_some, option_map, unwrap_or, refl, sym, ap, ◌∙◌, subst, arith, inl, inr}
@@ -13,7 +13,7 @@ use Rattle.moka_sync_model.specs.declared.constants.TheConstants.{MAX_ROUNDS}
 use Rattle.moka_sync_model.specs.declared.ticket.Ticket.{Ticket}
 use Rattle.moka_sync_model.specs.Entry.{Entry}
 use Rattle.moka_sync_model.specs.Orders.{Orders, charge_of, without_node}
-use Rattle.moka_sync_model.specs.Place as place
+use Rattle.moka_sync_model.specs.Phase as phase
 use Rattle.moka_sync_model.specs.Turn.Admission.{removing_or_enter}
 use Rattle.moka_sync_model.proofs.TicketLemmas.{cases_ticket}
 use Rattle.moka_sync_model.proofs.OrdersLemmas.{ChangesNode-without, charge_of-without}
@@ -22,11 +22,11 @@ use Rattle.moka_queues.specs.OrdersState.{OrdersState, orders_of}
 use Rattle.moka_sync_model.specs.declared.progress.Work.{Work}
 use Rattle.moka_sync_model.specs.declared.progress.Candidate.{Candidate}
 use Rattle.moka_sync_model.specs.declared.progress.Tally.{Tally}
-use Rattle.moka_maintenance.specs.declared.maintenance.place.Scan.{Scan}
-use Rattle.moka_maintenance.specs.declared.maintenance.place.Removal.{Removal}
-use Rattle.moka_maintenance.specs.declared.maintenance.place.Stage.TheVariants as stage
-use Rattle.moka_maintenance.specs.Held.{HoldsIn, IsScanning, IsRemoving, place_of}
-use Rattle.moka_maintenance.specs.Held.{first_seen, first_tickets, seen_node, next_id_if, stage_of_removal}
+use Rattle.moka_maintenance.specs.declared.maintenance.phase.Scan.{Scan}
+use Rattle.moka_maintenance.specs.declared.maintenance.phase.Removal.{Removal}
+use Rattle.moka_maintenance.specs.declared.maintenance.phase.PhaseState.TheVariants as state
+use Rattle.moka_maintenance.specs.Held.{HoldsIn, IsScanning, IsRemoving, phase_of}
+use Rattle.moka_maintenance.specs.Held.{first_seen, first_tickets, seen_node, next_id_if, state_of_removal}
 use Rattle.moka_maintenance.proofs.NextLemmas.{IsNext, next_of, some_next}
 use Rattle.moka_maintenance.proofs.WalkLemmas.{drop_front}
 
@@ -73,23 +73,23 @@ unzero l = false_from_ne_true (suc l == 0) (λ same. let zero : suc l ≡ 0 = eq
 
 -- ---- removals
 
--- the place of a removal, with victims left or none
-pub removal_place : (work : Work) (c : Candidate) (t : Tally) (k l : ℕ) (next : Option ℕ) (nodes : List (ℕ × Node)) → k + l ≤ length nodes
-    → place_of nodes (stage_of_removal work (record { candidate = c; tally = t; skipped = k; left = l; next = next }))
+-- the phase of a removal, with victims left or none
+pub removal_phase : (work : Work) (c : Candidate) (t : Tally) (k l : ℕ) (next : Option ℕ) (nodes : List (ℕ × Node)) → k + l ≤ length nodes
+    → phase_of nodes (state_of_removal work (record { candidate = c; tally = t; skipped = k; left = l; next = next }))
     ≡ removing_or_enter work c t (first_tickets k nodes) (first_seen l (drop k nodes))
-removal_place work c t k Prim.Native.Nat.zero next nodes within = refl
-removal_place work c t k (suc l) next nodes within = by (drop k nodes) refl
+removal_phase work c t k Prim.Native.Nat.zero next nodes within = refl
+removal_phase work c t k (suc l) next nodes within = by (drop k nodes) refl
   where
     by : (xs : List (ℕ × Node)) → drop k nodes ≡ xs
-        → place_of nodes (stage_of_removal work (record { candidate = c; tally = t; skipped = k; left = suc l; next = next }))
+        → phase_of nodes (state_of_removal work (record { candidate = c; tally = t; skipped = k; left = suc l; next = next }))
         ≡ removing_or_enter work c t (first_tickets k nodes) (first_seen (suc l) (drop k nodes))
     by [] is =
         let there = some_next nodes k (omega (arith, within)) in
         absurd (false≢true (ap is_some (sym (ap first_id is) ∙ there.1)))
     by (x ∷ xs) is =
-        ap (λ b. place_of nodes (cond b (stage.Enter work c k)
-        (stage.Removing work (record { candidate = c; tally = t; skipped = k; left = suc l; next = next })))) (unzero l)
-        ∙ (ap (λ seen. place.Removing work c t (first_tickets k nodes) seen)
+        ap (λ b. phase_of nodes (cond b (state.Enter work c k)
+        (state.Removing work (record { candidate = c; tally = t; skipped = k; left = suc l; next = next })))) (unzero l)
+        ∙ (ap (λ seen. phase.Removing work c t (first_tickets k nodes) seen)
         (ap (λ ys. map seen_node (take (suc l) ys)) is)
         ∙ sym (ap (λ ys. removing_or_enter work c t (first_tickets k nodes)
         (map seen_node (take (suc l) ys))) is))
@@ -97,13 +97,13 @@ removal_place work c t k (suc l) next nodes within = by (drop k nodes) refl
 -- and what holds there
 pub removal_holds : (work : Work) (o : OrdersState) (c : Candidate) (t : Tally) (k l : ℕ) (next : Option ℕ) → work.round ≤ MAX_ROUNDS
     → IsRemoving o (record { candidate = c; tally = t; skipped = k; left = l; next = next })
-    → HoldsIn o (stage_of_removal work (record { candidate = c; tally = t; skipped = k; left = l; next = next }))
+    → HoldsIn o (state_of_removal work (record { candidate = c; tally = t; skipped = k; left = l; next = next }))
 removal_holds work o c t k Prim.Native.Nat.zero next round s =
     let within : k + 0 ≤ length o.nodes = s.within in
     (round, record { awaited = s.awaited; within = omega (arith, within) })
 removal_holds work o c t k (suc l) next round s =
-    subst (λ b. HoldsIn o (cond b (stage.Enter work c k)
-    (stage.Removing work (record { candidate = c; tally = t; skipped = k; left = suc l; next = next })))) (sym (unzero l))
+    subst (λ b. HoldsIn o (cond b (state.Enter work c k)
+    (state.Removing work (record { candidate = c; tally = t; skipped = k; left = suc l; next = next })))) (sym (unzero l))
     (round, omega arith, s)
 
 module _ (o : OrdersState) (work : Work) (r : Removal) (once : IsDistinct nat_eq (keys_of o.nodes)) (s : IsRemoving o r) (some : 0 < r.left)
@@ -121,15 +121,15 @@ module _ (o : OrdersState) (work : Work) (r : Removal) (once : IsDistinct nat_eq
   fewer = omega (arith, some)
 
   -- one more is skipped
-  pub skipped_place : (n : Node) → lookup (nat_eq id) o.nodes ≡ Some n → (next : Option ℕ)
-      → place_of o.nodes (stage_of_removal work
+  pub skipped_phase : (n : Node) → lookup (nat_eq id) o.nodes ≡ Some n → (next : Option ℕ)
+      → phase_of o.nodes (state_of_removal work
       (record { candidate = r.candidate; tally = r.tally; skipped = r.skipped + 1; left = r.left - 1; next = next }))
       ≡ removing_or_enter work r.candidate r.tally (first_tickets r.skipped o.nodes ++ n.ticket ∷ [])
       (drop 1 (first_seen r.left (drop r.skipped o.nodes)))
-  skipped_place n found next =
+  skipped_phase n found next =
       let same : next_node.x ≡ n = ap (λ p. unwrap_or p n) (sym next_node.found ∙ found) in
       let one : r.skipped + 1 ≡ suc r.skipped = omega arith in
-      removal_place work r.candidate r.tally (r.skipped + 1) (r.left - 1) next o.nodes (omega (arith, s.within, some))
+      removal_phase work r.candidate r.tally (r.skipped + 1) (r.left - 1) next o.nodes (omega (arith, s.within, some))
       ∙ (λ i. removing_or_enter work r.candidate r.tally
       ((ap (λ m. first_tickets m o.nodes) one
       ∙ (ap (map (λ (p : ℕ × Node). p.1.ticket)) (take_more o.nodes r.skipped (id, next_node.x) next_node.rest next_node.here)
@@ -138,7 +138,7 @@ module _ (o : OrdersState) (work : Work) (r : Removal) (once : IsDistinct nat_eq
       (left_seen (r.left - 1) (sym fewer) (drop (r.skipped + 1) o.nodes) (ap (λ m. drop m o.nodes) one ∙ next_node.behind) i))
 
   pub skipped_holds : work.round ≤ MAX_ROUNDS → (next : Option ℕ) → next ≡ next_id id o.nodes
-      → HoldsIn o (stage_of_removal work
+      → HoldsIn o (state_of_removal work
       (record { candidate = r.candidate; tally = r.tally; skipped = r.skipped + 1; left = r.left - 1; next = next }))
   skipped_holds round next next_is =
       let one : r.skipped + 1 ≡ suc r.skipped = omega arith in
@@ -163,12 +163,12 @@ module _ (o : OrdersState) (work : Work) (r : Removal) (once : IsDistinct nat_eq
     within_new : r.skipped + (r.left - 1) ≤ length new.nodes
     within_new = omega (arith, s.within, some, ap length removed, length-remove id o.nodes (ap is_some next_node.found))
 
-    pub removed_place : (next : Option ℕ) → place_of new.nodes (stage_of_removal work
+    pub removed_phase : (next : Option ℕ) → phase_of new.nodes (state_of_removal work
         (record { candidate = r.candidate; tally = r.tally; skipped = r.skipped; left = r.left - 1; next = next }))
         ≡ removing_or_enter work r.candidate r.tally (first_tickets r.skipped o.nodes)
         (drop 1 (first_seen r.left (drop r.skipped o.nodes)))
-    removed_place next =
-        removal_place work r.candidate r.tally r.skipped (r.left - 1) next new.nodes within_new
+    removed_phase next =
+        removal_phase work r.candidate r.tally r.skipped (r.left - 1) next new.nodes within_new
         ∙ (λ i. removing_or_enter work r.candidate r.tally
         ((ap (first_tickets r.skipped) nodes_are
         ∙ ap (map (λ (p : ℕ × Node). p.1.ticket)) (take_front o.nodes r.skipped within_old next_node.rest)) i)
@@ -176,7 +176,7 @@ module _ (o : OrdersState) (work : Work) (r : Removal) (once : IsDistinct nat_eq
 
     pub removed_holds : work.round ≤ MAX_ROUNDS → (next : Option ℕ) → next ≡ next_id id o.nodes → o.room ≤ new.room
         → ((n : Node) → lookup (nat_eq id) o.nodes ≡ Some n → orders_of new ≡ without_node n.ticket (orders_of o))
-        → HoldsIn new (stage_of_removal work
+        → HoldsIn new (state_of_removal work
         (record { candidate = r.candidate; tally = r.tally; skipped = r.skipped; left = r.left - 1; next = next }))
     removed_holds round next next_is room step =
         removal_holds work new r.candidate r.tally r.skipped (r.left - 1) next round (record {

@@ -1,4 +1,4 @@
--- How a maintenance keeps its place: in numbers and in the marks of the nodes. No public clause cites this module.
+-- How a maintenance keeps its phase: in numbers and in the marks of the nodes. No public clause cites this module.
 use Rattle.std.specs.Prelude.{◌≡◌, ◌<◌, ◌≤◌, ◌+◌, ℕ, ◌==◌, Bool, true, false, if◌then◌else◌}
 use Rattle.std.specs.Prelude.{◌^◌, List, [], Option, None, map, take, drop, length, nat_eq}
 use Rattle.std.specs.List.{IsDistinct}
@@ -10,8 +10,8 @@ use Rattle.moka_sync_model.specs.declared.entry.EntryChange.{EntryChange}
 use Rattle.moka_sync_model.specs.declared.ticket.Ticket.{Ticket}
 use Rattle.moka_sync_model.specs.EntryChange.{change_of}
 use Rattle.moka_sync_model.specs.Orders.{charge_of}
-use Rattle.moka_sync_model.specs.Place as place
-use Rattle.moka_sync_model.specs.Place.{Place, Seen}
+use Rattle.moka_sync_model.specs.Phase as phase
+use Rattle.moka_sync_model.specs.Phase.{Phase, Seen}
 use Rattle.moka_sync_model.specs.CoreState.{Maintenance}
 use Rattle.moka_sync_model.specs.declared.published.Published.{Published}
 use Rattle.moka_sync_model.specs.Entry.{Entry}
@@ -22,16 +22,16 @@ use Rattle.moka_queues.specs.declared.orders.Node.{Node}
 use Rattle.moka_queues.specs.OrdersState.{OrdersState, orders_of}
 use Rattle.moka_sync_model.specs.declared.progress.Work.{Work}
 use Rattle.moka_sync_model.specs.declared.progress.Candidate.{Candidate}
-use Rattle.moka_maintenance.specs.declared.maintenance.place.Scan.{Scan}
-use Rattle.moka_maintenance.specs.declared.maintenance.place.Removal.{Removal}
-use Rattle.moka_maintenance.specs.declared.maintenance.place.Stage.{Stage}
-use Rattle.moka_maintenance.specs.declared.maintenance.place.Stage.TheVariants as stage
+use Rattle.moka_maintenance.specs.declared.maintenance.phase.Scan.{Scan}
+use Rattle.moka_maintenance.specs.declared.maintenance.phase.Removal.{Removal}
+use Rattle.moka_maintenance.specs.declared.maintenance.phase.PhaseState.{PhaseState}
+use Rattle.moka_maintenance.specs.declared.maintenance.phase.PhaseState.TheVariants as state
 
--- the orders, the sketch, the stage, the moment of the last begin, and what was published last
+-- the orders, the sketch, the state, the moment of the last begin, and what was published last
 pub record Held : Type 0 where
   pub orders : OrdersState
   pub sketch : Option Table
-  pub stage : Stage
+  pub phase : PhaseState
   pub moment : ℕ
   pub published : Published
 
@@ -47,35 +47,35 @@ first_seen count nodes = map seen_node (take count nodes)
 abbrev pub first_tickets : ℕ → List (ℕ × Node) → List Ticket
 first_tickets count nodes = map (λ p. p.1.ticket) (take count nodes)
 
--- the place that a stage is, where these are the nodes
-abbrev pub place_of : List (ℕ × Node) → Stage → Place
-place_of nodes stage.Idle = place.Idle
-place_of nodes (stage.ReadCount round) = place.ReadCount round
-place_of nodes (stage.Reads work) = place.Reads work
-place_of nodes (stage.ReadApply work read) = place.ReadApply work read
-place_of nodes (stage.WriteCount round) = place.WriteCount round
-place_of nodes (stage.Writes work) = place.Writes work
-place_of nodes (stage.Apply work write) = place.Apply work write
-place_of nodes (stage.Scanning work scan) =
-    place.Scan work scan.candidate scan.tally (first_seen scan.seen nodes)
-place_of nodes (stage.Removing work removal) =
-    place.Removing work removal.candidate removal.tally (first_tickets removal.skipped nodes)
+-- the phase that a state is, where these are the nodes
+abbrev pub phase_of : List (ℕ × Node) → PhaseState → Phase
+phase_of nodes state.Idle = phase.Idle
+phase_of nodes (state.ReadCount round) = phase.ReadCount round
+phase_of nodes (state.Reads work) = phase.Reads work
+phase_of nodes (state.ReadApply work read) = phase.ReadApply work read
+phase_of nodes (state.WriteCount round) = phase.WriteCount round
+phase_of nodes (state.Writes work) = phase.Writes work
+phase_of nodes (state.Apply work write) = phase.Apply work write
+phase_of nodes (state.Scanning work scan) =
+    phase.Scan work scan.candidate scan.tally (first_seen scan.seen nodes)
+phase_of nodes (state.Removing work removal) =
+    phase.Removing work removal.candidate removal.tally (first_tickets removal.skipped nodes)
     (first_seen removal.left (drop removal.skipped nodes))
-place_of nodes (stage.Enter work candidate skipped) = place.Enter work candidate (first_tickets skipped nodes)
-place_of nodes (stage.Sketch round) = place.Sketch round
-place_of nodes (stage.MoreReads round) = place.MoreReads round
-place_of nodes (stage.MoreWrites round) = place.MoreWrites round
-place_of nodes (stage.ExpireWrite turns) = place.ExpireWrite turns
-place_of nodes (stage.ExpireAccess turns) = place.ExpireAccess turns
-place_of nodes (stage.Evict turns) = place.Evict turns
-place_of nodes (stage.Publish turns) = place.Publish turns
+phase_of nodes (state.Enter work candidate skipped) = phase.Enter work candidate (first_tickets skipped nodes)
+phase_of nodes (state.Sketch round) = phase.Sketch round
+phase_of nodes (state.MoreReads round) = phase.MoreReads round
+phase_of nodes (state.MoreWrites round) = phase.MoreWrites round
+phase_of nodes (state.ExpireWrite turns) = phase.ExpireWrite turns
+phase_of nodes (state.ExpireAccess turns) = phase.ExpireAccess turns
+phase_of nodes (state.Evict turns) = phase.Evict turns
+phase_of nodes (state.Publish turns) = phase.Publish turns
 
 -- what the steps see of it all
 abbrev pub maintenance_of : Held → Maintenance
 maintenance_of held = record {
   orders = orders_of held.orders;
   sketch = held.sketch;
-  place = place_of held.orders.nodes held.stage;
+  phase = phase_of held.orders.nodes held.phase;
   moment = held.moment;
   published = held.published;
 }
@@ -85,19 +85,19 @@ abbrev pub outcome_of : {K V : Type 0} → EntryChange → Held → Outcome K V
 outcome_of change held = record { change = change_of change; maintenance = maintenance_of held }
 
 -- a scan that has looked at nothing
-abbrev pub scan_begun : Work → Ticket → ℕ → Option Table → Place
+abbrev pub scan_begun : Work → Ticket → ℕ → Option Table → Phase
 scan_begun work t weight sketch =
-    place.Scan work (record { ticket = t; weight = weight; estimate = estimate sketch t.hash }) no_tally []
+    phase.Scan work (record { ticket = t; weight = weight; estimate = estimate sketch t.hash }) no_tally []
 
 -- the next node, where a scan goes on
 abbrev pub next_id_if : Bool → Option ℕ → Option ℕ
 next_id_if true next = None
 next_id_if false next = next
 
--- the stage where victims are left, or none
-abbrev pub stage_of_removal : Work → Removal → Stage
-stage_of_removal work removal =
-    if removal.left == 0 then stage.Enter work removal.candidate removal.skipped else stage.Removing work removal
+-- the state where victims are left, or none
+abbrev pub state_of_removal : Work → Removal → PhaseState
+state_of_removal work removal =
+    if removal.left == 0 then state.Enter work removal.candidate removal.skipped else state.Removing work removal
 
 -- there is room for a candidate, and no node of it
 pub record IsAwaited (orders : OrdersState) (candidate : Candidate) : Type 0 where
@@ -128,26 +128,26 @@ pub record IsEntering (orders : OrdersState) (candidate : Candidate) (skipped : 
   pub awaited : IsAwaited orders candidate
   pub within : skipped ≤ length orders.nodes
 
--- what holds of the orders and of the numbers at a stage
-abbrev pub HoldsIn : OrdersState → Stage → Type 0
-HoldsIn orders (stage.ReadCount round) = round ≤ MAX_ROUNDS
-HoldsIn orders (stage.Reads work) = work.round ≤ MAX_ROUNDS
-HoldsIn orders (stage.ReadApply work read) = work.round ≤ MAX_ROUNDS
-HoldsIn orders (stage.WriteCount round) = round ≤ MAX_ROUNDS
-HoldsIn orders (stage.Writes work) = work.round ≤ MAX_ROUNDS
-HoldsIn orders (stage.Apply work write) = work.round ≤ MAX_ROUNDS
-HoldsIn orders (stage.Scanning work scan) = (work.round ≤ MAX_ROUNDS) × IsScanning orders scan
-HoldsIn orders (stage.Removing work removal) = (work.round ≤ MAX_ROUNDS) × (0 < removal.left) × IsRemoving orders removal
-HoldsIn orders (stage.Enter work candidate skipped) = (work.round ≤ MAX_ROUNDS) × IsEntering orders candidate skipped
-HoldsIn orders (stage.Sketch round) = round ≤ MAX_ROUNDS
-HoldsIn orders (stage.MoreReads round) = round ≤ MAX_ROUNDS
-HoldsIn orders (stage.MoreWrites round) = round < MAX_ROUNDS
+-- what holds of the orders and of the numbers at a state
+abbrev pub HoldsIn : OrdersState → PhaseState → Type 0
+HoldsIn orders (state.ReadCount round) = round ≤ MAX_ROUNDS
+HoldsIn orders (state.Reads work) = work.round ≤ MAX_ROUNDS
+HoldsIn orders (state.ReadApply work read) = work.round ≤ MAX_ROUNDS
+HoldsIn orders (state.WriteCount round) = round ≤ MAX_ROUNDS
+HoldsIn orders (state.Writes work) = work.round ≤ MAX_ROUNDS
+HoldsIn orders (state.Apply work write) = work.round ≤ MAX_ROUNDS
+HoldsIn orders (state.Scanning work scan) = (work.round ≤ MAX_ROUNDS) × IsScanning orders scan
+HoldsIn orders (state.Removing work removal) = (work.round ≤ MAX_ROUNDS) × (0 < removal.left) × IsRemoving orders removal
+HoldsIn orders (state.Enter work candidate skipped) = (work.round ≤ MAX_ROUNDS) × IsEntering orders candidate skipped
+HoldsIn orders (state.Sketch round) = round ≤ MAX_ROUNDS
+HoldsIn orders (state.MoreReads round) = round ≤ MAX_ROUNDS
+HoldsIn orders (state.MoreWrites round) = round < MAX_ROUNDS
 HoldsIn orders other = Unit {0}
 
--- the stage is this place whatever the nodes are
-pub record IsPlain (stage : Stage) (place : Place) : Type 0 where
-  pub is : (nodes : List (ℕ × Node)) → place_of nodes stage ≡ place
-  pub holds : (orders : OrdersState) → HoldsIn orders stage
+-- the state is this phase whatever the nodes are
+pub record IsPlain (state : PhaseState) (phase : Phase) : Type 0 where
+  pub is : (nodes : List (ℕ × Node)) → phase_of nodes state ≡ phase
+  pub holds : (orders : OrdersState) → HoldsIn orders state
 
 module _ {K V : Type 0} where
   -- what a scan plans to do

@@ -6,7 +6,7 @@ ghost use Rattle.moka_sync_model.specs.CoreState.{new_maintenance};
 ghost use Rattle.moka_sync_model.specs.Orders.{charged_weight};
 ghost use Rattle.moka_sync_model.specs.Parts.{NeedsNothing, NeedsReads, NeedsShard, NeedsWrites, TurnsAlone};
 ghost use Rattle.moka_sync_model.specs.Parts.{TurnsAtEntry, TurnsWithReads, TurnsWithWrites, need_of};
-ghost use Rattle.moka_sync_model.specs.Place.{Idle, ReadCount, name_of};
+ghost use Rattle.moka_sync_model.specs.Phase.{Idle, ReadCount, name_of};
 ghost use Rattle.moka_sync_model.specs.Turn.Turn.{turn_at};
 ghost use Rattle.moka_sync_model.specs.Entry.{Entry as EntryState};
 ghost use Rattle.moka_sync_model.specs.declared.operation.Write.TheVariants.{Remove, Upsert};
@@ -18,14 +18,14 @@ mod admission;
 mod eviction;
 mod expiry;
 mod fronts;
-mod place;
+mod phase;
 mod publish;
 mod reads;
 mod sketch;
 mod state;
 mod writes;
 
-use crate::maintenance::place::Stage;
+use crate::maintenance::phase::PhaseState;
 use crate::maintenance::state::State;
 use moka_common::frequency_sketch::FrequencySketch;
 use moka_common::time::Instant;
@@ -33,7 +33,7 @@ use moka_queues::logs::{LoggedRead, ReadLog, WriteLog};
 use moka_queues::orders::Orders;
 use moka_sync_model::entry::{Entry, EntryChange, node_hint_of};
 use moka_sync_model::operation::{Read, Write};
-use moka_sync_model::place::Place;
+use moka_sync_model::phase::Phase;
 use moka_sync_model::published::Published;
 use moka_sync_model::settings::Settings;
 use moka_sync_model::ticket::Ticket;
@@ -64,7 +64,7 @@ impl<A: Allocator + Clone + Drop> Model for Maintenance<A> {
 
     ghost view = { λ m. maintenance_of m.state };
 
-    ghost invariant = { λ m. HoldsIn m.state.orders m.state.stage };
+    ghost invariant = { λ m. HoldsIn m.state.orders m.state.phase };
 }
 
 impl<A: Allocator + Clone + Drop> Maintenance<A> {
@@ -76,7 +76,7 @@ impl<A: Allocator + Clone + Drop> Maintenance<A> {
             state: State {
                 orders: Orders::new(alloc.clone()?)?,
                 sketch: FrequencySketch::default(alloc),
-                stage: Stage::Idle,
+                phase: PhaseState::Idle,
                 moment: Instant::from_nanos(0),
                 published: Published::opening(),
             },
@@ -111,11 +111,11 @@ impl<A: Allocator + Clone + Drop> Maintenance<A> {
         self.state.is_new()
     }
 
-    /// Returns its place.
-    pub fn place(&self) -> Place
-        ensures { result ≡ name_of self.now.place }
+    /// Returns its phase.
+    pub fn phase(&self) -> Phase
+        ensures { result ≡ name_of self.now.phase }
     {
-        self.state.stage.name()
+        self.state.phase.name()
     }
 
     /// Returns what the next turn needs.
@@ -125,46 +125,54 @@ impl<A: Allocator + Clone + Drop> Maintenance<A> {
         valid_after: Instant,
     ) -> Need
         ensures { need_named result
-            ≡ need_of (turn_at {K = K} {V = V} settings.now valid_after false self.now.place self.now) }
+            ≡ need_of (turn_at {K = K} {V = V} settings.now valid_after false self.now.phase self.now) }
     {
-        match self.state.stage {
-            Stage::Idle | Stage::Sketch { .. } | Stage::Publish { .. } => Need::Nothing,
-            Stage::ReadCount { .. } | Stage::Reads { .. } | Stage::MoreReads { .. } => Need::Reads,
-            Stage::WriteCount { .. } | Stage::Writes { .. } | Stage::MoreWrites { .. } =>
-                Need::Writes,
-            Stage::ReadApply { read, .. } => need_of_read(read),
-            Stage::Apply { write, .. } => need_of_write(write),
-            Stage::Scanning { scan, .. } => self.state.need_of_scan::<K, V>(scan),
-            Stage::Removing { removal, .. } => self.state.need_of_removal::<K, V>(removal),
-            Stage::Enter { candidate, .. } => Need::Entry(candidate.ticket),
-            Stage::ExpireWrite { turns } => need_of_front(self.state.write_front(settings, turns)),
-            Stage::ExpireAccess { turns } => need_of_front(
+        match self.state.phase {
+            PhaseState::Idle | PhaseState::Sketch { .. } | PhaseState::Publish { .. } =>
+                Need::Nothing,
+            PhaseState::ReadCount { .. }
+            | PhaseState::Reads { .. }
+            | PhaseState::MoreReads { .. } => Need::Reads,
+            PhaseState::WriteCount { .. }
+            | PhaseState::Writes { .. }
+            | PhaseState::MoreWrites { .. } => Need::Writes,
+            PhaseState::ReadApply { read, .. } => need_of_read(read),
+            PhaseState::Apply { write, .. } => need_of_write(write),
+            PhaseState::Scanning { scan, .. } => self.state.need_of_scan::<K, V>(scan),
+            PhaseState::Removing { removal, .. } => self.state.need_of_removal::<K, V>(removal),
+            PhaseState::Enter { candidate, .. } => Need::Entry(candidate.ticket),
+            PhaseState::ExpireWrite { turns } => need_of_front(
+                self.state.write_front(settings, turns),
+            ),
+            PhaseState::ExpireAccess { turns } => need_of_front(
                 self.state.access_front(settings, valid_after, turns),
             ),
-            Stage::Evict { turns } => need_of_front(self.state.eviction_front(settings, turns)),
+            PhaseState::Evict { turns } => need_of_front(
+                self.state.eviction_front(settings, turns),
+            ),
         }
     }
 
-    /// A maintenance begins, where none is under way: `place` tells.
+    /// A maintenance begins, where none is under way: `phase` tells.
     pub fn begin(&mut self, now: Instant)
-        requires { self.old.place ≡ Idle }
-        ensures { self.new ≡ record self.old { place = ReadCount 1; moment = now } }
+        requires { self.old.phase ≡ Idle }
+        ensures { self.new ≡ record self.old { phase = ReadCount 1; moment = now } }
     {
         self.state.moment = now;
-        self.state.stage = Stage::ReadCount { round: 1 };
+        self.state.phase = PhaseState::ReadCount { round: 1 };
     }
 
     /// A turn that needs the read log.
     pub fn turn_with_reads<K: Drop, V: Drop, S: Drop>(&mut self, log: &mut ReadLog<A>)
         requires { (settings : SettingsState S) × (valid_after : ℕ)
-            × (need_of (turn_at {K = K} {V = V} settings valid_after false self.old.place self.old) ≡ NeedsReads) }
+            × (need_of (turn_at {K = K} {V = V} settings valid_after false self.old.phase self.old) ≡ NeedsReads) }
         ensures { (settings : SettingsState S) → (valid_after : ℕ)
             → TurnsWithReads K V settings valid_after false self.old self.new log.old log.new }
     {
-        match self.state.stage {
-            Stage::ReadCount { round } => self.state.count_reads(round, log.len()),
-            Stage::Reads { work } => self.state.take_read(work, log),
-            Stage::MoreReads { round } => self.state.look_for_reads(round, log.len()),
+        match self.state.phase {
+            PhaseState::ReadCount { round } => self.state.count_reads(round, log.len()),
+            PhaseState::Reads { work } => self.state.take_read(work, log),
+            PhaseState::MoreReads { round } => self.state.look_for_reads(round, log.len()),
             _ => {}
         }
     }
@@ -173,15 +181,15 @@ impl<A: Allocator + Clone + Drop> Maintenance<A> {
     pub fn takes_read(&self) -> bool
         ensures { IsTrue result ↔ TakesRead self.now }
     {
-        matches!(self.state.stage, Stage::Reads { .. })
+        matches!(self.state.phase, PhaseState::Reads { .. })
     }
 
     /// Returns the number of reads that its round is still to take, if the next turn is to take one.
     pub fn reads_left(&self) -> usize
-        ensures { result ≡ reads_left self.now.place }
+        ensures { result ≡ reads_left self.now.phase }
     {
-        match self.state.stage {
-            Stage::Reads { work } => work.left,
+        match self.state.phase {
+            PhaseState::Reads { work } => work.left,
             _ => 0,
         }
     }
@@ -189,10 +197,10 @@ impl<A: Allocator + Clone + Drop> Maintenance<A> {
     /// The turns that take the next reads and apply them, one after another. The caller pops the log and touches the entries.
     pub fn apply_reads(&mut self, reads: &[LoggedRead])
         requires some { 0 < length reads.now }
-        requires left { length reads.now ≤ reads_left self.old.place }
+        requires left { length reads.now ≤ reads_left self.old.phase }
         ensures { AppliesReads (reads_of reads.now) self.old self.new }
     {
-        if let Stage::Reads { work } = self.state.stage {
+        if let PhaseState::Reads { work } = self.state.phase {
             self.state.apply_reads(work, reads);
         }
     }
@@ -201,16 +209,16 @@ impl<A: Allocator + Clone + Drop> Maintenance<A> {
     pub fn takes_write(&self) -> bool
         ensures { IsTrue result ↔ TakesWrite self.now }
     {
-        matches!(self.state.stage, Stage::Writes { .. })
+        matches!(self.state.phase, PhaseState::Writes { .. })
     }
 
     /// Returns the number of writes that its round is still to take, if the next turn is to take one.
     pub fn writes_left(&self) -> usize
         requires { TakesWrite self.now }
-        ensures { result ≡ writes_left self.now.place }
+        ensures { result ≡ writes_left self.now.phase }
     {
-        match self.state.stage {
-            Stage::Writes { work } => work.left,
+        match self.state.phase {
+            PhaseState::Writes { work } => work.left,
             _ => 0,
         }
     }
@@ -220,7 +228,7 @@ impl<A: Allocator + Clone + Drop> Maintenance<A> {
     pub fn take_write(&self, log: &mut WriteLog<A>) -> Option<Write>
         ensures { IsTaken (TakesWrite self.now) result log.old log.new }
     {
-        let Stage::Writes { .. } = self.state.stage else {
+        let PhaseState::Writes { .. } = self.state.phase else {
             return None;
         };
         log.pop()
@@ -239,8 +247,8 @@ impl<A: Allocator + Clone + Drop> Maintenance<A> {
             → TurnsAtEntry K V settings.now valid_after refused (having_taken_write (Upsert ticket) self.old) self.new
             (option_copied found.entry) result) }
     {
-        match self.state.stage {
-            Stage::Writes { work } => {
+        match self.state.phase {
+            PhaseState::Writes { work } => {
                 self.state
                     .apply_upsert(settings, work.less_one(), ticket, found)
             }
@@ -254,7 +262,7 @@ impl<A: Allocator + Clone + Drop> Maintenance<A> {
         ensures { (settings : SettingsState S) → (valid_after : ℕ)
             → TurnsAlone K V settings valid_after false (having_taken_write (Remove ticket) self.old) self.new }
     {
-        if let Stage::Writes { work } = self.state.stage {
+        if let PhaseState::Writes { work } = self.state.phase {
             self.state.apply_removal(work.less_one(), ticket);
         }
     }
@@ -262,14 +270,14 @@ impl<A: Allocator + Clone + Drop> Maintenance<A> {
     /// A turn that needs the write log.
     pub fn turn_with_writes<K: Drop, V: Drop, S: Drop>(&mut self, log: &mut WriteLog<A>)
         requires { (settings : SettingsState S) × (valid_after : ℕ)
-            × (need_of (turn_at {K = K} {V = V} settings valid_after false self.old.place self.old) ≡ NeedsWrites) }
+            × (need_of (turn_at {K = K} {V = V} settings valid_after false self.old.phase self.old) ≡ NeedsWrites) }
         ensures { (settings : SettingsState S) → (valid_after : ℕ)
             → TurnsWithWrites K V settings valid_after false self.old self.new log.old log.new }
     {
-        match self.state.stage {
-            Stage::WriteCount { round } => self.state.count_writes(round, log.len()),
-            Stage::Writes { work } => self.state.take_write(work, log),
-            Stage::MoreWrites { round } => self.state.look_for_writes(round, log.len()),
+        match self.state.phase {
+            PhaseState::WriteCount { round } => self.state.count_writes(round, log.len()),
+            PhaseState::Writes { work } => self.state.take_write(work, log),
+            PhaseState::MoreWrites { round } => self.state.look_for_writes(round, log.len()),
             _ => {}
         }
     }
@@ -277,29 +285,31 @@ impl<A: Allocator + Clone + Drop> Maintenance<A> {
     /// A turn that needs nothing besides.
     pub fn turn_alone<K: Drop, V: Drop, S: Drop>(&mut self, settings: &Settings<S, A>)
         requires { (valid_after : ℕ)
-            × (need_of (turn_at {K = K} {V = V} settings.now valid_after false self.old.place self.old) ≡ NeedsNothing) }
+            × (need_of (turn_at {K = K} {V = V} settings.now valid_after false self.old.phase self.old) ≡ NeedsNothing) }
         ensures { (valid_after : ℕ)
-            → need_of (turn_at {K = K} {V = V} settings.now valid_after false self.old.place self.old) ≡ NeedsNothing
+            → need_of (turn_at {K = K} {V = V} settings.now valid_after false self.old.phase self.old) ≡ NeedsNothing
             → (refused : Bool) × TurnsAlone K V settings.now valid_after refused self.old self.new }
     {
-        match self.state.stage {
-            Stage::ReadApply { work, read } => {
+        match self.state.phase {
+            PhaseState::ReadApply { work, read } => {
                 if let Read::Miss { hash } = read {
                     self.state.apply_miss(work, hash);
                 }
             }
-            Stage::Apply { work, write } => {
+            PhaseState::Apply { work, write } => {
                 if let Write::Remove { ticket } = write {
                     self.state.apply_removal(work, ticket);
                 }
             }
-            Stage::Scanning { work, scan } => self.state.admit(work, scan),
-            Stage::Removing { work, removal } => self.state.skip_absent::<K, V>(work, removal),
-            Stage::Sketch { round } => self.state.ask_for_sketch(settings, round),
-            Stage::ExpireWrite { .. } => self.state.stage = Stage::ExpireAccess { turns: 0 },
-            Stage::ExpireAccess { .. } => self.state.stage = Stage::Evict { turns: 0 },
-            Stage::Evict { turns } => self.state.stage = Stage::Publish { turns },
-            Stage::Publish { .. } => self.state.publish(),
+            PhaseState::Scanning { work, scan } => self.state.admit(work, scan),
+            PhaseState::Removing { work, removal } => self.state.skip_absent::<K, V>(work, removal),
+            PhaseState::Sketch { round } => self.state.ask_for_sketch(settings, round),
+            PhaseState::ExpireWrite { .. } => self.state.phase = PhaseState::ExpireAccess {
+                turns: 0,
+            },
+            PhaseState::ExpireAccess { .. } => self.state.phase = PhaseState::Evict { turns: 0 },
+            PhaseState::Evict { turns } => self.state.phase = PhaseState::Publish { turns },
+            PhaseState::Publish { .. } => self.state.publish(),
             _ => {}
         }
     }
@@ -307,11 +317,11 @@ impl<A: Allocator + Clone + Drop> Maintenance<A> {
     /// The ticket whose entry the next turn needs, where it is a turn of a scan and needs one: `scan`.
     #[inline(always)]
     pub fn need_to_scan<K: Drop, V: Drop, S: Drop>(&self) -> Option<Ticket>
-        ensures scans { IfSome result (λ t. IsScan self.now.place) }
+        ensures scans { IfSome result (λ t. IsScan self.now.phase) }
         ensures need { IfSome result (λ t. (settings : SettingsState S) → (valid_after : ℕ)
-            → need_of (turn_at {K = K} {V = V} settings valid_after false self.now.place self.now) ≡ NeedsShard t) }
+            → need_of (turn_at {K = K} {V = V} settings valid_after false self.now.phase self.now) ≡ NeedsShard t) }
     {
-        let Stage::Scanning { scan, .. } = self.state.stage else {
+        let PhaseState::Scanning { scan, .. } = self.state.phase else {
             return None;
         };
         match self.state.need_of_scan::<K, V>(scan) {
@@ -324,14 +334,14 @@ impl<A: Allocator + Clone + Drop> Maintenance<A> {
     /// to do.
     #[inline(always)]
     pub fn scan<K: Drop, V: Drop, S: Drop>(&mut self, weight: Option<u32>) -> EntryChange
-        requires scans { IsScan self.old.place }
+        requires scans { IsScan self.old.phase }
         requires need { (settings : SettingsState S) × (valid_after : ℕ) × (t : Ticket)
-            × (need_of (turn_at {K = K} {V = V} settings valid_after false self.old.place self.old) ≡ NeedsShard t) }
+            × (need_of (turn_at {K = K} {V = V} settings valid_after false self.old.phase self.old) ≡ NeedsShard t) }
         ensures { (settings : SettingsState S) → (valid_after : ℕ) → (found : Option (EntryState K V))
             → option_map (λ e. e.weight) found ≡ weight → TurnsAtEntry K V settings valid_after false self.old self.new found result }
     {
-        match self.state.stage {
-            Stage::Scanning { work, scan } => self.state.scan::<K, V>(work, scan, weight),
+        match self.state.phase {
+            PhaseState::Scanning { work, scan } => self.state.scan::<K, V>(work, scan, weight),
             _ => EntryChange::Stays,
         }
     }
@@ -344,36 +354,38 @@ impl<A: Allocator + Clone + Drop> Maintenance<A> {
         ticket: Ticket,
         found: Option<&Entry<K, V, A>>,
     ) -> EntryChange
-        requires { need_of (turn_at {K = K} {V = V} settings.now valid_after false self.old.place self.old) ≡ NeedsShard ticket }
+        requires { need_of (turn_at {K = K} {V = V} settings.now valid_after false self.old.phase self.old) ≡ NeedsShard ticket }
         ensures { (refused : Bool)
             × TurnsAtEntry K V settings.now valid_after refused self.old self.new (option_copied found.entry) result }
     {
-        match self.state.stage {
-            Stage::ReadApply { work, read } => match read {
+        match self.state.phase {
+            PhaseState::ReadApply { work, read } => match read {
                 Read::Hit { ticket, moment } => {
                     self.state.apply_hit(work, ticket, node_hint_of(found));
                     EntryChange::Touched(moment)
                 }
                 Read::Miss { .. } => EntryChange::Stays,
             },
-            Stage::Apply { work, .. } => self.state.apply_upsert(settings, work, ticket, found),
-            Stage::Scanning { work, scan } => {
+            PhaseState::Apply { work, .. } => self
+                .state
+                .apply_upsert(settings, work, ticket, found),
+            PhaseState::Scanning { work, scan } => {
                 self.state.scan::<K, V>(work, scan, weight_of(found))
             }
-            Stage::Removing { work, removal } => self.state.remove(work, removal, found),
-            Stage::Enter {
+            PhaseState::Removing { work, removal } => self.state.remove(work, removal, found),
+            PhaseState::Enter {
                 work,
                 candidate,
                 skipped,
             } => self.state.enter(settings, work, candidate, skipped, found),
-            Stage::ExpireWrite { turns } => self
+            PhaseState::ExpireWrite { turns } => self
                 .state
                 .expire_write(settings, valid_after, turns, ticket, found),
-            Stage::ExpireAccess { turns } => {
+            PhaseState::ExpireAccess { turns } => {
                 self.state
                     .expire_access(settings, valid_after, turns, found)
             }
-            Stage::Evict { turns } => self.state.evict(turns, found),
+            PhaseState::Evict { turns } => self.state.evict(turns, found),
             _ => EntryChange::Stays,
         }
     }

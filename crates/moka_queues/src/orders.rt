@@ -26,7 +26,7 @@ use std::marker::Model;
 pub struct Node {
     pub ticket: Ticket,
     pub charge: u32,
-    /// A scan's mark: the entry stood when it was looked at.
+    /// Set if the last scan found the entry, live or not.
     pub is_present: bool,
     write: Link,
 }
@@ -122,14 +122,14 @@ impl<A: Allocator + Clone + Drop> Orders<A> {
         self.access.find(ticket.hash, |node| node.ticket == ticket)
     }
 
-    /// Returns the node of a ticket. It looks at a place first: that where `enter` has put it, as far as the caller knows. It spares the look-up in the index,
-    /// as it is spared where the ticket is above all of its shard that were charged.
-    pub fn find_at(&self, ticket: Ticket, place: usize) -> Option<NodeId>
+    /// Returns the node of a ticket, looking first at `hint`, which `enter` has returned. A right hint spares the look-up in the index, and so does a
+    /// ticket above all of its shard that were charged.
+    pub fn find_at(&self, ticket: Ticket, hint: usize) -> Option<NodeId>
         ensures found { IfSome result (λ id. IsNodeOf self.now ticket id) }
         ensures absent { IsNone result → charge_of ticket (orders_of self.now) ≡ None }
         ensures unwritten { IsNone result → is_written ticket (orders_of self.now) ≡ false }
     {
-        let id = NodeId::from_number(place);
+        let id = NodeId::from_number(hint);
         if self.access.contains(id) && self.access.get(id).ticket == ticket {
             return Some(id);
         }
@@ -224,8 +224,8 @@ impl<A: Allocator + Clone + Drop> Orders<A> {
         self.access.update(id, |node| node.charge = weight);
     }
 
-    /// Sets the mark of the node.
-    pub fn mark(&mut self, id: NodeId, is_present: bool)
+    /// Notes if a scan found the entry of the node.
+    pub fn set_present(&mut self, id: NodeId, is_present: bool)
         requires { IsIn self.old.nodes id }
         ensures step { AtNode self.old id (λ n.
             self.new ≡ record self.old { nodes = set_value (nat_eq id) self.old.nodes (record n { is_present = is_present }) }) }
@@ -235,7 +235,7 @@ impl<A: Allocator + Clone + Drop> Orders<A> {
     }
 
     /// Adds a node at the back, also in the order of writing if there is a time to live. There must be room for it, and no node of its ticket: `reserve`
-    /// and `find` tell. Returns its place, for `find_at`.
+    /// and `find` tell. Returns a hint for `find_at`.
     pub fn enter(&mut self, ticket: Ticket, charge: u32, limits: &Limits) -> usize
         requires room { 0 < self.old.room }
         requires absent { charge_of ticket (orders_of self.old) ≡ None }

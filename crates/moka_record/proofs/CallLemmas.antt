@@ -19,7 +19,7 @@ use Rattle.moka_sync_model.specs.CoreCall.{Decides, has_pending, scheduled, IsCa
 use Rattle.moka_sync_model.specs.Event.{IsPush, IsForgetting, IsBeginning, IsTurn, IsStep}
 use Rattle.moka_sync_model.specs.MapStep.{OnlyReplies, IsInsert, IsUpdate, IsAddition, fresh_entry}
 use Rattle.moka_sync_model.specs.MapStep.{IsGet, IsMiss, IsHit, IsInvalidation, IsTaking, IsCopy, pairs_of}
-use Rattle.moka_sync_model.specs.Place.{is_idle}
+use Rattle.moka_sync_model.specs.Phase.{is_idle}
 use Rattle.moka_sync_model.specs.Reply.{Reply}
 use Rattle.moka_sync_model.specs.Run.{Happens}
 use Rattle.moka_sync_model.specs.Turn.Plan.{Plan, Alone, AtReads, AtWrites, AtEntry, after_plan}
@@ -113,7 +113,7 @@ module _ {K V S : Type 0} (keys : Keys K S) where
     turn refused true h = only reply.NotPossible h
     turn refused false h =
         ap settings_of h.1
-        ∙ plan (turn_at old.settings old.valid_after refused old.maintenance.place old.maintenance)
+        ∙ plan (turn_at old.settings old.valid_after refused old.maintenance.phase old.maintenance)
 
     -- in each step
     step : (event : Event K V) (weight : ℕ) (refused : Bool) → IsStep keys old event weight refused answer new → Stays old new
@@ -138,8 +138,8 @@ module _ {K V S : Type 0} (keys : Keys K S) where
     step (Copy shard now) weight refused h =
         by_test _ (IsCopy keys old (pairs_of keys old shard now) refused answer new) (OnlyReplies keys old reply.NotPossible answer new)
         (copy (pairs_of keys old shard now) refused) (only reply.NotPossible) h
-    step (Begin now) weight refused h = begin now (is_idle old.maintenance.place) h
-    step Turn weight refused h = turn refused (is_idle old.maintenance.place) h
+    step (Begin now) weight refused h = begin now (is_idle old.maintenance.phase) h
+    step Turn weight refused h = turn refused (is_idle old.maintenance.phase) h
     step Counts weight refused h = ap settings_of h.1
 
   module _ (weighs : K → V → ℕ → Type 0) where
@@ -153,7 +153,7 @@ module _ {K V S : Type 0} (keys : Keys K S) where
 
     turns : (old new : CoreState K V S) → whole.Turns (Happens keys weighs) Decides has_pending CALLER old new → Stays old new
     turns old new (LastTurn a b h) = happens a b Turn _ h
-    turns old new (NextTurn a b c place busy h more) = turns b c more ∙ happens a b Turn _ h
+    turns old new (NextTurn a b c phase busy h more) = turns b c more ∙ happens a b Turn _ h
 
     maintains : (now : ℕ) (old new : CoreState K V S) → whole.Maintains (Happens keys weighs) Decides has_pending CALLER now old new
         → Stays old new
@@ -197,7 +197,7 @@ module _ {K V S : Type 0} (keys : Keys K S) where
     after_get now (reply.Bool truth) old new h = absurd h
     after_get now reply.Discarded old new h = absurd h
     after_get now (reply.Rows pairs) old new h = absurd h
-    after_get now (reply.At place) old new h = absurd h
+    after_get now (reply.At phase) old new h = absurd h
     after_get now (reply.Counts count weight) old new h = absurd h
     after_get now reply.NotPossible old new h = absurd h
     after_get now reply.TicketsUsedUp old new h = absurd h
@@ -211,7 +211,7 @@ module _ {K V S : Type 0} (keys : Keys K S) where
     after_insert now (reply.Bool truth) old new h = absurd h
     after_insert now reply.Discarded old new h = absurd h
     after_insert now (reply.Rows pairs) old new h = absurd h
-    after_insert now (reply.At place) old new h = absurd h
+    after_insert now (reply.At phase) old new h = absurd h
     after_insert now (reply.Counts count weight) old new h = absurd h
     after_insert now reply.NotPossible old new h = absurd h
 
@@ -223,7 +223,7 @@ module _ {K V S : Type 0} (keys : Keys K S) where
     after_remove now (reply.Bool truth) old new h = absurd h
     after_remove now reply.Discarded old new h = absurd h
     after_remove now (reply.Rows pairs) old new h = absurd h
-    after_remove now (reply.At place) old new h = absurd h
+    after_remove now (reply.At phase) old new h = absurd h
     after_remove now (reply.Counts count weight) old new h = absurd h
     after_remove now reply.TicketsUsedUp old new h = absurd h
     after_remove now reply.NotPossible old new h = absurd h

@@ -16,7 +16,7 @@ use Rattle.moka_record.proofs.CallLemmas.{IsCall-settings}
 pub new_rests : {K V S : Type 0} (core : CoreState K V S) → IsNew core → IsAtRest core
 new_rests {K} {V} {S} core (first, built) = record {
   pending = ap (λ (c : CoreState K V S). c.pending) built;
-  place = ap (λ (c : CoreState K V S). c.maintenance.place) built;
+  phase = ap (λ (c : CoreState K V S). c.maintenance.phase) built;
 }
 
 module _ {K V S A : Type 0} (keys : Keys K S) (weighs : K → V → ℕ → Type 0) where

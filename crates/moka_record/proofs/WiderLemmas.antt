@@ -36,7 +36,7 @@ module _ {K V S : Type 0} (keys : Keys K S) (weighs wider : K → V → ℕ → 
   weighed (Insert caller key value now) (reply.Bool truth) weight h = tt
   weighed (Insert caller key value now) reply.Discarded weight h = tt
   weighed (Insert caller key value now) (reply.Rows pairs) weight h = tt
-  weighed (Insert caller key value now) (reply.At place) weight h = tt
+  weighed (Insert caller key value now) (reply.At phase) weight h = tt
   weighed (Insert caller key value now) (reply.Counts count size) weight h = tt
   weighed (Insert caller key value now) reply.OutOfMemory weight h = tt
   weighed (Insert caller key value now) reply.TicketsUsedUp weight h = tt
@@ -64,7 +64,7 @@ module _ {K V S : Type 0} (keys : Keys K S) (weighs wider : K → V → ℕ → 
   turns : (old new : CoreState K V S) → whole.Turns Narrow Decides has_pending CALLER old new
       → whole.Turns Wide Decides has_pending CALLER old new
   turns old new (LastTurn a b h) = LastTurn a b (happens a b Turn _ h)
-  turns old new (NextTurn a b c place busy h more) = NextTurn a b c place busy (happens a b Turn _ h) (turns b c more)
+  turns old new (NextTurn a b c phase busy h more) = NextTurn a b c phase busy (happens a b Turn _ h) (turns b c more)
 
   maintains : (now : ℕ) (old new : CoreState K V S) → whole.Maintains Narrow Decides has_pending CALLER now old new
       → whole.Maintains Wide Decides has_pending CALLER now old new
@@ -125,7 +125,7 @@ module _ {K V S : Type 0} (keys : Keys K S) (weighs wider : K → V → ℕ → 
   after_get now (reply.Bool truth) old new h = absurd h
   after_get now reply.Discarded old new h = absurd h
   after_get now (reply.Rows pairs) old new h = absurd h
-  after_get now (reply.At place) old new h = absurd h
+  after_get now (reply.At phase) old new h = absurd h
   after_get now (reply.Counts count weight) old new h = absurd h
   after_get now reply.NotPossible old new h = absurd h
   after_get now reply.TicketsUsedUp old new h = absurd h
@@ -140,7 +140,7 @@ module _ {K V S : Type 0} (keys : Keys K S) (weighs wider : K → V → ℕ → 
   after_insert now (reply.Bool truth) old new h = absurd h
   after_insert now reply.Discarded old new h = absurd h
   after_insert now (reply.Rows pairs) old new h = absurd h
-  after_insert now (reply.At place) old new h = absurd h
+  after_insert now (reply.At phase) old new h = absurd h
   after_insert now (reply.Counts count weight) old new h = absurd h
   after_insert now reply.NotPossible old new h = absurd h
 
@@ -153,7 +153,7 @@ module _ {K V S : Type 0} (keys : Keys K S) (weighs wider : K → V → ℕ → 
   after_remove now (reply.Bool truth) old new h = absurd h
   after_remove now reply.Discarded old new h = absurd h
   after_remove now (reply.Rows pairs) old new h = absurd h
-  after_remove now (reply.At place) old new h = absurd h
+  after_remove now (reply.At phase) old new h = absurd h
   after_remove now (reply.Counts count weight) old new h = absurd h
   after_remove now reply.TicketsUsedUp old new h = absurd h
   after_remove now reply.NotPossible old new h = absurd h

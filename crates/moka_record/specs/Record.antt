@@ -29,11 +29,11 @@ pub record Memory : Type 0 where
   pub recording : Bool
   pub answer : Bool
 
--- a whole call can be answered so: it tells of no place, no log and no shard
+-- a whole call can be answered so: it tells of no phase, no log and no shard
 abbrev pub IsAnswer : {K V : Type 0} → Reply K V → Type 0
 IsAnswer Discarded = ⊥
 IsAnswer (Rows pairs) = ⊥
-IsAnswer (At place) = ⊥
+IsAnswer (At phase) = ⊥
 IsAnswer NotPossible = ⊥
 IsAnswer reply = Unit {0}
 

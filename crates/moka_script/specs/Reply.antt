@@ -5,8 +5,8 @@ use Rattle.std.specs.List.{join_with_byte}
 use Rattle.moka_common.specs.declared.error.BuildError.{BuildError}
 use Rattle.moka_common.specs.Error.{build_error_text}
 use Rattle.moka_common.specs.Policy.{Policy}
-use Rattle.moka_sync_model.specs.declared.place.Place.{Place}
-use Rattle.moka_sync_model.specs.declared.place.Place.TheVariants as place
+use Rattle.moka_sync_model.specs.declared.phase.Phase.{Phase}
+use Rattle.moka_sync_model.specs.declared.phase.Phase.TheVariants as phase
 use Rattle.moka_grammar.specs.Spelling.{line_feed, space}
 use Rattle.moka_common.specs.Settings.{live_nanos, idle_nanos}
 
@@ -23,7 +23,7 @@ pub data Reply : Type 0 where
   OutOfMemory : Reply
   TicketsUsedUp : Reply
   Discarded : Reply
-  At : Place → Reply
+  At : Phase → Reply
   NotPossible : Reply
 
 -- a pair as it is written: its key, and its text
@@ -52,25 +52,25 @@ policy_words policy =
     ++ (codes " live " ++ nanos_words (live_nanos policy))
     ++ (codes " idle " ++ nanos_words (idle_nanos policy))
 
--- the name of a place of a maintenance
-abbrev pub place_word : Place → List ℕ
-place_word place.Idle = codes "idle"
-place_word place.ReadCount = codes "read-count"
-place_word place.Reads = codes "reads"
-place_word place.ReadApply = codes "read-apply"
-place_word place.WriteCount = codes "write-count"
-place_word place.Writes = codes "writes"
-place_word place.Apply = codes "apply"
-place_word place.Scan = codes "scan"
-place_word place.Removing = codes "removing"
-place_word place.Enter = codes "enter"
-place_word place.Sketch = codes "sketch"
-place_word place.MoreReads = codes "more-reads"
-place_word place.MoreWrites = codes "more-writes"
-place_word place.ExpireWrite = codes "expire-write"
-place_word place.ExpireAccess = codes "expire-access"
-place_word place.Evict = codes "evict"
-place_word place.Publish = codes "publish"
+-- the name of a phase of a maintenance
+abbrev pub phase_word : Phase → List ℕ
+phase_word phase.Idle = codes "idle"
+phase_word phase.ReadCount = codes "read-count"
+phase_word phase.Reads = codes "reads"
+phase_word phase.ReadApply = codes "read-apply"
+phase_word phase.WriteCount = codes "write-count"
+phase_word phase.Writes = codes "writes"
+phase_word phase.Apply = codes "apply"
+phase_word phase.Scan = codes "scan"
+phase_word phase.Removing = codes "removing"
+phase_word phase.Enter = codes "enter"
+phase_word phase.Sketch = codes "sketch"
+phase_word phase.MoreReads = codes "more-reads"
+phase_word phase.MoreWrites = codes "more-writes"
+phase_word phase.ExpireWrite = codes "expire-write"
+phase_word phase.ExpireAccess = codes "expire-access"
+phase_word phase.Evict = codes "evict"
+phase_word phase.Publish = codes "publish"
 
 -- the one spelling of a reply
 abbrev pub reply_words : Reply → List ℕ
@@ -87,7 +87,7 @@ reply_words (Limits policy) = policy_words policy
 reply_words OutOfMemory = codes "refused memory"
 reply_words TicketsUsedUp = codes "refused tickets"
 reply_words Discarded = codes "discarded"
-reply_words (At place) = codes "at " ++ place_word place
+reply_words (At phase) = codes "at " ++ phase_word phase
 reply_words NotPossible = codes "not possible"
 
 -- the line of a reply, with its end

@@ -23,5 +23,5 @@ reply_of (value.Limits policy) = Limits policy.now
 reply_of value.OutOfMemory = OutOfMemory
 reply_of value.TicketsUsedUp = TicketsUsedUp
 reply_of value.Discarded = Discarded
-reply_of (value.At place) = At place
+reply_of (value.At phase) = At phase
 reply_of value.NotPossible = NotPossible

@@ -312,7 +312,7 @@ fn told<A: Allocator + Clone + Drop>(reply: &ScriptReply<A>) -> ReplyValue<'_>
         Reply::Found(None) => ReplyValue::Found(None),
         Reply::Bool(truth) => ReplyValue::Truth(*truth),
         Reply::Discarded => ReplyValue::Discarded,
-        Reply::At(place) => ReplyValue::At(*place),
+        Reply::At(phase) => ReplyValue::At(*phase),
         Reply::NotPossible => ReplyValue::NotPossible,
         Reply::TicketsUsedUp => ReplyValue::TicketsUsedUp,
         Reply::OutOfMemory | Reply::Rows(_) | Reply::Counts { .. } => ReplyValue::OutOfMemory,

@@ -4,14 +4,14 @@ ghost use Rattle.std.specs.Duration.{as_nanos};
 ghost use Rattle.std.specs.Fmt.{decimal};
 ghost use Rattle.std.specs.List.{flat_map};
 ghost use Rattle.moka_grammar.specs.Spelling.{line_feed, space};
-ghost use Rattle.moka_script.specs.Reply.{Found, Refused, limit_words, nanos_words, pair_words, pairs_words, place_word, policy_words, reply_line};
+ghost use Rattle.moka_script.specs.Reply.{Found, Refused, limit_words, nanos_words, pair_words, pairs_words, phase_word, policy_words, reply_line};
 ghost use Rattle.moka_script.specs.ReplyValue.{pairs_of, reply_of};
 
 use crate::stored::Stored;
 use moka_common::error::{BuildError, OutOfMemory};
 use moka_common::policy::Policy;
 use moka_grammar::text::Text;
-use moka_sync_model::place::Place;
+use moka_sync_model::phase::Phase;
 use std::alloc::{AllocError, Allocator};
 use std::time::Duration;
 
@@ -33,8 +33,8 @@ pub enum ReplyValue<'a> {
     TicketsUsedUp,
     /// A read for which there was no room in its log.
     Discarded,
-    /// The place of a maintenance.
-    At(Place),
+    /// The phase of a maintenance.
+    At(Phase),
     NotPossible,
 }
 
@@ -84,7 +84,7 @@ pub fn push_reply<A: Allocator + Clone + Drop>(
         ReplyValue::OutOfMemory => text.extend_from_slice(b"refused memory\n"),
         ReplyValue::TicketsUsedUp => text.extend_from_slice(b"refused tickets\n"),
         ReplyValue::Discarded => text.extend_from_slice(b"discarded\n"),
-        ReplyValue::At(place) => push_place(text, place),
+        ReplyValue::At(phase) => push_phase(text, phase),
         ReplyValue::NotPossible => text.extend_from_slice(b"not possible\n"),
     }
 }
@@ -111,39 +111,39 @@ fn push_found<A: Allocator + Clone + Drop>(
     text.extend_from_slice(b"\n")
 }
 
-fn push_place<A: Allocator + Clone + Drop>(
+fn push_phase<A: Allocator + Clone + Drop>(
     text: &mut Vec<u8, A>,
-    place: Place,
+    phase: Phase,
 ) -> Result<(), AllocError>
-    ensures { OnOk result (text.new.items ≡ text.old.items ++ (codes "at " ++ place_word place ++ line_feed ∷ [])) }
+    ensures { OnOk result (text.new.items ≡ text.old.items ++ (codes "at " ++ phase_word phase ++ line_feed ∷ [])) }
 {
     text.extend_from_slice(b"at ")?;
-    text.extend_from_slice(place_word(place).as_bytes())?;
+    text.extend_from_slice(phase_word(phase).as_bytes())?;
     text.extend_from_slice(b"\n")
 }
 
-/// The name of a place.
-fn place_word(place: Place) -> &'static str
-    ensures { result.now ≡ place_word place }
+/// The name of a phase.
+fn phase_word(phase: Phase) -> &'static str
+    ensures { result.now ≡ phase_word phase }
 {
-    match place {
-        Place::Idle => "idle",
-        Place::ReadCount => "read-count",
-        Place::Reads => "reads",
-        Place::ReadApply => "read-apply",
-        Place::WriteCount => "write-count",
-        Place::Writes => "writes",
-        Place::Apply => "apply",
-        Place::Scan => "scan",
-        Place::Removing => "removing",
-        Place::Enter => "enter",
-        Place::Sketch => "sketch",
-        Place::MoreReads => "more-reads",
-        Place::MoreWrites => "more-writes",
-        Place::ExpireWrite => "expire-write",
-        Place::ExpireAccess => "expire-access",
-        Place::Evict => "evict",
-        Place::Publish => "publish",
+    match phase {
+        Phase::Idle => "idle",
+        Phase::ReadCount => "read-count",
+        Phase::Reads => "reads",
+        Phase::ReadApply => "read-apply",
+        Phase::WriteCount => "write-count",
+        Phase::Writes => "writes",
+        Phase::Apply => "apply",
+        Phase::Scan => "scan",
+        Phase::Removing => "removing",
+        Phase::Enter => "enter",
+        Phase::Sketch => "sketch",
+        Phase::MoreReads => "more-reads",
+        Phase::MoreWrites => "more-writes",
+        Phase::ExpireWrite => "expire-write",
+        Phase::ExpireAccess => "expire-access",
+        Phase::Evict => "evict",
+        Phase::Publish => "publish",
     }
 }
 

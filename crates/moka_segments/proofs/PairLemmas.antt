@@ -11,7 +11,7 @@ use Rattle.moka_common.specs.Keys.{Keys}
 use Rattle.moka_unsync_model.specs.declared.entry.Entry.{Entry}
 use Rattle.moka_unsync_model.specs.Contents.{entry_keys}
 use Rattle.moka_unsync_model.specs.Iterate.{pairs_at, pairs_of}
-use Rattle.moka_unsync_model.specs.Upkeep.{is_expired}
+use Rattle.moka_unsync_model.specs.Cleanup.{is_expired}
 use Rattle.moka_unsync_model.specs.Step.{Iterate, Pairs}
 use Rattle.moka_unsync_model.specs.History.{Exchange, IsCurrent, LastWritesAreInserts, PairsAreCurrent, Transition, exchange_of, exchanges}
 use Rattle.moka_unsync_model.proofs.HistoryLemmas.{once-run}

@@ -34,7 +34,7 @@ module _ {L K V S W : Type 0} (hears : L → K → V → Cause → L → Type 0)
   TellsInserted old key value now Done new before after = TellsInsert hears keys old now key value new before after
   TellsInserted old key value now answer new before after = after ≡ before
 
-  -- a call tells of what leaves in it: what upkeep removes, what the call removes or replaces, and what gives way to a new entry or is not let in
+  -- a call tells of what leaves in it: what cleanup removes, what the call removes or replaces, and what gives way to a new entry or is not let in
   abbrev pub TellsCall : CacheState K V S W → Request K V → Answer K V → CacheState K V S W → L → L → Type 0
   TellsCall old (Get key now) answer new before after = TellsLook hears keys old now before after
   TellsCall old (ContainsKey key now) answer new before after = TellsLook hears keys old now before after

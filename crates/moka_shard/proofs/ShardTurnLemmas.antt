@@ -13,19 +13,19 @@ use Rattle.moka_sync_model.proofs.PartsLemmas.{need_unread}
 use Rattle.moka_shard.specs.ShardTurn.{TurnsOnShard}
 
 module _ {K V S : Type 0} (settings : Settings S) (valid_after : ℕ) (refused : Bool) (old new : Maintenance) (ticket : Ticket)
-    (needs : need_of (turn_at {K = K} {V = V} settings valid_after false old.place old) ≡ NeedsShard ticket) where
+    (needs : need_of (turn_at {K = K} {V = V} settings valid_after false old.phase old) ≡ NeedsShard ticket) where
   -- the ticket that a turn looks at is the one that it needs
   own_ticket : (t : Ticket) (looks : Option (Entry K V) → Outcome K V)
-      → turn_at settings valid_after refused old.place old ≡ AtEntry t looks
+      → turn_at settings valid_after refused old.phase old ≡ AtEntry t looks
       → t ≡ ticket
   own_ticket t looks is =
       let same : NeedsShard t ≡ NeedsShard ticket = sym (ap need_of is) ∙ unread refused ∙ needs in
       cc
     where
       unread : (refused : Bool)
-          → need_of (turn_at {K = K} {V = V} settings valid_after refused old.place old)
-          ≡ need_of (turn_at {K = K} {V = V} settings valid_after false old.place old)
-      unread true = need_unread K V settings valid_after old.place old
+          → need_of (turn_at {K = K} {V = V} settings valid_after refused old.phase old)
+          ≡ need_of (turn_at {K = K} {V = V} settings valid_after false old.phase old)
+      unread true = need_unread K V settings valid_after old.phase old
       unread false = refl
 
   -- what a turn makes of an entry, made of it in its shard

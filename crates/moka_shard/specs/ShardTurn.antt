@@ -12,6 +12,6 @@ use Rattle.moka_sync_model.specs.Turn.Turn.{turn_at}
 pub record TurnsOnShard {K V S : Type 0} (settings : Settings S) (valid_after : ℕ) (refused : Bool) (ticket : Ticket)
     (old new : Maintenance) (old_shard new_shard : ShardState K V S) : Type 0 where
   pub looks : Option (Entry K V) → Outcome K V
-  pub is : turn_at settings valid_after refused old.place old ≡ AtEntry ticket looks
+  pub is : turn_at settings valid_after refused old.phase old ≡ AtEntry ticket looks
   pub maintenance : new ≡ (looks (entry_of ticket old_shard.entries)).maintenance
   pub shard : new_shard ≡ shard_after ticket (looks (entry_of ticket old_shard.entries)) old_shard

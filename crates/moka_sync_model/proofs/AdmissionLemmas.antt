@@ -9,11 +9,11 @@ use Rattle.moka_sync_model.specs.declared.ticket.Ticket.{Ticket}
 use Rattle.moka_sync_model.specs.Entry.{Entry, entry_of, with_upsert_done}
 use Rattle.moka_sync_model.specs.declared.operation.Write.TheVariants.{Upsert, Remove}
 use Rattle.moka_sync_model.specs.Orders.{Node, Orders, charge_of, is_written, without_node, with_node, all_used}
-use Rattle.moka_sync_model.specs.Place as place
+use Rattle.moka_sync_model.specs.Phase as phase
 use Rattle.moka_sync_model.specs.declared.progress.Work.{Work}
 use Rattle.moka_sync_model.specs.declared.progress.Candidate.{Candidate}
 use Rattle.moka_sync_model.specs.declared.progress.Tally.{Tally}
-use Rattle.moka_sync_model.specs.Place.{Place, Seen, held}
+use Rattle.moka_sync_model.specs.Phase.{Phase, Seen, held}
 use Rattle.moka_sync_model.specs.CoreState.{CoreState}
 use Rattle.moka_common.specs.Settings.{keeps_writes}
 use Rattle.moka_sync_model.specs.Turn.Plan.{Outcome, after_change, after_plan_at, Plan, after_plan}
@@ -71,8 +71,8 @@ module _ {K V S : Type 0} (keys : Keys K S) (core : CoreState K V S) (good : Are
   abbrev Admits : List Ticket → Type 0
   Admits front = IsAdmission core.settings.policy.max_capacity core.maintenance.orders (length core.write_log) work c front
 
-  module _ (p : Place) (is : core.maintenance.place ≡ p) (holds : held p ≡ Upsert c.ticket ∷ []) where
-    here : held core.maintenance.place ≡ Upsert c.ticket ∷ []
+  module _ (p : Phase) (is : core.maintenance.phase ≡ p) (holds : held p ≡ Upsert c.ticket ∷ []) where
+    here : held core.maintenance.phase ≡ Upsert c.ticket ∷ []
     here = held_at keys core good p is ∙ holds
 
     -- ---- the scan
@@ -206,25 +206,25 @@ module _ {K V S : Type 0} (keys : Keys K S) (core : CoreState K V S) (good : Are
         (tied_done e None n (outstanding core (Remove c.ticket))
         (tied_at keys core good c.ticket (Some e) None (n + 1) found a.outside count)))
 
-  pub consistent_scan : (seen : List Seen) → core.maintenance.place ≡ place.Scan work c tally seen
+  pub consistent_scan : (seen : List Seen) → core.maintenance.phase ≡ phase.Scan work c tally seen
       → AreEntriesConsistent keys
       (after_plan (after_scan work c tally seen (next_seen c tally seen core.maintenance.orders) core.maintenance) core)
   consistent_scan seen is =
-      scanned (place.Scan work c tally seen) is refl seen (fits_at keys core good (place.Scan work c tally seen) is) (is_decided c tally)
+      scanned (phase.Scan work c tally seen) is refl seen (fits_at keys core good (phase.Scan work c tally seen) is) (is_decided c tally)
       (drop (length seen) core.maintenance.orders.access) refl
 
-  pub consistent_removing : (skipped : List Ticket) (left : List Seen) → core.maintenance.place ≡ place.Removing work c tally skipped left
+  pub consistent_removing : (skipped : List Ticket) (left : List Seen) → core.maintenance.phase ≡ phase.Removing work c tally skipped left
       → AreEntriesConsistent keys (after_plan (after_removing work c tally skipped left core.maintenance) core)
-  consistent_removing skipped [] is = absurd ((fits_at keys core good (place.Removing work c tally skipped []) is).1 refl)
+  consistent_removing skipped [] is = absurd ((fits_at keys core good (phase.Removing work c tally skipped []) is).1 refl)
   consistent_removing skipped (s ∷ left) is =
-      let fits = fits_at keys core good (place.Removing work c tally skipped (s ∷ left)) is in
-      removed (place.Removing work c tally skipped (s ∷ left)) is refl skipped s left fits.0 fits.2
+      let fits = fits_at keys core good (phase.Removing work c tally skipped (s ∷ left)) is in
+      removed (phase.Removing work c tally skipped (s ∷ left)) is refl skipped s left fits.0 fits.2
 
 module _ {K V S : Type 0} (keys : Keys K S) (core : CoreState K V S) (good : AreEntriesConsistent keys core) (work : Work) (c : Candidate)
   where
-    pub consistent_entering : (skipped : List Ticket) → core.maintenance.place ≡ place.Enter work c skipped
+    pub consistent_entering : (skipped : List Ticket) → core.maintenance.phase ≡ phase.Enter work c skipped
         → AreEntriesConsistent keys
         (after_plan_at c.ticket (after_entering (keeps_writes core.settings.policy) work c skipped core.maintenance) core)
     consistent_entering skipped is =
-        entered keys core good work c no_tally (place.Enter work c skipped) is refl skipped
-        (fits_at keys core good (place.Enter work c skipped) is) (entry_of c.ticket core.entries) refl
+        entered keys core good work c no_tally (phase.Enter work c skipped) is refl skipped
+        (fits_at keys core good (phase.Enter work c skipped) is) (entry_of c.ticket core.entries) refl

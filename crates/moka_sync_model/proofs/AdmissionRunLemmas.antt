@@ -9,18 +9,18 @@ use Rattle.moka_sync_model.specs.declared.ticket.Ticket.{Ticket}
 use Rattle.moka_sync_model.specs.Ticket.{same_ticket, without}
 use Rattle.moka_sync_model.specs.Entry.{Entry, entry_of}
 use Rattle.moka_sync_model.specs.Orders.{Node, without_node, all_used}
-use Rattle.moka_sync_model.specs.Place as place
+use Rattle.moka_sync_model.specs.Phase as phase
 use Rattle.moka_sync_model.specs.declared.progress.Work.{Work}
 use Rattle.moka_sync_model.specs.declared.progress.Candidate.{Candidate}
 use Rattle.moka_sync_model.specs.declared.progress.Tally.{Tally}
-use Rattle.moka_sync_model.specs.Place.{Seen}
+use Rattle.moka_sync_model.specs.Phase.{Seen}
 use Rattle.moka_sync_model.specs.CoreState.{CoreState}
 use Rattle.moka_common.specs.Settings.{keeps_writes}
 use Rattle.moka_sync_model.specs.Turn.Plan.{after_plan, after_plan_at, writes_or_on}
 use Rattle.moka_sync_model.specs.Turn.Admission.{is_decided, is_admitted, next_if, removing_or_enter, absent_of, after_finding, after_victim}
 use Rattle.moka_sync_model.specs.Turn.Admission.{after_entering, after_verdict, after_scan}
 use Rattle.moka_sync_model.specs.Turn.Turn.{after_turn}
-use Rattle.moka_sync_model.specs.Undisturbed.{Comes, weight_of, estimate_of, at_place, after_victims, after_entry_of, after_decision}
+use Rattle.moka_sync_model.specs.Undisturbed.{Comes, weight_of, estimate_of, at_phase, after_victims, after_entry_of, after_decision}
 use Rattle.moka_sync_model.proofs.TicketLemmas.{of_ticket-without_other}
 use Rattle.moka_sync_model.proofs.UndisturbedLemmas.{chosen_from, with_found, chosen_here, chosen_more}
 
@@ -56,13 +56,13 @@ module _ {K V S : Type 0} where
 
   module _ (work : Work) (c : Candidate) (tally : Tally) (e : Entry K V) where
     enters : (core : CoreState K V S) → entry_of c.ticket core.entries ≡ Some e
-        → Comes (at_place (place.Enter work c []) core) (after_entry_of work c e.weight core)
+        → Comes (at_phase (phase.Enter work c []) core) (after_entry_of work c e.weight core)
     enters core found =
-        one_more (at_place (place.Enter work c []) core) (after_entry_of work c e.weight core) (
+        one_more (at_phase (phase.Enter work c []) core) (after_entry_of work c e.weight core) (
           zero,
           ap
               (λ o. after_plan_at c.ticket
-              (λ f. after_entering (keeps_writes core.settings.policy) work c [] (record core.maintenance { place = place.Enter work c [] })
+              (λ f. after_entering (keeps_writes core.settings.policy) work c [] (record core.maintenance { phase = phase.Enter work c [] })
               o) core) found,
         )
 
@@ -92,7 +92,7 @@ module _ {K V S : Type 0} where
     )
 
     removes : (ns : List Node) (core : CoreState K V S) → entry_of c.ticket core.entries ≡ Some e → StandApart core ns
-        → Comes (at_place (removing_or_enter work c tally [] (map seen_present ns)) core)
+        → Comes (at_phase (removing_or_enter work c tally [] (map seen_present ns)) core)
         (after_entry_of work c e.weight (after_victims (map (λ n. n.ticket) ns) core))
     removes [] core found apart = enters core found
     removes (n ∷ ns) core found apart =
@@ -102,16 +102,16 @@ module _ {K V S : Type 0} where
         (stand_apart-without core n.ticket ns apart.2 apart.3))
       where
         by : (o : Option (Entry K V)) → entry_of n.ticket core.entries ≡ o → IsSome o
-            → Comes (at_place (removing_or_enter work c tally [] (map seen_present ns)) (without_one n.ticket core))
+            → Comes (at_phase (removing_or_enter work c tally [] (map seen_present ns)) (without_one n.ticket core))
             (after_entry_of work c e.weight (after_victims (map (λ n. n.ticket) (n ∷ ns)) core))
-            → Comes (at_place (place.Removing work c tally [] (map seen_present (n ∷ ns))) core)
+            → Comes (at_phase (phase.Removing work c tally [] (map seen_present (n ∷ ns))) core)
             (after_entry_of work c e.weight (after_victims (map (λ n. n.ticket) (n ∷ ns)) core))
         by None is some rest = absurd (false≢true some)
         by (Some x) is some rest =
-            let here : CoreState K V S = at_place (place.Removing work c tally [] (map seen_present (n ∷ ns))) core in
+            let here : CoreState K V S = at_phase (phase.Removing work c tally [] (map seen_present (n ∷ ns))) core in
             let final : CoreState K V S = after_entry_of work c e.weight (after_victims (map (λ n. n.ticket) (n ∷ ns)) core) in
             let turn : after_turn false here
-            ≡ at_place (removing_or_enter work c tally [] (map seen_present ns)) (without_one n.ticket core) =
+            ≡ at_phase (removing_or_enter work c tally [] (map seen_present ns)) (without_one n.ticket core) =
             ap (λ o. after_plan_at n.ticket (λ f. after_victim work c tally [] (seen_present n) (map seen_present ns) here.maintenance o)
             here) is in
             one_more here final (subst (λ new. Comes new final) (sym turn) rest)
@@ -120,7 +120,7 @@ module _ {K V S : Type 0} where
 
   module _ (work : Work) (c : Candidate) (e : Entry K V) (core : CoreState K V S) (found : entry_of c.ticket core.entries ≡ Some e) where
     abbrev pub scanning : Tally → List Node → CoreState K V S
-    scanning tally done = at_place (place.Scan work c tally (map seen_present done)) core
+    scanning tally done = at_phase (phase.Scan work c tally (map seen_present done)) core
 
     -- the end, where these nodes were seen before
     abbrev pub final : List Node → Option (List Node) → CoreState K V S
@@ -171,7 +171,7 @@ module _ {K V S : Type 0} where
         (scanning tally done)) (final done (cond admitted (Some []) None))
     verdict_comes tally done apart true =
         subst (λ ns.
-        Comes (at_place (removing_or_enter work c tally [] (map seen_present done)) core)
+        Comes (at_phase (removing_or_enter work c tally [] (map seen_present done)) core)
         (after_entry_of work c e.weight (after_victims (map (λ n. n.ticket) ns) core))) (sym (append-nil done))
         (removes work c tally e done core found apart)
     verdict_comes tally done apart false = (
@@ -180,7 +180,7 @@ module _ {K V S : Type 0} where
           (λ ts. record core {
             entries = without (λ (x : Entry K V). x.ticket) c.ticket core.entries;
             maintenance =
-                record core.maintenance { orders = all_used ts core.maintenance.orders; place = writes_or_on work };
+                record core.maintenance { orders = all_used ts core.maintenance.orders; phase = writes_or_on work };
           }) (none_absent done),
     )
 
@@ -233,12 +233,12 @@ module _ {K V S : Type 0} where
         let looked : after_turn false (scanning tally done) ≡ scanning next (done ++ n ∷ []) =
         turn_is tally done (n ∷ rest) false is undecided
         ∙ ap (λ x.
-        at_place
-        (place.Scan work c x
+        at_phase
+        (phase.Scan work c x
         (map seen_present done ++ record { ticket = n.ticket; is_present = is_some (entry_of n.ticket core.entries) } ∷ [])) core)
         (found_is tally n (entry_of n.ticket core.entries) some)
-        ∙ ap (λ b. at_place (place.Scan work c next (map seen_present done ++ record { ticket = n.ticket; is_present = b } ∷ [])) core) some
-        ∙ ap (λ ss. at_place (place.Scan work c next ss) core) (sym (map-snoc done n)) in
+        ∙ ap (λ b. at_phase (phase.Scan work c next (map seen_present done ++ record { ticket = n.ticket; is_present = b } ∷ [])) core) some
+        ∙ ap (λ ss. at_phase (phase.Scan work c next ss) core) (sym (map-snoc done n)) in
         let goal : CoreState K V S = final done (chosen_now tally (n ∷ rest)) in
         let same : final (done ++ n ∷ []) (chosen_now next rest) ≡ goal =
         final-more done n (chosen_now next rest)

@@ -11,7 +11,7 @@ use Rattle.moka_sync_model.specs.Ticket.{same_ticket, of_ticket, AreApart}
 use Rattle.moka_sync_model.specs.Entry.{Entry, entry_of}
 use Rattle.moka_sync_model.specs.declared.operation.Write.TheVariants.{Upsert}
 use Rattle.moka_sync_model.specs.Orders.{Node, charge_of, charged_weight}
-use Rattle.moka_sync_model.specs.Place as place
+use Rattle.moka_sync_model.specs.Phase as phase
 use Rattle.moka_sync_model.specs.declared.progress.Work.{Work}
 use Rattle.moka_sync_model.specs.declared.progress.Candidate.{Candidate}
 use Rattle.moka_sync_model.specs.CoreState.{CoreState, Maintenance}
@@ -19,7 +19,7 @@ use Rattle.moka_sync_model.specs.Turn.Plan.{Stays, Outcome, outcome, after_chang
 use Rattle.moka_sync_model.specs.Turn.Apply.{no_tally, after_upsert, after_present_upsert, after_first_upsert, after_entry, after_refusal}
 use Rattle.moka_sync_model.specs.Turn.Turn.{turn_at, after_turn}
 use Rattle.moka_sync_model.specs.Consistent.{AreEntriesConsistent}
-use Rattle.moka_sync_model.specs.Undisturbed.{Comes, weight_of, estimate_of, victims_of, at_place, after_decision, candidate_of}
+use Rattle.moka_sync_model.specs.Undisturbed.{Comes, weight_of, estimate_of, victims_of, at_phase, after_decision, candidate_of}
 use Rattle.moka_sync_model.specs.Undisturbed.{admission_of}
 use Rattle.moka_sync_model.specs.MaintenanceLaws.{AdmitsUndisturbed}
 use Rattle.moka_sync_model.proofs.ListLemmas.{count-cons}
@@ -76,7 +76,7 @@ module _ {K V S : Type 0} (keys : Keys K S) (core : CoreState K V S) (work : Wor
   final_is None found = refl
   final_is (Some front) found = refl
 
-  module _ (good : AreEntriesConsistent keys core) (is : core.maintenance.place ≡ place.Apply work (Upsert e.ticket))
+  module _ (good : AreEntriesConsistent keys core) (is : core.maintenance.phase ≡ phase.Apply work (Upsert e.ticket))
       (found : entry_of e.ticket core.entries ≡ Some e)
       (uncharged : charge_of e.ticket core.maintenance.orders ≡ None)
       (stand : AllByRecursion (λ n. IsSome (entry_of n.ticket core.entries)) core.maintenance.orders.access) where
@@ -101,10 +101,10 @@ module _ {K V S : Type 0} (keys : Keys K S) (core : CoreState K V S) (work : Wor
         ∙ ap (λ o. after_plan_at e.ticket (λ f. after_present_upsert core.settings false work e.ticket e o m) core) uncharged
 
     -- a scan decides
-    scanned : Comes (at_place (place.Scan work c no_tally []) core) (after_decision work c e.weight (victims_of core c) core)
+    scanned : Comes (at_phase (phase.Scan work c no_tally []) core) (after_decision work c e.weight (victims_of core c) core)
     scanned =
-        subst (λ new. Comes (at_place (place.Scan work c no_tally []) core) new) (final_is (victims_of core c) found)
-        (subst (λ o. Comes (at_place (place.Scan work c no_tally []) core) (final work c e core found [] o)) chosen_is
+        subst (λ new. Comes (at_phase (phase.Scan work c no_tally []) core) new) (final_is (victims_of core c) found)
+        (subst (λ o. Comes (at_phase (phase.Scan work c no_tally []) core) (final work c e core found [] o)) chosen_is
         (scans work c e core found core.maintenance.orders.access no_tally [] refl refl
         (stand_apart core.maintenance.orders.access good.nodes_apart stand
         (none_from_map (of_ticket (λ (n : Node). n.ticket) e.ticket core.maintenance.orders.access) uncharged))))
@@ -112,7 +112,7 @@ module _ {K V S : Type 0} (keys : Keys K S) (core : CoreState K V S) (work : Wor
     decided : (room light : Bool)
         → ByOutcome
         (cond room (after_entry core.settings work e.ticket e m)
-        (cond light (outcome Stays m m.orders (place.Scan work c no_tally [])) (after_refusal core.settings work m)))
+        (cond light (outcome Stays m m.orders (phase.Scan work c no_tally [])) (after_refusal core.settings work m)))
         (cond room (Some []) (cond light (victims_of core c) None))
     decided true light = (zero, refl)
     decided false true = scanned

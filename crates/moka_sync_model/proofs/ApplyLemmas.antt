@@ -14,9 +14,9 @@ use Rattle.moka_sync_model.specs.declared.operation.Write.{Write}
 use Rattle.moka_sync_model.specs.declared.operation.Write.TheVariants.{Upsert, Remove}
 use Rattle.moka_sync_model.specs.Operation.{same_write, count_of, count_pending}
 use Rattle.moka_sync_model.specs.Orders.{Orders, charge_of, is_written, charged_weight, without_node, with_node, used, renewed, recharged}
-use Rattle.moka_sync_model.specs.Place as place
+use Rattle.moka_sync_model.specs.Phase as phase
 use Rattle.moka_sync_model.specs.declared.progress.Work.{Work}
-use Rattle.moka_sync_model.specs.Place.{Place, held}
+use Rattle.moka_sync_model.specs.Phase.{Phase, held}
 use Rattle.moka_sync_model.specs.CoreState.{CoreState}
 use Rattle.moka_common.specs.Settings.{keeps_writes}
 use Rattle.moka_sync_model.specs.Turn.Plan.{Stays, Outcome, outcome, moved_on, after_change, after_plan_at, gone_to, after_plan}
@@ -31,26 +31,26 @@ use Rattle.moka_sync_model.proofs.OrdersLemmas.{ChangesNode-without, charge_of-w
 use Rattle.moka_sync_model.proofs.OrdersLemmas.{is_written-with, ChangesNode-recharged, charge_of-recharged}
 use Rattle.moka_sync_model.proofs.StepLemmas.{consistent_quiet, consistent_look, consistent_upsert_done, consistent_removal_done}
 
--- ---- the places between operations
+-- ---- the phases between operations
 
 module _ (limit : Option ℕ) (orders : Orders) (reads writes : ℕ) (work : Work) where
   pub fits_reads : work.left ≤ reads → Fits limit orders reads writes (reads_or_on work)
   fits_reads enough =
-      cond_both (eqb work.left 0) (place.WriteCount work.round) (place.Reads work) (Fits limit orders reads writes) (λ none. tt)
+      cond_both (eqb work.left 0) (phase.WriteCount work.round) (phase.Reads work) (Fits limit orders reads writes) (λ none. tt)
       (λ some. let more : work.left ≢ 0 = eqb-false work.left 0 some in let pos : 0 < work.left = omega (arith, more) in (pos, enough))
 
   pub fits_writes : work.left ≤ writes → Fits limit orders reads writes (writes_or_on work)
   fits_writes enough =
-      cond_both (eqb work.left 0) (place.Sketch work.round) (place.Writes work) (Fits limit orders reads writes) (λ none. tt)
+      cond_both (eqb work.left 0) (phase.Sketch work.round) (phase.Writes work) (Fits limit orders reads writes) (λ none. tt)
       (λ some. let more : work.left ≢ 0 = eqb-false work.left 0 some in let pos : 0 < work.left = omega (arith, more) in (pos, enough))
 
 pub held_reads : (work : Work) → held (reads_or_on work) ≡ []
 held_reads work =
-    cond_both (eqb work.left 0) (place.WriteCount work.round) (place.Reads work) (λ p. held p ≡ []) (λ none. refl) (λ some. refl)
+    cond_both (eqb work.left 0) (phase.WriteCount work.round) (phase.Reads work) (λ p. held p ≡ []) (λ none. refl) (λ some. refl)
 
 pub held_writes : (work : Work) → held (writes_or_on work) ≡ []
 held_writes work =
-    cond_both (eqb work.left 0) (place.Sketch work.round) (place.Writes work) (λ p. held p ≡ []) (λ none. refl) (λ some. refl)
+    cond_both (eqb work.left 0) (phase.Sketch work.round) (phase.Writes work) (λ p. held p ≡ []) (λ none. refl) (λ some. refl)
 
 -- ---- what holds of a ticket
 
@@ -119,17 +119,17 @@ module _ {K V S : Type 0} (keys : Keys K S) (core : CoreState K V S) (good : Are
       (subst (λ x. IsTied (entry_of t core.entries) (charge_of t core.maintenance.orders) x (outstanding core (Remove t))) count
       (good.stays t).tied))
 
-  -- where the place is known
-  pub fits_at : (p : Place) → core.maintenance.place ≡ p
+  -- where the phase is known
+  pub fits_at : (p : Phase) → core.maintenance.phase ≡ p
       → Fits core.settings.policy.max_capacity core.maintenance.orders (length core.read_log) (length core.write_log) p
   fits_at p is =
       subst (Fits core.settings.policy.max_capacity core.maintenance.orders (length core.read_log) (length core.write_log)) is good.fits
 
-  pub held_at : (p : Place) → core.maintenance.place ≡ p → held core.maintenance.place ≡ held p
+  pub held_at : (p : Phase) → core.maintenance.phase ≡ p → held core.maintenance.phase ≡ held p
   held_at p is = ap held is
 
-  -- the place alone changes, and holds what it held
-  pub consistent_move : (p next : Place) → core.maintenance.place ≡ p → held next ≡ held p
+  -- the phase alone changes, and holds what it held
+  pub consistent_move : (p next : Phase) → core.maintenance.phase ≡ p → held next ≡ held p
       → Fits core.settings.policy.max_capacity core.maintenance.orders (length core.read_log) (length core.write_log) next
       → AreEntriesConsistent keys (record core { maintenance = gone_to next core.maintenance })
   consistent_move p next is holds fits =
@@ -139,40 +139,40 @@ module _ {K V S : Type 0} (keys : Keys K S) (core : CoreState K V S) (good : Are
 
   -- ---- operations are taken
 
-  pub consistent_read_taken : (work : Work) (log : List Read) → core.maintenance.place ≡ place.Reads work → core.read_log ≡ log
+  pub consistent_read_taken : (work : Work) (log : List Read) → core.maintenance.phase ≡ phase.Reads work → core.read_log ≡ log
       → AreEntriesConsistent keys
       (record core
       { read_log = (after_read_taken work core.maintenance log).1; maintenance = (after_read_taken work core.maintenance log).0 })
   consistent_read_taken work [] is log = subst (λ l. AreEntriesConsistent keys (record core { read_log = l })) log good
   consistent_read_taken work (read ∷ reads) is log =
       consistent_quiet keys core good core.valid_after reads core.write_log core.pending
-      (moved_on core.maintenance core.maintenance.orders (place.ReadApply (record work { left = work.left - 1 }) read))
+      (moved_on core.maintenance core.maintenance.orders (phase.ReadApply (record work { left = work.left - 1 }) read))
       (Reorders-none core.maintenance.orders)
-      (λ w. ap (λ ws. count_pending w core.pending + count_of w core.write_log + count_of w ws) (sym (held_at (place.Reads work) is)))
-      (omega (arith, ap length log, (fits_at (place.Reads work) is).1))
+      (λ w. ap (λ ws. count_pending w core.pending + count_of w core.write_log + count_of w ws) (sym (held_at (phase.Reads work) is)))
+      (omega (arith, ap length log, (fits_at (phase.Reads work) is).1))
 
-  pub consistent_write_taken : (work : Work) (log : List Write) → core.maintenance.place ≡ place.Writes work → core.write_log ≡ log
+  pub consistent_write_taken : (work : Work) (log : List Write) → core.maintenance.phase ≡ phase.Writes work → core.write_log ≡ log
       → AreEntriesConsistent keys
       (record core
       { write_log = (after_write_taken work core.maintenance log).1; maintenance = (after_write_taken work core.maintenance log).0 })
   consistent_write_taken work [] is log = subst (λ l. AreEntriesConsistent keys (record core { write_log = l })) log good
   consistent_write_taken work (write ∷ writes) is log =
       consistent_quiet keys core good core.valid_after core.read_log writes core.pending
-      (moved_on core.maintenance core.maintenance.orders (place.Apply (record work { left = work.left - 1 }) write))
+      (moved_on core.maintenance core.maintenance.orders (phase.Apply (record work { left = work.left - 1 }) write))
       (Reorders-none core.maintenance.orders)
       counts
-      (omega (arith, ap length log, (fits_at (place.Writes work) is).1))
+      (omega (arith, ap length log, (fits_at (phase.Writes work) is).1))
     where
       counts : (w : Write) → count_pending w core.pending + count_of w writes + count_of w (write ∷ []) ≡ outstanding core w
       counts w =
           let whole : count_of w core.write_log ≡ count_of w (write ∷ []) + count_of w writes = ap (count_of w) log
           ∙ count-append (same_write w) (write ∷ []) writes in
-          let none : count_of w (held core.maintenance.place) ≡ 0 = ap (count_of w) (held_at (place.Writes work) is) in
+          let none : count_of w (held core.maintenance.phase) ≡ 0 = ap (count_of w) (held_at (phase.Writes work) is) in
           omega (arith, whole, none)
 
   -- ---- operations are applied
 
-  pub consistent_hit : (work : Work) (t : Ticket) (moment : ℕ) → core.maintenance.place ≡ place.ReadApply work (Hit t moment)
+  pub consistent_hit : (work : Work) (t : Ticket) (moment : ℕ) → core.maintenance.phase ≡ phase.ReadApply work (Hit t moment)
       → AreEntriesConsistent keys (after_plan_at t (after_hit work t moment core.maintenance) core)
   consistent_hit work t moment is =
       let m = core.maintenance in
@@ -181,30 +181,30 @@ module _ {K V S : Type 0} (keys : Keys K S) (core : CoreState K V S) (good : Are
       consistent_look keys core good t end (record { ticket = λ e. refl; key = λ e. refl })
       (ChangesNode-from t m.orders (used t m.orders) kept)
       (fits_reads core.settings.policy.max_capacity (used t m.orders) (length core.read_log) (length core.write_log) work
-      (fits_at (place.ReadApply work (Hit t moment)) is))
-      (held_reads work ∙ sym (held_at (place.ReadApply work (Hit t moment)) is))
+      (fits_at (phase.ReadApply work (Hit t moment)) is))
+      (held_reads work ∙ sym (held_at (phase.ReadApply work (Hit t moment)) is))
       (sound_by (keeps_writes core.settings.policy) _ (option_map (touched moment) (entry_of t core.entries)) (charge_of t m.orders) refl
       (kept.charges t) (kept.writes t ∙ (good.stays t).written)
       (tied_touched moment (entry_of t core.entries) (charge_of t m.orders) (outstanding core (Upsert t)) (outstanding core (Remove t))
       (good.stays t).tied))
       (λ none. kept.charges t ∙ none) (λ none. kept.writes t ∙ none)
 
-  pub consistent_read : (work : Work) (read : Read) → core.maintenance.place ≡ place.ReadApply work read
+  pub consistent_read : (work : Work) (read : Read) → core.maintenance.phase ≡ phase.ReadApply work read
       → AreEntriesConsistent keys (after_plan (read_turn work read core.maintenance) core)
   consistent_read work (Hit t moment) is = consistent_hit work t moment is
   consistent_read work (Miss hash) is =
       consistent_quiet keys core good core.valid_after core.read_log core.write_log core.pending (after_miss work hash core.maintenance)
       (Reorders-none core.maintenance.orders)
       (λ w. ap (λ ws. count_pending w core.pending + count_of w core.write_log + count_of w ws)
-      (held_reads work ∙ sym (held_at (place.ReadApply work (Miss hash)) is)))
+      (held_reads work ∙ sym (held_at (phase.ReadApply work (Miss hash)) is)))
       (fits_reads core.settings.policy.max_capacity core.maintenance.orders (length core.read_log) (length core.write_log) work
-      (fits_at (place.ReadApply work (Miss hash)) is))
+      (fits_at (phase.ReadApply work (Miss hash)) is))
 
-  pub consistent_removal : (work : Work) (t : Ticket) → core.maintenance.place ≡ place.Apply work (Remove t)
+  pub consistent_removal : (work : Work) (t : Ticket) → core.maintenance.phase ≡ phase.Apply work (Remove t)
       → AreEntriesConsistent keys (record core { maintenance = after_removal work t core.maintenance })
   consistent_removal work t is =
       let m = core.maintenance in
-      let p = place.Apply work (Remove t) in
+      let p = phase.Apply work (Remove t) in
       consistent_removal_done keys core good t (record { change = Stays; maintenance = after_removal work t m }) tt
       (ChangesNode-without t m.orders)
       (fits_writes core.settings.policy.max_capacity (without_node t m.orders) (length core.read_log) (length core.write_log) work
@@ -223,7 +223,7 @@ module _ {K V S : Type 0} (keys : Keys K S) (core : CoreState K V S) (good : Are
           by None h = absurd (omega (arith, h.2, count))
           by (Some c) h = absurd (omega (arith, h.2, count))
 
-  module _ (refused : Bool) (work : Work) (t : Ticket) (is : core.maintenance.place ≡ place.Apply work (Upsert t)) where
+  module _ (refused : Bool) (work : Work) (t : Ticket) (is : core.maintenance.phase ≡ phase.Apply work (Upsert t)) where
     abbrev Good : Outcome K V → Type 0
     Good end = AreEntriesConsistent keys (record core { entries = after_change t end.change core.entries; maintenance = end.maintenance })
 
@@ -231,10 +231,10 @@ module _ {K V S : Type 0} (keys : Keys K S) (core : CoreState K V S) (good : Are
         → Fits core.settings.policy.max_capacity orders (length core.read_log) (length core.write_log) (writes_or_on work)
     fits_next orders =
         fits_writes core.settings.policy.max_capacity orders (length core.read_log) (length core.write_log) work
-        (fits_at (place.Apply work (Upsert t)) is)
+        (fits_at (phase.Apply work (Upsert t)) is)
 
-    here : held core.maintenance.place ≡ Upsert t ∷ []
-    here = held_at (place.Apply work (Upsert t)) is
+    here : held core.maintenance.phase ≡ Upsert t ∷ []
+    here = held_at (phase.Apply work (Upsert t)) is
 
     module _ (e : Entry K V) (found : entry_of t core.entries ≡ Some e) where
       -- its node is charged with its weight
@@ -284,17 +284,17 @@ module _ {K V S : Type 0} (keys : Keys K S) (core : CoreState K V S) (good : Are
         -- a scan decides
         upsert_scanned : IsSome core.settings.policy.max_capacity
             → Good (outcome Stays core.maintenance core.maintenance.orders
-            (place.Scan work (record { ticket = t; weight = e.weight; estimate = estimate core.maintenance.sketch t.hash }) no_tally []))
+            (phase.Scan work (record { ticket = t; weight = e.weight; estimate = estimate core.maintenance.sketch t.hash }) no_tally []))
         upsert_scanned some =
             let o = core.maintenance.orders in
             consistent_look keys core good t
             (outcome Stays core.maintenance o
-            (place.Scan work (record { ticket = t; weight = e.weight; estimate = estimate core.maintenance.sketch t.hash }) no_tally
+            (phase.Scan work (record { ticket = t; weight = e.weight; estimate = estimate core.maintenance.sketch t.hash }) no_tally
             [])) tt
             (ChangesNode-from t o o (Reorders-none o))
             (record {
               limited = some;
-              left = fits_at (place.Apply work (Upsert t)) is;
+              left = fits_at (phase.Apply work (Upsert t)) is;
               outside = charge;
               begins =
                   record { rest = map (λ n. n.ticket) o.access; is = refl };
@@ -328,7 +328,7 @@ module _ {K V S : Type 0} (keys : Keys K S) (core : CoreState K V S) (good : Are
     pub consistent_upsert : AreEntriesConsistent keys (after_plan_at t (after_upsert core.settings refused work t core.maintenance) core)
     consistent_upsert = upsert_found (entry_of t core.entries) refl
 
-  pub consistent_write : (refused : Bool) (work : Work) (write : Write) → core.maintenance.place ≡ place.Apply work write
+  pub consistent_write : (refused : Bool) (work : Work) (write : Write) → core.maintenance.phase ≡ phase.Apply work write
       → AreEntriesConsistent keys (after_plan (write_turn core.settings core.valid_after refused work write core.maintenance) core)
   consistent_write refused work (Upsert t) is = consistent_upsert refused work t is
   consistent_write refused work (Remove t) is = consistent_removal work t is

@@ -14,10 +14,10 @@ use Rattle.moka_sync_model.specs.declared.operation.Write.{Write}
 use Rattle.moka_sync_model.specs.declared.operation.Write.TheVariants.{Upsert, Remove}
 use Rattle.moka_sync_model.specs.declared.operation.Operation.{Operation}
 use Rattle.moka_sync_model.specs.declared.operation.Operation.TheVariants.{Reading, Writing}
-use Rattle.moka_sync_model.specs.declared.place.Place.{Place as PlaceName}
-use Rattle.moka_sync_model.specs.declared.place.Place.TheVariants as name
-use Rattle.moka_sync_model.specs.Place as place
-use Rattle.moka_sync_model.specs.Place.{Place, is_idle, name_of}
+use Rattle.moka_sync_model.specs.declared.phase.Phase.{Phase as PhaseName}
+use Rattle.moka_sync_model.specs.declared.phase.Phase.TheVariants as name
+use Rattle.moka_sync_model.specs.Phase as phase
+use Rattle.moka_sync_model.specs.Phase.{Phase, is_idle, name_of}
 use Rattle.moka_sync_model.specs.CoreState.{CoreState, pending_of, with_pending, without_pending}
 use Rattle.moka_sync_model.specs.Turn.Plan.{Plan, Alone, AtReads, AtWrites, AtEntry, after_plan}
 use Rattle.moka_sync_model.specs.Turn.Turn.{turn_at, after_turn}
@@ -42,33 +42,33 @@ use Rattle.moka_sync_model.proofs.EmptyingLemmas.{IsEmptying, emptying_turn}
 use Rattle.moka_sync_model.proofs.EvictionLemmas.{turn_evicts}
 
 -- at the end no turn is the eviction's
-pub evicting_idle : (p : Place) → evicting p place.Idle ≡ 0
-evicting_idle (place.Evict turns) = refl
+pub evicting_idle : (p : Phase) → evicting p phase.Idle ≡ 0
+evicting_idle (phase.Evict turns) = refl
 evicting_idle other = refl
 
 empty_log : {X : Type 0} (xs : List X) → length xs ≡ 0 → xs ≡ []
 empty_log [] none = refl
 empty_log (x ∷ xs) none = absurd (omega (arith, none))
 
--- only the idle place has its name
-pub named_idle : (p : Place) → name_of p ≡ name.Idle → p ≡ place.Idle
-named_idle place.Idle is = refl
-named_idle (place.ReadCount round) is = absurd (cc)
-named_idle (place.Reads work) is = absurd (cc)
-named_idle (place.ReadApply work read) is = absurd (cc)
-named_idle (place.WriteCount round) is = absurd (cc)
-named_idle (place.Writes work) is = absurd (cc)
-named_idle (place.Apply work write) is = absurd (cc)
-named_idle (place.Scan work c tally seen) is = absurd (cc)
-named_idle (place.Removing work c tally skipped left) is = absurd (cc)
-named_idle (place.Enter work c skipped) is = absurd (cc)
-named_idle (place.Sketch round) is = absurd (cc)
-named_idle (place.MoreReads round) is = absurd (cc)
-named_idle (place.MoreWrites round) is = absurd (cc)
-named_idle (place.ExpireWrite turns) is = absurd (cc)
-named_idle (place.ExpireAccess turns) is = absurd (cc)
-named_idle (place.Evict turns) is = absurd (cc)
-named_idle (place.Publish turns) is = absurd (cc)
+-- only the idle phase has its name
+pub named_idle : (p : Phase) → name_of p ≡ name.Idle → p ≡ phase.Idle
+named_idle phase.Idle is = refl
+named_idle (phase.ReadCount round) is = absurd (cc)
+named_idle (phase.Reads work) is = absurd (cc)
+named_idle (phase.ReadApply work read) is = absurd (cc)
+named_idle (phase.WriteCount round) is = absurd (cc)
+named_idle (phase.Writes work) is = absurd (cc)
+named_idle (phase.Apply work write) is = absurd (cc)
+named_idle (phase.Scan work c tally seen) is = absurd (cc)
+named_idle (phase.Removing work c tally skipped left) is = absurd (cc)
+named_idle (phase.Enter work c skipped) is = absurd (cc)
+named_idle (phase.Sketch round) is = absurd (cc)
+named_idle (phase.MoreReads round) is = absurd (cc)
+named_idle (phase.MoreWrites round) is = absurd (cc)
+named_idle (phase.ExpireWrite turns) is = absurd (cc)
+named_idle (phase.ExpireAccess turns) is = absurd (cc)
+named_idle (phase.Evict turns) is = absurd (cc)
+named_idle (phase.Publish turns) is = absurd (cc)
 
 module _ {K V S : Type 0} (keys : Keys K S) (laws : IsEquivalence keys.eq) (weighs : K → V → ℕ → Type 0) where
   abbrev pub Core : Type 0
@@ -83,17 +83,17 @@ module _ {K V S : Type 0} (keys : Keys K S) (laws : IsEquivalence keys.eq) (weig
 
   -- ---- a maintenance
 
-  -- what a turn with its place has done
-  pub record TurnFacts (old : Core) (p : PlaceName) (new : Core) : Type 0 where
+  -- what a turn with its phase has done
+  pub record TurnFacts (old : Core) (p : PhaseName) (new : Core) : Type 0 where
     pub refused : Bool
-    pub busy : old.maintenance.place ≡ place.Idle → ⊥
-    pub at : name_of new.maintenance.place ≡ p
+    pub busy : old.maintenance.phase ≡ phase.Idle → ⊥
+    pub at : name_of new.maintenance.phase ≡ p
     pub is : new ≡ after_turn refused old
 
-  pub turn_facts : (old new : Core) (p : PlaceName) → Step old event.Turn (At p) new → TurnFacts old p new
-  turn_facts old new p h = by (is_idle old.maintenance.place) refl h.step
+  pub turn_facts : (old new : Core) (p : PhaseName) → Step old event.Turn (At p) new → TurnFacts old p new
+  turn_facts old new p h = by (is_idle old.maintenance.phase) refl h.step
     where
-      by : (idle : Bool) → is_idle old.maintenance.place ≡ idle → IsTurn keys old h.refused idle (At p) new → TurnFacts old p new
+      by : (idle : Bool) → is_idle old.maintenance.phase ≡ idle → IsTurn keys old h.refused idle (At p) new → TurnFacts old p new
       by true is step = let word = step.0 in absurd (cc)
       by false is step =
           let word = step.0 in
@@ -101,12 +101,12 @@ module _ {K V S : Type 0} (keys : Keys K S) (laws : IsEquivalence keys.eq) (weig
             refused = h.refused;
             busy = λ at. false≢true (sym is ∙ ap is_idle at);
             at =
-                let same : name_of new.maintenance.place ≡ p = cc in same;
+                let same : name_of new.maintenance.phase ≡ p = cc in same;
             is = step.1;
           }
 
   pending_kept : (refused : Bool) (core : Core) → (after_turn refused core).pending ≡ core.pending
-  pending_kept refused core = by (turn_at core.settings core.valid_after refused core.maintenance.place core.maintenance)
+  pending_kept refused core = by (turn_at core.settings core.valid_after refused core.maintenance.phase core.maintenance)
     where
       by : (look : Plan K V) → (after_plan look core).pending ≡ core.pending
       by (Alone m) = refl
@@ -118,18 +118,18 @@ module _ {K V S : Type 0} (keys : Keys K S) (laws : IsEquivalence keys.eq) (weig
   abbrev pub turns_evicting : (old new : Core) → CoreTurns keys weighs old new → ℕ
   turns_evicting old new (LastTurn _ _ step) = 0
   turns_evicting old new (NextTurn _ next _ p busy step turns) =
-      evicting old.maintenance.place next.maintenance.place + turns_evicting next new turns
+      evicting old.maintenance.phase next.maintenance.phase + turns_evicting next new turns
 
   pub record IsMaintained (kept : List (ℕ × Operation)) (used : ℕ) (new : Core) : Type 0 where
     pub good : IsConsistent keys new
     pub pending : new.pending ≡ kept
-    pub place : new.maintenance.place ≡ place.Idle
+    pub phase : new.maintenance.phase ≡ phase.Idle
     pub read_log : new.read_log ≡ []
     pub write_log : new.write_log ≡ []
     pub trimmed : IsTrimmed new.settings.policy.max_capacity new.maintenance.orders used
 
   at_end : (kept : List (ℕ × Operation)) (used : ℕ) (new : Core) → IsConsistent keys new → new.pending ≡ kept
-      → new.maintenance.place ≡ place.Idle → IsEmptying used new → IsMaintained kept used new
+      → new.maintenance.phase ≡ phase.Idle → IsEmptying used new → IsMaintained kept used new
   at_end kept used new good pending at h =
       let ends =
       subst (Empties new.settings.policy.max_capacity new.maintenance.orders used (length new.read_log) (length new.write_log)) at h
@@ -137,19 +137,19 @@ module _ {K V S : Type 0} (keys : Keys K S) (laws : IsEquivalence keys.eq) (weig
       record {
         good = good;
         pending = pending;
-        place = at;
+        phase = at;
         read_log = empty_log new.read_log ends.0;
         write_log =
             empty_log new.write_log ends.1;
         trimmed = ends.2;
       }
 
-  module _ (old new : Core) (p : PlaceName) (n : ℕ) (step : Step old event.Turn (At p) new) (good : IsConsistent keys old)
+  module _ (old new : Core) (p : PhaseName) (n : ℕ) (step : Step old event.Turn (At p) new) (good : IsConsistent keys old)
       (way : IsEmptying n old) where
-    way_on : IsEmptying (n + evicting old.maintenance.place new.maintenance.place) new
+    way_on : IsEmptying (n + evicting old.maintenance.phase new.maintenance.phase) new
     way_on =
         let facts = turn_facts old new p step in
-        subst (λ c. IsEmptying (n + evicting old.maintenance.place c.maintenance.place) c) (sym facts.is)
+        subst (λ c. IsEmptying (n + evicting old.maintenance.phase c.maintenance.phase) c) (sym facts.is)
         (emptying_turn keys old good.entries n facts.refused facts.busy way)
 
     pending_on : new.pending ≡ old.pending
@@ -159,14 +159,14 @@ module _ {K V S : Type 0} (keys : Keys K S) (laws : IsEquivalence keys.eq) (weig
       → IsMaintained old.pending (n + turns_evicting old new turns) new
   turns_maintain old new n good way (LastTurn _ _ step) =
       let facts = turn_facts old new name.Idle step in
-      let idle = named_idle new.maintenance.place facts.at in
-      let none : n + evicting old.maintenance.place new.maintenance.place ≡ n + 0 = ap (λ p. n + evicting old.maintenance.place p) idle
-      ∙ ap (λ k. n + k) (evicting_idle old.maintenance.place) in
+      let idle = named_idle new.maintenance.phase facts.at in
+      let none : n + evicting old.maintenance.phase new.maintenance.phase ≡ n + 0 = ap (λ p. n + evicting old.maintenance.phase p) idle
+      ∙ ap (λ k. n + k) (evicting_idle old.maintenance.phase) in
       at_end old.pending (n + 0) new (consistent_step old new event.Turn (At name.Idle) good step)
       (pending_on old new name.Idle n step good way) idle
       (subst (λ k. IsEmptying k new) none (way_on old new name.Idle n step good way))
   turns_maintain old new n good way (NextTurn _ next _ p busy step turns) =
-      let more : ℕ = evicting old.maintenance.place next.maintenance.place in
+      let more : ℕ = evicting old.maintenance.phase next.maintenance.phase in
       let later =
       turns_maintain next new (n + more) (consistent_step old next event.Turn (At p) good step) (way_on old next p n step good way)
       turns in
@@ -174,7 +174,7 @@ module _ {K V S : Type 0} (keys : Keys K S) (laws : IsEquivalence keys.eq) (weig
       record {
         good = later.good;
         pending = later.pending ∙ pending_on old next p n step good way;
-        place = later.place;
+        phase = later.phase;
         read_log = later.read_log;
         write_log = later.write_log;
         trimmed = subst (IsTrimmed new.settings.policy.max_capacity new.maintenance.orders) sum later.trimmed;
@@ -184,11 +184,11 @@ module _ {K V S : Type 0} (keys : Keys K S) (laws : IsEquivalence keys.eq) (weig
   CoreMaintains now old new = Maintains Step Decides has_pending CALLER now old new
 
   begin_facts : (old new : Core) (now : ℕ) → Step old (event.Begin now) Done new
-      → new ≡ record old { maintenance = record old.maintenance { place = place.ReadCount 1; moment = now } }
-  begin_facts old new now h = by (is_idle old.maintenance.place) h.step
+      → new ≡ record old { maintenance = record old.maintenance { phase = phase.ReadCount 1; moment = now } }
+  begin_facts old new now h = by (is_idle old.maintenance.phase) h.step
     where
       by : (idle : Bool) → IsBeginning keys old now idle Done new
-          → new ≡ record old { maintenance = record old.maintenance { place = place.ReadCount 1; moment = now } }
+          → new ≡ record old { maintenance = record old.maintenance { phase = phase.ReadCount 1; moment = now } }
       by true step = step.1
       by false step = let word = step.0 in absurd (cc)
 
@@ -204,7 +204,7 @@ module _ {K V S : Type 0} (keys : Keys K S) (laws : IsEquivalence keys.eq) (weig
       record {
         good = all.good;
         pending = all.pending ∙ ap (λ c. c.pending) is;
-        place = all.place;
+        phase = all.phase;
         read_log = all.read_log;
         write_log = all.write_log;
         trimmed = subst (IsTrimmed new.settings.policy.max_capacity new.maintenance.orders) sum all.trimmed;
@@ -216,17 +216,17 @@ module _ {K V S : Type 0} (keys : Keys K S) (laws : IsEquivalence keys.eq) (weig
   turns_evict old new n good way free (LastTurn _ _ step) = refl
   turns_evict old new n good way free (NextTurn _ next _ p busy step turns) =
       let facts = turn_facts old next p step in
-      let one : evicted_at old.maintenance.place (length old.entries) (length next.entries)
-      ≡ evicting old.maintenance.place next.maintenance.place =
-      subst (λ c. evicted_at old.maintenance.place (length old.entries) (length c.entries)
-      ≡ evicting old.maintenance.place c.maintenance.place) (sym facts.is)
+      let one : evicted_at old.maintenance.phase (length old.entries) (length next.entries)
+      ≡ evicting old.maintenance.phase next.maintenance.phase =
+      subst (λ c. evicted_at old.maintenance.phase (length old.entries) (length c.entries)
+      ≡ evicting old.maintenance.phase c.maintenance.phase) (sym facts.is)
       (turn_evicts keys old good.entries n facts.refused way free) in
       let rest =
-      turns_evict next new (n + evicting old.maintenance.place next.maintenance.place)
+      turns_evict next new (n + evicting old.maintenance.phase next.maintenance.phase)
       (consistent_step old next event.Turn (At p) good step) (way_on old next p n step good way)
       (pending_on old next p n step good way ∙ free) turns in
       ap (λ k. k + entries_evicted keys weighs next new turns) one
-      ∙ ap (λ k. evicting old.maintenance.place next.maintenance.place + k) rest
+      ∙ ap (λ k. evicting old.maintenance.phase next.maintenance.phase + k) rest
 
   pub maintained_evicts : (now : ℕ) (old new : Core) → IsConsistent keys old → old.pending ≡ [] → (m : CoreMaintains now old new)
       → entries_evicted keys weighs m.begun new m.turns ≡ turns_evicting m.begun new m.turns
@@ -246,7 +246,7 @@ module _ {K V S : Type 0} (keys : Keys K S) (laws : IsEquivalence keys.eq) (weig
   pub record Pends (operation : Operation) (core : Core) : Type 0 where
     pub good : IsConsistent keys core
     pub pending : core.pending ≡ (CALLER, operation) ∷ []
-    pub place : core.maintenance.place ≡ place.Idle
+    pub phase : core.maintenance.phase ≡ phase.Idle
 
   pub pending_is : (operation : Operation) (core : Core) → core.pending ≡ (CALLER, operation) ∷ [] → pending_of CALLER core ≡ Some operation
   pending_is operation core is = ap (lookup (eqb CALLER)) is
@@ -285,7 +285,7 @@ module _ {K V S : Type 0} (keys : Keys K S) (laws : IsEquivalence keys.eq) (weig
 
   pub scheduled_pends : (operation : Operation) (runs : Bool) (now : ℕ) (core : Core) → Pends operation core
       → Pends operation (scheduled runs now core)
-  scheduled_pends operation true now core h = record { good = good_scheduled true now core h.good; pending = h.pending; place = h.place }
+  scheduled_pends operation true now core h = record { good = good_scheduled true now core h.good; pending = h.pending; phase = h.phase }
   scheduled_pends operation false now core h = h
 
   pub due_pends : (operation : Operation) (log : Log) (now : ℕ) (old new : Core) → Pends operation old
@@ -296,13 +296,13 @@ module _ {K V S : Type 0} (keys : Keys K S) (laws : IsEquivalence keys.eq) (weig
       by : (runs : Bool) → Pends operation due.decided → MaintainsIf Step Decides has_pending CALLER runs now due.decided new
           → Pends operation new
       by true h m = let all = maintained now due.decided new h.good m in
-          record { good = all.good; pending = all.pending ∙ h.pending; place = all.place }
+          record { good = all.good; pending = all.pending ∙ h.pending; phase = all.phase }
       by false h is = subst (Pends operation) (sym is) h
 
   -- a push that is done
-  rests_by : (old new : Core) → IsConsistent keys new → new.pending ≡ [] → new.maintenance.place ≡ old.maintenance.place
-      → old.maintenance.place ≡ place.Idle → Rests new
-  rests_by old new good pending same idle = record { good = good; rest = record { pending = pending; place = same ∙ idle } }
+  rests_by : (old new : Core) → IsConsistent keys new → new.pending ≡ [] → new.maintenance.phase ≡ old.maintenance.phase
+      → old.maintenance.phase ≡ phase.Idle → Rests new
+  rests_by old new good pending same idle = record { good = good; rest = record { pending = pending; phase = same ∙ idle } }
 
   read_rests : (read : Read) (now : ℕ) (old new : Core) → Pends (Reading read) old
       → PushesRead Step Decides has_pending CALLER now old new → Rests new
@@ -325,9 +325,9 @@ module _ {K V S : Type 0} (keys : Keys K S) (laws : IsEquivalence keys.eq) (weig
               × (new ≡ record push.next { read_log = push.next.read_log ++ read ∷ []; pending = without_pending CALLER push.next }))
               ((reply ≡ Discarded) × (new ≡ record push.next { pending = without_pending CALLER push.next }))
               (λ b q. rests_by push.next new good (ap (λ c. c.pending) q.1 ∙ none_left (Reading read) push.next ready.pending)
-              (ap (λ c. c.maintenance.place) q.1) ready.place)
+              (ap (λ c. c.maintenance.phase) q.1) ready.phase)
               (λ b q. rests_by push.next new good (ap (λ c. c.pending) q.1 ∙ none_left (Reading read) push.next ready.pending)
-              (ap (λ c. c.maintenance.place) q.1) ready.place) p
+              (ap (λ c. c.maintenance.phase) q.1) ready.phase) p
 
       by : Step push.next (event.Push CALLER) Done new ⊎ Step push.next (event.Push CALLER) Discarded new → Rests new
       by (inl step) = pushed Done step
@@ -349,7 +349,7 @@ module _ {K V S : Type 0} (keys : Keys K S) (laws : IsEquivalence keys.eq) (weig
       elim (write_pushed write next new Done (pending_is (Writing write) next ready.pending) step) [
         | inl q ↦
             rests_by next new (consistent_step next new (event.Push CALLER) Done ready.good step)
-            (ap (λ c. c.pending) q.1 ∙ none_left (Writing write) next ready.pending) (ap (λ c. c.maintenance.place) q.1) ready.place
+            (ap (λ c. c.pending) q.1 ∙ none_left (Writing write) next ready.pending) (ap (λ c. c.maintenance.phase) q.1) ready.phase
         | inr r ↦ let word = r.1.0 in absurd (cc)
       ]
     where
@@ -378,13 +378,13 @@ module _ {K V S : Type 0} (keys : Keys K S) (laws : IsEquivalence keys.eq) (weig
 
     -- the caller has this operation now
     pub now_pends : (operation : Operation) (new : Core) → IsConsistent keys new → new.pending ≡ with_pending CALLER operation old
-        → new.maintenance.place ≡ old.maintenance.place → Pends operation new
-    now_pends operation new good pending place =
+        → new.maintenance.phase ≡ old.maintenance.phase → Pends operation new
+    now_pends operation new good pending phase =
         record {
           good = good;
           pending = pending ∙ ap (λ ps. ps ++ (CALLER, operation) ∷ []) rests.rest.pending;
-          place =
-              place ∙ rests.rest.place;
+          phase =
+              phase ∙ rests.rest.phase;
         }
 
     still_rests : (new : Core) → new ≡ old → Rests new
@@ -401,7 +401,7 @@ module _ {K V S : Type 0} (keys : Keys K S) (laws : IsEquivalence keys.eq) (weig
             → call.next ≡ record old { pending = with_pending CALLER (Reading read) old } → Rests new
         answered read o word is =
             read_rests read now call.next new
-            (now_pends (Reading read) call.next good (ap (λ c. c.pending) is) (ap (λ c. c.maintenance.place) is))
+            (now_pends (Reading read) call.next good (ap (λ c. c.pending) is) (ap (λ c. c.maintenance.phase) is))
             (follows o (subst (λ r. AfterGet Step Decides has_pending CALLER now r true call.next new) word call.follows))
           where
             follows : (o : Option V) → AfterGet Step Decides has_pending CALLER now (Found o) true call.next new
@@ -433,9 +433,9 @@ module _ {K V S : Type 0} (keys : Keys K S) (laws : IsEquivalence keys.eq) (weig
         After r = AfterInsert Step Decides has_pending CALLER now r call.next new
 
         done : (t : Write) → reply ≡ Done → call.next.pending ≡ with_pending CALLER (Writing t) old
-            → call.next.maintenance.place ≡ old.maintenance.place → Rests new
-        done write word pending place =
-            write_rests write now call.next new (now_pends (Writing write) call.next good pending place)
+            → call.next.maintenance.phase ≡ old.maintenance.phase → Rests new
+        done write word pending phase =
+            write_rests write now call.next new (now_pends (Writing write) call.next good pending phase)
             (subst (λ r. AfterInsert Step Decides has_pending CALLER now r call.next new) word call.follows)
 
         by : (refused : Bool) (present : Option (Entry K V))
@@ -446,13 +446,13 @@ module _ {K V S : Type 0} (keys : Keys K S) (laws : IsEquivalence keys.eq) (weig
             by_Bool _ (OnlyReplies keys old TicketsUsedUp reply call.next)
             (IsUpdate keys old CALLER e value now call.first.weight reply call.next)
             (λ b r. still_rests new (subst (λ w. AfterInsert Step Decides has_pending CALLER now w call.next new) r.0 call.follows ∙ r.1))
-            (λ b u. done (Upsert e.ticket) u.0 (ap (λ c. c.pending) u.1) (ap (λ c. c.maintenance.place) u.1)) h
+            (λ b u. done (Upsert e.ticket) u.0 (ap (λ c. c.pending) u.1) (ap (λ c. c.maintenance.phase) u.1)) h
         by false None h =
             by_Bool _ (OnlyReplies keys old TicketsUsedUp reply call.next)
             (IsAddition keys old CALLER (fresh_entry keys old key value call.first.weight now) reply call.next)
             (λ b r. still_rests new (subst (λ w. AfterInsert Step Decides has_pending CALLER now w call.next new) r.0 call.follows ∙ r.1))
             (λ b a. done (Upsert (fresh_entry keys old key value call.first.weight now).ticket) a.2 (ap (λ c. c.pending) a.3)
-            (ap (λ c. c.maintenance.place) a.3)) h
+            (ap (λ c. c.maintenance.phase) a.3)) h
 
     -- what follows an invalidation, and a removal
     out_rests : (now : ℕ) (next new : Core) → IsConsistent keys next → (present : Option (Entry K V))
@@ -463,7 +463,7 @@ module _ {K V S : Type 0} (keys : Keys K S) (laws : IsEquivalence keys.eq) (weig
         still_rests new (subst (λ b. PushesIf Step Decides has_pending CALLER b now next new) none follows ∙ h.1)
     out_rests now next new good (Some e) h follows =
         let ready =
-        now_pends (Writing (Remove e.ticket)) next good (ap (λ c. c.pending) h.1) (ap (λ c. c.maintenance.place) h.1) in
+        now_pends (Writing (Remove e.ticket)) next good (ap (λ c. c.pending) h.1) (ap (λ c. c.maintenance.phase) h.1) in
         let some : has_pending next ≡ true = ap is_some (pending_is (Writing (Remove e.ticket)) next ready.pending) in
         write_rests (Remove e.ticket) now next new ready
         (subst (λ b. PushesIf Step Decides has_pending CALLER b now next new) some follows)
@@ -492,7 +492,7 @@ module _ {K V S : Type 0} (keys : Keys K S) (laws : IsEquivalence keys.eq) (weig
     call_rests (InvalidateAll now) reply new h =
         let is = h.step.1 in
         rests_by old new (consistent_step old new (event.InvalidateAll now) reply rests.good h)
-        (ap (λ c. c.pending) is ∙ rests.rest.pending) (ap (λ c. c.maintenance.place) is) rests.rest.place
+        (ap (λ c. c.pending) is ∙ rests.rest.pending) (ap (λ c. c.maintenance.phase) is) rests.rest.phase
     call_rests (Sync now) reply new h = let all = maintained now old new rests.good h.1 in
-        record { good = all.good; rest = record { pending = all.pending ∙ rests.rest.pending; place = all.place } }
+        record { good = all.good; rest = record { pending = all.pending ∙ rests.rest.pending; phase = all.phase } }
     call_rests Counts reply new h = still_rests new h.1

@@ -13,11 +13,11 @@ use Rattle.moka_sync_model.specs.Entry.{Entry, entry_of, updated}
 use Rattle.moka_sync_model.specs.declared.operation.Read.TheVariants.{Hit, Miss}
 use Rattle.moka_sync_model.specs.declared.operation.Write.TheVariants.{Upsert, Remove}
 use Rattle.moka_sync_model.specs.Orders.{Node, Orders, charge_of, charged_weight, used, rewritten}
-use Rattle.moka_sync_model.specs.Place as place
+use Rattle.moka_sync_model.specs.Phase as phase
 use Rattle.moka_sync_model.specs.declared.progress.Work.{Work}
 use Rattle.moka_sync_model.specs.declared.progress.Candidate.{Candidate}
 use Rattle.moka_sync_model.specs.declared.progress.Tally.{Tally}
-use Rattle.moka_sync_model.specs.Place.{Place, Seen}
+use Rattle.moka_sync_model.specs.Phase.{Phase, Seen}
 use Rattle.moka_sync_model.specs.CoreState.{CoreState}
 use Rattle.moka_common.specs.Settings.{keeps_writes}
 use Rattle.moka_sync_model.specs.Turn.Plan.{Change, Stays, Becomes, Leaves, Outcome, after_change, after_plan_at, gone_to, Alone, AtEntry}
@@ -141,7 +141,7 @@ module _ {K V S : Type 0} (keys : Keys K S) (core : CoreState K V S) (good : Are
           record { candidate = own ∙ sym taken.0; ended = is; rejected = verdict }
 
   removing_leaves : (work : Work) (c : Candidate) (tally : Tally) (skipped : List Ticket) (left : List Seen)
-      → core.maintenance.place ≡ place.Removing work c tally skipped left
+      → core.maintenance.phase ≡ phase.Removing work c tally skipped left
       → entry_of t (after_plan (after_removing work c tally skipped left core.maintenance) core).entries ≡ None
       → IsVictim core e c tally left
   removing_leaves work c tally skipped [] is gone = still gone
@@ -169,7 +169,7 @@ module _ {K V S : Type 0} (keys : Keys K S) (core : CoreState K V S) (good : Are
             rest = left;
             seen = ap (λ x. x ∷ left) same;
             admitted =
-                (fits_at keys core good (place.Removing work c tally skipped (s ∷ left)) is).2;
+                (fits_at keys core good (phase.Removing work c tally skipped (s ∷ left)) is).2;
           }
       by false absent gone = still gone
 
@@ -190,7 +190,7 @@ module _ {K V S : Type 0} (keys : Keys K S) (core : CoreState K V S) (good : Are
 
   -- ---- the turns at a front
 
-  front_leaves : (front : Option Ticket) (is_over : Entry K V → Bool) (sends : Ticket → Orders → Orders) (more done : Place)
+  front_leaves : (front : Option Ticket) (is_over : Entry K V → Bool) (sends : Ticket → Orders → Orders) (more done : Phase)
       → entry_of t (after_plan (after_pass front done (after_front is_over sends more done) core.maintenance) core).entries ≡ None
       → (front ≡ Some t) × (is_over e ≡ true)
   front_leaves None is_over sends more done gone = still gone
@@ -209,7 +209,7 @@ module _ {K V S : Type 0} (keys : Keys K S) (core : CoreState K V S) (good : Are
   evict_leaves : (turns : ℕ)
       → entry_of t
       (after_plan
-      (after_pass (eviction_front core.settings turns core.maintenance.orders) (place.Publish turns) (after_eviction turns)
+      (after_pass (eviction_front core.settings turns core.maintenance.orders) (phase.Publish turns) (after_eviction turns)
       core.maintenance) core).entries ≡ None → IsEvicted core e
   evict_leaves turns gone = by (eviction_front core.settings turns core.maintenance.orders) refl gone
     where
@@ -228,7 +228,7 @@ module _ {K V S : Type 0} (keys : Keys K S) (core : CoreState K V S) (good : Are
       counted (Some c) h = h.0
 
       by : (front : Option Ticket) → eviction_front core.settings turns core.maintenance.orders ≡ front
-          → entry_of t (after_plan (after_pass front (place.Publish turns) (after_eviction turns) core.maintenance) core).entries ≡ None
+          → entry_of t (after_plan (after_pass front (phase.Publish turns) (after_eviction turns) core.maintenance) core).entries ≡ None
           → IsEvicted core e
       by None is gone = still gone
       by (Some u) is gone =
@@ -249,44 +249,44 @@ module _ {K V S : Type 0} (keys : Keys K S) (core : CoreState K V S) (good : Are
                 ∙ done u (ltb 0 e.outstanding) refl taken.1;
           }
 
-  pub turn_cause : (refused : Bool) (p : Place) → core.maintenance.place ≡ p
+  pub turn_cause : (refused : Bool) (p : Phase) → core.maintenance.phase ≡ p
       → entry_of t (after_plan (turn_at core.settings core.valid_after refused p core.maintenance) core).entries ≡ None
       → TurnCause core e refused p
-  turn_cause refused place.Idle is gone = still gone
-  turn_cause refused (place.ReadCount round) is gone = still gone
-  turn_cause refused (place.Reads work) is gone = still gone
-  turn_cause refused (place.ReadApply work (Hit u moment)) is gone =
+  turn_cause refused phase.Idle is gone = still gone
+  turn_cause refused (phase.ReadCount round) is gone = still gone
+  turn_cause refused (phase.Reads work) is gone = still gone
+  turn_cause refused (phase.ReadApply work (Hit u moment)) is gone =
       let taken =
       looked u (λ found. (after_hit work u moment core.maintenance found).change)
       (λ found. record { ticket = λ e. refl; key = λ e. refl }) gone in
       cc (taken.1)
-  turn_cause refused (place.ReadApply work (Miss hash)) is gone = still gone
-  turn_cause refused (place.WriteCount round) is gone = still gone
-  turn_cause refused (place.Writes work) is gone = still gone
-  turn_cause refused (place.Apply work (Upsert u)) is gone = upsert_leaves refused work u gone
-  turn_cause refused (place.Apply work (Remove u)) is gone = still gone
-  turn_cause refused (place.Scan work c tally seen) is gone =
+  turn_cause refused (phase.ReadApply work (Miss hash)) is gone = still gone
+  turn_cause refused (phase.WriteCount round) is gone = still gone
+  turn_cause refused (phase.Writes work) is gone = still gone
+  turn_cause refused (phase.Apply work (Upsert u)) is gone = upsert_leaves refused work u gone
+  turn_cause refused (phase.Apply work (Remove u)) is gone = still gone
+  turn_cause refused (phase.Scan work c tally seen) is gone =
       scan_leaves work c tally seen (next_seen c tally seen core.maintenance.orders) refl gone
-  turn_cause refused (place.Removing work c tally skipped left) is gone = removing_leaves work c tally skipped left is gone
-  turn_cause refused (place.Enter work c skipped) is gone = enter_leaves work c skipped gone
-  turn_cause refused (place.Sketch round) is gone = still gone
-  turn_cause refused (place.MoreReads round) is gone = still gone
-  turn_cause refused (place.MoreWrites round) is gone = still gone
-  turn_cause refused (place.ExpireWrite turns) is gone =
+  turn_cause refused (phase.Removing work c tally skipped left) is gone = removing_leaves work c tally skipped left is gone
+  turn_cause refused (phase.Enter work c skipped) is gone = enter_leaves work c skipped gone
+  turn_cause refused (phase.Sketch round) is gone = still gone
+  turn_cause refused (phase.MoreReads round) is gone = still gone
+  turn_cause refused (phase.MoreWrites round) is gone = still gone
+  turn_cause refused (phase.ExpireWrite turns) is gone =
       let both =
       front_leaves (write_front core.settings turns core.maintenance.orders)
-      (is_past_ttl_or_hidden core.settings core.valid_after core.maintenance.moment) rewritten (place.ExpireWrite (turns + 1))
-      (place.ExpireAccess 0) gone in
+      (is_past_ttl_or_hidden core.settings core.valid_after core.maintenance.moment) rewritten (phase.ExpireWrite (turns + 1))
+      (phase.ExpireAccess 0) gone in
       record {
         first =
             subst (λ v. StandsFirst v core.maintenance.orders.write) (sym own) (first_is _ core.maintenance.orders.write t both.0).1;
         over =
             both.1;
       }
-  turn_cause refused (place.ExpireAccess turns) is gone =
+  turn_cause refused (phase.ExpireAccess turns) is gone =
       let both =
       front_leaves (access_front core.settings core.valid_after turns core.maintenance.orders)
-      (is_past_tti_or_hidden core.settings core.valid_after core.maintenance.moment) used (place.ExpireAccess (turns + 1)) (place.Evict 0)
+      (is_past_tti_or_hidden core.settings core.valid_after core.maintenance.moment) used (phase.ExpireAccess (turns + 1)) (phase.Evict 0)
       gone in
       record {
         first =
@@ -294,8 +294,8 @@ module _ {K V S : Type 0} (keys : Keys K S) (core : CoreState K V S) (good : Are
             (first_is _ (map (λ (n : Node). n.ticket) core.maintenance.orders.access) t both.0).1;
         over = both.1;
       }
-  turn_cause refused (place.Evict turns) is gone = evict_leaves turns gone
-  turn_cause refused (place.Publish turns) is gone = still gone
+  turn_cause refused (phase.Evict turns) is gone = evict_leaves turns gone
+  turn_cause refused (phase.Publish turns) is gone = still gone
 
 -- what a search finds passes
 pub find-passes : {X : Type 0} (p : X → Bool) (xs : List X) (x : X) → find p xs ≡ Some x → p x ≡ true
@@ -363,7 +363,7 @@ module _ {K V S : Type 0} (keys : Keys K S) where
     cause event weight refused (Begun now quiet idle is) = stands _ is (λ x. x)
     cause event weight refused (Turned on busy is) =
         subst (λ ev. RemovalCause keys old e ev refused) (sym on)
-        (turn_cause keys old good t e stood refused old.maintenance.place refl (ap (λ c. entry_of t c.entries) (sym is) ∙ gone))
+        (turn_cause keys old good t e stood refused old.maintenance.phase refl (ap (λ c. entry_of t c.entries) (sym is) ∙ gone))
 
   pub leaves_for_cause : LeavesForCause V keys
   leaves_for_cause old new event weight refused reply t e good step stood gone =

@@ -15,7 +15,7 @@ use Rattle.moka_sync_model.specs.declared.operation.Operation.TheVariants.{Readi
 use Rattle.moka_sync_model.specs.declared.operation.Read.{Read}
 use Rattle.moka_sync_model.specs.declared.operation.Write.{Write}
 use Rattle.moka_sync_model.specs.declared.operation.Write.TheVariants.{Upsert, Remove}
-use Rattle.moka_sync_model.specs.Place.{is_idle}
+use Rattle.moka_sync_model.specs.Phase.{is_idle}
 use Rattle.moka_sync_model.specs.CoreState.{CoreState, Maintenance, new_core, with_pending, without_pending, pending_of}
 use Rattle.moka_sync_model.specs.Turn.Turn.{turn_at, after_turn}
 use Rattle.moka_sync_model.specs.Reply.{Reply}
@@ -65,8 +65,8 @@ record IsOrderly {K V S : Type 0} (core : CoreState K V S) : Type 0 where
   pub callers_apart : AreCallersApart core.pending
   pub read_log : length core.read_log ≤ READ_LOG_SIZE
   pub write_log : length core.write_log ≤ WRITE_LOG_SIZE
-  pub round : IsRound core.maintenance.place
-  pub tallied : IsTallied core.maintenance.place
+  pub round : IsRound core.maintenance.phase
+  pub tallied : IsTallied core.maintenance.phase
 
 module _ {K V S : Type 0} (keys : Keys K S) (laws : IsEquivalence keys.eq) where
   module _ (old new : CoreState K V S) (good : IsConsistent keys old) (reply : Reply K V) where
@@ -113,8 +113,8 @@ module _ {K V S : Type 0} (keys : Keys K S) (laws : IsEquivalence keys.eq) where
           callers_apart = subst AreCallersApart (sym pending) (made_apart caller operation free);
           read_log = subst (λ (l : List Read). length l ≤ READ_LOG_SIZE) (sym reads) good.queues.read_log;
           write_log = subst (λ (l : List Write). length l ≤ WRITE_LOG_SIZE) (sym writes) good.queues.write_log;
-          round = subst (λ (m : Maintenance). IsRound m.place) (sym same) good.queues.round;
-          tallied = subst (λ (m : Maintenance). IsTallied m.place) (sym same) good.queues.tallied;
+          round = subst (λ (m : Maintenance). IsRound m.phase) (sym same) good.queues.round;
+          tallied = subst (λ (m : Maintenance). IsTallied m.phase) (sym same) good.queues.tallied;
         })
 
     by_queue : Queues keys old new → IsOrderly new
@@ -144,10 +144,10 @@ module _ {K V S : Type 0} (keys : Keys K S) (laws : IsEquivalence keys.eq) where
           tallied = good.queues.tallied;
         })
 
-    by_turn : (refused : Bool) → is_idle old.maintenance.place ≡ false → IsOrderly (after_turn refused old)
+    by_turn : (refused : Bool) → is_idle old.maintenance.phase ≡ false → IsOrderly (after_turn refused old)
     by_turn refused busy =
-        let kept = kept_turn K V old.settings old.valid_after refused old.maintenance.place old.maintenance refl good.queues.tallied in
-        let less = no_longer K V (turn_at old.settings old.valid_after refused old.maintenance.place old.maintenance) old kept in
+        let kept = kept_turn K V old.settings old.valid_after refused old.maintenance.phase old.maintenance refl good.queues.tallied in
+        let less = no_longer K V (turn_at old.settings old.valid_after refused old.maintenance.phase old.maintenance) old kept in
         record {
           callers_apart = subst AreCallersApart (sym less.pending) good.queues.callers_apart;
           read_log = omega (arith, less.read_log, good.queues.read_log);

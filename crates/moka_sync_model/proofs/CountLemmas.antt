@@ -16,7 +16,7 @@ use Rattle.moka_sync_model.specs.declared.operation.Operation.{Operation}
 use Rattle.moka_sync_model.specs.declared.operation.Operation.TheVariants.{Reading, Writing}
 use Rattle.moka_sync_model.specs.Operation.{same_write, count_of, count_in}
 use Rattle.moka_sync_model.specs.Orders.{Node, charge_of}
-use Rattle.moka_sync_model.specs.Place.{held, Publish}
+use Rattle.moka_sync_model.specs.Phase.{held, Publish}
 use Rattle.moka_sync_model.specs.CoreState.{CoreState}
 use Rattle.moka_sync_model.specs.Consistent.{AreEntriesConsistent, IsTied, outstanding}
 use Rattle.moka_sync_model.specs.Quiescent.{is_upsert, is_pending_upsert, upserts_outstanding}
@@ -129,7 +129,7 @@ module _ {K V S : Type 0} (keys : Keys K S) (core : CoreState K V S) (good : Are
   upsert_counts e =
       count_by (λ o. is_own e.ticket (pending_upsert_of o)) (values_of core.pending)
       + count_by (λ w. is_own e.ticket (upsert_of w)) core.write_log
-      + count_by (λ w. is_own e.ticket (upsert_of w)) (held core.maintenance.place)
+      + count_by (λ w. is_own e.ticket (upsert_of w)) (held core.maintenance.phase)
 
   upserts_are : (e : Entry K V) → outstanding core (Upsert e.ticket) ≡ upsert_counts e
   upserts_are e =
@@ -137,7 +137,7 @@ module _ {K V S : Type 0} (keys : Keys K S) (core : CoreState K V S) (good : Are
         arith,
         count-operations e.ticket (values_of core.pending),
         count-writes e.ticket core.write_log,
-        count-writes e.ticket (held core.maintenance.place),
+        count-writes e.ticket (held core.maintenance.phase),
       )
 
   -- an entry has a node, or an upsert that awaits it
@@ -224,7 +224,7 @@ module _ {K V S : Type 0} (keys : Keys K S) (core : CoreState K V S) (good : Are
       let more =
       sum-add (λ (e : Entry K V). count_by (λ o. is_own e.ticket (pending_upsert_of o)) (values_of core.pending)
       + count_by (λ w. is_own e.ticket (upsert_of w)) core.write_log)
-      (λ (e : Entry K V). count_by (λ w. is_own e.ticket (upsert_of w)) (held core.maintenance.place)) es in
+      (λ (e : Entry K V). count_by (λ w. is_own e.ticket (upsert_of w)) (held core.maintenance.phase)) es in
       let most =
       sum-add (λ (e : Entry K V). count_by (λ o. is_own e.ticket (pending_upsert_of o)) (values_of core.pending))
       (λ (e : Entry K V). count_by (λ w. is_own e.ticket (upsert_of w)) core.write_log) es in
@@ -240,8 +240,8 @@ module _ {K V S : Type 0} (keys : Keys K S) (core : CoreState K V S) (good : Are
         all-operations (values_of core.pending),
         count_together (λ (e : Entry K V). e.ticket) upsert_of es good.entries_apart core.write_log,
         all-writes core.write_log,
-        count_together (λ (e : Entry K V). e.ticket) upsert_of es good.entries_apart (held core.maintenance.place),
-        all-writes (held core.maintenance.place),
+        count_together (λ (e : Entry K V). e.ticket) upsert_of es good.entries_apart (held core.maintenance.phase),
+        all-writes (held core.maintenance.phase),
       )
 
 module _ {K V S : Type 0} (keys : Keys K S) where

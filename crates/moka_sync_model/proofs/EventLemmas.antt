@@ -20,10 +20,10 @@ use Rattle.moka_sync_model.specs.declared.operation.Operation.{Operation}
 use Rattle.moka_sync_model.specs.declared.operation.Operation.TheVariants.{Reading, Writing}
 use Rattle.moka_sync_model.specs.Operation.{same_write, count_of, count_in, count_pending}
 use Rattle.moka_sync_model.specs.Orders.{Orders, charge_of}
-use Rattle.moka_sync_model.specs.Place as place
+use Rattle.moka_sync_model.specs.Phase as phase
 use Rattle.moka_sync_model.specs.declared.progress.Work.{Work}
 use Rattle.moka_sync_model.specs.declared.progress.Candidate.{Candidate}
-use Rattle.moka_sync_model.specs.Place.{Place, held, is_idle}
+use Rattle.moka_sync_model.specs.Phase.{Phase, held, is_idle}
 use Rattle.moka_sync_model.specs.CoreState.{CoreState, pending_of, with_pending, without_pending}
 use Rattle.moka_common.specs.Settings.{keeps_writes}
 use Rattle.moka_sync_model.specs.Turn.Plan.{Change, Becomes, Leaves}
@@ -51,29 +51,29 @@ count-without_pending w pending caller operation is =
     ap (λ o. count_pending w (remove_entry (eqb caller) pending) + unwrap_or (option_map (count_in w) o) 0) (sym is)
     ∙ sum_by-remove_entry (count_in w) (eqb caller) pending
 
--- ---- the place, where the logs grow
+-- ---- the phase, where the logs grow
 
 fits_admission : (limit : Option ℕ) (orders : Orders) (writes writes' : ℕ) (work : Work) (c : Candidate) (front : List Ticket)
     → writes ≤ writes' → IsAdmission limit orders writes work c front → IsAdmission limit orders writes' work c front
 fits_admission limit orders writes writes' work c front more a =
     record { limited = a.limited; left = let left = a.left in omega (arith, left, more); outside = a.outside; begins = a.begins }
 
-pub fits_longer : (limit : Option ℕ) (orders : Orders) (reads writes reads' writes' : ℕ) (p : Place) → reads ≤ reads' → writes ≤ writes'
+pub fits_longer : (limit : Option ℕ) (orders : Orders) (reads writes reads' writes' : ℕ) (p : Phase) → reads ≤ reads' → writes ≤ writes'
     → Fits limit orders reads writes p → Fits limit orders reads' writes' p
-fits_longer limit orders reads writes reads' writes' (place.Reads work) r w h = (h.0, omega (arith, h.1, r))
-fits_longer limit orders reads writes reads' writes' (place.ReadApply work read) r w h = omega (arith, h, r)
-fits_longer limit orders reads writes reads' writes' (place.Writes work) r w h = (h.0, omega (arith, h.1, w))
-fits_longer limit orders reads writes reads' writes' (place.Apply work write) r w h = omega (arith, h, w)
-fits_longer limit orders reads writes reads' writes' (place.Scan work c tally seen) r w h =
+fits_longer limit orders reads writes reads' writes' (phase.Reads work) r w h = (h.0, omega (arith, h.1, r))
+fits_longer limit orders reads writes reads' writes' (phase.ReadApply work read) r w h = omega (arith, h, r)
+fits_longer limit orders reads writes reads' writes' (phase.Writes work) r w h = (h.0, omega (arith, h.1, w))
+fits_longer limit orders reads writes reads' writes' (phase.Apply work write) r w h = omega (arith, h, w)
+fits_longer limit orders reads writes reads' writes' (phase.Scan work c tally seen) r w h =
     fits_admission limit orders writes writes' work c _ w h
-fits_longer limit orders reads writes reads' writes' (place.Removing work c tally skipped left) r w h =
+fits_longer limit orders reads writes reads' writes' (phase.Removing work c tally skipped left) r w h =
     (fits_admission limit orders writes writes' work c _ w h.0, h.1, h.2)
-fits_longer limit orders reads writes reads' writes' (place.Enter work c skipped) r w h =
+fits_longer limit orders reads writes reads' writes' (phase.Enter work c skipped) r w h =
     fits_admission limit orders writes writes' work c skipped w h
 fits_longer limit orders reads writes reads' writes' other r w h = h
 
-pub idle_is : (p : Place) → is_idle p ≡ true → p ≡ place.Idle
-idle_is place.Idle is = refl
+pub idle_is : (p : Phase) → is_idle p ≡ true → p ≡ phase.Idle
+idle_is phase.Idle is = refl
 idle_is other is = absurd (false≢true is)
 
 -- ---- the entry of a key, by its ticket
@@ -139,9 +139,9 @@ module _ {K V S : Type 0} (keys : Keys K S) (laws : IsEquivalence keys.eq) (core
       → AreEntriesConsistent keys (record core { read_log = rl; write_log = wl; pending = pe })
   as_before pe rl wl counts r w =
       consistent_quiet keys core good core.valid_after rl wl pe core.maintenance (Reorders-none core.maintenance.orders)
-      (λ x. ap (λ n. n + count_of x (held core.maintenance.place)) (counts x))
+      (λ x. ap (λ n. n + count_of x (held core.maintenance.phase)) (counts x))
       (fits_longer core.settings.policy.max_capacity core.maintenance.orders (length core.read_log) (length core.write_log) (length rl)
-      (length wl) core.maintenance.place r w good.fits)
+      (length wl) core.maintenance.phase r w good.fits)
 
   pub consistent_read_made : (caller : ℕ) (read : Read)
       → AreEntriesConsistent keys (record core { pending = with_pending caller (Reading read) core })
@@ -181,13 +181,13 @@ module _ {K V S : Type 0} (keys : Keys K S) (laws : IsEquivalence keys.eq) (core
             count-without_pending w core.pending caller (Writing write) is,
           )
 
-  pub consistent_beginning : (now : ℕ) → is_idle core.maintenance.place ≡ true
-      → AreEntriesConsistent keys (record core { maintenance = record core.maintenance { place = place.ReadCount 1; moment = now } })
+  pub consistent_beginning : (now : ℕ) → is_idle core.maintenance.phase ≡ true
+      → AreEntriesConsistent keys (record core { maintenance = record core.maintenance { phase = phase.ReadCount 1; moment = now } })
   consistent_beginning now idle =
       consistent_quiet keys core good core.valid_after core.read_log core.write_log core.pending
-      (record core.maintenance { place = place.ReadCount 1; moment = now }) (Reorders-none core.maintenance.orders)
+      (record core.maintenance { phase = phase.ReadCount 1; moment = now }) (Reorders-none core.maintenance.orders)
       (λ w. ap (λ ws. count_pending w core.pending + count_of w core.write_log + count_of w ws)
-      (sym (ap held (idle_is core.maintenance.place idle)))) tt
+      (sym (ap held (idle_is core.maintenance.phase idle)))) tt
 
   pub consistent_invalidation_of_all : (now : ℕ) → AreEntriesConsistent keys (record core { valid_after = now })
   consistent_invalidation_of_all now =
@@ -220,7 +220,7 @@ module _ {K V S : Type 0} (keys : Keys K S) (laws : IsEquivalence keys.eq) (core
 
     more : (w write : Write) (n : ℕ) → count_in w (Writing write) ≡ n
         → count_pending w (with_pending caller (Writing write) core) + count_of w core.write_log
-        + count_of w (held core.maintenance.place) ≡ outstanding core w + n
+        + count_of w (held core.maintenance.phase) ≡ outstanding core w + n
     more w write n is = omega (arith, count-with_pending w core.pending caller (Writing write), is)
 
     other_upsert : (s : Ticket) → same_ticket e.ticket s ≡ false → count_in (Upsert s) (Writing (Upsert e.ticket)) ≡ 0

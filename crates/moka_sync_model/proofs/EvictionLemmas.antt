@@ -14,8 +14,8 @@ use Rattle.moka_sync_model.specs.declared.operation.Write.{Write}
 use Rattle.moka_sync_model.specs.declared.operation.Write.TheVariants.{Upsert, Remove}
 use Rattle.moka_sync_model.specs.Operation.{count_of, count_pending}
 use Rattle.moka_sync_model.specs.Orders.{Node, charge_of, charged_weight, without_node, renewed}
-use Rattle.moka_sync_model.specs.Place as place
-use Rattle.moka_sync_model.specs.Place.{Place, held}
+use Rattle.moka_sync_model.specs.Phase as phase
+use Rattle.moka_sync_model.specs.Phase.{Phase, held}
 use Rattle.moka_sync_model.specs.CoreState.{CoreState}
 use Rattle.moka_sync_model.specs.Turn.Plan.{Stays, Leaves, Outcome, outcome, after_change, after_plan}
 use Rattle.moka_sync_model.specs.Turn.Expiry.{after_eviction, after_pass, eviction_front}
@@ -66,7 +66,7 @@ module _ {K V S : Type 0} (keys : Keys K S) (core : CoreState K V S) (good : Are
       -- what the turn has evicted is what it used
       abbrev Evicts : Outcome K V → Ticket → Type 0
       Evicts end t = length core.entries - length (after_change t end.change core.entries)
-          ≡ evicting (place.Evict turns) end.maintenance.place
+          ≡ evicting (phase.Evict turns) end.maintenance.phase
 
       takes : (t : Ticket) (rest : List Ticket) → map (λ n. n.ticket) core.maintenance.orders.access ≡ t ∷ rest → (o : Option (Entry K V))
           → entry_of t core.entries ≡ o → Evicts (after_eviction turns t core.maintenance o) t
@@ -79,16 +79,16 @@ module _ {K V S : Type 0} (keys : Keys K S) (core : CoreState K V S) (good : Are
         where
           by : (b : Bool) → b ≡ false
               → Evicts
-              (if b then outcome Stays core.maintenance (renewed t core.maintenance.orders) (place.Evict (turns + 1)) else outcome Leaves
-              core.maintenance (without_node t core.maintenance.orders) (place.Evict (turns + 1))) t
+              (if b then outcome Stays core.maintenance (renewed t core.maintenance.orders) (phase.Evict (turns + 1)) else outcome Leaves
+              core.maintenance (without_node t core.maintenance.orders) (phase.Evict (turns + 1))) t
           by true is = absurd (true≢false is)
           by false is = omega (arith, one_fewer t e found)
 
       pass_evicts : (front : Option Ticket) → eviction_front core.settings turns core.maintenance.orders ≡ front
           → length core.entries - length
-          (after_plan (after_pass front (place.Publish turns) (after_eviction turns) core.maintenance) core).entries
-          ≡ evicting (place.Evict turns)
-          (after_plan (after_pass front (place.Publish turns) (after_eviction turns) core.maintenance) core).maintenance.place
+          (after_plan (after_pass front (phase.Publish turns) (after_eviction turns) core.maintenance) core).entries
+          ≡ evicting (phase.Evict turns)
+          (after_plan (after_pass front (phase.Publish turns) (after_eviction turns) core.maintenance) core).maintenance.phase
       pass_evicts None is = omega arith
       pass_evicts (Some t) is =
           let stands =
@@ -100,27 +100,27 @@ module _ {K V S : Type 0} (keys : Keys K S) (core : CoreState K V S) (good : Are
 module _ {K V S : Type 0} (keys : Keys K S) (core : CoreState K V S) (good : AreEntriesConsistent keys core) (n : ℕ) (refused : Bool)
     (way : IsEmptying n core) (free : core.pending ≡ []) where
   -- at the eviction nothing is outstanding
-  settled_at : (turns : ℕ) → core.maintenance.place ≡ place.Evict turns → IsSettled core
+  settled_at : (turns : ℕ) → core.maintenance.phase ≡ phase.Evict turns → IsSettled core
   settled_at turns is write =
       let ends =
       subst (Empties core.settings.policy.max_capacity core.maintenance.orders n (length core.read_log) (length core.write_log)) is
       way in
-      ap (λ ps. count_pending write ps + count_of write core.write_log + count_of write (held core.maintenance.place)) free
+      ap (λ ps. count_pending write ps + count_of write core.write_log + count_of write (held core.maintenance.phase)) free
       ∙ ap (λ p. 0 + count_of write core.write_log + count_of write (held p)) is ∙ none core.write_log ends.2
     where
       none : (ws : List Write) → length ws ≡ 0 → 0 + count_of write ws + 0 ≡ 0
       none [] h = refl
       none (w ∷ ws) h = absurd (omega (arith, h))
 
-  at_place : (p : Place) → core.maintenance.place ≡ p
+  at_phase : (p : Phase) → core.maintenance.phase ≡ p
       → evicted_at p (length core.entries)
       (length (after_plan (turn_at core.settings core.valid_after refused p core.maintenance) core).entries)
-      ≡ evicting p (after_plan (turn_at core.settings core.valid_after refused p core.maintenance) core).maintenance.place
-  at_place (place.Evict turns) is =
+      ≡ evicting p (after_plan (turn_at core.settings core.valid_after refused p core.maintenance) core).maintenance.phase
+  at_phase (phase.Evict turns) is =
       pass_evicts keys core good (settled_at turns is) turns (eviction_front core.settings turns core.maintenance.orders) refl
-  at_place other is = refl
+  at_phase other is = refl
 
   -- what a turn has evicted is what it used
-  pub turn_evicts : evicted_at core.maintenance.place (length core.entries) (length (after_turn refused core).entries)
-      ≡ evicting core.maintenance.place (after_turn refused core).maintenance.place
-  turn_evicts = at_place core.maintenance.place refl
+  pub turn_evicts : evicted_at core.maintenance.phase (length core.entries) (length (after_turn refused core).entries)
+      ≡ evicting core.maintenance.phase (after_turn refused core).maintenance.phase
+  turn_evicts = at_phase core.maintenance.phase refl

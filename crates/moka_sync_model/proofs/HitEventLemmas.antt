@@ -15,7 +15,7 @@ use Rattle.moka_sync_model.specs.declared.operation.Read.TheVariants.{Hit, Miss}
 use Rattle.moka_sync_model.specs.declared.operation.Write.TheVariants.{Upsert, Remove}
 use Rattle.moka_sync_model.specs.declared.operation.Operation.{Operation}
 use Rattle.moka_sync_model.specs.declared.operation.Operation.TheVariants.{Reading, Writing}
-use Rattle.moka_sync_model.specs.Place as place
+use Rattle.moka_sync_model.specs.Phase as phase
 use Rattle.moka_sync_model.specs.CoreState.{CoreState, with_pending}
 use Rattle.moka_sync_model.specs.Turn.Plan.{Plan, Alone, AtReads, AtWrites, AtEntry, after_plan}
 use Rattle.moka_sync_model.specs.Turn.Turn.{turn_at}
@@ -104,14 +104,14 @@ module _ {K V S : Type 0} (keys : Keys K S) (laws : IsEquivalence keys.eq) where
     by_form event weight refused (Begun now quiet idle is) =
         same_numbers _ is refl
         (λ t. subst
-        (λ p. hits_of t (record old { maintenance = record old.maintenance { place = place.ReadCount 1; moment = now } })
+        (λ p. hits_of t (record old { maintenance = record old.maintenance { phase = phase.ReadCount 1; moment = now } })
         ≤ sum_by (pending_hits t) (values_of old.pending) + sum_by (hits_in t) old.read_log + sum_by (hits_in t) (held_reads p))
-        (sym (idle_is old.maintenance.place idle)) (omega arith))
+        (sym (idle_is old.maintenance.phase idle)) (omega arith))
     by_form event weight refused (Turned on busy is) =
-        let look : Plan K V = turn_at old.settings old.valid_after refused old.maintenance.place old.maintenance in
+        let look : Plan K V = turn_at old.settings old.valid_after refused old.maintenance.phase old.maintenance in
         same_numbers (after_plan look old) is (look_numbers look)
-        (no_more_hits K V look old old.maintenance.place
-        (calm_turn K V old.settings old.valid_after refused old.maintenance.place old.maintenance refl))
+        (no_more_hits K V look old old.maintenance.phase
+        (calm_turn K V old.settings old.valid_after refused old.maintenance.phase old.maintenance refl))
 
     pub hits_given : (event : Event K V) (weight : ℕ) (refused : Bool) → IsStep keys old event weight refused reply new → AreHitsGiven new
     hits_given event weight refused h = by_form event weight refused (step_forms keys old new reply weight refused event h)

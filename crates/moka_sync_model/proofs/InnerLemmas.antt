@@ -4,7 +4,7 @@ use Rattle.moka_sync_model.specs.declared.event.Event.{Event}
 use Rattle.moka_sync_model.specs.Reply.{Reply}
 use Rattle.moka_sync_model.specs.declared.event.Event.TheVariants.{Push, Forget, Begin, Turn}
 use Rattle.moka_sync_model.specs.declared.event.Reply.TheVariants.{Done, Found, Discarded, At, NotPossible, OutOfMemory, TicketsUsedUp}
-use Rattle.moka_sync_model.specs.declared.place.Place.TheVariants as name
+use Rattle.moka_sync_model.specs.declared.phase.Phase.TheVariants as name
 use Rattle.moka_sync_model.specs.WholeCall.{Log, OfReads, OfWrites, Turns, LastTurn, NextTurn, Maintains, MaintainsIf, MaintainsIfDue}
 use Rattle.moka_sync_model.specs.WholeCall.{PushesRead, PushesWrite, Pushed, WasFull, PushesIf, AfterGet, AfterInsert, AfterRemove}
 
@@ -24,7 +24,7 @@ module _ {W K V : Type 0} (allowed : W → Event K V → Reply K V → W → Typ
     (decisions : (old new : W) (log : Log) (now : ℕ) (runs : Bool) → Holds old → decides old log now runs new → Holds new) where
   turns_keep : (old new : W) → Holds old → Turns allowed decides is_pending caller old new → Holds new
   turns_keep old new h (LastTurn _ _ step) = steps old new Turn (At name.Idle) tt h step
-  turns_keep old new h (NextTurn _ next _ place busy step turns) = turns_keep next new (steps old next Turn (At place) tt h step) turns
+  turns_keep old new h (NextTurn _ next _ phase busy step turns) = turns_keep next new (steps old next Turn (At phase) tt h step) turns
 
   pub maintenance_keeps : (now : ℕ) (old new : W) → Holds old → Maintains allowed decides is_pending caller now old new → Holds new
   maintenance_keeps now old new h m = turns_keep m.begun new (steps old m.begun (Begin now) Done tt h m.begins) m.turns

@@ -2,7 +2,7 @@ pub mod ListLemmas
 pub mod TicketLemmas
 pub mod OrdersLemmas
 pub mod PartsLemmas
-pub mod PlaceLemmas
+pub mod PhaseLemmas
 mod PlanLemmas
 mod StepLemmas
 mod ApplyLemmas

@@ -13,11 +13,11 @@ use Rattle.moka_sync_model.specs.Entry.{Entry, entry_at}
 use Rattle.moka_sync_model.specs.declared.operation.Read.TheVariants.{Hit, Miss}
 use Rattle.moka_sync_model.specs.declared.operation.Write.TheVariants.{Upsert, Remove}
 use Rattle.moka_sync_model.specs.Orders.{Node, Orders, charge_of, charged_weight}
-use Rattle.moka_sync_model.specs.Place as place
+use Rattle.moka_sync_model.specs.Phase as phase
 use Rattle.moka_sync_model.specs.declared.progress.Work.{Work}
 use Rattle.moka_sync_model.specs.declared.progress.Candidate.{Candidate}
 use Rattle.moka_sync_model.specs.declared.progress.Tally.{Tally}
-use Rattle.moka_sync_model.specs.Place.{Place, Seen}
+use Rattle.moka_sync_model.specs.Phase.{Phase, Seen}
 use Rattle.moka_sync_model.specs.CoreState.{CoreState, Maintenance}
 use Rattle.moka_common.specs.Settings.{Settings, keeps_writes}
 use Rattle.moka_sync_model.specs.Turn.Plan.{Change, Stays, Becomes, Leaves, Outcome, after_change, Plan, Alone, AtReads, AtWrites, AtEntry}
@@ -56,7 +56,7 @@ module _ (K V : Type 0) where
   abbrev IsMildEnd : Outcome K V → Type 0
   IsMildEnd end = IsMild end.change
 
-  mild_front : (is_over : Entry K V → Bool) (sends : Ticket → Orders → Orders) (more done : Place) (m : Maintenance)
+  mild_front : (is_over : Entry K V → Bool) (sends : Ticket → Orders → Orders) (more done : Phase) (m : Maintenance)
       (front : Option Ticket) → IsMildLook {K = K} {V = V} (after_pass front done (after_front is_over sends more done) m)
   mild_front is_over sends more done m None = tt
   mild_front is_over sends more done m (Some t) = by
@@ -66,7 +66,7 @@ module _ (K V : Type 0) where
       by (Some e) = cond_both (is_over e) _ _ IsMildEnd (λ h. tt) (λ h. tt)
 
   mild_eviction : (turns : ℕ) (m : Maintenance) (front : Option Ticket)
-      → IsMildLook {K = K} {V = V} (after_pass front (place.Publish turns) (after_eviction turns) m)
+      → IsMildLook {K = K} {V = V} (after_pass front (phase.Publish turns) (after_eviction turns) m)
   mild_eviction turns m None = tt
   mild_eviction turns m (Some t) = by
     where
@@ -114,26 +114,26 @@ module _ (K V : Type 0) where
     mild_entering work c skipped m (Some e) = keeps_all _ (λ e. refl) (λ e. refl) (λ e. refl) (λ e. refl)
 
     -- every turn is mild
-    pub mild_turn : (refused : Bool) (p : Place) (m : Maintenance) → IsMildLook {K = K} {V = V} (turn_at settings valid_after refused p m)
-    mild_turn refused place.Idle m = tt
-    mild_turn refused (place.ReadCount round) m = tt
-    mild_turn refused (place.Reads work) m = tt
-    mild_turn refused (place.ReadApply work (Hit t moment)) m = λ found. keeps_all _ (λ e. refl) (λ e. refl) (λ e. refl) (λ e. refl)
-    mild_turn refused (place.ReadApply work (Miss hash)) m = tt
-    mild_turn refused (place.WriteCount round) m = tt
-    mild_turn refused (place.Writes work) m = tt
-    mild_turn refused (place.Apply work (Upsert t)) m = mild_write refused work t m
-    mild_turn refused (place.Apply work (Remove t)) m = tt
-    mild_turn refused (place.Scan work c tally seen) m = mild_scan work c tally seen m (next_seen c tally seen m.orders)
-    mild_turn refused (place.Removing work c tally skipped left) m = mild_removing work c tally skipped m left
-    mild_turn refused (place.Enter work c skipped) m = mild_entering work c skipped m
-    mild_turn refused (place.Sketch round) m = tt
-    mild_turn refused (place.MoreReads round) m = tt
-    mild_turn refused (place.MoreWrites round) m = tt
-    mild_turn refused (place.ExpireWrite turns) m = mild_front _ _ _ _ m (write_front settings turns m.orders)
-    mild_turn refused (place.ExpireAccess turns) m = mild_front _ _ _ _ m (access_front settings valid_after turns m.orders)
-    mild_turn refused (place.Evict turns) m = mild_eviction turns m (eviction_front settings turns m.orders)
-    mild_turn refused (place.Publish turns) m = tt
+    pub mild_turn : (refused : Bool) (p : Phase) (m : Maintenance) → IsMildLook {K = K} {V = V} (turn_at settings valid_after refused p m)
+    mild_turn refused phase.Idle m = tt
+    mild_turn refused (phase.ReadCount round) m = tt
+    mild_turn refused (phase.Reads work) m = tt
+    mild_turn refused (phase.ReadApply work (Hit t moment)) m = λ found. keeps_all _ (λ e. refl) (λ e. refl) (λ e. refl) (λ e. refl)
+    mild_turn refused (phase.ReadApply work (Miss hash)) m = tt
+    mild_turn refused (phase.WriteCount round) m = tt
+    mild_turn refused (phase.Writes work) m = tt
+    mild_turn refused (phase.Apply work (Upsert t)) m = mild_write refused work t m
+    mild_turn refused (phase.Apply work (Remove t)) m = tt
+    mild_turn refused (phase.Scan work c tally seen) m = mild_scan work c tally seen m (next_seen c tally seen m.orders)
+    mild_turn refused (phase.Removing work c tally skipped left) m = mild_removing work c tally skipped m left
+    mild_turn refused (phase.Enter work c skipped) m = mild_entering work c skipped m
+    mild_turn refused (phase.Sketch round) m = tt
+    mild_turn refused (phase.MoreReads round) m = tt
+    mild_turn refused (phase.MoreWrites round) m = tt
+    mild_turn refused (phase.ExpireWrite turns) m = mild_front _ _ _ _ m (write_front settings turns m.orders)
+    mild_turn refused (phase.ExpireAccess turns) m = mild_front _ _ _ _ m (access_front settings valid_after turns m.orders)
+    mild_turn refused (phase.Evict turns) m = mild_eviction turns m (eviction_front settings turns m.orders)
+    mild_turn refused (phase.Publish turns) m = tt
 
 module _ {K V : Type 0} where
   module _ (eq : K → K → Bool) (laws : IsEquivalence eq) where

@@ -16,8 +16,8 @@ use Rattle.moka_sync_model.specs.declared.operation.Read.{Read}
 use Rattle.moka_sync_model.specs.declared.operation.Read.TheVariants.{Hit, Miss}
 use Rattle.moka_sync_model.specs.declared.operation.Write.{Write}
 use Rattle.moka_sync_model.specs.declared.operation.Write.TheVariants.{Upsert, Remove}
-use Rattle.moka_sync_model.specs.Place as place
-use Rattle.moka_sync_model.specs.Place.{Place}
+use Rattle.moka_sync_model.specs.Phase as phase
+use Rattle.moka_sync_model.specs.Phase.{Phase}
 use Rattle.moka_sync_model.specs.Turn.Turn.{turn_at}
 use Rattle.moka_sync_model.specs.Parts.{TurnsAlone, TurnsWithReads, TurnsWithWrites, need_of}
 use Rattle.moka_sync_model.specs.CoreState.{Maintenance}
@@ -213,24 +213,24 @@ module _ {K V S : Type 0} where
       ∙ ap (λ (end : Maintenance × List Write). core_of (record parts { write_log = end.1; maintenance = end.0 })) (sym turns.ends)
 
 -- what a turn needs is known before memory is asked
-pub need_unread : (K V : Type 0) {S : Type 0} (settings : Settings S) (valid_after : ℕ) (p : Place) (m : Maintenance)
+pub need_unread : (K V : Type 0) {S : Type 0} (settings : Settings S) (valid_after : ℕ) (p : Phase) (m : Maintenance)
     → need_of (turn_at {K = K} {V = V} settings valid_after true p m) ≡ need_of (turn_at {K = K} {V = V} settings valid_after false p m)
-need_unread K V settings valid_after (place.Apply work (Upsert t)) m = refl
-need_unread K V settings valid_after (place.Apply work (Remove t)) m = refl
-need_unread K V settings valid_after (place.ReadApply work (Hit t moment)) m = refl
-need_unread K V settings valid_after (place.ReadApply work (Miss hash)) m = refl
-need_unread K V settings valid_after place.Idle m = refl
-need_unread K V settings valid_after (place.ReadCount round) m = refl
-need_unread K V settings valid_after (place.Reads work) m = refl
-need_unread K V settings valid_after (place.WriteCount round) m = refl
-need_unread K V settings valid_after (place.Writes work) m = refl
-need_unread K V settings valid_after (place.Scan work c tally seen) m = refl
-need_unread K V settings valid_after (place.Removing work c tally skipped left) m = refl
-need_unread K V settings valid_after (place.Enter work c skipped) m = refl
-need_unread K V settings valid_after (place.Sketch round) m = refl
-need_unread K V settings valid_after (place.MoreReads round) m = refl
-need_unread K V settings valid_after (place.MoreWrites round) m = refl
-need_unread K V settings valid_after (place.ExpireWrite turns) m = refl
-need_unread K V settings valid_after (place.ExpireAccess turns) m = refl
-need_unread K V settings valid_after (place.Evict turns) m = refl
-need_unread K V settings valid_after (place.Publish turns) m = refl
+need_unread K V settings valid_after (phase.Apply work (Upsert t)) m = refl
+need_unread K V settings valid_after (phase.Apply work (Remove t)) m = refl
+need_unread K V settings valid_after (phase.ReadApply work (Hit t moment)) m = refl
+need_unread K V settings valid_after (phase.ReadApply work (Miss hash)) m = refl
+need_unread K V settings valid_after phase.Idle m = refl
+need_unread K V settings valid_after (phase.ReadCount round) m = refl
+need_unread K V settings valid_after (phase.Reads work) m = refl
+need_unread K V settings valid_after (phase.WriteCount round) m = refl
+need_unread K V settings valid_after (phase.Writes work) m = refl
+need_unread K V settings valid_after (phase.Scan work c tally seen) m = refl
+need_unread K V settings valid_after (phase.Removing work c tally skipped left) m = refl
+need_unread K V settings valid_after (phase.Enter work c skipped) m = refl
+need_unread K V settings valid_after (phase.Sketch round) m = refl
+need_unread K V settings valid_after (phase.MoreReads round) m = refl
+need_unread K V settings valid_after (phase.MoreWrites round) m = refl
+need_unread K V settings valid_after (phase.ExpireWrite turns) m = refl
+need_unread K V settings valid_after (phase.ExpireAccess turns) m = refl
+need_unread K V settings valid_after (phase.Evict turns) m = refl
+need_unread K V settings valid_after (phase.Publish turns) m = refl

@@ -8,8 +8,8 @@ use Rattle.moka_sync_model.specs.declared.constants.TheConstants.{SYNC_BATCH_SIZ
 use Rattle.moka_sync_model.specs.declared.ticket.Ticket.{Ticket}
 use Rattle.moka_sync_model.specs.Entry.{Entry, entry_of}
 use Rattle.moka_sync_model.specs.Orders.{Node, Orders, charge_of, charged_weight, without_node, used, renewed}
-use Rattle.moka_sync_model.specs.Place as place
-use Rattle.moka_sync_model.specs.Place.{Place, held}
+use Rattle.moka_sync_model.specs.Phase as phase
+use Rattle.moka_sync_model.specs.Phase.{Phase, held}
 use Rattle.moka_sync_model.specs.CoreState.{CoreState}
 use Rattle.moka_common.specs.Settings.{keeps_writes}
 use Rattle.moka_sync_model.specs.Turn.Plan.{Stays, Leaves, Outcome, after_change, after_plan}
@@ -24,16 +24,16 @@ module _ {K V S : Type 0} (keys : Keys K S) (core : CoreState K V S) (good : Are
   abbrev Good : Outcome K V → Ticket → Type 0
   Good end t = AreEntriesConsistent keys (record core { entries = after_change t end.change core.entries; maintenance = end.maintenance })
 
-  abbrev FitsAt : Orders → Place → Type 0
+  abbrev FitsAt : Orders → Phase → Type 0
   FitsAt orders p = Fits core.settings.policy.max_capacity orders (length core.read_log) (length core.write_log) p
 
-  module _ (p next : Place) (is : core.maintenance.place ≡ p) (free : held p ≡ []) (then_free : held next ≡ []) (t : Ticket) where
+  module _ (p next : Phase) (is : core.maintenance.phase ≡ p) (free : held p ≡ []) (then_free : held next ≡ []) (t : Ticket) where
     -- the ticket's node goes to the back
     sent : (orders : Orders) → Reorders core.maintenance.orders orders → FitsAt orders next
-        → Good (record { change = Stays; maintenance = record core.maintenance { orders = orders; place = next } }) t
+        → Good (record { change = Stays; maintenance = record core.maintenance { orders = orders; phase = next } }) t
     sent orders moved fits =
         consistent_look keys core good t
-        (record { change = Stays; maintenance = record core.maintenance { orders = orders; place = next } }) tt
+        (record { change = Stays; maintenance = record core.maintenance { orders = orders; phase = next } }) tt
         (ChangesNode-from t core.maintenance.orders orders moved) fits
         (then_free ∙ sym free ∙ sym (held_at keys core good p is))
         (sound_by (keeps_writes core.settings.policy) _ (entry_of t core.entries) (charge_of t core.maintenance.orders) refl
@@ -43,18 +43,18 @@ module _ {K V S : Type 0} (keys : Keys K S) (core : CoreState K V S) (good : Are
     -- entry and node leave
     gone : FitsAt (without_node t core.maintenance.orders) next
         → Good (record
-        { change = Leaves; maintenance = record core.maintenance { orders = without_node t core.maintenance.orders; place = next } }) t
+        { change = Leaves; maintenance = record core.maintenance { orders = without_node t core.maintenance.orders; phase = next } }) t
     gone fits =
         let o = core.maintenance.orders in
         consistent_look keys core good t
-        (record { change = Leaves; maintenance = record core.maintenance { orders = without_node t o; place = next } }) tt
+        (record { change = Leaves; maintenance = record core.maintenance { orders = without_node t o; phase = next } }) tt
         (ChangesNode-without t o) fits
         (then_free ∙ sym free ∙ sym (held_at keys core good p is))
         (sound_without (keeps_writes core.settings.policy) _ None refl (charge_of-without t o) (is_written-without t o) tt)
         (λ none. charge_of-without t o) (λ none. is_written-without t o)
 
-  -- a turn at a front, where the places after it fit whatever the orders
-  module _ (p more done : Place) (is : core.maintenance.place ≡ p) (free : held p ≡ []) (more_free : held more ≡ [])
+  -- a turn at a front, where the phases after it fit whatever the orders
+  module _ (p more done : Phase) (is : core.maintenance.phase ≡ p) (free : held p ≡ []) (more_free : held more ≡ [])
       (done_free : held done ≡ [])
       (more_fits : (orders : Orders) → FitsAt orders more) (done_fits : FitsAt core.maintenance.orders done)
       (is_over : Entry K V → Bool) (sends : Ticket → Orders → Orders) (reorders : (t : Ticket) (o : Orders) → Reorders o (sends t o)) where
@@ -72,16 +72,16 @@ module _ {K V S : Type 0} (keys : Keys K S) (core : CoreState K V S) (good : Are
     consistent_pass None = consistent_move keys core good p done is (done_free ∙ sym free) done_fits
     consistent_pass (Some t) = at_front t (entry_of t core.entries)
 
-  module _ (turns : ℕ) (is : core.maintenance.place ≡ place.Evict turns) where
+  module _ (turns : ℕ) (is : core.maintenance.phase ≡ phase.Evict turns) where
     evicted : (t : Ticket) → turns < SYNC_BATCH_SIZE → (found : Option (Entry K V)) → Good (after_eviction turns t core.maintenance found) t
     evicted t below None =
-        sent (place.Evict turns) (place.Evict (turns + 1)) is refl refl t (used t core.maintenance.orders)
+        sent (phase.Evict turns) (phase.Evict (turns + 1)) is refl refl t (used t core.maintenance.orders)
         (Reorders-used t core.maintenance.orders) (omega (arith, below))
     evicted t below (Some e) =
         cond_both (ltb 0 e.outstanding) _ _ (λ end. Good end t)
-        (λ waits. sent (place.Evict turns) (place.Evict (turns + 1)) is refl refl t (renewed t core.maintenance.orders)
+        (λ waits. sent (phase.Evict turns) (phase.Evict (turns + 1)) is refl refl t (renewed t core.maintenance.orders)
         (Reorders-renewed t core.maintenance.orders) (omega (arith, below)))
-        (λ free. gone (place.Evict turns) (place.Evict (turns + 1)) is refl refl t (omega (arith, below)))
+        (λ free. gone (phase.Evict turns) (phase.Evict (turns + 1)) is refl refl t (omega (arith, below)))
 
     -- the pass ends where the weight is within the limit, or all turns were used
     trimmed : (limit : Option ℕ) → is_within limit (charged_weight core.maintenance.orders) ≡ true
@@ -91,7 +91,7 @@ module _ {K V S : Type 0} (keys : Keys K S) (core : CoreState K V S) (good : Are
 
     used_up : (limit : Option ℕ) → SYNC_BATCH_SIZE ≤ turns → IsTrimmed limit core.maintenance.orders turns
     used_up None enough = tt
-    used_up (Some limit) enough = let most = fits_at keys core good (place.Evict turns) is in inr (omega (arith, enough, most))
+    used_up (Some limit) enough = let most = fits_at keys core good (phase.Evict turns) is in inr (omega (arith, enough, most))
 
     no_nodes : (limit : Option ℕ) (nodes : List Node) → core.maintenance.orders.access ≡ nodes → map (λ n. n.ticket) nodes ≡ []
         → IsTrimmed limit core.maintenance.orders turns
@@ -101,15 +101,15 @@ module _ {K V S : Type 0} (keys : Keys K S) (core : CoreState K V S) (good : Are
     no_nodes (Some limit) (n ∷ nodes) are none = absurd (cc)
 
     published : IsTrimmed core.settings.policy.max_capacity core.maintenance.orders turns
-        → AreEntriesConsistent keys (after_plan (after_pass None (place.Publish turns) (after_eviction turns) core.maintenance) core)
-    published trim = consistent_move keys core good (place.Evict turns) (place.Publish turns) is refl trim
+        → AreEntriesConsistent keys (after_plan (after_pass None (phase.Publish turns) (after_eviction turns) core.maintenance) core)
+    published trim = consistent_move keys core good (phase.Evict turns) (phase.Publish turns) is refl trim
 
     by_front : (within below : Bool) (ts : List Ticket)
         → is_within core.settings.policy.max_capacity (charged_weight core.maintenance.orders) ≡ within
         → ltb turns SYNC_BATCH_SIZE ≡ below
         → map (λ n. n.ticket) core.maintenance.orders.access ≡ ts
         → AreEntriesConsistent keys
-        (after_plan (after_pass (first_if (not within && below) ts) (place.Publish turns) (after_eviction turns) core.maintenance) core)
+        (after_plan (after_pass (first_if (not within && below) ts) (phase.Publish turns) (after_eviction turns) core.maintenance) core)
     by_front true below ts in_limit test are = published (trimmed core.settings.policy.max_capacity in_limit)
     by_front false false ts in_limit test are = published (used_up core.settings.policy.max_capacity (ltb-false turns SYNC_BATCH_SIZE test))
     by_front false true [] in_limit test are =
@@ -118,7 +118,7 @@ module _ {K V S : Type 0} (keys : Keys K S) (core : CoreState K V S) (good : Are
 
     pub consistent_eviction : AreEntriesConsistent keys
         (after_plan
-        (after_pass (eviction_front core.settings turns core.maintenance.orders) (place.Publish turns) (after_eviction turns)
+        (after_pass (eviction_front core.settings turns core.maintenance.orders) (phase.Publish turns) (after_eviction turns)
         core.maintenance) core)
     consistent_eviction =
         by_front (is_within core.settings.policy.max_capacity (charged_weight core.maintenance.orders)) (ltb turns SYNC_BATCH_SIZE)

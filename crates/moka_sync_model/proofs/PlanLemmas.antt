@@ -149,7 +149,7 @@ module _ {K V S : Type 0} where
     pub stays : IsConsistentStay (keeps_writes core.settings.policy) (stay_of t (after_step core t step))
     pub known : stay_of t core ≡ no_stay → stay_of t (after_step core t step) ≡ no_stay
     pub fits : Fits core.settings.policy.max_capacity step.maintenance.orders (length step.read_log) (length step.write_log)
-        step.maintenance.place
+        step.maintenance.phase
 
 module _ {K V S : Type 0} (keys : Keys K S) where
   module _ (core : CoreState K V S) (t : Ticket) (step : StepAt K V) (good : AreEntriesConsistent keys core)

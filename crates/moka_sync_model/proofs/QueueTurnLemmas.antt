@@ -11,11 +11,11 @@ use Rattle.moka_sync_model.specs.declared.operation.Read.TheVariants.{Hit, Miss}
 use Rattle.moka_sync_model.specs.declared.operation.Write.{Write}
 use Rattle.moka_sync_model.specs.declared.operation.Write.TheVariants.{Upsert, Remove}
 use Rattle.moka_sync_model.specs.Orders.{Node, Orders, charge_of, charged_weight}
-use Rattle.moka_sync_model.specs.Place as place
+use Rattle.moka_sync_model.specs.Phase as phase
 use Rattle.moka_sync_model.specs.declared.progress.Work.{Work}
 use Rattle.moka_sync_model.specs.declared.progress.Candidate.{Candidate}
 use Rattle.moka_sync_model.specs.declared.progress.Tally.{Tally}
-use Rattle.moka_sync_model.specs.Place.{Place, Seen}
+use Rattle.moka_sync_model.specs.Phase.{Phase, Seen}
 use Rattle.moka_sync_model.specs.CoreState.{CoreState, Maintenance}
 use Rattle.moka_common.specs.Settings.{Settings, keeps_writes}
 use Rattle.moka_sync_model.specs.Turn.Plan.{Outcome, Plan, Alone, AtReads, AtWrites, AtEntry, after_plan, reads_or_on, writes_or_on}
@@ -31,10 +31,10 @@ use Rattle.moka_common.specs.Sketch.{Table}
 use Rattle.moka_sync_model.specs.Turn.Admission.{after_finding}
 
 kept_reads : (work : Work) → IsTallied (reads_or_on work)
-kept_reads work = cond_both (eqb work.left 0) (place.WriteCount work.round) (place.Reads work) IsTallied (λ h. tt) (λ h. tt)
+kept_reads work = cond_both (eqb work.left 0) (phase.WriteCount work.round) (phase.Reads work) IsTallied (λ h. tt) (λ h. tt)
 
 kept_writes : (work : Work) → IsTallied (writes_or_on work)
-kept_writes work = cond_both (eqb work.left 0) (place.Sketch work.round) (place.Writes work) IsTallied (λ h. tt) (λ h. tt)
+kept_writes work = cond_both (eqb work.left 0) (phase.Sketch work.round) (phase.Writes work) IsTallied (λ h. tt) (λ h. tt)
 
 kept_removing : (work : Work) (c : Candidate) (tally : Tally) (skipped : List Ticket) (left : List Seen)
     → IsTallied (removing_or_enter work c tally skipped left)
@@ -44,11 +44,11 @@ kept_removing work c tally skipped (s ∷ left) = tt
 kept_more_reads : (round len : ℕ) → IsTallied (after_more_reads round len)
 kept_more_reads round len =
     cond_both (eqb round MAX_ROUNDS) _ _ IsTallied (λ h. tt)
-    (λ h. cond_both (leb FLUSH_POINT len) (place.ReadCount (round + 1)) (place.MoreWrites round) IsTallied (λ h. tt) (λ h. tt))
+    (λ h. cond_both (leb FLUSH_POINT len) (phase.ReadCount (round + 1)) (phase.MoreWrites round) IsTallied (λ h. tt) (λ h. tt))
 
 kept_more_writes : (round len : ℕ) → IsTallied (after_more_writes round len)
 kept_more_writes round len =
-    cond_both (leb FLUSH_POINT len) (place.ReadCount (round + 1)) (place.ExpireWrite 0) IsTallied (λ h. tt) (λ h. tt)
+    cond_both (leb FLUSH_POINT len) (phase.ReadCount (round + 1)) (phase.ExpireWrite 0) IsTallied (λ h. tt) (λ h. tt)
 
 -- ---- what a scan has seen
 
@@ -81,30 +81,30 @@ tallied_more sketch t tally seen tallied (Some e) = record {
 module _ (K V : Type 0) where
   -- no log is longer, and a scan goes on from what it has seen
   abbrev pub IsKept : Plan K V → Type 0
-  IsKept (Alone m) = IsTallied m.place
-  IsKept (AtReads looks) = (log : List Read) → (length (looks log).1 ≤ length log) × IsTallied (looks log).0.place
-  IsKept (AtWrites looks) = (log : List Write) → (length (looks log).1 ≤ length log) × IsTallied (looks log).0.place
-  IsKept (AtEntry u looks) = (found : Option (Entry K V)) → IsTallied (looks found).maintenance.place
+  IsKept (Alone m) = IsTallied m.phase
+  IsKept (AtReads looks) = (log : List Read) → (length (looks log).1 ≤ length log) × IsTallied (looks log).0.phase
+  IsKept (AtWrites looks) = (log : List Write) → (length (looks log).1 ≤ length log) × IsTallied (looks log).0.phase
+  IsKept (AtEntry u looks) = (found : Option (Entry K V)) → IsTallied (looks found).maintenance.phase
 
   abbrev KeptEnd : Outcome K V → Type 0
-  KeptEnd end = IsTallied end.maintenance.place
+  KeptEnd end = IsTallied end.maintenance.phase
 
-  kept_front : (is_over : Entry K V → Bool) (sends : Ticket → Orders → Orders) (more done : Place) (m : Maintenance) → IsTallied more
+  kept_front : (is_over : Entry K V → Bool) (sends : Ticket → Orders → Orders) (more done : Phase) (m : Maintenance) → IsTallied more
       → IsTallied done → (front : Option Ticket)
       → IsKept (after_pass front done (after_front is_over sends more done) m)
   kept_front is_over sends more done m m_calm d_calm None = d_calm
   kept_front is_over sends more done m m_calm d_calm (Some u) = by
     where
-      by : (found : Option (Entry K V)) → IsTallied (after_front is_over sends more done u m found).maintenance.place
+      by : (found : Option (Entry K V)) → IsTallied (after_front is_over sends more done u m found).maintenance.phase
       by None = m_calm
       by (Some e) = cond_both (is_over e) _ _ KeptEnd (λ h. m_calm) (λ h. d_calm)
 
   kept_eviction : (turns : ℕ) (m : Maintenance) (front : Option Ticket)
-      → IsKept (after_pass front (place.Publish turns) (after_eviction turns) m)
+      → IsKept (after_pass front (phase.Publish turns) (after_eviction turns) m)
   kept_eviction turns m None = tt
   kept_eviction turns m (Some u) = by
     where
-      by : (found : Option (Entry K V)) → IsTallied (after_eviction turns u m found).maintenance.place
+      by : (found : Option (Entry K V)) → IsTallied (after_eviction turns u m found).maintenance.phase
       by None = tt
       by (Some e) = cond_both (ltb 0 e.outstanding) _ _ KeptEnd (λ h. tt) (λ h. tt)
 
@@ -124,7 +124,7 @@ module _ (K V : Type 0) where
   kept_left work c tally skipped m (s ∷ left) =
       cond_both s.is_present _ _ (IsKept) (λ h. by) (λ h. kept_removing work c tally (skipped ++ s.ticket ∷ []) left)
     where
-      by : (found : Option (Entry K V)) → IsTallied (after_victim work c tally skipped s left m found).maintenance.place
+      by : (found : Option (Entry K V)) → IsTallied (after_victim work c tally skipped s left m found).maintenance.phase
       by None = kept_removing work c tally (skipped ++ s.ticket ∷ []) left
       by (Some e) = kept_removing work c tally skipped left
 
@@ -148,44 +148,44 @@ module _ (K V : Type 0) where
     kept_entering work c skipped m None = kept_writes work
     kept_entering work c skipped m (Some e) = kept_writes work
 
-    pub kept_turn : (refused : Bool) (p : Place) (m : Maintenance) → m.place ≡ p → IsTallied p
+    pub kept_turn : (refused : Bool) (p : Phase) (m : Maintenance) → m.phase ≡ p → IsTallied p
         → IsKept (turn_at settings valid_after refused p m)
-    kept_turn refused place.Idle m is tallied = subst IsTallied (sym is) tallied
-    kept_turn refused (place.ReadCount round) m is tallied = λ log. (omega arith, kept_reads (record { round = round; left = length log }))
-    kept_turn refused (place.Reads work) m is tallied = by
+    kept_turn refused phase.Idle m is tallied = subst IsTallied (sym is) tallied
+    kept_turn refused (phase.ReadCount round) m is tallied = λ log. (omega arith, kept_reads (record { round = round; left = length log }))
+    kept_turn refused (phase.Reads work) m is tallied = by
       where
-        by : (log : List Read) → (length (after_read_taken work m log).1 ≤ length log) × IsTallied (after_read_taken work m log).0.place
+        by : (log : List Read) → (length (after_read_taken work m log).1 ≤ length log) × IsTallied (after_read_taken work m log).0.phase
         by [] = (omega arith, subst IsTallied (sym is) tallied)
         by (read ∷ log) = (omega arith, tt)
-    kept_turn refused (place.ReadApply work (Hit u moment)) m is tallied = λ found. kept_reads work
-    kept_turn refused (place.ReadApply work (Miss hash)) m is tallied = kept_reads work
-    kept_turn refused (place.WriteCount round) m is tallied =
+    kept_turn refused (phase.ReadApply work (Hit u moment)) m is tallied = λ found. kept_reads work
+    kept_turn refused (phase.ReadApply work (Miss hash)) m is tallied = kept_reads work
+    kept_turn refused (phase.WriteCount round) m is tallied =
         λ log. (omega arith, kept_writes (record { round = round; left = length log }))
-    kept_turn refused (place.Writes work) m is tallied = by
+    kept_turn refused (phase.Writes work) m is tallied = by
       where
-        by : (log : List Write) → (length (after_write_taken work m log).1 ≤ length log) × IsTallied (after_write_taken work m log).0.place
+        by : (log : List Write) → (length (after_write_taken work m log).1 ≤ length log) × IsTallied (after_write_taken work m log).0.phase
         by [] = (omega arith, subst IsTallied (sym is) tallied)
         by (write ∷ log) = (omega arith, tt)
-    kept_turn refused (place.Apply work (Upsert u)) m is tallied = kept_upsert refused work u m
-    kept_turn refused (place.Apply work (Remove u)) m is tallied = kept_writes work
-    kept_turn refused (place.Scan work c tally seen) m is tallied = kept_scan work c tally seen m tallied (next_seen c tally seen m.orders)
-    kept_turn refused (place.Removing work c tally skipped left) m is tallied = kept_left work c tally skipped m left
-    kept_turn refused (place.Enter work c skipped) m is tallied = kept_entering work c skipped m
-    kept_turn refused (place.Sketch round) m is tallied = tt
-    kept_turn refused (place.MoreReads round) m is tallied = λ log. (omega arith, kept_more_reads round (length log))
-    kept_turn refused (place.MoreWrites round) m is tallied = λ log. (omega arith, kept_more_writes round (length log))
-    kept_turn refused (place.ExpireWrite turns) m is tallied = kept_front _ _ _ _ m tt tt (write_front settings turns m.orders)
-    kept_turn refused (place.ExpireAccess turns) m is tallied =
+    kept_turn refused (phase.Apply work (Upsert u)) m is tallied = kept_upsert refused work u m
+    kept_turn refused (phase.Apply work (Remove u)) m is tallied = kept_writes work
+    kept_turn refused (phase.Scan work c tally seen) m is tallied = kept_scan work c tally seen m tallied (next_seen c tally seen m.orders)
+    kept_turn refused (phase.Removing work c tally skipped left) m is tallied = kept_left work c tally skipped m left
+    kept_turn refused (phase.Enter work c skipped) m is tallied = kept_entering work c skipped m
+    kept_turn refused (phase.Sketch round) m is tallied = tt
+    kept_turn refused (phase.MoreReads round) m is tallied = λ log. (omega arith, kept_more_reads round (length log))
+    kept_turn refused (phase.MoreWrites round) m is tallied = λ log. (omega arith, kept_more_writes round (length log))
+    kept_turn refused (phase.ExpireWrite turns) m is tallied = kept_front _ _ _ _ m tt tt (write_front settings turns m.orders)
+    kept_turn refused (phase.ExpireAccess turns) m is tallied =
         kept_front _ _ _ _ m tt tt (access_front settings valid_after turns m.orders)
-    kept_turn refused (place.Evict turns) m is tallied = kept_eviction turns m (eviction_front settings turns m.orders)
-    kept_turn refused (place.Publish turns) m is tallied = tt
+    kept_turn refused (phase.Evict turns) m is tallied = kept_eviction turns m (eviction_front settings turns m.orders)
+    kept_turn refused (phase.Publish turns) m is tallied = tt
 
   -- what a turn leaves of the queues but for hits and rounds
   pub record IsNoLonger {S : Type 0} (old new : CoreState K V S) : Type 0 where
     pub pending : new.pending ≡ old.pending
     pub read_log : length new.read_log ≤ length old.read_log
     pub write_log : length new.write_log ≤ length old.write_log
-    pub tallied : IsTallied new.maintenance.place
+    pub tallied : IsTallied new.maintenance.phase
 
   pub no_longer : {S : Type 0} (plan : Plan K V) (core : CoreState K V S) → IsKept plan → IsNoLonger core (after_plan plan core)
   no_longer (Alone m) core kept = record { pending = refl; read_log = omega arith; write_log = omega arith; tallied = kept }

@@ -12,7 +12,7 @@ use Rattle.moka_sync_model.specs.Entry.{Entry, entry_of}
 use Rattle.moka_sync_model.specs.declared.operation.Write.TheVariants.{Upsert, Remove}
 use Rattle.moka_sync_model.specs.Operation.{count_of, count_pending}
 use Rattle.moka_sync_model.specs.Orders.{Node, charge_of}
-use Rattle.moka_sync_model.specs.Place.{held}
+use Rattle.moka_sync_model.specs.Phase.{held}
 use Rattle.moka_sync_model.specs.CoreState.{CoreState}
 use Rattle.moka_sync_model.specs.Consistent.{AreEntriesConsistent, IsTied}
 use Rattle.moka_sync_model.specs.Quiescent.{IsSettled, IsQuiescent, IsPaired}
@@ -163,9 +163,9 @@ module _ {K V S : Type 0} (keys : Keys K S) (core : CoreState K V S) (good : Are
 
 pub settled : {K V S : Type 0} (core : CoreState K V S) → IsQuiescent core → IsSettled core
 settled core quiet write =
-    ap (λ pe. count_pending write pe + count_of write core.write_log + count_of write (held core.maintenance.place)) quiet.pending
-    ∙ ap (λ wl. 0 + count_of write wl + count_of write (held core.maintenance.place)) quiet.write_log
-    ∙ ap (λ p. 0 + 0 + count_of write (held p)) quiet.place
+    ap (λ pe. count_pending write pe + count_of write core.write_log + count_of write (held core.maintenance.phase)) quiet.pending
+    ∙ ap (λ wl. 0 + count_of write wl + count_of write (held core.maintenance.phase)) quiet.write_log
+    ∙ ap (λ p. 0 + 0 + count_of write (held p)) quiet.phase
 
 pub pairs_at_rest : {K V S : Type 0} (keys : Keys K S) → IsPairedAtRest V keys
 pairs_at_rest keys core good at_rest = paired keys core good.entries at_rest

@@ -47,7 +47,7 @@ module _ {K V S : Type 0} (keys : Keys K S) (weighs : K → V → ℕ → Type 0
     pub syncs_empty : SyncsEmpty keys weighs
     syncs_empty old new now reply good rest h =
         let all = maintained keys laws weighs now old new good h.1 in (
-          record { read_log = all.read_log; write_log = all.write_log; pending = all.pending ∙ rest.pending; place = all.place },
+          record { read_log = all.read_log; write_log = all.write_log; pending = all.pending ∙ rest.pending; phase = all.phase },
           subst (IsTrimmed new.settings.policy.max_capacity new.maintenance.orders)
               (sym (maintained_evicts keys laws weighs now old new good rest.pending h.1)) all.trimmed,
         )
@@ -65,7 +65,7 @@ module _ {K V S : Type 0} (keys : Keys K S) (weighs : K → V → ℕ → Type 0
     replays_rest settings first calls core h =
         let rests =
         replay_rests _ core calls
-        (record { good = stays_consistent keys laws settings first [] _ refl; rest = record { pending = refl; place = refl } }) h in
+        (record { good = stays_consistent keys laws settings first [] _ refl; rest = record { pending = refl; phase = refl } }) h in
         (rests.good, rests.rest)
 
   -- a copy changes nothing

@@ -17,8 +17,8 @@ use Rattle.moka_sync_model.specs.declared.operation.Write.{Write}
 use Rattle.moka_sync_model.specs.declared.operation.Write.TheVariants.{Upsert, Remove}
 use Rattle.moka_sync_model.specs.declared.operation.Operation.{Operation}
 use Rattle.moka_sync_model.specs.declared.operation.Operation.TheVariants.{Reading, Writing}
-use Rattle.moka_sync_model.specs.Place as place
-use Rattle.moka_sync_model.specs.Place.{is_idle, name_of}
+use Rattle.moka_sync_model.specs.Phase as phase
+use Rattle.moka_sync_model.specs.Phase.{is_idle, name_of}
 use Rattle.moka_sync_model.specs.CoreState.{CoreState, is_expired, pending_of, with_pending, without_pending}
 use Rattle.moka_sync_model.specs.Turn.Turn.{after_turn}
 use Rattle.moka_sync_model.specs.declared.event.Event.TheVariants as event
@@ -50,54 +50,54 @@ module _ {K V S : Type 0} (keys : Keys K S) (laws : IsEquivalence keys.eq) (weig
   abbrev Step : Core → Event K V → Reply K V → Core → Type 0
   Step = Happens keys weighs
 
-  turn_step : (core : Core) → (core.maintenance.place ≡ place.Idle → ⊥)
-      → Step core event.Turn (At (name_of (after_turn false core).maintenance.place)) (after_turn false core)
-  turn_step core busy = record { weight = 0; refused = false; weighed = tt; step = by (is_idle core.maintenance.place) refl }
+  turn_step : (core : Core) → (core.maintenance.phase ≡ phase.Idle → ⊥)
+      → Step core event.Turn (At (name_of (after_turn false core).maintenance.phase)) (after_turn false core)
+  turn_step core busy = record { weight = 0; refused = false; weighed = tt; step = by (is_idle core.maintenance.phase) refl }
     where
-      by : (idle : Bool) → is_idle core.maintenance.place ≡ idle
-          → IsTurn keys core false idle (At (name_of (after_turn false core).maintenance.place)) (after_turn false core)
-      by true is = absurd (busy (idle_is core.maintenance.place is))
+      by : (idle : Bool) → is_idle core.maintenance.phase ≡ idle
+          → IsTurn keys core false idle (At (name_of (after_turn false core).maintenance.phase)) (after_turn false core)
+      by true is = absurd (busy (idle_is core.maintenance.phase is))
       by false is = (refl, refl)
 
-  -- from any place under way turns lead to rest
-  turns_return : (fuel : ℕ) (core : Core) → AreEntriesConsistent keys core → (core.maintenance.place ≡ place.Idle → ⊥)
-      → IsRound core.maintenance.place → turns_left core ≤ fuel → (new : Core) × CoreTurns keys weighs core new
+  -- from any phase under way turns lead to rest
+  turns_return : (fuel : ℕ) (core : Core) → AreEntriesConsistent keys core → (core.maintenance.phase ≡ phase.Idle → ⊥)
+      → IsRound core.maintenance.phase → turns_left core ≤ fuel → (new : Core) × CoreTurns keys weighs core new
   turns_return zero core good busy round enough = absurd (omega (arith, (turn_falls keys core good false busy round).0, enough))
   turns_return (suc f) core good busy round enough =
-      by (idle_or_busy next.maintenance.place)
+      by (idle_or_busy next.maintenance.phase)
       (λ more. turns_return f next (consistent_turn keys core good false) more falls.1 (omega (arith, falls.0, enough)))
     where
       next : Core
       next = after_turn false core
 
-      falls : (turns_left next < turns_left core) × IsRound next.maintenance.place
+      falls : (turns_left next < turns_left core) × IsRound next.maintenance.phase
       falls = turn_falls keys core good false busy round
 
-      by : (next.maintenance.place ≡ place.Idle) ⊎ (next.maintenance.place ≡ place.Idle → ⊥)
-          → ((next.maintenance.place ≡ place.Idle → ⊥) → (new : Core) × CoreTurns keys weighs next new)
+      by : (next.maintenance.phase ≡ phase.Idle) ⊎ (next.maintenance.phase ≡ phase.Idle → ⊥)
+          → ((next.maintenance.phase ≡ phase.Idle → ⊥) → (new : Core) × CoreTurns keys weighs next new)
           → (new : Core) × CoreTurns keys weighs core new
       by (inl idle) later =
           (next, LastTurn core next (subst (λ p. Step core event.Turn (At p) next) (ap name_of idle) (turn_step core busy)))
       by (inr more) later = let rest =
           later more in (
             rest.0,
-            NextTurn core next rest.0 (name_of next.maintenance.place) (λ is. more (named_idle next.maintenance.place is))
+            NextTurn core next rest.0 (name_of next.maintenance.phase) (λ is. more (named_idle next.maintenance.phase is))
                 (turn_step core busy) rest.1,
           )
 
   -- a maintenance that begins returns
-  pub maintenance_returns : (now : ℕ) (old : Core) → IsConsistent keys old → old.maintenance.place ≡ place.Idle
+  pub maintenance_returns : (now : ℕ) (old : Core) → IsConsistent keys old → old.maintenance.phase ≡ phase.Idle
       → (new : Core) × Maintains Step Decides has_pending CALLER now old new
   maintenance_returns now old good idle =
       let begins : Step old (event.Begin now) Done begun =
-      record { weight = 0; refused = false; weighed = tt; step = by (is_idle old.maintenance.place) (ap is_idle idle) } in
+      record { weight = 0; refused = false; weighed = tt; step = by (is_idle old.maintenance.phase) (ap is_idle idle) } in
       let all =
       turns_return (turns_left begun) begun (consistent_step keys laws weighs old begun (event.Begin now) Done good begins).entries
       (λ is. false≢true (ap is_idle is)) (omega arith) (omega arith) in
       (all.0, record { begun = begun; begins = begins; turns = all.1 })
     where
       begun : Core
-      begun = record old { maintenance = record old.maintenance { place = place.ReadCount 1; moment = now } }
+      begun = record old { maintenance = record old.maintenance { phase = phase.ReadCount 1; moment = now } }
 
       by : (b : Bool) → b ≡ true → IsBeginning keys old now b Done begun
       by true is = (refl, refl)
@@ -111,7 +111,7 @@ module _ {K V S : Type 0} (keys : Keys K S) (laws : IsEquivalence keys.eq) (weig
           → (new : Core) × MaintainsIfDue Step Decides has_pending CALLER log now old new
       by true is =
           let ready = scheduled_pends keys laws weighs operation true now old h in
-          let all = maintenance_returns now (scheduled true now old) ready.good ready.place in
+          let all = maintenance_returns now (scheduled true now old) ready.good ready.phase in
           (all.0, record { runs = true; decided = scheduled true now old; decision = (is, refl); maintains = all.1 })
       by false is = (old, record { runs = false; decided = old; decision = (is, refl); maintains = refl })
 
@@ -231,11 +231,11 @@ module _ {K V S : Type 0} (keys : Keys K S) (laws : IsEquivalence keys.eq) (weig
           (sym (none_pending keys laws weighs old rests.rest.pending)) h
 
       ready : (operation : Operation) (e : Event K V) (reply : Reply K V) (new : Core) → Step old e reply new
-          → new.pending ≡ with_pending CALLER operation old → new.maintenance.place ≡ old.maintenance.place
+          → new.pending ≡ with_pending CALLER operation old → new.maintenance.phase ≡ old.maintenance.phase
           → Pends keys laws weighs operation new
-      ready operation e reply new step pending place =
+      ready operation e reply new step pending phase =
           now_pends keys laws weighs old rests operation new (consistent_step keys laws weighs old new e reply rests.good step) pending
-          place
+          phase
 
       get_returns : (key : K) (now : ℕ) → Returns (Get key now)
       get_returns key now = by (entry_at keys.eq key old.entries) refl
@@ -315,13 +315,13 @@ module _ {K V S : Type 0} (keys : Keys K S) (laws : IsEquivalence keys.eq) (weig
 
           done : (write : Write) (new : Core) (present : Option (Entry K V)) → entry_at keys.eq key old.entries ≡ present
               → IsInsert keys old CALLER key value now w false present Done new
-              → new.pending ≡ with_pending CALLER (Writing write) old → new.maintenance.place ≡ old.maintenance.place
+              → new.pending ≡ with_pending CALLER (Writing write) old → new.maintenance.phase ≡ old.maintenance.phase
               → Returns (Insert key value now)
-          done write new present is h pending place =
+          done write new present is h pending phase =
               let first : Step old (event.Insert CALLER key value now) Done new =
               record { weight = w; refused = false; weighed = (answers key value).1; step = happens Done new present is h } in
               let all =
-              write_returns write now new (ready (Writing write) (event.Insert CALLER key value now) Done new first pending place) in
+              write_returns write now new (ready (Writing write) (event.Insert CALLER key value now) Done new first pending phase) in
               (Done, all.0, record { next = new; first = first; follows = all.1 })
 
           by : (present : Option (Entry K V)) → entry_at keys.eq key old.entries ≡ present → Returns (Insert key value now)
@@ -413,5 +413,5 @@ module _ {K V S : Type 0} (keys : Keys K S) (laws : IsEquivalence keys.eq) (weig
       call_returns (Invalidate key now) = invalidate_returns key now
       call_returns (RemoveCall key now) = remove_returns key now
       call_returns (InvalidateAll now) = (Done, _, record { weight = 0; refused = false; weighed = tt; step = (refl, refl) })
-      call_returns (Sync now) = let all = maintenance_returns now old rests.good rests.rest.place in (Done, all.0, (refl, all.1))
+      call_returns (Sync now) = let all = maintenance_returns now old rests.good rests.rest.phase in (Done, all.0, (refl, all.1))
       call_returns Counts = (_, old, (refl, refl))

@@ -21,12 +21,12 @@ use Rattle.moka_sync_model.specs.declared.operation.Operation.{Operation}
 use Rattle.moka_sync_model.specs.declared.operation.Operation.TheVariants.{Reading, Writing}
 use Rattle.moka_sync_model.specs.declared.operation.Read.TheVariants.{Hit, Miss}
 use Rattle.moka_sync_model.specs.declared.operation.Write.TheVariants.{Upsert, Remove}
-use Rattle.moka_sync_model.specs.declared.place.Place.TheVariants as name
+use Rattle.moka_sync_model.specs.declared.phase.Phase.TheVariants as name
 use Rattle.moka_sync_model.specs.Ticket.{shard_of, without, changed}
 use Rattle.moka_sync_model.specs.Entry.{Entry, updated, entry_at}
 use Rattle.moka_sync_model.specs.Orders.{charged_weight}
-use Rattle.moka_sync_model.specs.Place as place
-use Rattle.moka_sync_model.specs.Place.{is_idle, name_of}
+use Rattle.moka_sync_model.specs.Phase as phase
+use Rattle.moka_sync_model.specs.Phase.{is_idle, name_of}
 use Rattle.moka_sync_model.specs.CoreState.{CoreState, new_core, is_expired, pending_of, with_pending, without_pending}
 use Rattle.moka_sync_model.specs.Turn.Turn.{after_turn}
 use Rattle.moka_sync_model.specs.Reply.{Reply}
@@ -108,12 +108,12 @@ if_free core None end = end
 if_free core (Some operation) end = (NotPossible, core)
 
 abbrev begun : Core → ℕ → Bool → End
-begun core now true = (Done, record core { maintenance = record core.maintenance { place = place.ReadCount 1; moment = now } })
+begun core now true = (Done, record core { maintenance = record core.maintenance { phase = phase.ReadCount 1; moment = now } })
 begun core now false = (NotPossible, core)
 
 abbrev turned : Core → Bool → End
 turned core true = (NotPossible, core)
-turned core false = (At (name_of (after_turn false core).maintenance.place), after_turn false core)
+turned core false = (At (name_of (after_turn false core).maintenance.phase), after_turn false core)
 
 -- the reply to an event, of an insert of this weight, and the core then
 abbrev step : Core → Event ℕ ℕ → ℕ → End
@@ -133,8 +133,8 @@ step core (InvalidateAll now) weight = (Done, record core { valid_after = cond (
 step core (Push caller) weight = pushed core caller (pending_of caller core)
 step core (Forget caller) weight = forgotten core caller (pending_of caller core)
 step core (Copy shard now) weight = cond (ltb shard SHARDS) (Rows (pairs_of keys core shard now), core) (NotPossible, core)
-step core (Begin now) weight = begun core now (is_idle core.maintenance.place)
-step core Turn weight = turned core (is_idle core.maintenance.place)
+step core (Begin now) weight = begun core now (is_idle core.maintenance.phase)
+step core Turn weight = turned core (is_idle core.maintenance.phase)
 step core Counts weight = (CountsReply (length core.maintenance.orders.access) (charged_weight core.maintenance.orders), core)
 
 -- ---- it is a step of the definitions
@@ -227,8 +227,8 @@ module _ (core : Core) where
   is_step (Copy shard now) weight =
       either (ltb shard SHARDS) (IsCopy keys core (pairs_of keys core shard now) false) (OnlyReplies keys core NotPossible) _ _
       (copies (pairs_of keys core shard now)) (refl, refl)
-  is_step (Begin now) weight = begins now (is_idle core.maintenance.place)
-  is_step Turn weight = turns (is_idle core.maintenance.place)
+  is_step (Begin now) weight = begins now (is_idle core.maintenance.phase)
+  is_step Turn weight = turns (is_idle core.maintenance.phase)
   is_step Counts weight = (refl, refl)
 
 -- ---- schedules
@@ -238,10 +238,10 @@ data Line : Type 0 where
   Once : Event ℕ ℕ → ℕ → Line
   Rest : Line
 
--- turns until the place is idle, but at most so many
+-- turns until the phase is idle, but at most so many
 abbrev until_idle : ℕ → Core → Core
 until_idle zero core = core
-until_idle (suc n) core = elim (is_idle core.maintenance.place) [ true ↦ core | false ↦ until_idle n (after_turn false core) ]
+until_idle (suc n) core = elim (is_idle core.maintenance.phase) [ true ↦ core | false ↦ until_idle n (after_turn false core) ]
 
 -- more than a maintenance of a schedule takes
 abbrev MANY : ℕ
@@ -268,18 +268,18 @@ runs-append old mid new (h ∷ before) later first then = (first.0, first.1, run
 
 turns_run : (n : ℕ) (core : Core) → (happenings : List (Happening ℕ ℕ)) × Runs keys core happenings (until_idle n core)
 turns_run zero core = ([], refl)
-turns_run (suc n) core = by (is_idle core.maintenance.place) refl (turns_run n (after_turn false core))
+turns_run (suc n) core = by (is_idle core.maintenance.phase) refl (turns_run n (after_turn false core))
   where
     next : Core
     next = after_turn false core
 
-    by : (idle : Bool) → is_idle core.maintenance.place ≡ idle → (happenings : List (Happening ℕ ℕ))
+    by : (idle : Bool) → is_idle core.maintenance.phase ≡ idle → (happenings : List (Happening ℕ ℕ))
         × Runs keys next happenings (until_idle n next)
         → (happenings : List (Happening ℕ ℕ)) × Runs keys core happenings (elim idle [ true ↦ core | false ↦ until_idle n next ])
     by true is later = ([], refl)
     by false is later = (
-      record { event = Turn; weight = 0; refused = false; reply = At (name_of next.maintenance.place) } ∷ later.0,
-      (next, subst (λ b. IsTurn keys core false b (At (name_of next.maintenance.place)) next) (sym is) (refl, refl), later.1),
+      record { event = Turn; weight = 0; refused = false; reply = At (name_of next.maintenance.phase) } ∷ later.0,
+      (next, subst (λ b. IsTurn keys core false b (At (name_of next.maintenance.phase)) next) (sym is) (refl, refl), later.1),
     )
 
 line_runs : (line : Line) (core : Core) → (happenings : List (Happening ℕ ℕ)) × Runs keys core happenings (answered line core).1

@@ -15,7 +15,7 @@ use Rattle.moka_sync_model.specs.declared.operation.Write.{Write}
 use Rattle.moka_sync_model.specs.declared.operation.Write.TheVariants.{Upsert, Remove}
 use Rattle.moka_sync_model.specs.declared.operation.Operation.{Operation}
 use Rattle.moka_sync_model.specs.declared.operation.Operation.TheVariants.{Reading, Writing}
-use Rattle.moka_sync_model.specs.Place as place
+use Rattle.moka_sync_model.specs.Phase as phase
 use Rattle.moka_sync_model.specs.CoreState.{CoreState, pending_of, with_pending, without_pending}
 use Rattle.moka_sync_model.specs.Turn.Turn.{after_turn}
 use Rattle.moka_sync_model.specs.declared.event.Event.{Event}
@@ -26,7 +26,7 @@ use Rattle.moka_sync_model.specs.Event.{IsPush, IsForgetting, IsBeginning, IsTur
 use Rattle.moka_sync_model.specs.declared.event.Event.TheVariants.{Insert, Get, Contains, Invalidate, Take, InvalidateAll, Push, Forget, Copy}
 use Rattle.moka_sync_model.specs.declared.event.Event.TheVariants.{Begin, Turn, Counts}
 use Rattle.moka_sync_model.specs.declared.event.Reply.TheVariants.{NotPossible, Done, Discarded, Found, Rows, OutOfMemory, TicketsUsedUp}
-use Rattle.moka_sync_model.specs.Place.{is_idle}
+use Rattle.moka_sync_model.specs.Phase.{is_idle}
 
 -- by a test that decides what holds
 pub by_Bool : {A : Type 0} (b : Bool) (P Q : Type 0) → (b ≡ true → P → A) → (b ≡ false → Q → A) → MatchBool b P Q → A
@@ -85,10 +85,10 @@ module _ {K V S : Type 0} (keys : Keys K S) (old : CoreState K V S) where
     Invalidated : (now : ℕ) → event ≡ InvalidateAll now
         → new ≡ record old { valid_after = if ltb old.valid_after now then now else old.valid_after }
         → StepForm event weight refused reply new
-    Begun : (now : ℕ) → IsSilent event reply → is_idle old.maintenance.place ≡ true
-        → new ≡ record old { maintenance = record old.maintenance { place = place.ReadCount 1; moment = now } }
+    Begun : (now : ℕ) → IsSilent event reply → is_idle old.maintenance.phase ≡ true
+        → new ≡ record old { maintenance = record old.maintenance { phase = phase.ReadCount 1; moment = now } }
         → StepForm event weight refused reply new
-    Turned : event ≡ Turn → is_idle old.maintenance.place ≡ false → new ≡ after_turn refused old → StepForm event weight refused reply new
+    Turned : event ≡ Turn → is_idle old.maintenance.phase ≡ false → new ≡ after_turn refused old → StepForm event weight refused reply new
 
   module _ (new : CoreState K V S) (reply : Reply K V) (weight : ℕ) (refused : Bool) where
     abbrev Form : Event K V → Type 0
@@ -164,11 +164,11 @@ module _ {K V S : Type 0} (keys : Keys K S) (old : CoreState K V S) where
     forget caller (Some (Reading read)) is h = Queued tt (Dropped caller read is h.1)
     forget caller (Some (Writing write)) is h = unchanged (Forget caller) NotPossible tt h
 
-    begin : (now : ℕ) (idle : Bool) → is_idle old.maintenance.place ≡ idle → IsBeginning keys old now idle reply new → Form (Begin now)
+    begin : (now : ℕ) (idle : Bool) → is_idle old.maintenance.phase ≡ idle → IsBeginning keys old now idle reply new → Form (Begin now)
     begin now true is h = Begun now tt is h.1
     begin now false is h = unchanged (Begin now) NotPossible tt h
 
-    turn : (idle : Bool) → is_idle old.maintenance.place ≡ idle → IsTurn keys old refused idle reply new → Form Turn
+    turn : (idle : Bool) → is_idle old.maintenance.phase ≡ idle → IsTurn keys old refused idle reply new → Form Turn
     turn true is h = unchanged Turn NotPossible tt h
     turn false is h = Turned refl is h.1
 
@@ -201,6 +201,6 @@ module _ {K V S : Type 0} (keys : Keys K S) (old : CoreState K V S) where
     step_forms (Copy shard now) h =
         by_Bool _ (IsCopy keys old (pairs_of keys old shard now) refused reply new) (OnlyReplies keys old NotPossible reply new)
         (λ b. copy shard now (pairs_of keys old shard now)) (λ b r. Same tt r.1) h
-    step_forms (Begin now) h = begin now (is_idle old.maintenance.place) refl h
-    step_forms Turn h = turn (is_idle old.maintenance.place) refl h
+    step_forms (Begin now) h = begin now (is_idle old.maintenance.phase) refl h
+    step_forms Turn h = turn (is_idle old.maintenance.phase) refl h
     step_forms Counts h = Same tt h.1

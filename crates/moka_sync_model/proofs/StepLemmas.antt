@@ -11,7 +11,7 @@ use Rattle.moka_sync_model.specs.declared.operation.Operation.{Operation}
 use Rattle.moka_sync_model.specs.declared.operation.Write.TheVariants.{Upsert, Remove}
 use Rattle.moka_sync_model.specs.Operation.{count_of, count_pending}
 use Rattle.moka_sync_model.specs.Orders.{charge_of, is_written}
-use Rattle.moka_sync_model.specs.Place.{held}
+use Rattle.moka_sync_model.specs.Phase.{held}
 use Rattle.moka_sync_model.specs.CoreState.{CoreState, Maintenance}
 use Rattle.moka_common.specs.Settings.{keeps_writes}
 use Rattle.moka_sync_model.specs.Turn.Plan.{Change, Stays, Becomes, Leaves, Outcome, after_change}
@@ -37,8 +37,8 @@ module _ {K V S : Type 0} (keys : Keys K S) (core : CoreState K V S) (good : Are
   -- entries stay, nodes at most change their order, and as much is outstanding
   pub consistent_quiet : (va : ℕ) (rl : List Read) (wl : List Write) (pe : List (ℕ × Operation)) (m : Maintenance)
       → Reorders core.maintenance.orders m.orders
-      → ((w : Write) → count_pending w pe + count_of w wl + count_of w (held m.place) ≡ outstanding core w)
-      → Fits core.settings.policy.max_capacity m.orders (length rl) (length wl) m.place
+      → ((w : Write) → count_pending w pe + count_of w wl + count_of w (held m.phase) ≡ outstanding core w)
+      → Fits core.settings.policy.max_capacity m.orders (length rl) (length wl) m.phase
       → AreEntriesConsistent keys (record core { valid_after = va; read_log = rl; write_log = wl; pending = pe; maintenance = m })
   consistent_quiet va rl wl pe m reorders counts fits =
       let any : Ticket = record { hash = 0; number = 0 } in
@@ -57,14 +57,14 @@ module _ {K V S : Type 0} (keys : Keys K S) (core : CoreState K V S) (good : Are
         fits = fits;
       })
 
-  -- what is outstanding but for what the place holds
+  -- what is outstanding but for what the phase holds
   abbrev pub waiting : Write → ℕ
   waiting w = count_pending w core.pending + count_of w core.write_log
 
   module _ (t : Ticket) (end : Outcome K V) (change : IsChange end.change)
       (orders : ChangesNode t core.maintenance.orders end.maintenance.orders)
       (fits : Fits core.settings.policy.max_capacity end.maintenance.orders (length core.read_log) (length core.write_log)
-      end.maintenance.place) where
+      end.maintenance.phase) where
     -- what the core has of the ticket then, with so many upserts and removals
     abbrev pub stay_then : ℕ → ℕ → Stay K V
     stay_then upserts removals = record {
@@ -95,8 +95,8 @@ module _ {K V S : Type 0} (keys : Keys K S) (core : CoreState K V S) (good : Are
         nothing (Becomes change) = refl
         nothing Leaves = refl
 
-    -- the place holds what it held
-    pub consistent_look : held end.maintenance.place ≡ held core.maintenance.place
+    -- the phase holds what it held
+    pub consistent_look : held end.maintenance.phase ≡ held core.maintenance.phase
         → IsConsistentStay (keeps_writes core.settings.policy) (stay_then (outstanding core (Upsert t)) (outstanding core (Remove t)))
         → (charge_of t core.maintenance.orders ≡ None → charge_of t end.maintenance.orders ≡ None)
         → (is_written t core.maintenance.orders ≡ false → is_written t end.maintenance.orders ≡ false)
@@ -122,8 +122,8 @@ module _ {K V S : Type 0} (keys : Keys K S) (core : CoreState K V S) (good : Are
         now = same_stay (stay_of t (after_step core t step_of)) (stay_then (outstanding core (Upsert t)) (outstanding core (Remove t)))
             (entry_of-fate t end.change change core.entries) refl refl (counts (Upsert t)) (counts (Remove t))
 
-    -- the place held the ticket's upsert, and now holds nothing
-    pub consistent_upsert_done : held core.maintenance.place ≡ Upsert t ∷ [] → held end.maintenance.place ≡ []
+    -- the phase held the ticket's upsert, and now holds nothing
+    pub consistent_upsert_done : held core.maintenance.phase ≡ Upsert t ∷ [] → held end.maintenance.phase ≡ []
         → ((n : ℕ) → outstanding core (Upsert t) ≡ n + 1
         → IsConsistentStay (keeps_writes core.settings.policy) (stay_then n (outstanding core (Remove t))))
         → AreEntriesConsistent keys (record core { entries = after_change t end.change core.entries; maintenance = end.maintenance })
@@ -153,8 +153,8 @@ module _ {K V S : Type 0} (keys : Keys K S) (core : CoreState K V S) (good : Are
             (ap (λ n. count_pending (Remove t) core.pending + count_of (Remove t) core.write_log + n)
             (ap (count_of (Remove t)) held_then ∙ ap (count_of (Remove t)) (sym held_before)))
 
-    -- the place held the ticket's removal, and now holds nothing
-    pub consistent_removal_done : held core.maintenance.place ≡ Remove t ∷ [] → held end.maintenance.place ≡ []
+    -- the phase held the ticket's removal, and now holds nothing
+    pub consistent_removal_done : held core.maintenance.phase ≡ Remove t ∷ [] → held end.maintenance.phase ≡ []
         → ((n : ℕ) → outstanding core (Remove t) ≡ n + 1
         → IsConsistentStay (keeps_writes core.settings.policy) (stay_then (outstanding core (Upsert t)) n))
         → AreEntriesConsistent keys (record core { entries = after_change t end.change core.entries; maintenance = end.maintenance })

@@ -107,8 +107,8 @@ module _ {K V S : Type 0} (keys : Keys K S) (weighs : K → V → ℕ → Type 0
     by_form event weight refused reply w (Begun now quiet idle is) = as_before _ is refl
     by_form event weight refused reply w (Turned on busy is) = λ key e there.
         let was =
-        stood_before_look keys.eq laws (turn_at old.settings old.valid_after refused old.maintenance.place old.maintenance) old key e
-        (mild_turn K V old.settings old.valid_after refused old.maintenance.place old.maintenance) good.entries.keys_apart
+        stood_before_look keys.eq laws (turn_at old.settings old.valid_after refused old.maintenance.phase old.maintenance) old key e
+        (mild_turn K V old.settings old.valid_after refused old.maintenance.phase old.maintenance) good.entries.keys_apart
         (ap (λ c. entry_at keys.eq key c.entries) (sym is) ∙ there) in
         let before = weighed key was.0 was.1 in
         (before.0, before.1, subst (λ v. weighs before.0 v e.weight) was.2 (subst (λ n. weighs before.0 was.0.value n) was.3 before.2))

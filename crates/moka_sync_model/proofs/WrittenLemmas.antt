@@ -16,8 +16,8 @@ use Rattle.moka_sync_model.specs.Entry.{Entry, entry_of, entry_at}
 use Rattle.moka_sync_model.specs.declared.operation.Operation.{Operation}
 use Rattle.moka_sync_model.specs.declared.operation.Write.TheVariants.{Upsert}
 use Rattle.moka_sync_model.specs.Orders.{charged_weight}
-use Rattle.moka_sync_model.specs.Place as place
-use Rattle.moka_sync_model.specs.Place.{Place, is_idle}
+use Rattle.moka_sync_model.specs.Phase as phase
+use Rattle.moka_sync_model.specs.Phase.{Phase, is_idle}
 use Rattle.moka_sync_model.specs.CoreState.{CoreState, is_expired, pending_of}
 use Rattle.moka_sync_model.specs.Turn.Plan.{Change, Stays, Becomes, Leaves, after_change, Plan, Alone, AtReads, AtWrites, AtEntry}
 use Rattle.moka_sync_model.specs.Turn.Plan.{after_plan}
@@ -81,8 +81,8 @@ module _ {K V S : Type 0} (keys : Keys K S) (laws : IsEquivalence keys.eq) where
     turn_kept old new good reply refused false h v found =
         let e = has_entry (entry_at keys.eq key (after_turn refused old).entries) v (ap (value_at keys.eq key) (sym h.1) ∙ found) in
         let was =
-        stood_before_look keys.eq laws (turn_at old.settings old.valid_after refused old.maintenance.place old.maintenance) old key
-        e.0 (mild_turn K V old.settings old.valid_after refused old.maintenance.place old.maintenance) good.keys_apart e.1 in
+        stood_before_look keys.eq laws (turn_at old.settings old.valid_after refused old.maintenance.phase old.maintenance) old key
+        e.0 (mild_turn K V old.settings old.valid_after refused old.maintenance.phase old.maintenance) good.keys_apart e.1 in
         ap (option_map (λ (x : Entry K V). x.value)) was.1 ∙ ap (λ (x : V). Some x) (was.2 ∙ e.2)
 
     pub step_written : (old new : CoreState K V S) (good : AreEntriesConsistent keys old) (event : Event K V) (weight : ℕ)
@@ -94,7 +94,7 @@ module _ {K V S : Type 0} (keys : Keys K S) (laws : IsEquivalence keys.eq) where
       where
         turn : (event : Event K V) → IsTurnEvent keys laws old new good reply key event → IsStep keys old event weight refused reply new
             → written_by keys.eq key event reply last ≡ Some v
-        turn Turn is step = holds v (turn_kept old new good reply refused (is_idle old.maintenance.place) step v found)
+        turn Turn is step = holds v (turn_kept old new good reply refused (is_idle old.maintenance.phase) step v found)
         turn other is step = absurd is
 
         by : Maps keys laws old new good reply key event ⊎ IsTurnEvent keys laws old new good reply key event
@@ -166,13 +166,13 @@ module _ {K V S : Type 0} (keys : Keys K S) (laws : IsEquivalence keys.eq) where
   -- ---- without limits
 
   module _ (core : CoreState K V S) (good : AreEntriesConsistent keys core) (free : IsUnlimited V keys core) (refused : Bool)
-      (plain : AsksForNode core core.maintenance.place → refused ≡ false) where
+      (plain : AsksForNode core core.maintenance.phase → refused ≡ false) where
     -- nothing makes an entry leave in a turn
-    no_cause : (e : Entry K V) → entry_of e.ticket core.entries ≡ Some e → (p : Place) → core.maintenance.place ≡ p
+    no_cause : (e : Entry K V) → entry_of e.ticket core.entries ≡ Some e → (p : Phase) → core.maintenance.phase ≡ p
         → TurnCause core e refused p → ⊥
-    no_cause e found (place.Apply work (Upsert t)) is h = by h.why
+    no_cause e found (phase.Apply work (Upsert t)) is h = by h.why
       where
-        asks : AsksForNode core core.maintenance.place
+        asks : AsksForNode core core.maintenance.phase
         asks = subst (AsksForNode core) (sym is)
             (ap (λ (u : Ticket). is_some (entry_of u core.entries)) (sym h.own) ∙ ap is_some found, h.uncharged)
 
@@ -181,12 +181,12 @@ module _ {K V S : Type 0} (keys : Keys K S) (laws : IsEquivalence keys.eq) where
             × (is_within core.settings.policy.max_capacity e.weight ≡ false)) → ⊥
         by (inl memory) = false≢true (sym (plain asks) ∙ memory)
         by (inr heavy) = true≢false (ap (λ l. is_within l e.weight) (sym free.max_capacity) ∙ heavy.1)
-    no_cause e found (place.Scan work c tally seen) is h = let some =
-        (fits_at keys core good (place.Scan work c tally seen) is).limited in false≢true (ap is_some (sym free.max_capacity) ∙ some)
-    no_cause e found (place.Removing work c tally skipped left) is h =
-        let some = (fits_at keys core good (place.Removing work c tally skipped left) is).0.limited in
+    no_cause e found (phase.Scan work c tally seen) is h = let some =
+        (fits_at keys core good (phase.Scan work c tally seen) is).limited in false≢true (ap is_some (sym free.max_capacity) ∙ some)
+    no_cause e found (phase.Removing work c tally skipped left) is h =
+        let some = (fits_at keys core good (phase.Removing work c tally skipped left) is).0.limited in
         false≢true (ap is_some (sym free.max_capacity) ∙ some)
-    no_cause e found (place.ExpireWrite turns) is h =
+    no_cause e found (phase.ExpireWrite turns) is h =
         false≢true (fresh ∙ h.over)
       where
         fresh : false
@@ -195,7 +195,7 @@ module _ {K V S : Type 0} (keys : Keys K S) (laws : IsEquivalence keys.eq) where
           where
             none : (n : ℕ) → false ≡ ltb n 0
             none n = grind arith
-    no_cause e found (place.ExpireAccess turns) is h =
+    no_cause e found (phase.ExpireAccess turns) is h =
         false≢true (fresh ∙ h.over)
       where
         fresh : false
@@ -204,7 +204,7 @@ module _ {K V S : Type 0} (keys : Keys K S) (laws : IsEquivalence keys.eq) where
           where
             none : (n : ℕ) → false ≡ ltb n 0
             none n = grind arith
-    no_cause e found (place.Evict turns) is h =
+    no_cause e found (phase.Evict turns) is h =
         true≢false (ap (λ l. is_within l (charged_weight core.maintenance.orders)) (sym free.max_capacity) ∙ h.over)
     no_cause e found other is h = h
 
@@ -235,7 +235,7 @@ module _ {K V S : Type 0} (keys : Keys K S) (laws : IsEquivalence keys.eq) where
           by None = refl
           by (Some e) = ap (λ (v : V). Some v) (one e (same_ticket t e.ticket))
 
-      look_kept : (look : Plan K V) → turn_at core.settings core.valid_after refused core.maintenance.place core.maintenance ≡ look
+      look_kept : (look : Plan K V) → turn_at core.settings core.valid_after refused core.maintenance.phase core.maintenance ≡ look
           → IsMildLook look → value_at keys.eq key (after_plan look core) ≡ value_at keys.eq key core
       look_kept (Alone m) is mild = refl
       look_kept (AtReads looks) is mild = refl
@@ -250,8 +250,8 @@ module _ {K V S : Type 0} (keys : Keys K S) (laws : IsEquivalence keys.eq) where
               ap (λ f. entry_of t (after_change t f core.entries)) leaves ∙ of_ticket-without_same (λ e. e.ticket) t core.entries in
               absurd (no_cause e
               (ap (λ (u : Ticket). entry_of u core.entries) (of_ticket-is (λ (x : Entry K V). x.ticket) t core.entries e found)
-              ∙ found) core.maintenance.place refl
-              (turn_cause keys core good t e found refused core.maintenance.place refl
+              ∙ found) core.maintenance.phase refl
+              (turn_cause keys core good t e found refused core.maintenance.phase refl
               (ap (λ l. entry_of t (after_plan l core).entries) is ∙ gone)))
 
           by : (change : Change K V) → (looks (entry_of t core.entries)).change ≡ change → IsMild change
@@ -267,8 +267,8 @@ module _ {K V S : Type 0} (keys : Keys K S) (laws : IsEquivalence keys.eq) where
 
       turn_same : value_at keys.eq key (after_turn refused core) ≡ value_at keys.eq key core
       turn_same =
-          look_kept (turn_at core.settings core.valid_after refused core.maintenance.place core.maintenance) refl
-          (mild_turn K V core.settings core.valid_after refused core.maintenance.place core.maintenance)
+          look_kept (turn_at core.settings core.valid_after refused core.maintenance.phase core.maintenance) refl
+          (mild_turn K V core.settings core.valid_after refused core.maintenance.phase core.maintenance)
 
   -- ---- what a step keeps of the settings
 
@@ -306,7 +306,7 @@ module _ {K V S : Type 0} (keys : Keys K S) (laws : IsEquivalence keys.eq) where
     form_kept event weight refused plain (Invalidated now on is) = absurd (subst (IsPlain old refused) on plain)
     form_kept event weight refused plain (Begun now quiet idle is) = kept _ is refl refl
     form_kept event weight refused plain (Turned on busy is) =
-        let unmoved = look_settings (turn_at old.settings old.valid_after refused old.maintenance.place old.maintenance) in
+        let unmoved = look_settings (turn_at old.settings old.valid_after refused old.maintenance.phase old.maintenance) in
         kept _ is unmoved.0 unmoved.1
 
     step_kept : (event : Event K V) (weight : ℕ) (refused : Bool) → IsPlain old refused event
@@ -314,7 +314,7 @@ module _ {K V S : Type 0} (keys : Keys K S) (laws : IsEquivalence keys.eq) where
     step_kept event weight refused plain h = form_kept event weight refused plain (step_forms keys old new reply weight refused event h)
 
   turn_maps : (old new : CoreState K V S) (good : AreEntriesConsistent keys old) (free : IsUnlimited V keys old) (reply : Reply K V)
-      (key : K) (refused idle : Bool) → (AsksForNode old old.maintenance.place → refused ≡ false) → IsTurn keys old refused idle reply new
+      (key : K) (refused idle : Bool) → (AsksForNode old old.maintenance.phase → refused ≡ false) → IsTurn keys old refused idle reply new
       → value_at keys.eq key new ≡ value_at keys.eq key old
   turn_maps old new good free reply key refused true plain h = ap (value_at keys.eq key) h.1
   turn_maps old new good free reply key refused false plain h =
@@ -331,7 +331,7 @@ module _ {K V S : Type 0} (keys : Keys K S) (laws : IsEquivalence keys.eq) where
           → Maps keys laws old new good reply key event ⊎ IsTurnEvent keys laws old new good reply key event
           → value_at keys.eq key new ≡ mapped_by keys.eq key event reply (value_at keys.eq key old)
       by event plain step (inl maps) = maps
-      by Turn plain step (inr is) = turn_maps old new good free reply key refused (is_idle old.maintenance.place) plain step
+      by Turn plain step (inr is) = turn_maps old new good free reply key refused (is_idle old.maintenance.phase) plain step
       by other plain step (inr is) = absurd is
 
   run_maps : (key : K) (old new : CoreState K V S) (hs : List (Happening K V)) → IsConsistent keys old → IsUnlimited V keys old

@@ -11,18 +11,18 @@ use Rattle.moka_sync_model.specs.declared.operation.Write.{Write}
 use Rattle.moka_sync_model.specs.declared.operation.Write.TheVariants.{Upsert, Remove}
 use Rattle.moka_sync_model.specs.Operation.{count_of, count_pending}
 use Rattle.moka_sync_model.specs.Orders.{Orders, charge_of, is_written, charged_weight}
-use Rattle.moka_sync_model.specs.Place as place
+use Rattle.moka_sync_model.specs.Phase as phase
 use Rattle.moka_sync_model.specs.declared.progress.Work.{Work}
 use Rattle.moka_sync_model.specs.declared.progress.Candidate.{Candidate}
-use Rattle.moka_sync_model.specs.Place.{Place, held}
+use Rattle.moka_sync_model.specs.Phase.{Phase, held}
 use Rattle.moka_sync_model.specs.CoreState.{CoreState}
 use Rattle.moka_common.specs.Settings.{keeps_writes}
 use Rattle.moka_sync_model.specs.Queues.{AreQueuesConsistent}
 use Rattle.moka_sync_model.specs.Turn.Admission.{tickets_of, is_admitted}
 
--- how often a write is outstanding: pending, in the log, or held by the place
+-- how often a write is outstanding: pending, in the log, or held by the phase
 abbrev pub outstanding : {K V S : Type 0} → CoreState K V S → Write → ℕ
-outstanding core write = count_pending write core.pending + count_of write core.write_log + count_of write (held core.maintenance.place)
+outstanding core write = count_pending write core.pending + count_of write core.write_log + count_of write (held core.maintenance.phase)
 
 -- what the core has of one ticket: its entry, what is charged, whether it is in the order of writing, and how many upserts and removals
 -- are outstanding
@@ -76,18 +76,18 @@ abbrev pub IsTrimmed : Option ℕ → Orders → ℕ → Type 0
 IsTrimmed None orders turns = Unit {0}
 IsTrimmed (Some limit) orders turns = (charged_weight orders ≤ limit) ⊎ (turns ≡ SYNC_BATCH_SIZE)
 
--- the place fits the limit, the orders and the lengths of the logs
-abbrev pub Fits : Option ℕ → Orders → ℕ → ℕ → Place → Type 0
-Fits limit orders reads writes (place.Reads work) = (0 < work.left) × (work.left ≤ reads)
-Fits limit orders reads writes (place.ReadApply work read) = work.left ≤ reads
-Fits limit orders reads writes (place.Writes work) = (0 < work.left) × (work.left ≤ writes)
-Fits limit orders reads writes (place.Apply work write) = work.left ≤ writes
-Fits limit orders reads writes (place.Scan work c tally seen) = IsAdmission limit orders writes work c (tickets_of seen)
-Fits limit orders reads writes (place.Removing work c tally skipped left) =
+-- the phase fits the limit, the orders and the lengths of the logs
+abbrev pub Fits : Option ℕ → Orders → ℕ → ℕ → Phase → Type 0
+Fits limit orders reads writes (phase.Reads work) = (0 < work.left) × (work.left ≤ reads)
+Fits limit orders reads writes (phase.ReadApply work read) = work.left ≤ reads
+Fits limit orders reads writes (phase.Writes work) = (0 < work.left) × (work.left ≤ writes)
+Fits limit orders reads writes (phase.Apply work write) = work.left ≤ writes
+Fits limit orders reads writes (phase.Scan work c tally seen) = IsAdmission limit orders writes work c (tickets_of seen)
+Fits limit orders reads writes (phase.Removing work c tally skipped left) =
     IsAdmission limit orders writes work c (skipped ++ tickets_of left) × (left ≢ []) × (is_admitted c tally ≡ true)
-Fits limit orders reads writes (place.Enter work c skipped) = IsAdmission limit orders writes work c skipped
-Fits limit orders reads writes (place.Evict turns) = turns ≤ SYNC_BATCH_SIZE
-Fits limit orders reads writes (place.Publish turns) = IsTrimmed limit orders turns
+Fits limit orders reads writes (phase.Enter work c skipped) = IsAdmission limit orders writes work c skipped
+Fits limit orders reads writes (phase.Evict turns) = turns ≤ SYNC_BATCH_SIZE
+Fits limit orders reads writes (phase.Publish turns) = IsTrimmed limit orders turns
 Fits limit orders reads writes other = Unit {0}
 
 module _ {K V S : Type 0} (keys : Keys K S) where
@@ -105,9 +105,9 @@ module _ {K V S : Type 0} (keys : Keys K S) where
     pub writes_apart : AreApart (λ t. t) core.maintenance.orders.write
     pub hashed : All (λ e. e.ticket.hash ≡ keys.hash_of core.settings.hash_state e.key) core.entries
     pub numbered : length core.next_numbers ≡ SHARDS
-    -- of the place
+    -- of the phase
     pub fits : Fits core.settings.policy.max_capacity core.maintenance.orders (length core.read_log) (length core.write_log)
-        core.maintenance.place
+        core.maintenance.phase
 
   -- what holds of the core before and after each step
   pub record IsConsistent (core : CoreState K V S) : Type 0 where

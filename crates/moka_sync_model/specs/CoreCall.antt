@@ -7,7 +7,7 @@ use Rattle.moka_sync_model.specs.declared.constants.TheConstants.{CALLER, FLUSH_
 use Rattle.moka_sync_model.specs.declared.call.Call.{Call}
 use Rattle.moka_sync_model.specs.declared.call.Call.TheVariants.{Insert, Get, Contains, Invalidate, Remove, InvalidateAll, Sync, Counts}
 use Rattle.moka_sync_model.specs.CoreState.{CoreState, pending_of}
-use Rattle.moka_sync_model.specs.Place.{Place, Idle, Evict}
+use Rattle.moka_sync_model.specs.Phase.{Phase, Idle, Evict}
 use Rattle.moka_sync_model.specs.Reply.{Reply}
 use Rattle.moka_sync_model.specs.declared.event.Reply.TheVariants.{Counts as CountsReply}
 use Rattle.moka_sync_model.specs.Run.{Happens}
@@ -27,8 +27,8 @@ abbrev pub numbers_from : ℕ → ℕ → List ℕ
 numbers_from first zero = []
 numbers_from first (suc n) = first ∷ numbers_from (suc first) n
 
--- how many entries a turn at a place has evicted, by their numbers before and after
-abbrev pub evicted_at : Place → ℕ → ℕ → ℕ
+-- how many entries a turn at a phase has evicted, by their numbers before and after
+abbrev pub evicted_at : Phase → ℕ → ℕ → ℕ
 evicted_at (Evict turns) before after = before - after
 evicted_at other before after = 0
 
@@ -54,23 +54,23 @@ module _ {K V S : Type 0} where
   -- nothing is under way: no maintenance, and no operation of a caller
   pub record IsAtRest (core : CoreState K V S) : Type 0 where
     pub pending : core.pending ≡ []
-    pub place : core.maintenance.place ≡ Idle
+    pub phase : core.maintenance.phase ≡ Idle
 
 module _ {K V S : Type 0} (keys : Keys K S) (weighs : K → V → ℕ → Type 0) where
-  -- turns of the core until its place is idle
+  -- turns of the core until its phase is idle
   abbrev pub CoreTurns : CoreState K V S → CoreState K V S → Type 0
   CoreTurns old new = Turns (Happens keys weighs) Decides has_pending CALLER old new
 
   -- the maintenance that is under way comes to its end, if one is
   abbrev pub Finishes : CoreState K V S → Bool → CoreState K V S → Type 0
   Finishes old true new = CoreTurns old new
-  Finishes old false new = (old.maintenance.place ≡ Idle) × (new ≡ old)
+  Finishes old false new = (old.maintenance.phase ≡ Idle) × (new ≡ old)
 
   -- how many entries these turns have evicted
   abbrev pub entries_evicted : (old new : CoreState K V S) → CoreTurns old new → ℕ
   entries_evicted old new (LastTurn _ _ step) = 0
-  entries_evicted old new (NextTurn _ next _ place busy step turns) =
-      evicted_at old.maintenance.place (length old.entries) (length next.entries) + entries_evicted next new turns
+  entries_evicted old new (NextTurn _ next _ phase busy step turns) =
+      evicted_at old.maintenance.phase (length old.entries) (length next.entries) + entries_evicted next new turns
 
   -- a whole call gets this reply and leaves the new core
   abbrev pub IsCall : CoreState K V S → Call K V → Reply K V → CoreState K V S → Type 0

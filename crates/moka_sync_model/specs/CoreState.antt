@@ -10,7 +10,7 @@ use Rattle.moka_sync_model.specs.declared.operation.Read.{Read}
 use Rattle.moka_sync_model.specs.declared.operation.Write.{Write}
 use Rattle.moka_sync_model.specs.Entry.{Entry}
 use Rattle.moka_sync_model.specs.Orders.{Orders}
-use Rattle.moka_sync_model.specs.Place.{Place, Idle}
+use Rattle.moka_sync_model.specs.Phase.{Phase, Idle}
 use Rattle.moka_sync_model.specs.Published.{opening}
 use Rattle.moka_sync_model.specs.declared.published.Published.{Published}
 
@@ -18,7 +18,7 @@ use Rattle.moka_sync_model.specs.declared.published.Published.{Published}
 pub record Maintenance : Type 0 where
   pub orders : Orders
   pub sketch : Option Table
-  pub place : Place
+  pub phase : Phase
   pub moment : ℕ
   pub published : Published
 
@@ -40,7 +40,7 @@ abbrev pub new_maintenance : Maintenance
 new_maintenance = record {
   orders = record { access = []; write = [] };
   sketch = None;
-  place = Idle;
+  phase = Idle;
   moment = 0;
   published = opening;
 }

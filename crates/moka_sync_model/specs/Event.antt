@@ -13,8 +13,8 @@ use Rattle.moka_sync_model.specs.Entry.{entry_at}
 use Rattle.moka_sync_model.specs.declared.operation.Operation.{Operation}
 use Rattle.moka_sync_model.specs.declared.operation.Operation.TheVariants.{Reading, Writing}
 use Rattle.moka_sync_model.specs.Orders.{charged_weight}
-use Rattle.moka_sync_model.specs.Place as place
-use Rattle.moka_sync_model.specs.Place.{is_idle, name_of}
+use Rattle.moka_sync_model.specs.Phase as phase
+use Rattle.moka_sync_model.specs.Phase.{is_idle, name_of}
 use Rattle.moka_sync_model.specs.CoreState.{CoreState, pending_of, without_pending}
 use Rattle.moka_sync_model.specs.Turn.Turn.{after_turn}
 use Rattle.moka_sync_model.specs.Reply.{Reply}
@@ -42,13 +42,13 @@ module _ {K V S : Type 0} (keys : Keys K S) where
   -- a maintenance begins, where none is under way
   abbrev pub IsBeginning : CoreState K V S → ℕ → Bool → Reply K V → CoreState K V S → Type 0
   IsBeginning old now true reply new =
-      (reply ≡ Done) × (new ≡ record old { maintenance = record old.maintenance { place = place.ReadCount 1; moment = now } })
+      (reply ≡ Done) × (new ≡ record old { maintenance = record old.maintenance { phase = phase.ReadCount 1; moment = now } })
   IsBeginning old now false reply new = OnlyReplies keys old NotPossible reply new
 
   -- it takes a turn, where one is under way
   abbrev pub IsTurn : CoreState K V S → Bool → Bool → Reply K V → CoreState K V S → Type 0
   IsTurn old refused true reply new = OnlyReplies keys old NotPossible reply new
-  IsTurn old refused false reply new = (reply ≡ At (name_of new.maintenance.place)) × (new ≡ after_turn refused old)
+  IsTurn old refused false reply new = (reply ≡ At (name_of new.maintenance.phase)) × (new ≡ after_turn refused old)
 
   -- a step with an operation needs that the caller has none pending
   abbrev pub IfFree : CoreState K V S → ℕ → Reply K V → CoreState K V S → Type 0 → Type 0
@@ -75,7 +75,7 @@ module _ {K V S : Type 0} (keys : Keys K S) where
       MatchBool (nat_lt shard SHARDS)
       (IsCopy keys old (pairs_of keys old shard now) refused reply new)
       (OnlyReplies keys old NotPossible reply new)
-  IsStep old (Begin now) weight refused reply new = IsBeginning old now (is_idle old.maintenance.place) reply new
-  IsStep old Turn weight refused reply new = IsTurn old refused (is_idle old.maintenance.place) reply new
+  IsStep old (Begin now) weight refused reply new = IsBeginning old now (is_idle old.maintenance.phase) reply new
+  IsStep old Turn weight refused reply new = IsTurn old refused (is_idle old.maintenance.phase) reply new
   IsStep old Counts weight refused reply new =
       OnlyReplies keys old (CountsReply (length old.maintenance.orders.access) (charged_weight old.maintenance.orders)) reply new

@@ -2,7 +2,7 @@ pub mod Ticket
 pub mod Entry
 pub mod Operation
 pub mod Orders
-pub mod Place
+pub mod Phase
 pub mod Published
 pub mod CoreState
 pub mod Turn

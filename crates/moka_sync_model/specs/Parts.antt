@@ -97,32 +97,32 @@ need_of (AtEntry t looks) = NeedsShard t
 module _ (K V : Type 0) {S : Type 0} (settings : Settings S) (valid_after : ℕ) (refused : Bool) where
   -- a turn that needs nothing
   abbrev pub TurnsAlone : Maintenance → Maintenance → Type 0
-  TurnsAlone old new = turn_at {K = K} {V = V} settings valid_after refused old.place old ≡ Alone new
+  TurnsAlone old new = turn_at {K = K} {V = V} settings valid_after refused old.phase old ≡ Alone new
 
   -- a turn that looks at the read log
   pub record TurnsWithReads (old new : Maintenance) (old_log new_log : List Read) : Type 0 where
     pub looks : List Read → Maintenance × List Read
-    pub is : turn_at {K = K} {V = V} settings valid_after refused old.place old ≡ AtReads looks
+    pub is : turn_at {K = K} {V = V} settings valid_after refused old.phase old ≡ AtReads looks
     pub ends : (new, new_log) ≡ looks old_log
 
   -- a turn that looks at the write log
   pub record TurnsWithWrites (old new : Maintenance) (old_log new_log : List Write) : Type 0 where
     pub looks : List Write → Maintenance × List Write
-    pub is : turn_at {K = K} {V = V} settings valid_after refused old.place old ≡ AtWrites looks
+    pub is : turn_at {K = K} {V = V} settings valid_after refused old.phase old ≡ AtWrites looks
     pub ends : (new, new_log) ≡ looks old_log
 
   -- a turn that looks at a ticket's entry, and makes this of it
   pub record TurnsAtEntry (old new : Maintenance) (found : Option (Entry K V)) (change : EntryChange) : Type 0 where
     pub ticket : Ticket
     pub looks : Option (Entry K V) → Outcome K V
-    pub is : turn_at settings valid_after refused old.place old ≡ AtEntry ticket looks
+    pub is : turn_at settings valid_after refused old.phase old ≡ AtEntry ticket looks
     pub ends : looks found ≡ record { change = change_of change; maintenance = new }
 
   -- a turn that looks at an entry under its shard
   pub record TurnsWithShard (old new : Maintenance) (old_shard new_shard : ShardState K V S) : Type 0 where
     pub ticket : Ticket
     pub looks : Option (Entry K V) → Outcome K V
-    pub is : turn_at settings valid_after refused old.place old ≡ AtEntry ticket looks
+    pub is : turn_at settings valid_after refused old.phase old ≡ AtEntry ticket looks
     pub here : shard_of ticket.hash ≡ old_shard.number
     pub maintenance : new ≡ (looks (entry_of ticket old_shard.entries)).maintenance
     pub shard : new_shard ≡ shard_after ticket (looks (entry_of ticket old_shard.entries)) old_shard

@@ -6,7 +6,7 @@ use Rattle.moka_sync_model.specs.declared.event.Event.TheVariants.{InvalidateAll
 use Rattle.moka_sync_model.specs.declared.operation.Write.TheVariants.{Upsert}
 use Rattle.moka_sync_model.specs.Entry.{entry_of}
 use Rattle.moka_sync_model.specs.Orders.{charge_of}
-use Rattle.moka_sync_model.specs.Place.{Place, Apply}
+use Rattle.moka_sync_model.specs.Phase.{Phase, Apply}
 use Rattle.moka_sync_model.specs.CoreState.{CoreState}
 use Rattle.moka_sync_model.specs.Event.{IsStep}
 use Rattle.moka_sync_model.specs.Run.{Happening}
@@ -15,14 +15,14 @@ use Rattle.moka_sync_model.specs.LastWritten.{value_at, mapped}
 
 module _ {K V S : Type 0} where
   -- the upsert of an entry without a node is applied, so that memory is asked for one
-  abbrev pub AsksForNode : CoreState K V S → Place → Type 0
+  abbrev pub AsksForNode : CoreState K V S → Phase → Type 0
   AsksForNode core (Apply work (Upsert t)) = IsSome (entry_of t core.entries) × (charge_of t core.maintenance.orders ≡ None)
   AsksForNode core other = ⊥
 
   -- a step that a plain map knows: it invalidates not all at once, and is refused no node
   abbrev pub IsPlain : CoreState K V S → Bool → Event K V → Type 0
   IsPlain core refused (InvalidateAll now) = ⊥
-  IsPlain core refused Turn = AsksForNode core core.maintenance.place → refused ≡ false
+  IsPlain core refused Turn = AsksForNode core core.maintenance.phase → refused ≡ false
   IsPlain core refused other = Unit {0}
 
 module _ (V : Type 0) {K S : Type 0} (keys : Keys K S) where

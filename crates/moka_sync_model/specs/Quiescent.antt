@@ -8,7 +8,7 @@ use Rattle.moka_sync_model.specs.declared.operation.Write.TheVariants.{Upsert, R
 use Rattle.moka_sync_model.specs.declared.operation.Operation.{Operation}
 use Rattle.moka_sync_model.specs.declared.operation.Operation.TheVariants.{Reading, Writing}
 use Rattle.moka_sync_model.specs.Orders.{charge_of, charged_weight}
-use Rattle.moka_sync_model.specs.Place.{Idle, held}
+use Rattle.moka_sync_model.specs.Phase.{Idle, held}
 use Rattle.moka_sync_model.specs.CoreState.{CoreState}
 use Rattle.moka_sync_model.specs.Consistent.{outstanding}
 
@@ -32,7 +32,7 @@ module _ {K V S : Type 0} where
     pub read_log : core.read_log ≡ []
     pub write_log : core.write_log ≡ []
     pub pending : core.pending ≡ []
-    pub place : core.maintenance.place ≡ Idle
+    pub phase : core.maintenance.phase ≡ Idle
 
   -- the charges are the weights of the map's entries
   pub record IsPaired (core : CoreState K V S) : Type 0 where
@@ -44,4 +44,4 @@ module _ {K V S : Type 0} where
   abbrev pub upserts_outstanding : CoreState K V S → ℕ
   upserts_outstanding core =
       count_by is_pending_upsert (values_of core.pending) + count_by is_upsert core.write_log
-      + count_by is_upsert (held core.maintenance.place)
+      + count_by is_upsert (held core.maintenance.phase)

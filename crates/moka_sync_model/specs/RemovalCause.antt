@@ -6,10 +6,10 @@ use Rattle.moka_sync_model.specs.declared.ticket.Ticket.{Ticket}
 use Rattle.moka_sync_model.specs.Entry.{Entry}
 use Rattle.moka_sync_model.specs.declared.operation.Write.TheVariants.{Upsert}
 use Rattle.moka_sync_model.specs.Orders.{charge_of, charged_weight}
-use Rattle.moka_sync_model.specs.Place as place
+use Rattle.moka_sync_model.specs.Phase as phase
 use Rattle.moka_sync_model.specs.declared.progress.Candidate.{Candidate}
 use Rattle.moka_sync_model.specs.declared.progress.Tally.{Tally}
-use Rattle.moka_sync_model.specs.Place.{Place, Seen}
+use Rattle.moka_sync_model.specs.Phase.{Phase, Seen}
 use Rattle.moka_sync_model.specs.CoreState.{CoreState}
 use Rattle.moka_sync_model.specs.Turn.Admission.{is_admitted, next_seen}
 use Rattle.moka_sync_model.specs.Turn.Expiry.{is_past_ttl_or_hidden, is_past_tti_or_hidden}
@@ -58,14 +58,14 @@ module _ {K V S : Type 0} (core : CoreState K V S) (e : Entry K V) where
     pub first : StandsFirst e.ticket (map (λ n. n.ticket) core.maintenance.orders.access)
     pub done : outstanding core (Upsert e.ticket) ≡ 0
 
-  -- the cause in a turn at a place, with its word on memory
-  abbrev pub TurnCause : Bool → Place → Type 0
-  TurnCause refused (place.Apply work (Upsert t)) = IsTurnedAway t refused
-  TurnCause refused (place.Scan work c tally seen) = IsRejected c tally seen
-  TurnCause refused (place.Removing work c tally skipped left) = IsVictim c tally left
-  TurnCause refused (place.ExpireWrite turns) = IsOutlived
-  TurnCause refused (place.ExpireAccess turns) = IsIdle
-  TurnCause refused (place.Evict turns) = IsEvicted
+  -- the cause in a turn at a phase, with its word on memory
+  abbrev pub TurnCause : Bool → Phase → Type 0
+  TurnCause refused (phase.Apply work (Upsert t)) = IsTurnedAway t refused
+  TurnCause refused (phase.Scan work c tally seen) = IsRejected c tally seen
+  TurnCause refused (phase.Removing work c tally skipped left) = IsVictim c tally left
+  TurnCause refused (phase.ExpireWrite turns) = IsOutlived
+  TurnCause refused (phase.ExpireAccess turns) = IsIdle
+  TurnCause refused (phase.Evict turns) = IsEvicted
   TurnCause refused other = ⊥
 
 module _ {K V S : Type 0} (keys : Keys K S) where
@@ -73,5 +73,5 @@ module _ {K V S : Type 0} (keys : Keys K S) where
   abbrev pub RemovalCause : CoreState K V S → Entry K V → Event K V → Bool → Type 0
   RemovalCause core e (Invalidate caller key now) refused = keys.eq key e.key ≡ true
   RemovalCause core e (Take caller key now) refused = keys.eq key e.key ≡ true
-  RemovalCause core e Turn refused = TurnCause core e refused core.maintenance.place
+  RemovalCause core e Turn refused = TurnCause core e refused core.maintenance.phase
   RemovalCause core e other refused = ⊥

@@ -9,8 +9,8 @@ use Rattle.moka_sync_model.specs.declared.event.Event.TheVariants.{Take, Turn}
 use Rattle.moka_sync_model.specs.declared.event.Reply.TheVariants.{At, Done, Found, Discarded, NotPossible, OutOfMemory, TicketsUsedUp}
 use Rattle.moka_sync_model.specs.declared.operation.Operation.{Operation}
 use Rattle.moka_sync_model.specs.declared.operation.Operation.TheVariants.{Reading, Writing}
-use Rattle.moka_sync_model.specs.declared.place.Place.{Place as PlaceName}
-use Rattle.moka_sync_model.specs.declared.place.Place.TheVariants as name
+use Rattle.moka_sync_model.specs.declared.phase.Phase.{Phase as PhaseName}
+use Rattle.moka_sync_model.specs.declared.phase.Phase.TheVariants as name
 use Rattle.moka_sync_model.specs.Reply.{Reply, IsHanded}
 use Rattle.moka_sync_model.specs.WholeCall.{Log, OfReads, OfWrites, CallsGet, CallsRemove}
 use Rattle.moka_sync_model.specs.declared.steps.WhichLog.{WhichLog}
@@ -59,10 +59,10 @@ has_operation AWrite = true
 abbrev pub pends_by : {W : Type 0} → (W → Caller) → W → Bool
 pends_by caller cache = has_operation (caller cache).pending
 
--- whether a maintenance at this place goes on
-abbrev pub goes_on : PlaceName → Bool
+-- whether a maintenance at this phase goes on
+abbrev pub goes_on : PhaseName → Bool
 goes_on name.Idle = false
-goes_on place = true
+goes_on phase = true
 
 -- which log a call looks at
 abbrev pub log_of : WhichLog → Log
@@ -117,11 +117,11 @@ module _ {K V : Type 0} where
   write_reply write.Full = NotPossible
 
 module _ {W K V : Type 0} (allowed : W → Event K V → Reply K V → W → Type 0) where
-  -- one turn of a maintenance, which is at this place then; or several, of which only the last may end it
-  pub data TakesTurns : PlaceName → W → W → Type 0 where
-    OneTurn : (place : PlaceName) (old new : W) → allowed old Turn (At place) new → TakesTurns place old new
-    MoreTurns : (place between : PlaceName) (old next new : W) → between ≢ name.Idle → allowed old Turn (At between) next
-        → TakesTurns place next new → TakesTurns place old new
+  -- one turn of a maintenance, which is at this phase then; or several, of which only the last may end it
+  pub data TakesTurns : PhaseName → W → W → Type 0 where
+    OneTurn : (phase : PhaseName) (old new : W) → allowed old Turn (At phase) new → TakesTurns phase old new
+    MoreTurns : (phase between : PhaseName) (old next new : W) → between ≢ name.Idle → allowed old Turn (At between) next
+        → TakesTurns phase next new → TakesTurns phase old new
 
 module _ {W K V : Type 0} (allowed : W → Event K V → Reply K V → W → Type 0) (decides : W → Log → ℕ → Bool → W → Type 0)
     (caller : W → Caller) (is_clone : V → V → Type 0) (is_infallible : V → Type 0) where

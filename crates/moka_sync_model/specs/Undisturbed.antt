@@ -10,7 +10,7 @@ use Rattle.moka_sync_model.specs.Entry.{Entry, entry_of, with_upsert_done}
 use Rattle.moka_sync_model.specs.Orders.{Node, charged_weight, without_node, with_node}
 use Rattle.moka_sync_model.specs.declared.progress.Work.{Work}
 use Rattle.moka_sync_model.specs.declared.progress.Candidate.{Candidate}
-use Rattle.moka_sync_model.specs.Place.{Place}
+use Rattle.moka_sync_model.specs.Phase.{Phase}
 use Rattle.moka_sync_model.specs.CoreState.{CoreState}
 use Rattle.moka_common.specs.Settings.{keeps_writes}
 use Rattle.moka_sync_model.specs.Turn.Plan.{writes_or_on}
@@ -44,9 +44,9 @@ module _ {K V S : Type 0} where
   victims_of core c =
       outvoted (weight_of core) (estimate_of core) c.estimate (shortest_prefix (weight_of core) c.weight core.maintenance.orders.access)
 
-  -- the core at another place
-  abbrev pub at_place : Place → CoreState K V S → CoreState K V S
-  at_place place core = record core { maintenance = record core.maintenance { place = place } }
+  -- the core at another phase
+  abbrev pub at_phase : Phase → CoreState K V S → CoreState K V S
+  at_phase phase core = record core { maintenance = record core.maintenance { phase = phase } }
 
   -- the core once these nodes have left with their entries
   abbrev pub after_victims : List Ticket → CoreState K V S → CoreState K V S
@@ -63,7 +63,7 @@ module _ {K V S : Type 0} where
     entries = changed (λ e. e.ticket) c.ticket with_upsert_done core.entries;
     maintenance = record core.maintenance {
       orders = with_node (keeps_writes core.settings.policy) c.ticket weight core.maintenance.orders;
-      place = writes_or_on work;
+      phase = writes_or_on work;
     };
   }
 
@@ -71,7 +71,7 @@ module _ {K V S : Type 0} where
   abbrev pub after_decision : Work → Candidate → ℕ → Option (List Node) → CoreState K V S → CoreState K V S
   after_decision work c weight (Some gone) core = after_entry_of work c weight (after_victims (map (λ n. n.ticket) gone) core)
   after_decision work c weight None core =
-      at_place (writes_or_on work) (record core { entries = without (λ e. e.ticket) c.ticket core.entries })
+      at_phase (writes_or_on work) (record core { entries = without (λ e. e.ticket) c.ticket core.entries })
 
 -- the nodes that give way to a new entry where so much is charged: none where there is room, those of the policy where it is no heavier
 -- than the limit, or nothing where it is rejected

@@ -1,7 +1,7 @@
 -- Whole calls of one caller, over any cache whose steps are named: the core's, or those of a cache behind locks.
 use Rattle.std.specs.Prelude.{◌≡◌, ◌≢◌, ◌⊎◌, ℕ, Bool, true, false, List, [], ◌∷◌, ◌++◌, None, Some}
-use Rattle.moka_sync_model.specs.declared.place.Place.{Place as PlaceName}
-use Rattle.moka_sync_model.specs.declared.place.Place.TheVariants as name
+use Rattle.moka_sync_model.specs.declared.phase.Phase.{Phase as PhaseName}
+use Rattle.moka_sync_model.specs.declared.phase.Phase.TheVariants as name
 use Rattle.moka_sync_model.specs.declared.event.Event.{Event}
 use Rattle.moka_sync_model.specs.Reply.{Reply}
 use Rattle.moka_sync_model.specs.declared.event.Event.TheVariants.{Insert, Get, Contains, Invalidate, Take, InvalidateAll, Push, Forget, Copy}
@@ -22,10 +22,10 @@ with_pairs pairs reply = reply
 -- operation pending
 module _ {W K V : Type 0} (allowed : W → Event K V → Reply K V → W → Type 0) (decides : W → Log → ℕ → Bool → W → Type 0)
     (is_pending : W → Bool) (caller : ℕ) where
-  -- turns until the place is idle
+  -- turns until the phase is idle
   pub data Turns : W → W → Type 0 where
     LastTurn : (a b : W) → allowed a Turn (At name.Idle) b → Turns a b
-    NextTurn : (a b c : W) (place : PlaceName) → place ≢ name.Idle → allowed a Turn (At place) b → Turns b c → Turns a c
+    NextTurn : (a b c : W) (phase : PhaseName) → phase ≢ name.Idle → allowed a Turn (At phase) b → Turns b c → Turns a c
 
   -- a whole maintenance
   pub record Maintains (now : ℕ) (old new : W) : Type 0 where

@@ -1,5 +1,5 @@
 //! The atomic steps of the cache that threads share: what callers do, and the turns of its maintenance.
-use crate::place::Place;
+use crate::phase::Phase;
 use moka_common::time::Instant;
 
 /// One atomic step. `K` and `V` are what the cache keeps of a key and of a value: shared pointers, of which contracts see the value.
@@ -71,8 +71,8 @@ pub enum Reply<V: Drop, R: Drop> {
     /// The read log was full, and the pending read is dropped.
     Discarded,
     Rows(R),
-    /// The place of the maintenance then.
-    At(Place),
+    /// The phase of the maintenance then.
+    At(Phase),
     Counts { count: usize, weight: u128 },
     /// The step can't happen now, and nothing has changed.
     NotPossible,

@@ -9,7 +9,7 @@ pub mod event;
 pub mod housekeeper;
 pub mod laws;
 pub mod operation;
-pub mod place;
+pub mod phase;
 pub mod progress;
 pub mod published;
 pub mod settings;

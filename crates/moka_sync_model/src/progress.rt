@@ -1,4 +1,4 @@
-//! What a maintenance keeps at some of its places.
+//! What a maintenance keeps at some of its phases.
 ghost use Rattle.std.specs.Prelude.{◌≡◌, ◌-◌};
 ghost use Rattle.moka_sync_model.specs.Turn.Admission.{is_admitted, is_decided};
 

@@ -10,7 +10,7 @@ ghost use Rattle.moka_sync_model.specs.Steps.{log_of, maintaining, pends, pends_
 
 use crate::constants::CALLER;
 use crate::event::{Event, Reply};
-use crate::place::Place;
+use crate::phase::Phase;
 use moka_common::error::{InsertError, OutOfMemory};
 use moka_common::shared::Shared;
 use moka_common::time::Instant;
@@ -142,7 +142,7 @@ pub trait Steps<K: Drop, V: Drop, A: Allocator + Drop> {
 
     /// Goes on with the caller's maintenance by one turn, or by several that follow each other at once, and says where it is then. At `Idle` it has
     /// ended.
-    fn turn<R: Wait>(&mut self, rt: &R) -> Place
+    fn turn<R: Wait>(&mut self, rt: &R) -> Phase
         requires { (caller self.old).is_maintaining ≡ true }
         ensures turns { TakesTurns allowed result self.old self.new }
         ensures caller { caller self.new ≡ maintaining (goes_on result) (caller self.old) };
@@ -364,7 +364,7 @@ fn finish<K: Drop, V: Drop, A: Allocator + Drop, T: Steps<K, V, A>, R: Wait>(rt:
     ensures caller { T.caller steps.new ≡ maintaining false (T.caller steps.old) }
 {
     for _ in rt.forever() {
-        if let Place::Idle = steps.turn(rt) {
+        if let Phase::Idle = steps.turn(rt) {
             return;
         }
     }

@@ -14,7 +14,7 @@ use Rattle.moka_common.specs.Policy.{Policy}
 use Rattle.moka_unsync_model.specs.declared.entry.Entry.{Entry}
 use Rattle.moka_unsync_model.specs.declared.entry.Part.{Part}
 use Rattle.moka_unsync_model.specs.Contents.{after_leaving, entry_keys, is_protected, is_window}
-use Rattle.moka_unsync_model.specs.Upkeep.{after_upkeep}
+use Rattle.moka_unsync_model.specs.Cleanup.{after_cleanup}
 use Rattle.moka_common.specs.Settings.{keeps_writes}
 use Rattle.moka_common.specs.Sketch.{Table}
 use Rattle.moka_unsync_model.specs.Insert.{after_admission}
@@ -26,7 +26,7 @@ use Rattle.moka_unsync_model.specs.Window.{victims_of}
 use Rattle.moka_unsync_model.proofs.PartLemmas.{All-using, window-used}
 use Rattle.moka_unsync_model.proofs.WindowLemmas.{All-latest}
 use Rattle.moka_unsync_model.proofs.CandidateLemmas.{All-entering}
-use Rattle.moka_unsync_model.proofs.ContentsLemmas.{All-leaving, All-upkeep}
+use Rattle.moka_unsync_model.proofs.ContentsLemmas.{All-leaving, All-cleanup}
 use Rattle.moka_store.specs.Store.{Continues, HasHash, Store, Updates, Uses, contents_of, entries_of}
 use Rattle.moka_unsync.specs.Cached.{IsCached, IsPut}
 
@@ -58,18 +58,18 @@ module _ {K V S H : Type 0} (eq : K → K → Bool) (hash_input : K → List (Li
       (λ e own equal. own ∙ (sym (alike state key e.key equal) ∙ sym h)) (entries_of store) is.hashed
 
 module _ {K V S : Type 0} {keys : Keys K S} {state : S} {policy : Policy} {shares : Shares} {limits : Option PartLimits} {space : ℕ} where
-  -- upkeep keeps the parts tied
-  pub IsCached-upkeep : (now : ℕ) {old new : Store K V} → IsCached keys state policy shares limits space old
-      → contents_of new ≡ after_upkeep keys.eq policy now (contents_of old) → Continues old new → IsCached keys state policy shares limits space new
-  IsCached-upkeep now {old = old} is step kept =
+  -- cleanup keeps the parts tied
+  pub IsCached-cleanup : (now : ℕ) {old new : Store K V} → IsCached keys state policy shares limits space old
+      → contents_of new ≡ after_cleanup keys.eq policy now (contents_of old) → Continues old new → IsCached keys state policy shares limits space new
+  IsCached-cleanup now {old = old} is step kept =
       record {
         hashed =
             subst (λ c. All (λ e. e.hash ≡ keys.hash_of state e.key) c.entries) (sym step)
-            (All-upkeep keys.eq (λ e. e.hash ≡ keys.hash_of state e.key) policy now (contents_of old) is.hashed);
+            (All-cleanup keys.eq (λ e. e.hash ≡ keys.hash_of state e.key) policy now (contents_of old) is.hashed);
         keeps = kept.keeps ∙ is.keeps;
         main = λ none.
             subst (λ c. All (λ e. is_window e.part ≡ false) c.entries) (sym step)
-            (All-upkeep keys.eq (λ e. is_window e.part ≡ false) policy now (contents_of old) (is.main none));
+            (All-cleanup keys.eq (λ e. is_window e.part ≡ false) policy now (contents_of old) (is.main none));
         windowed = is.windowed;
         room = is.room;
       }

@@ -10,13 +10,13 @@ use Rattle.moka_unsync_model.specs.CacheState.{CacheState, room_of, windowed}
 use Rattle.moka_unsync_model.specs.Contents.{Contents, entry_at, is_window, main_of}
 use Rattle.moka_unsync_model.specs.Insert.{after_admission, after_asking, after_entering, after_insert, after_new, after_put, after_update, after_verdict}
 use Rattle.moka_unsync_model.specs.Window.{victims_of}
-use Rattle.moka_unsync_model.specs.Upkeep.{after_upkeep}
+use Rattle.moka_unsync_model.specs.Cleanup.{after_cleanup}
 use Rattle.moka_unsync.specs.Cached.{IsPut}
 
 module _ {K V S W : Type 0} (eq : K → K → Bool) (cache : CacheState K V S W) (new : Entry K V) (now : ℕ) (refused : Bool) where
   -- the contents as the insert finds them
   abbrev pub kept : Contents K V
-  kept = after_upkeep eq cache.settings.policy now cache.contents
+  kept = after_cleanup eq cache.settings.policy now cache.contents
 
   -- one whose key has an entry
   pub insert_updates : (old : Entry K V) → entry_at eq new.key kept.entries ≡ Some old → (contents : Contents K V) (capacity : ℕ)

@@ -18,8 +18,8 @@ use Rattle.moka_unsync_model.specs.CacheState.{CacheState, windowed}
 use Rattle.moka_unsync_model.specs.Contents.{Contents, entries_without, entry_at, main_of, total_weight, window_of, with_latest}
 use Rattle.moka_unsync_model.specs.Insert.{new_entry}
 use Rattle.moka_unsync_model.specs.ToldCalls.{TellsInsert, TellsNew, main_max}
-use Rattle.moka_unsync_model.specs.Told.{IsAbove, TellsPut, TellsUpkeep, TellsWhatLeft, partless, unplaced}
-use Rattle.moka_unsync_model.specs.Upkeep.{after_expiry, after_upkeep, is_expired}
+use Rattle.moka_unsync_model.specs.Told.{IsAbove, TellsPut, TellsCleanup, TellsWhatLeft, partless, unplaced}
+use Rattle.moka_unsync_model.specs.Cleanup.{after_expiry, after_cleanup, is_expired}
 use Rattle.moka_unsync_model.proofs.ToldLemmas.{also_for, also_there, latest_among, moved_among, one_left, passing_among, then_left, unplaced_same}
 use Rattle.moka_unsync_model.proofs.WindowLemmas.{total-split}
 use Rattle.moka_store.specs.Store.{Enters, IsFront, IsFrontOf, Promotes, Replaces, Store, entries_of, is_of}
@@ -59,7 +59,7 @@ gave_way hears eq old new id entry gone e before after step was heard stood amon
     (replaced_among eq old new id entry e step stood among)
     (subst (λ x. hears before x.key x.value Size after) (ap (λ o. unwrap_or o gone) (sym was ∙ stood)) heard) tt
 
--- ---- upkeep
+-- ---- cleanup
 
 -- a weight above the largest that may be is above the limit, and there is a limit then
 pub is_above : (max : Option ℕ) (most weight : ℕ) → most ≡ unwrap_or max (2 ^ 64 - 1) → most < weight → weight < 2 ^ 64 → IsAbove max weight
@@ -68,20 +68,20 @@ is_above (Some limit) most weight is above small = subst (λ m. m < weight) is a
 
 module _ {L K V : Type 0} (hears : L → K → V → Cause → L → Type 0) (eq : K → K → Bool) (policy : Policy) (now : ℕ) where
   -- what is expired was told of, and then what is above the limit
-  pub upkeep_told : (old then new : Contents K V) (before between after : L) → then ≡ after_expiry eq policy now old
-      → new ≡ after_upkeep eq policy now old
+  pub cleanup_told : (old then new : Contents K V) (before between after : L) → then ≡ after_expiry eq policy now old
+      → new ≡ after_cleanup eq policy now old
       → TellsWhatLeft hears Expired (λ e. is_expired policy now e ≡ true) old.entries then.entries before between
       → TellsWhatLeft hears Size (λ e. IsAbove policy.max_capacity (total_weight then.entries)) then.entries new.entries between after
-      → TellsUpkeep hears eq policy now old before after
-  upkeep_told old then new before between after expiry upkeep expired above =
+      → TellsCleanup hears eq policy now old before after
+  cleanup_told old then new before between after expiry cleanup expired above =
       record {
         between = between;
         expired = subst (λ c. TellsWhatLeft hears Expired (λ e. is_expired policy now e ≡ true) old.entries c.entries before between) expiry expired;
         above =
             subst (λ c. TellsWhatLeft hears Size (λ e. IsAbove policy.max_capacity (total_weight c.entries)) c.entries
-            (after_upkeep eq policy now old).entries between after) expiry
+            (after_cleanup eq policy now old).entries between after) expiry
             (subst (λ c. TellsWhatLeft hears Size (λ e. IsAbove policy.max_capacity (total_weight then.entries)) then.entries c.entries between after)
-            upkeep above);
+            cleanup above);
       }
 
 -- ---- no room for all
@@ -177,18 +177,18 @@ module _ {L K V : Type 0} {hears : L → K → V → Cause → L → Type 0} whe
 -- ---- what an insert tells
 
 module _ {L K V S W : Type 0} (hears : L → K → V → Cause → L → Type 0) (keys : Keys K S) (old new : CacheState K V S W) (now : ℕ) (key : K) (value : V)
-    (were : Contents K V) (before between after : L) (upkeep : were ≡ after_upkeep keys.eq old.settings.policy now old.contents)
-    (told : TellsUpkeep hears keys.eq old.settings.policy now old.contents before between) where
+    (were : Contents K V) (before between after : L) (cleanup : were ≡ after_cleanup keys.eq old.settings.policy now old.contents)
+    (told : TellsCleanup hears keys.eq old.settings.policy now old.contents before between) where
   -- at a key that is there the old value leaves
   pub update_told : (there : Entry K V) → entry_at keys.eq key were.entries ≡ Some there → hears between key there.value Replaced after
       → TellsInsert hears keys old now key value new before after
   update_told there found heard =
       record {
         between = between;
-        upkeep = told;
+        cleanup = told;
         put =
             subst (λ o. TellsNew hears keys old now o key value new between after)
-            (sym (ap (λ c. entry_at keys.eq key c.entries) (sym upkeep) ∙ found)) heard;
+            (sym (ap (λ c. entry_at keys.eq key c.entries) (sym cleanup) ∙ found)) heard;
       }
 
   -- and else entries give way to the new one, or it is not let in
@@ -200,15 +200,15 @@ module _ {L K V S W : Type 0} (hears : L → K → V → Cause → L → Type 0)
       let entry = new_entry keys old.settings.hash_state key value weight now in
       record {
         between = between;
-        upkeep = told;
+        cleanup = told;
         put =
             subst (λ o. TellsNew hears keys old now o key value new between after)
-            (sym (ap (λ c. entry_at keys.eq key c.entries) (sym upkeep) ∙ absent)) (
+            (sym (ap (λ c. entry_at keys.eq key c.entries) (sym cleanup) ∙ absent)) (
               weight,
               subst (λ l. TellsPut hears l (is_some (entry_at keys.eq key new.contents.entries)) entry
-                  (after_upkeep keys.eq old.settings.policy now old.contents).entries new.contents.entries between after) limited
-                  (subst (λ b. TellsPut hears limit b entry (after_upkeep keys.eq old.settings.policy now old.contents).entries new.contents.entries
+                  (after_cleanup keys.eq old.settings.policy now old.contents).entries new.contents.entries between after) limited
+                  (subst (λ b. TellsPut hears limit b entry (after_cleanup keys.eq old.settings.policy now old.contents).entries new.contents.entries
                   between after) stands
-                  (subst (λ c. TellsPut hears limit stays entry c.entries new.contents.entries between after) upkeep put)),
+                  (subst (λ c. TellsPut hears limit stays entry c.entries new.contents.entries between after) cleanup put)),
             );
       }

@@ -12,7 +12,7 @@ use Rattle.moka_common.specs.Prefix.{shortest_prefix}
 use Rattle.moka_unsync_model.specs.declared.constants.TheConstants.{EVICTION_BATCH_SIZE}
 use Rattle.moka_unsync_model.specs.declared.entry.Entry.{Entry}
 use Rattle.moka_unsync_model.specs.Contents.{Contents, entry_keys, after_leaving, total_weight, without}
-use Rattle.moka_unsync_model.specs.Upkeep.{after_eviction, after_trim, is_idle, least_recent}
+use Rattle.moka_unsync_model.specs.Cleanup.{after_eviction, after_trim, is_idle, least_recent}
 use Rattle.moka_store.specs.Store.{Continues, IsFront, IsFrontOf, Removes, Store, contents_of, entries_of, is_of, those_of}
 use Rattle.moka_unsync.specs.Turns.{after_idle_of}
 

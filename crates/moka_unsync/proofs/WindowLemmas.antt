@@ -14,7 +14,7 @@ use Rattle.moka_unsync_model.specs.Contents.{with_latest, without}
 use Rattle.moka_unsync_model.specs.Contents.{writes_without}
 use Rattle.moka_unsync_model.specs.Insert.{after_arrival, after_entering, after_entry, with_write}
 use Rattle.moka_unsync_model.specs.Shares.{main_limit}
-use Rattle.moka_unsync_model.specs.Upkeep.{least_recent}
+use Rattle.moka_unsync_model.specs.Cleanup.{least_recent}
 use Rattle.moka_unsync_model.specs.Window.{after_candidate, after_candidacy, after_candidates, excess, victims_of}
 use Rattle.moka_unsync_model.proofs.EnteringLemmas.{entering-is_kept, entering_excess, excess_left, inside, judged-window, judged_first}
 use Rattle.moka_unsync_model.proofs.EnteringLemmas.{lacking-cons, least_recent-cons, least_recent-none, moving-push, passed-push, window-evicted}

@@ -2,7 +2,7 @@ pub use Rattle.moka_unsync_model.specs.Contents
 pub use Rattle.moka_unsync_model.specs.Shares
 pub use Rattle.moka_unsync_model.specs.CacheState
 pub mod Builder
-pub use Rattle.moka_unsync_model.specs.Upkeep
+pub use Rattle.moka_unsync_model.specs.Cleanup
 pub use Rattle.moka_unsync_model.specs.Lookup
 pub use Rattle.moka_unsync_model.specs.Window
 pub use Rattle.moka_unsync_model.specs.Insert

@@ -3,7 +3,7 @@ use Rattle.std.specs.Prelude.{◌≡◌, ℕ, suc, Bool, true, false, List, take
 use Rattle.moka_common.specs.Policy.{Policy}
 use Rattle.moka_unsync_model.specs.declared.entry.Part.{Part}
 use Rattle.moka_unsync_model.specs.Contents.{Contents, after_leaving, entry_keys, main_of}
-use Rattle.moka_unsync_model.specs.Upkeep.{after_idle}
+use Rattle.moka_unsync_model.specs.Cleanup.{after_idle}
 use Rattle.moka_store.specs.Store.{those_of}
 
 -- one left and the others are up to further turns, or none is left to leave

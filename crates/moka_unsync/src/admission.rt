@@ -12,7 +12,7 @@ ghost use Rattle.moka_unsync_model.specs.Shares.{main_limit};
 ghost use Rattle.moka_unsync_model.specs.Told.{IsAbove, TellsPut, TellsWhatLeft, unplaced};
 ghost use Rattle.moka_unsync_model.specs.declared.listener.Cause.TheVariants.{Size};
 ghost use Rattle.std.specs.List.Sorted.{IsPermutation};
-ghost use Rattle.moka_unsync_model.specs.Upkeep.{least_recent};
+ghost use Rattle.moka_unsync_model.specs.Cleanup.{least_recent};
 ghost use Rattle.moka_unsync_model.specs.Window.{after_candidate, after_candidates, excess, victims_of};
 ghost use Rattle.moka_store.specs.Store.{Continues, IsFront, IsFrontOf, contents_of, entries_of};
 ghost use Rattle.moka_unsync.specs.Cached.{IsPut};

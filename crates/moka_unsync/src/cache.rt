@@ -20,9 +20,9 @@ mod debug;
 mod iter;
 
 use crate::builder::CacheBuilder;
+use crate::cleanup::Bounds;
 use crate::notifying_cache::NotifyingCache;
 use crate::part_limits::{protected_room, windowed_limits};
-use crate::upkeep::Bounds;
 use crate::walk::next_unexpired;
 pub use iter::Iter;
 use moka_common::error::{BuildError, InsertError, OutOfMemory};

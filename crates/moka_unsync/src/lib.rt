@@ -4,12 +4,12 @@
 mod admission;
 pub mod builder;
 pub mod cache;
+mod cleanup;
 mod leaving;
 pub mod notifying_cache;
 mod part_limits;
 mod removal;
 pub mod runs;
-mod upkeep;
 mod walk;
 
 pub use moka_unsync_model::{constants, entry, history, laws, listener, shares};

@@ -3,7 +3,7 @@ ghost use Rattle.std.specs.Prelude.{◌≡◌, option_copied};
 ghost use Rattle.moka_unsync_model.specs.Iterate.{entries_behind, first_unexpired};
 ghost use Rattle.moka_store.specs.Store.{HasHash, entries_of};
 
-use crate::upkeep::Bounds;
+use crate::cleanup::Bounds;
 use moka_common::time::Instant;
 use moka_store::store::Store;
 use moka_unsync_model::entry::Entry;

@@ -12,7 +12,7 @@ use Rattle.moka_unsync_model.specs.declared.entry.Entry.{Entry}
 use Rattle.moka_unsync_model.specs.Contents.{Contents, after_leaving, entry_at, entries_without, entry_keys, main_of, total_weight, window_of, is_window}
 use Rattle.moka_unsync_model.specs.Contents.{is_protected}
 use Rattle.moka_unsync_model.specs.CacheState.{CacheState}
-use Rattle.moka_unsync_model.specs.Upkeep.{least_recent}
+use Rattle.moka_unsync_model.specs.Cleanup.{least_recent}
 use Rattle.moka_unsync_model.specs.Insert.{after_asking, after_entering, after_entry, after_new, after_verdict}
 use Rattle.moka_unsync_model.specs.Window.{after_candidacy, after_candidates, candidates, excess, victims_of}
 use Rattle.moka_unsync_model.proofs.ContentsLemmas.{All-leaving}

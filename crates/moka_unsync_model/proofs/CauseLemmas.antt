@@ -20,22 +20,22 @@ use Rattle.moka_unsync_model.specs.Contents.{Contents, Write, after_leaving, ent
 use Rattle.moka_unsync_model.specs.Contents.{without, is_probation, is_protected, is_window, probation_of, protected_of}
 use Rattle.moka_unsync_model.specs.CacheState.{CacheState, room_of, windowed}
 use Rattle.moka_common.specs.Settings.{keeps_writes, live_nanos}
-use Rattle.moka_unsync_model.specs.Upkeep.{after_expiry, after_idle, after_live_expiry, after_trim, after_upkeep, is_past_ttl, is_idle, least_recent}
+use Rattle.moka_unsync_model.specs.Cleanup.{after_expiry, after_idle, after_live_expiry, after_trim, after_cleanup, is_past_ttl, is_idle, least_recent}
 use Rattle.moka_unsync_model.specs.Lookup.{after_use, after_look, unexpired_at, after_using}
-use Rattle.moka_unsync_model.specs.Upkeep.{is_expired}
+use Rattle.moka_unsync_model.specs.Cleanup.{is_expired}
 use Rattle.moka_unsync_model.specs.Insert.{after_entering, after_entry, after_new, after_put, after_verdict, new_entry}
 use Rattle.moka_unsync_model.specs.Window.{after_candidacy, after_candidates, candidates, excess, victims_of}
 use Rattle.moka_unsync_model.specs.Invalidate.{chosen}
 use Rattle.moka_unsync_model.specs.Step.{Answer, IsStep, Request, Get, Peek, ContainsKey, Insert, Invalidate, Remove}
 use Rattle.moka_unsync_model.specs.Step.{InvalidateAll, InvalidateEntriesIf, Iterate, EntryCount, WeightedSize}
-use Rattle.moka_unsync_model.specs.Removal.{RemovalCause, Invalidated, Expired, AboveLimit, Displaced, Rejected, entries_from, upkeep_moment}
+use Rattle.moka_unsync_model.specs.Removal.{RemovalCause, Invalidated, Expired, AboveLimit, Displaced, Rejected, entries_from, cleanup_moment}
 use Rattle.moka_unsync_model.proofs.HistoryLemmas.{IsSame, any-key, entry_at-leaving, one_of, same-both, same-moved, same-self, something}
 use Rattle.moka_unsync_model.proofs.ContentsLemmas.{found_key, idle_keys}
 use Rattle.moka_unsync_model.proofs.WindowLemmas.{total-split}
 use Rattle.moka_unsync_model.proofs.CandidateLemmas.{All-front, least_parts, prefix_parts, victims_weigh}
 use Rattle.moka_unsync_model.proofs.KeyLemmas.{StandOnce, contents-standing, once-candidacy, once-candidates, once-push, once-remains}
-use Rattle.moka_unsync_model.proofs.LimitLemmas.{filter-swap, is_unlisted, main-leaving, main-moved, total-cons, total-filter, total-upkeep}
-use Rattle.moka_unsync_model.proofs.RemainLemmas.{remains-leaving, remains-upkeep}
+use Rattle.moka_unsync_model.proofs.LimitLemmas.{filter-swap, is_unlisted, main-leaving, main-moved, total-cons, total-filter, total-cleanup}
+use Rattle.moka_unsync_model.proofs.RemainLemmas.{remains-leaving, remains-cleanup}
 use Rattle.moka_unsync_model.proofs.StandLemmas.{AreCandidates, StandsIn, are-chosen, are-left, main-stands, once-front, Stands, part-stands}
 use Rattle.moka_unsync_model.proofs.MapLemmas.{entry_at-equal, entry_at-moved, entry_at-other, entry_at-push, entry_at-latest, entry_at-using, terms_of}
 use Rattle.moka_unsync_model.proofs.TiedLemmas.{all-taken, all-take, one-passes, prefix-cons, IsTied, AllTied, absent-left}
@@ -45,7 +45,7 @@ use Rattle.moka_unsync_model.specs.declared.entry.Part.TheVariants.{Probation, W
 use Rattle.moka_unsync_model.specs.declared.shares.Shares.{Shares}
 use Rattle.moka_unsync_model.proofs.PartLemmas.{placed-none}
 
--- ---- why upkeep removes an entry
+-- ---- why cleanup removes an entry
 
 module _ {K V : Type 0} (eq : K → K → Bool) (laws : IsEquivalence eq) where
   -- where one of these entries, which stand at their keys, leaves as idle, the entry at its key was idle too long
@@ -191,13 +191,13 @@ module _ {K V : Type 0} (eq : K → K → Bool) (laws : IsEquivalence eq) where
             (after_leaving eq (entry_keys (take EVICTION_BATCH_SIZE (least_recent n contents.entries))) contents).entries) none ∙ found)
       ]
 
-  -- upkeep removes an entry since it is expired, or since the entries weigh more than the limit
-  upkeep-cause : (policy : Policy) (now : ℕ) (contents : Contents K V) (key : K) (e : Entry K V) → AllTied eq contents
+  -- cleanup removes an entry since it is expired, or since the entries weigh more than the limit
+  cleanup-cause : (policy : Policy) (now : ℕ) (contents : Contents K V) (key : K) (e : Entry K V) → AllTied eq contents
       → StandOnce eq contents.entries → entry_at eq key contents.entries ≡ Some e
-      → (entry_at eq key (after_upkeep eq policy now contents).entries ≡ Some e)
+      → (entry_at eq key (after_cleanup eq policy now contents).entries ≡ Some e)
       ⊎ ((is_expired policy now e ≡ true) ⊎
       ((l : ℕ) × (policy.max_capacity ≡ Some l) × (l < total_weight (entries_from eq key contents.entries))))
-  upkeep-cause policy now contents key e tied once found =
+  cleanup-cause policy now contents key e tied once found =
       let most = EVICTION_BATCH_SIZE in
       let lived_keys = map (λ w. w.key) (take most (take_while (is_past_ttl policy now) contents.written)) in
       let lived = after_live_expiry eq policy now most contents in
@@ -740,13 +740,13 @@ module _ {K V S : Type 0} (keys : Keys K S) (laws : IsEquivalence keys.eq) (key 
   use-stands room now (Some used) contents stands none = using-stands room (record used { accessed = now }) contents stands none
 
 module _ {K V S W : Type 0} (keys : Keys K S) (laws : IsEquivalence keys.eq) (key : K) (e : Entry K V) where
-  -- upkeep removes it, or it stands when the call acts
-  upkept : (old new : CacheState K V S W) (request : Request K V) (now : ℕ) → upkeep_moment request ≡ Some now
+  -- cleanup removes it, or it stands when the call acts
+  cleaned : (old new : CacheState K V S W) (request : Request K V) (now : ℕ) → cleanup_moment request ≡ Some now
       → AllTied keys.eq old.contents → StandOnce keys.eq old.contents.entries → entry_at keys.eq key old.contents.entries ≡ Some e
       → (entry_at keys.eq key (after_look keys old now).contents.entries ≡ Some e → RemovalCause keys old request new e)
       → RemovalCause keys old request new e
-  upkept old new request now is tied once found later =
-      elim (upkeep-cause keys.eq laws old.settings.policy now old.contents key e tied once found) [
+  cleaned old new request now is tied once found later =
+      elim (cleanup-cause keys.eq laws old.settings.policy now old.contents key e tied once found) [
         | inl stands ↦ later stands
         | inr (inl over) ↦ Expired now is over
         | inr (inr (l, limited, above)) ↦
@@ -836,28 +836,28 @@ module _ {K V S W : Type 0} (keys : Keys K S) (laws : IsEquivalence keys.eq) (ke
         → entry_at keys.eq key old.contents.entries ≡ Some e → entry_at keys.eq key new.contents.entries ≡ None
         → RemovalCause keys old request new e
     step-cause old new (Get other now) answer step tied once found none =
-        upkept old new (Get other now) now refl tied once found
+        cleaned old new (Get other now) now refl tied once found
         (λ stands. use-stands keys laws key e (room_of old) now (unexpired_at keys.eq old.settings.policy now other (after_look keys old now).contents)
         (after_look keys old now).contents stands
         (sym (ap (λ c. entry_at keys.eq key c.contents.entries) step.1) ∙ none))
     step-cause old new (Peek other now) answer step tied once found none =
         something (sym (ap (λ c. entry_at keys.eq key c.contents.entries) step.1) ∙ none) found
     step-cause old new (ContainsKey other now) answer step tied once found none =
-        upkept old new (ContainsKey other now) now refl tied once found
+        cleaned old new (ContainsKey other now) now refl tied once found
         (λ stands. something (sym (ap (λ c. entry_at keys.eq key c.contents.entries) step.1) ∙ none) stands)
     step-cause old new (Insert other value now) answer (inl (done, inserted)) tied once found none =
         let kept = (after_look keys old now).contents in
-        upkept old new (Insert other value now) now refl tied once found
+        cleaned old new (Insert other value now) now refl tied once found
         (λ stands. put-cause old new (record old { weigher = inserted.weigher; capacity = inserted.capacity; contents = kept })
         other value now
         (entry_at keys.eq other kept.entries)
         (new_entry keys old.settings.hash_state other value inserted.weight now) inserted.refused inserted.step refl refl
-        (total-upkeep keys.eq old.settings.policy now old.contents)
-        (once-remains keys.eq old.contents kept (remains-upkeep keys.eq old.settings.policy now old.contents) once) refl refl stands none)
+        (total-cleanup keys.eq old.settings.policy now old.contents)
+        (once-remains keys.eq old.contents kept (remains-cleanup keys.eq old.settings.policy now old.contents) once) refl refl stands none)
     step-cause old new (Insert other value now) answer (inr (refused, same)) tied once found none =
         something (sym (ap (λ c. entry_at keys.eq key c.contents.entries) same.same) ∙ none) found
     step-cause old new (Invalidate other now) answer step tied once found none =
-        upkept old new (Invalidate other now) now refl tied once found
+        cleaned old new (Invalidate other now) now refl tied once found
         (λ stands. elim (cases_Bool (keys.eq other key)) [
           | inl equal ↦ Invalidated (sym (same-key keys laws key e old.contents.entries found other) ∙ equal)
           | inr differ ↦
@@ -865,7 +865,7 @@ module _ {K V S W : Type 0} (keys : Keys K S) (laws : IsEquivalence keys.eq) (ke
               (sym (ap (λ c. entry_at keys.eq key c.contents.entries) step.1) ∙ none)) stands
         ])
     step-cause old new (Remove other now) answer step tied once found none =
-        upkept old new (Remove other now) now refl tied once found
+        cleaned old new (Remove other now) now refl tied once found
         (λ stands. elim (cases_Bool (keys.eq other key)) [
           | inl equal ↦ Invalidated (sym (same-key keys laws key e old.contents.entries found other) ∙ equal)
           | inr differ ↦

@@ -8,7 +8,7 @@ use Rattle.moka_unsync_model.specs.declared.constants.TheConstants.{EVICTION_BAT
 use Rattle.moka_unsync_model.specs.declared.entry.Entry.{Entry}
 use Rattle.moka_unsync_model.specs.Contents.{Contents, after_leaving, entry_at, entries_without, entry_keys, probation_of, protected_of, total_weight}
 use Rattle.moka_unsync_model.specs.Contents.{window_of, without}
-use Rattle.moka_unsync_model.specs.Upkeep.{after_expiry, after_idle, after_live_expiry, after_trim, after_upkeep, is_past_ttl, is_idle, least_recent}
+use Rattle.moka_unsync_model.specs.Cleanup.{after_expiry, after_idle, after_live_expiry, after_trim, after_cleanup, is_past_ttl, is_idle, least_recent}
 
 -- the keys of a batch of these entries that were idle too long
 abbrev pub idle_keys : {K V : Type 0} → Policy → ℕ → List (Entry K V) → List K
@@ -26,9 +26,9 @@ module _ {K V : Type 0} (eq : K → K → Bool) (P : Entry K V → Type 0) where
   All-trim (Some limit) contents a =
       All-leaving (entry_keys (take EVICTION_BATCH_SIZE (least_recent (total_weight contents.entries - limit) contents.entries))) contents a
 
-  pub All-upkeep : (policy : Policy) (now : ℕ) (contents : Contents K V) → All P contents.entries
-      → All P (after_upkeep eq policy now contents).entries
-  All-upkeep policy now contents a =
+  pub All-cleanup : (policy : Policy) (now : ℕ) (contents : Contents K V) → All P contents.entries
+      → All P (after_cleanup eq policy now contents).entries
+  All-cleanup policy now contents a =
       let lived = after_live_expiry eq policy now EVICTION_BATCH_SIZE contents in
       let waited = after_idle eq policy now EVICTION_BATCH_SIZE (window_of lived.entries) lived in
       let tried = after_idle eq policy now EVICTION_BATCH_SIZE (probation_of lived.entries) waited in

@@ -18,7 +18,7 @@ use Rattle.moka_unsync_model.specs.Contents.{Contents, Write, after_leaving, aft
 use Rattle.moka_unsync_model.specs.Contents.{total_weight, window_of, with_latest, without, writes_without}
 use Rattle.moka_unsync_model.specs.declared.shares.PartLimits.{PartLimits}
 use Rattle.moka_unsync_model.specs.Shares.{main_limit}
-use Rattle.moka_unsync_model.specs.Upkeep.{least_recent}
+use Rattle.moka_unsync_model.specs.Cleanup.{least_recent}
 use Rattle.moka_unsync_model.specs.Insert.{after_admission, after_entering, after_entry, with_write}
 use Rattle.moka_unsync_model.specs.Window.{after_candidacy, after_candidate, after_candidates, excess, victims_of}
 use Rattle.moka_unsync_model.proofs.ContentsLemmas.{All-leaving}

@@ -16,9 +16,9 @@ use Rattle.moka_unsync_model.specs.Contents.{is_window, probation_of, protected_
 use Rattle.moka_unsync_model.specs.CacheState.{CacheState, new_cache, room_of, windowed}
 use Rattle.moka_common.specs.Settings.{Settings, keeps_writes}
 use Rattle.moka_common.specs.Sketch.{Table}
-use Rattle.moka_unsync_model.specs.Upkeep.{after_expiry, after_idle, after_live_expiry, after_trim, after_upkeep, is_past_ttl, is_idle, least_recent}
+use Rattle.moka_unsync_model.specs.Cleanup.{after_expiry, after_idle, after_live_expiry, after_trim, after_cleanup, is_past_ttl, is_idle, least_recent}
 use Rattle.moka_unsync_model.specs.Lookup.{after_get, after_use, after_look, unexpired_at, after_using}
-use Rattle.moka_unsync_model.specs.Upkeep.{is_expired, unexpired}
+use Rattle.moka_unsync_model.specs.Cleanup.{is_expired, unexpired}
 use Rattle.moka_unsync_model.specs.Insert.{after_entering, after_entry, after_new, after_put, after_verdict, new_entry}
 use Rattle.moka_unsync_model.specs.Window.{after_candidacy, after_candidates, candidates, victims_of}
 use Rattle.moka_unsync_model.specs.Invalidate.{chosen}
@@ -34,7 +34,7 @@ use Rattle.moka_unsync_model.proofs.ContentsLemmas.{found_key, absent-leaving}
 use Rattle.moka_unsync_model.proofs.KeyLemmas.{StandOnce, contents-standing, entry_at-gone, none_stand, once-candidacy, once-push, once-remains, once-step}
 use Rattle.moka_unsync_model.proofs.LimitLemmas.{found_there}
 use Rattle.moka_unsync_model.proofs.MapLemmas.{entry_at-equal, entry_at-moved, entry_at-other, entry_at-push}
-use Rattle.moka_unsync_model.proofs.RemainLemmas.{remains-upkeep}
+use Rattle.moka_unsync_model.proofs.RemainLemmas.{remains-cleanup}
 use Rattle.moka_unsync_model.proofs.StandLemmas.{AreCandidates, are-chosen, are-left}
 use Rattle.moka_unsync_model.proofs.MapLemmas.{gone_either, settings-step, told_by_value, entry_at-latest, entry_at-using}
 use Rattle.moka_unsync_model.specs.declared.shares.PartLimits.{PartLimits}
@@ -99,10 +99,10 @@ module _ {K V : Type 0} {eq : K → K → Bool} (laws : IsEquivalence eq) where
       (found-leaving (λ e. e.key)
       (take EVICTION_BATCH_SIZE (least_recent (total_weight contents.entries - limit) contents.entries)) contents key e h).1
 
-  -- what upkeep leaves stood before
-  pub found-upkeep : (policy : Policy) (now : ℕ) (contents : Contents K V) (key : K) (e : Entry K V)
-      → entry_at eq key (after_upkeep eq policy now contents).entries ≡ Some e → entry_at eq key contents.entries ≡ Some e
-  found-upkeep policy now contents key e h =
+  -- what cleanup leaves stood before
+  pub found-cleanup : (policy : Policy) (now : ℕ) (contents : Contents K V) (key : K) (e : Entry K V)
+      → entry_at eq key (after_cleanup eq policy now contents).entries ≡ Some e → entry_at eq key contents.entries ≡ Some e
+  found-cleanup policy now contents key e h =
       let lived = after_live_expiry eq policy now EVICTION_BATCH_SIZE contents in
       let waited = after_idle eq policy now EVICTION_BATCH_SIZE (window_of lived.entries) lived in
       let tried = after_idle eq policy now EVICTION_BATCH_SIZE (probation_of lived.entries) waited in
@@ -311,9 +311,9 @@ module _ {K V S W : Type 0} (keys : Keys K S) (laws : IsEquivalence keys.eq) whe
                 cond-false (keys.eq new.key key) _ _ differ ∙ (told key old stood ∙ ap (λ e. Some (last_write_of e)) (sym same.but))
           ]
 
-  pub told-upkeep : (known : K → Option (LastWrite V)) (cache : CacheState K V S W) (now : ℕ)
+  pub told-cleanup : (known : K → Option (LastWrite V)) (cache : CacheState K V S W) (now : ℕ)
       → IsTold keys laws known cache.contents.entries → IsTold keys laws known (after_look keys cache now).contents.entries
-  told-upkeep known cache now told key e h = told key e (found-upkeep laws cache.settings.policy now cache.contents key e h)
+  told-cleanup known cache now told key e h = told key e (found-cleanup laws cache.settings.policy now cache.contents key e h)
 
   module _ (weighs : W → K → V → ℕ → W → Type 0) where
     -- after each call the entries have what is known then
@@ -336,15 +336,15 @@ module _ {K V S W : Type 0} (keys : Keys K S) (laws : IsEquivalence keys.eq) whe
             (last_write_of e)
         by None there is h =
             ap (λ a. known_after keys (Get other now) a (chosen_keys (Get other now) old.contents.entries) key (known key)) is
-            ∙ told-upkeep known old now told key e h
+            ∙ told-cleanup known old now told key e h
         by (Some used) there is h =
             ap (λ a. known_after keys (Get other now) a (chosen_keys (Get other now) old.contents.entries) key (known key)) is
-            ∙ told-hit keys laws known (room_of old) (after_look keys old now).contents other now used (told-upkeep known old now told)
+            ∙ told-hit keys laws known (room_of old) (after_look keys old now).contents other now used (told-cleanup known old now told)
             (there used refl) key e h
     told-step old new (Peek other now) answer known step once told key e h =
         told key e (sym (ap (λ c. entry_at keys.eq key c.contents.entries) step.1) ∙ h)
     told-step old new (ContainsKey other now) answer known step once told key e h =
-        told-upkeep known old now told key e (sym (ap (λ c. entry_at keys.eq key c.contents.entries) step.1) ∙ h)
+        told-cleanup known old now told key e (sym (ap (λ c. entry_at keys.eq key c.contents.entries) step.1) ∙ h)
     told-step old new (Insert other value now) answer known (inl (done, inserted)) once told key e h =
         let kept = (after_look keys old now).contents in
         ap (λ a. known_after keys (Insert other value now) a (chosen_keys (Insert other value now) old.contents.entries) key
@@ -352,8 +352,8 @@ module _ {K V S W : Type 0} (keys : Keys K S) (laws : IsEquivalence keys.eq) whe
         ∙ told-put known (record old { weigher = inserted.weigher; capacity = inserted.capacity; contents = kept })
         (entry_at keys.eq other kept.entries)
         (new_entry keys old.settings.hash_state other value inserted.weight now) inserted.refused
-        (told-upkeep known old now told)
-        (once-remains keys.eq old.contents kept (remains-upkeep keys.eq old.settings.policy now old.contents) once) refl key e
+        (told-cleanup known old now told)
+        (once-remains keys.eq old.contents kept (remains-cleanup keys.eq old.settings.policy now old.contents) once) refl key e
         (sym (ap (λ c. entry_at keys.eq key c.contents.entries) inserted.step) ∙ h)
     told-step old new (Insert other value now) answer known (inr (refused, same)) once told key e h =
         ap (λ a. known_after keys (Insert other value now) a (chosen_keys (Insert other value now) old.contents.entries) key
@@ -363,13 +363,13 @@ module _ {K V S W : Type 0} (keys : Keys K S) (laws : IsEquivalence keys.eq) whe
         let (differ, stands) =
         left_of (keys.eq other key) (entry_at keys.eq key kept.entries) e
         (sym (entry_at-without laws other key kept.entries) ∙ (sym (ap (λ c. entry_at keys.eq key c.contents.entries) step.1) ∙ h)) in
-        cond-false (keys.eq other key) None (known key) differ ∙ told-upkeep known old now told key e stands
+        cond-false (keys.eq other key) None (known key) differ ∙ told-cleanup known old now told key e stands
     told-step old new (Remove other now) answer known step once told key e h =
         let kept = (after_look keys old now).contents in
         let (differ, stands) =
         left_of (keys.eq other key) (entry_at keys.eq key kept.entries) e
         (sym (entry_at-without laws other key kept.entries) ∙ (sym (ap (λ c. entry_at keys.eq key c.contents.entries) step.1) ∙ h)) in
-        cond-false (keys.eq other key) None (known key) differ ∙ told-upkeep known old now told key e stands
+        cond-false (keys.eq other key) None (known key) differ ∙ told-cleanup known old now told key e stands
     told-step old new InvalidateAll answer known step once told key e h =
         something {o = None} refl (sym (ap (λ c. entry_at keys.eq key c.contents.entries) step.1) ∙ h)
     told-step old new (InvalidateEntriesIf answers) answer known step once told key e h =
@@ -432,7 +432,7 @@ module _ {K V S W : Type 0} (keys : Keys K S) (laws : IsEquivalence keys.eq) whe
         by None there fresh is = something {o = None} refl is
         by (Some used) there fresh is = (
           last_write_of used,
-          told-upkeep (λ key. last_write keys key (exchanges past)) cache now (told-run settings shares weigher capacity past cache leads) key used
+          told-cleanup (λ key. last_write keys key (exchanges past)) cache now (told-run settings shares weigher capacity past cache leads) key used
               (there used refl),
           one_of refl is,
           subst (λ s. is_over s.policy now (last_write_of used) ≡ false) (settings-run settings shares weigher capacity past cache leads)
@@ -506,7 +506,7 @@ module _ {K V S W : Type 0} (keys : Keys K S) (laws : IsEquivalence keys.eq) whe
             → IsStep keys weighs cache (Peek key now) (Found (Some value)) cache
         by None there fresh is = something {o = None} refl is
         by (Some used) there fresh is =
-            let stood = found-upkeep laws cache.settings.policy now cache.contents key used (there used refl) in
+            let stood = found-cleanup laws cache.settings.policy now cache.contents key used (there used refl) in
             let lives =
             ap (unexpired cache.settings.policy now) stood
             ∙ cond-false (is_expired cache.settings.policy now used) None (Some used) (fresh used refl) in

@@ -23,7 +23,7 @@ use Rattle.moka_unsync_model.specs.Step.{Answer, IsStep, Request, Runs, Get, Pee
 use Rattle.moka_unsync_model.specs.Step.{InvalidateAll, InvalidateEntriesIf, Iterate, EntryCount, WeightedSize}
 use Rattle.moka_unsync_model.proofs.ContentsLemmas.{absent-leaving}
 use Rattle.moka_unsync_model.proofs.WindowLemmas.{goes_before}
-use Rattle.moka_unsync_model.proofs.RemainLemmas.{invalidations, looks, remains-leaving, remains-upkeep}
+use Rattle.moka_unsync_model.proofs.RemainLemmas.{invalidations, looks, remains-leaving, remains-cleanup}
 use Rattle.moka_unsync_model.specs.declared.shares.PartLimits.{PartLimits}
 use Rattle.moka_unsync_model.specs.Shares.{main_limit}
 use Rattle.moka_unsync_model.specs.declared.entry.Part.TheVariants.{Probation, Window}
@@ -245,7 +245,7 @@ module _ {K V S W : Type 0} (keys : Keys K S) (laws : IsEquivalence keys.eq) (we
       let kept = (after_look keys old now).contents in
       subst (λ c. StandOnce keys.eq c.contents.entries) (sym step.1)
       (once-use keys.eq laws (room_of old) now (unexpired_at keys.eq old.settings.policy now key kept) kept
-      (once-remains keys.eq old.contents kept (remains-upkeep keys.eq old.settings.policy now old.contents) once))
+      (once-remains keys.eq old.contents kept (remains-cleanup keys.eq old.settings.policy now old.contents) once))
   once-step old new (Peek key now) answer step once = subst (λ c. StandOnce keys.eq c.contents.entries) (sym step.1) once
   once-step old new (ContainsKey key now) answer step once =
       once-remains keys.eq old.contents new.contents (looks keys weighs old new (ContainsKey key now) answer tt step).1 once
@@ -255,7 +255,7 @@ module _ {K V S W : Type 0} (keys : Keys K S) (laws : IsEquivalence keys.eq) (we
       subst (λ c. StandOnce keys.eq c.contents.entries) (sym inserted.step)
       (once-insert keys.eq laws asked (entry_at keys.eq key kept.entries)
       (new_entry keys old.settings.hash_state key value inserted.weight now) inserted.refused refl
-      (once-remains keys.eq old.contents kept (remains-upkeep keys.eq old.settings.policy now old.contents) once))
+      (once-remains keys.eq old.contents kept (remains-cleanup keys.eq old.settings.policy now old.contents) once))
   once-step old new (Insert key value now) answer (inr (refused, same)) once =
       subst (λ c. StandOnce keys.eq c.contents.entries) (sym same.same) once
   once-step old new (Invalidate key now) answer step once =

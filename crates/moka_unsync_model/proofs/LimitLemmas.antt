@@ -18,8 +18,8 @@ use Rattle.moka_unsync_model.specs.Contents.{window_of}
 use Rattle.moka_unsync_model.specs.Contents.{without, is_window, probation_of, protected_of}
 use Rattle.moka_unsync_model.specs.CacheState.{CacheState, new_cache, room_of, windowed}
 use Rattle.moka_common.specs.Settings.{keeps_writes}
-use Rattle.moka_unsync_model.specs.Upkeep.{after_expiry, after_idle, after_live_expiry, after_trim, after_upkeep}
-use Rattle.moka_unsync_model.specs.Upkeep.{is_past_ttl, least_recent, is_expired, unexpired}
+use Rattle.moka_unsync_model.specs.Cleanup.{after_expiry, after_idle, after_live_expiry, after_trim, after_cleanup}
+use Rattle.moka_unsync_model.specs.Cleanup.{is_past_ttl, least_recent, is_expired, unexpired}
 use Rattle.moka_unsync_model.specs.Insert.{IsInserted, after_admission, after_asking, after_entering, after_entry, after_new, after_put, after_verdict}
 use Rattle.moka_unsync_model.specs.Insert.{new_entry}
 use Rattle.moka_unsync_model.specs.Window.{after_candidacy, after_candidates, candidates, excess, victims_of}
@@ -28,7 +28,7 @@ use Rattle.moka_unsync_model.specs.Laws.{IsUpdate, OnlyUpdatesOutgrowLimit, Stay
 use Rattle.moka_unsync_model.specs.Lookup.{after_search, after_use, unexpired_at, after_using}
 use Rattle.moka_unsync_model.specs.Step.{Answer, IsStep, Request, Runs, Get, Peek, ContainsKey, Insert, Invalidate, Remove}
 use Rattle.moka_unsync_model.specs.Step.{InvalidateAll, InvalidateEntriesIf, Iterate, EntryCount, WeightedSize}
-use Rattle.moka_unsync_model.proofs.ContentsLemmas.{All-leaving, All-upkeep, idle_keys}
+use Rattle.moka_unsync_model.proofs.ContentsLemmas.{All-leaving, All-cleanup, idle_keys}
 use Rattle.moka_unsync_model.proofs.WindowLemmas.{total-latest, total-main_latest, total-split, window-latest}
 use Rattle.moka_unsync_model.proofs.CandidateLemmas.{All-new, least_parts, victims_weigh}
 use Rattle.moka_unsync_model.proofs.MapLemmas.{terms-put}
@@ -97,9 +97,9 @@ module _ {K V : Type 0} where
         total-leaving (entry_keys (take EVICTION_BATCH_SIZE (least_recent (total_weight contents.entries - limit) contents.entries)))
         contents
 
-    pub total-upkeep : (policy : Policy) (now : ℕ) (contents : Contents K V)
-        → total_weight (after_upkeep eq policy now contents).entries ≤ total_weight contents.entries
-    total-upkeep policy now contents =
+    pub total-cleanup : (policy : Policy) (now : ℕ) (contents : Contents K V)
+        → total_weight (after_cleanup eq policy now contents).entries ≤ total_weight contents.entries
+    total-cleanup policy now contents =
         let lived = after_live_expiry eq policy now EVICTION_BATCH_SIZE contents in
         let waited = after_idle eq policy now EVICTION_BATCH_SIZE (window_of lived.entries) lived in
         let tried = after_idle eq policy now EVICTION_BATCH_SIZE (probation_of lived.entries) waited in
@@ -429,7 +429,7 @@ module _ {K V S W : Type 0} (keys : Keys K S) (laws : IsEquivalence keys.eq) (we
       → IsInserted keys weighs old key value now new
       → IsBounded keys.eq laws limit old.contents new.contents ⊎ IsUpdate keys weighs old (Insert key value now)
   bounded_insert old new limit key value now has done =
-      let kept = after_upkeep keys.eq old.settings.policy now old.contents in
+      let kept = after_cleanup keys.eq old.settings.policy now old.contents in
       let found = record old { weigher = done.weigher; capacity = done.capacity; contents = kept } in
       let entry = new_entry keys old.settings.hash_state key value done.weight now in
       elim (cases_Bool (is_some (entry_at keys.eq key kept.entries))) [
@@ -437,7 +437,7 @@ module _ {K V S W : Type 0} (keys : Keys K S) (laws : IsEquivalence keys.eq) (we
         | inr absent ↦
             inl (subst (λ c. IsBounded keys.eq laws limit old.contents c.contents) (sym done.step)
             (bounded_from limit old.contents kept (after_put keys.eq found (entry_at keys.eq key kept.entries) entry done.refused).contents
-            (total-upkeep keys.eq old.settings.policy now old.contents)
+            (total-cleanup keys.eq old.settings.policy now old.contents)
             (bounded_put found limit entry done.refused has (entry_at keys.eq key kept.entries) absent)))
       ]
 
@@ -456,24 +456,24 @@ module _ {K V S W : Type 0} (keys : Keys K S) (laws : IsEquivalence keys.eq) (we
       less limit old new _ (Get key now) step.1
       (grind (
         arith,
-        total-search keys.eq laws (room_of old) policy now key (after_upkeep keys.eq policy now old.contents),
-        total-upkeep keys.eq policy
+        total-search keys.eq laws (room_of old) policy now key (after_cleanup keys.eq policy now old.contents),
+        total-cleanup keys.eq policy
             now old.contents,
       ))
   bounded_step old new limit (Peek key now) answer has step = less limit old new old (Peek key now) step.1 (grind (arith))
   bounded_step old new limit (ContainsKey key now) answer has step =
-      less limit old new _ (ContainsKey key now) step.1 (total-upkeep keys.eq old.settings.policy now old.contents)
+      less limit old new _ (ContainsKey key now) step.1 (total-cleanup keys.eq old.settings.policy now old.contents)
   bounded_step old new limit (Insert key value now) answer has (inl done) = bounded_insert old new limit key value now has done.1
   bounded_step old new limit (Insert key value now) answer has (inr refused) =
       less limit old new (record old { capacity = new.capacity }) (Insert key value now) refused.1.same (grind (arith))
   bounded_step old new limit (Invalidate key now) answer has step =
-      let kept = after_upkeep keys.eq old.settings.policy now old.contents in
+      let kept = after_cleanup keys.eq old.settings.policy now old.contents in
       less limit old new _ (Invalidate key now) step.1
-      (grind (arith, total-filter (λ e. not (keys.eq key e.key)) kept.entries, total-upkeep keys.eq old.settings.policy now old.contents))
+      (grind (arith, total-filter (λ e. not (keys.eq key e.key)) kept.entries, total-cleanup keys.eq old.settings.policy now old.contents))
   bounded_step old new limit (Remove key now) answer has step =
-      let kept = after_upkeep keys.eq old.settings.policy now old.contents in
+      let kept = after_cleanup keys.eq old.settings.policy now old.contents in
       less limit old new _ (Remove key now) step.1
-      (grind (arith, total-filter (λ e. not (keys.eq key e.key)) kept.entries, total-upkeep keys.eq old.settings.policy now old.contents))
+      (grind (arith, total-filter (λ e. not (keys.eq key e.key)) kept.entries, total-cleanup keys.eq old.settings.policy now old.contents))
   bounded_step old new limit InvalidateAll answer has step = less limit old new _ InvalidateAll step.1 (grind (arith))
   bounded_step old new limit (InvalidateEntriesIf answers) answer has step =
       less limit old new _ (InvalidateEntriesIf answers) step.1
@@ -574,43 +574,43 @@ module _ {K V S W : Type 0} (keys : Keys K S) (laws : IsEquivalence keys.eq) (we
       → IsStep keys weighs old request answer new → IsWithin limit new
   within_step limit old new (Get key now) answer within step =
       let policy = old.settings.policy in
-      let kept = after_upkeep keys.eq policy now old.contents in
+      let kept = after_cleanup keys.eq policy now old.contents in
       within_less limit old new _ within step.1 refl
-      (ones_search keys.eq (room_of old) policy now key kept (All-upkeep keys.eq (λ e. e.weight ≡ 1) policy now old.contents within.ones))
-      (grind (arith, total-search keys.eq laws (room_of old) policy now key kept, total-upkeep keys.eq policy now old.contents))
+      (ones_search keys.eq (room_of old) policy now key kept (All-cleanup keys.eq (λ e. e.weight ≡ 1) policy now old.contents within.ones))
+      (grind (arith, total-search keys.eq laws (room_of old) policy now key kept, total-cleanup keys.eq policy now old.contents))
   within_step limit old new (Peek key now) answer within step = subst (IsWithin limit) (sym step.1) within
   within_step limit old new (ContainsKey key now) answer within step =
       let policy = old.settings.policy in
-      within_less limit old new _ within step.1 refl (All-upkeep keys.eq (λ e. e.weight ≡ 1) policy now old.contents within.ones)
-      (total-upkeep keys.eq policy now old.contents)
+      within_less limit old new _ within step.1 refl (All-cleanup keys.eq (λ e. e.weight ≡ 1) policy now old.contents within.ones)
+      (total-cleanup keys.eq policy now old.contents)
   within_step limit old new (Insert key value now) answer within (inl step) =
       let policy = old.settings.policy in
-      let kept = after_upkeep keys.eq policy now old.contents in
+      let kept = after_cleanup keys.eq policy now old.contents in
       let done = step.1 in
       let found = record old { weigher = done.weigher; capacity = done.capacity; contents = kept } in
       subst (IsWithin limit) (sym done.step)
       (within_put limit found (new_entry keys old.settings.hash_state key value done.weight now) done.refused
       (record {
         has = within.has;
-        ones = All-upkeep keys.eq (λ e. e.weight ≡ 1) policy now old.contents within.ones;
+        ones = All-cleanup keys.eq (λ e. e.weight ≡ 1) policy now old.contents within.ones;
         fits = grind
-            (arith, total-upkeep keys.eq policy now old.contents, within.fits);
+            (arith, total-cleanup keys.eq policy now old.contents, within.fits);
       })
       (each old.weigher done.weigher key value done.weight done.weighed) (entry_at keys.eq key kept.entries) refl)
   within_step limit old new (Insert key value now) answer within (inr refused) =
       subst (IsWithin limit) (sym refused.1.same) (record { has = within.has; ones = within.ones; fits = within.fits })
   within_step limit old new (Invalidate key now) answer within step =
       let policy = old.settings.policy in
-      let kept = after_upkeep keys.eq policy now old.contents in
+      let kept = after_cleanup keys.eq policy now old.contents in
       within_less limit old new _ within step.1 refl
-      (All-leaving keys.eq (λ e. e.weight ≡ 1) (key ∷ []) kept (All-upkeep keys.eq (λ e. e.weight ≡ 1) policy now old.contents within.ones))
-      (grind (arith, total-filter (λ e. not (keys.eq key e.key)) kept.entries, total-upkeep keys.eq policy now old.contents))
+      (All-leaving keys.eq (λ e. e.weight ≡ 1) (key ∷ []) kept (All-cleanup keys.eq (λ e. e.weight ≡ 1) policy now old.contents within.ones))
+      (grind (arith, total-filter (λ e. not (keys.eq key e.key)) kept.entries, total-cleanup keys.eq policy now old.contents))
   within_step limit old new (Remove key now) answer within step =
       let policy = old.settings.policy in
-      let kept = after_upkeep keys.eq policy now old.contents in
+      let kept = after_cleanup keys.eq policy now old.contents in
       within_less limit old new _ within step.1 refl
-      (All-leaving keys.eq (λ e. e.weight ≡ 1) (key ∷ []) kept (All-upkeep keys.eq (λ e. e.weight ≡ 1) policy now old.contents within.ones))
-      (grind (arith, total-filter (λ e. not (keys.eq key e.key)) kept.entries, total-upkeep keys.eq policy now old.contents))
+      (All-leaving keys.eq (λ e. e.weight ≡ 1) (key ∷ []) kept (All-cleanup keys.eq (λ e. e.weight ≡ 1) policy now old.contents within.ones))
+      (grind (arith, total-filter (λ e. not (keys.eq key e.key)) kept.entries, total-cleanup keys.eq policy now old.contents))
   within_step limit old new InvalidateAll answer within step =
       within_less limit old new _ within step.1 refl (All-from_recursion (λ e. e.weight ≡ 1) [] tt) (grind (arith))
   within_step limit old new (InvalidateEntriesIf answers) answer within step =

@@ -19,8 +19,8 @@ use Rattle.moka_unsync_model.specs.Contents.{Contents, after_leaving, entry_at, 
 use Rattle.moka_unsync_model.specs.Contents.{protected_of, total_weight}
 use Rattle.moka_unsync_model.specs.CacheState.{CacheState, room_of, windowed}
 use Rattle.moka_common.specs.Settings.{Settings, idle_nanos, keeps_writes, live_nanos}
-use Rattle.moka_unsync_model.specs.Upkeep.{after_expiry, after_idle, after_idle_expiry, after_trim, after_upkeep, is_past_ttl, is_idle, is_expired}
-use Rattle.moka_unsync_model.specs.Upkeep.{unexpired}
+use Rattle.moka_unsync_model.specs.Cleanup.{after_expiry, after_idle, after_idle_expiry, after_trim, after_cleanup, is_past_ttl, is_idle, is_expired}
+use Rattle.moka_unsync_model.specs.Cleanup.{unexpired}
 use Rattle.moka_unsync_model.specs.Lookup.{after_look, after_search, after_use, found_by_get, found_by_peek, unexpired_at, after_using, used_part}
 use Rattle.moka_unsync_model.specs.Insert.{after_asking, after_entering, after_new, after_put, after_verdict, new_entry}
 use Rattle.moka_unsync_model.specs.Window.{victims_of}
@@ -38,7 +38,7 @@ use Rattle.moka_unsync_model.specs.declared.entry.Part.{Part}
 use Rattle.moka_unsync_model.specs.declared.shares.Shares.{Shares}
 use Rattle.moka_unsync_model.proofs.PartLemmas.{entry_at-demoted, placed, placed-map}
 
--- ---- upkeep without limits
+-- ---- cleanup without limits
 
 -- where no item passes, none is taken
 take_while-none : {X : Type 0} (test : X → Bool) (xs : List X) → ((x : X) → test x ≡ false) → take_while test xs ≡ []
@@ -76,8 +76,8 @@ module _ (policy : Policy) (lasting : (policy.time_to_live ≡ None) × (policy.
 
 module _ (policy : Policy) (unbounded : IsUnbounded policy) (now : ℕ) where
   -- nothing leaves without limits
-  upkeep-same : {K V : Type 0} (eq : K → K → Bool) (contents : Contents K V) → after_upkeep eq policy now contents ≡ contents
-  upkeep-same eq contents =
+  cleanup-same : {K V : Type 0} (eq : K → K → Bool) (contents : Contents K V) → after_cleanup eq policy now contents ≡ contents
+  cleanup-same eq contents =
       ap (λ limit. after_trim eq limit (after_expiry eq policy now contents)) unbounded.0
       ∙ expiry-same policy (unbounded.1, unbounded.2) now eq contents
 
@@ -365,7 +365,7 @@ module _ {K V S W : Type 0} (keys : Keys K S) where
   -- a call finds what stood there
   look-same : (cache : CacheState K V S W) → IsUnbounded cache.settings.policy → (now : ℕ)
       → (after_look keys cache now).contents ≡ cache.contents
-  look-same cache unbounded now = upkeep-same cache.settings.policy unbounded now keys.eq cache.contents
+  look-same cache unbounded now = cleanup-same cache.settings.policy unbounded now keys.eq cache.contents
 
   -- a peek finds what a plain map has
   seen_in_map : (cache : CacheState K V S W) → IsUnbounded cache.settings.policy → (key : K) (now : ℕ)

@@ -17,14 +17,14 @@ use Rattle.moka_unsync_model.specs.Contents.{is_protected, is_window, main_of, p
 use Rattle.moka_unsync_model.specs.CacheState.{CacheState, new_cache, room_of, windowed}
 use Rattle.moka_unsync_model.specs.Shares.{default_shares, limits_of, main_limit, protected_room, windowed_limits}
 use Rattle.moka_unsync_model.specs.Lookup.{after_get, after_look, after_use, after_using, unexpired_at, used_part}
-use Rattle.moka_unsync_model.specs.Upkeep.{after_idle, after_idle_expiry, after_live_expiry, after_trim, after_upkeep, is_past_ttl, least_recent}
+use Rattle.moka_unsync_model.specs.Cleanup.{after_idle, after_idle_expiry, after_live_expiry, after_trim, after_cleanup, is_past_ttl, least_recent}
 use Rattle.moka_unsync_model.specs.Window.{after_candidacy, after_candidate, after_candidates, candidates, victims_of}
 use Rattle.moka_unsync_model.specs.Insert.{IsInserted, after_asking, after_entering, after_entry, after_insert, after_new, after_put}
 use Rattle.moka_unsync_model.specs.Insert.{after_standing, after_verdict, new_entry}
 use Rattle.moka_unsync_model.specs.Invalidate.{after_invalidate}
 use Rattle.moka_unsync_model.specs.Step.{Answer, IsStep, Request, Get, Peek, ContainsKey, Insert, Invalidate, Remove, InvalidateAll}
 use Rattle.moka_unsync_model.specs.Step.{InvalidateEntriesIf, Iterate, EntryCount, WeightedSize, Found, Truth}
-use Rattle.moka_unsync_model.proofs.ContentsLemmas.{All-leaving, All-upkeep}
+use Rattle.moka_unsync_model.proofs.ContentsLemmas.{All-leaving, All-cleanup}
 use Rattle.moka_unsync_model.proofs.WindowLemmas.{All-latest, latest-last}
 use Rattle.moka_unsync_model.specs.Laws.{IsCacheOfOneList}
 use Rattle.moka_unsync_model.specs.OneList
@@ -115,7 +115,7 @@ module _ {K V : Type 0} (eq : K → K → Bool) where
       ∙ (ap (λ part. balanced 0 (with_latest (record entry { part = part }) others)) (same-used entry.part entry.weight free)
       ∙ (same-balanced (with_latest entry others) (All-latest IsFree entry others rest free) ∙ same-moving entry contents free all))
 
-  -- ---- upkeep
+  -- ---- cleanup
 
   same-idle : (policy : Policy) (now most : ℕ) (contents : Contents K V) → AreFree contents.entries
       → after_idle_expiry eq policy now most contents ≡ OneList.after_idle_expiry eq policy now most contents
@@ -126,9 +126,9 @@ module _ {K V : Type 0} (eq : K → K → Bool) where
       ∙ (ap (λ (l : List (Entry K V)). after_leaving eq (entry_keys l) tried) (take-nil most)
       ∙ ap (λ l. after_idle eq policy now most l waited) (same-main contents.entries free))
 
-  same-upkeep : (policy : Policy) (now : ℕ) (contents : Contents K V) → AreFree contents.entries
-      → after_upkeep eq policy now contents ≡ OneList.after_upkeep eq policy now contents
-  same-upkeep policy now contents free =
+  same-cleanup : (policy : Policy) (now : ℕ) (contents : Contents K V) → AreFree contents.entries
+      → after_cleanup eq policy now contents ≡ OneList.after_cleanup eq policy now contents
+  same-cleanup policy now contents free =
       ap (after_trim eq policy.max_capacity)
       (same-idle policy now EVICTION_BATCH_SIZE (after_live_expiry eq policy now EVICTION_BATCH_SIZE contents)
       (All-leaving eq IsFree (map (λ w. w.key) (take EVICTION_BATCH_SIZE (take_while (is_past_ttl policy now) contents.written))) contents free))
@@ -259,14 +259,14 @@ module _ {K V S W : Type 0} (eq : K → K → Bool) where
 module _ {K V S W : Type 0} (keys : Keys K S) where
   same-look : (cache : CacheState K V S W) (now : ℕ) → IsPlain keys.eq cache → after_look keys cache now ≡ OneList.after_look keys cache now
   same-look cache now plain =
-      ap (λ c. record cache { contents = c }) (same-upkeep keys.eq cache.settings.policy now cache.contents plain.free)
+      ap (λ c. record cache { contents = c }) (same-cleanup keys.eq cache.settings.policy now cache.contents plain.free)
 
   plain-look : (cache : CacheState K V S W) (now : ℕ) → IsPlain keys.eq cache → IsPlain keys.eq (after_look keys cache now)
   plain-look cache now plain =
       record {
         shares = plain.shares;
-        free = All-upkeep keys.eq IsFree cache.settings.policy now cache.contents plain.free;
-        main = λ none. All-upkeep keys.eq (λ e. is_window e.part ≡ false) cache.settings.policy now cache.contents (plain.main none);
+        free = All-cleanup keys.eq IsFree cache.settings.policy now cache.contents plain.free;
+        main = λ none. All-cleanup keys.eq (λ e. is_window e.part ≡ false) cache.settings.policy now cache.contents (plain.main none);
       }
 
   same-found : (cache : CacheState K V S W) (key : K) (now : ℕ) → IsPlain keys.eq cache

@@ -22,7 +22,7 @@ use Rattle.moka_unsync_model.specs.Laws.{Remains, WindowStandsBehind, WindowStay
 use Rattle.moka_unsync_model.proofs.KeyLemmas.{contents-standing}
 use Rattle.moka_unsync_model.proofs.MapLemmas.{terms-step, terms_of}
 use Rattle.moka_unsync_model.proofs.OwnLemmas.{All-found, unexpired-found}
-use Rattle.moka_unsync_model.proofs.RemainLemmas.{remains-leaving, remains-upkeep}
+use Rattle.moka_unsync_model.proofs.RemainLemmas.{remains-leaving, remains-cleanup}
 use Rattle.moka_unsync_model.specs.Contents.{InOrder}
 use Rattle.moka_unsync_model.proofs.PartLemmas.{All-using, order-balanced, order-filter, order-latest, order-parts, window-used}
 use Rattle.moka_unsync_model.specs.declared.shares.PartLimits.{PartLimits}
@@ -188,7 +188,7 @@ module _ {K V S W : Type 0} where
 module _ {K V S W : Type 0} (keys : Keys K S) (weighs : W → K → V → ℕ → W → Type 0) where
   pub ordered-look : (cache : CacheState K V S W) (now : ℕ) → IsOrdered cache → IsOrdered (after_look keys cache now)
   ordered-look cache now ordered =
-      ordered-remains cache (after_look keys cache now) refl (remains-upkeep keys.eq cache.settings.policy now cache.contents) ordered
+      ordered-remains cache (after_look keys cache now) refl (remains-cleanup keys.eq cache.settings.policy now cache.contents) ordered
 
   ordered-step : (old new : CacheState K V S W) (request : Request K V) (answer : Answer K V) → IsStep keys weighs old request answer new
       → IsOrdered old → IsOrdered new

@@ -8,13 +8,13 @@ use Rattle.moka_common.specs.Policy.{Policy}
 use Rattle.moka_unsync_model.specs.declared.entry.Entry.{Entry}
 use Rattle.moka_unsync_model.specs.Contents.{Contents, entry_at, entry_keys}
 use Rattle.moka_unsync_model.specs.CacheState.{CacheState, new_cache, room_of, windowed}
-use Rattle.moka_unsync_model.specs.Upkeep.{is_expired, unexpired}
+use Rattle.moka_unsync_model.specs.Cleanup.{is_expired, unexpired}
 use Rattle.moka_unsync_model.specs.Lookup.{after_look, after_use, unexpired_at}
 use Rattle.moka_unsync_model.specs.Insert.{after_put, new_entry}
 use Rattle.moka_unsync_model.specs.Invalidate.{chosen}
 use Rattle.moka_unsync_model.specs.Step.{Answer, IsStep, Request, Runs, Get, Peek, ContainsKey, Insert, Invalidate, Remove, InvalidateAll}
 use Rattle.moka_unsync_model.specs.Step.{InvalidateEntriesIf, Iterate, EntryCount, WeightedSize}
-use Rattle.moka_unsync_model.proofs.ContentsLemmas.{All-leaving, All-upkeep}
+use Rattle.moka_unsync_model.proofs.ContentsLemmas.{All-leaving, All-cleanup}
 use Rattle.moka_unsync_model.specs.Laws.{EntriesAreOwn}
 use Rattle.moka_unsync_model.proofs.CandidateLemmas.{All-new}
 use Rattle.moka_unsync_model.proofs.MapLemmas.{settings-step}
@@ -71,7 +71,7 @@ module _ {K V S W : Type 0} (keys : Keys K S) (weighs : W → K → V → ℕ �
 
   own-look : (cache : CacheState K V S W) (now : ℕ) → AreOwn cache → AreOwn (after_look keys cache now)
   own-look cache now a =
-      All-upkeep keys.eq (IsOwn {V = V} keys cache.settings.hash_state) cache.settings.policy now cache.contents a
+      All-cleanup keys.eq (IsOwn {V = V} keys cache.settings.hash_state) cache.settings.policy now cache.contents a
 
   -- no call makes another of an entry
   own-step : (old new : CacheState K V S W) (request : Request K V) (answer : Answer K V) → IsStep keys weighs old request answer new

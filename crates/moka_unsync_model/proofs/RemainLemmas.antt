@@ -8,7 +8,7 @@ use Rattle.moka_unsync_model.specs.declared.constants.TheConstants.{EVICTION_BAT
 use Rattle.moka_unsync_model.specs.Contents.{Contents, after_leaving, entry_keys, no_contents, probation_of, protected_of, total_weight}
 use Rattle.moka_unsync_model.specs.Contents.{window_of, without}
 use Rattle.moka_unsync_model.specs.CacheState.{CacheState}
-use Rattle.moka_unsync_model.specs.Upkeep.{after_expiry, after_idle, after_live_expiry, after_trim, after_upkeep, is_past_ttl, least_recent}
+use Rattle.moka_unsync_model.specs.Cleanup.{after_expiry, after_idle, after_live_expiry, after_trim, after_cleanup, is_past_ttl, least_recent}
 use Rattle.moka_unsync_model.specs.Invalidate.{chosen}
 use Rattle.moka_unsync_model.proofs.ContentsLemmas.{idle_keys}
 use Rattle.moka_unsync_model.specs.Laws.{InvalidationsKeepCounts, LooksChangeNothing, Remains}
@@ -70,12 +70,12 @@ module _ {K V : Type 0} where
         remains-leaving (entry_keys (take EVICTION_BATCH_SIZE (least_recent (total_weight contents.entries - limit) contents.entries)))
         contents
 
-    pub remains-upkeep : (policy : Policy) (now : ℕ) (contents : Contents K V) → Remains contents (after_upkeep eq policy now contents)
-    remains-upkeep policy now contents =
+    pub remains-cleanup : (policy : Policy) (now : ℕ) (contents : Contents K V) → Remains contents (after_cleanup eq policy now contents)
+    remains-cleanup policy now contents =
         let lived = after_live_expiry eq policy now EVICTION_BATCH_SIZE contents in
         let waited = after_idle eq policy now EVICTION_BATCH_SIZE (window_of lived.entries) lived in
         let tried = after_idle eq policy now EVICTION_BATCH_SIZE (probation_of lived.entries) waited in
-        remains-both contents (after_expiry eq policy now contents) (after_upkeep eq policy now contents)
+        remains-both contents (after_expiry eq policy now contents) (after_cleanup eq policy now contents)
         (remains-both contents lived (after_expiry eq policy now contents)
         (remains-leaving (map (λ w. w.key) (take EVICTION_BATCH_SIZE (take_while (is_past_ttl policy now) contents.written))) contents)
         (remains-both lived waited (after_expiry eq policy now contents) (remains-leaving (idle_keys policy now (window_of lived.entries)) lived)
@@ -93,7 +93,7 @@ module _ {K V S W : Type 0} (keys : Keys K S) (weighs : W → K → V → ℕ �
   looks old new (Get key now) answer call step = absurd call
   looks old new (Peek key now) answer call step = kept old new old step.1 refl (remains-all old.contents)
   looks old new (ContainsKey key now) answer call step =
-      kept old new _ step.1 refl (remains-upkeep keys.eq old.settings.policy now old.contents)
+      kept old new _ step.1 refl (remains-cleanup keys.eq old.settings.policy now old.contents)
   looks old new (Insert key value now) answer call step = absurd call
   looks old new (Invalidate key now) answer call step = absurd call
   looks old new (Remove key now) answer call step = absurd call
@@ -109,15 +109,15 @@ module _ {K V S W : Type 0} (keys : Keys K S) (weighs : W → K → V → ℕ �
   invalidations old new (ContainsKey key now) answer call step = absurd call
   invalidations old new (Insert key value now) answer call step = absurd call
   invalidations old new (Invalidate key now) answer call step =
-      let upkept = after_upkeep keys.eq old.settings.policy now old.contents in
+      let cleaned = after_cleanup keys.eq old.settings.policy now old.contents in
       kept old new _ step.1 refl
-      (remains-both old.contents upkept (without keys.eq upkept key) (remains-upkeep keys.eq old.settings.policy now old.contents)
-      (remains-leaving keys.eq (key ∷ []) upkept))
+      (remains-both old.contents cleaned (without keys.eq cleaned key) (remains-cleanup keys.eq old.settings.policy now old.contents)
+      (remains-leaving keys.eq (key ∷ []) cleaned))
   invalidations old new (Remove key now) answer call step =
-      let upkept = after_upkeep keys.eq old.settings.policy now old.contents in
+      let cleaned = after_cleanup keys.eq old.settings.policy now old.contents in
       kept old new _ step.1 refl
-      (remains-both old.contents upkept (without keys.eq upkept key) (remains-upkeep keys.eq old.settings.policy now old.contents)
-      (remains-leaving keys.eq (key ∷ []) upkept))
+      (remains-both old.contents cleaned (without keys.eq cleaned key) (remains-cleanup keys.eq old.settings.policy now old.contents)
+      (remains-leaving keys.eq (key ∷ []) cleaned))
   invalidations old new InvalidateAll answer call step = kept old new _ step.1 refl (remains-none old.contents)
   invalidations old new (InvalidateEntriesIf answers) answer call step =
       kept old new _ step.1 refl (remains-leaving keys.eq (entry_keys (chosen answers old.contents.entries)) old.contents)

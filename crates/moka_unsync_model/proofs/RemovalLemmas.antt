@@ -9,7 +9,7 @@ use Rattle.moka_unsync_model.specs.Contents.{Contents, after_leaving, entry_at, 
 use Rattle.moka_unsync_model.specs.CacheState.{CacheState, new_cache, room_of, windowed}
 use Rattle.moka_common.specs.Settings.{Settings, keeps_writes}
 use Rattle.moka_unsync_model.specs.Lookup.{after_use, after_look, unexpired_at, after_using}
-use Rattle.moka_unsync_model.specs.Upkeep.{is_expired, unexpired}
+use Rattle.moka_unsync_model.specs.Cleanup.{is_expired, unexpired}
 use Rattle.moka_unsync_model.specs.Insert.{after_entering, after_new, after_put, after_verdict, new_entry}
 use Rattle.moka_unsync_model.specs.Window.{victims_of}
 use Rattle.moka_unsync_model.specs.Invalidate.{chosen}
@@ -19,14 +19,14 @@ use Rattle.moka_unsync_model.specs.History.{LastWrite, Leads, Transition, chosen
 use Rattle.moka_unsync_model.specs.Removal.{EntriesLeaveForACause, InsertsEnterOrAreRejected, IsMissing}
 use Rattle.moka_unsync_model.specs.Removal.{IsRejected, Leaves, MissesHaveAReason, RemovalCause, last_write_of}
 use Rattle.moka_unsync_model.proofs.ContentsLemmas.{absent-leaving}
-use Rattle.moka_unsync_model.proofs.HistoryLemmas.{found-entering, found-upkeep, found_fresh, once-run, one_of, same_found, settings-run, something}
+use Rattle.moka_unsync_model.proofs.HistoryLemmas.{found-entering, found-cleanup, found_fresh, once-run, one_of, same_found, settings-run, something}
 use Rattle.moka_unsync_model.proofs.HistoryLemmas.{told-run}
-use Rattle.moka_unsync_model.proofs.HistoryLemmas.{told-upkeep}
+use Rattle.moka_unsync_model.proofs.HistoryLemmas.{told-cleanup}
 use Rattle.moka_unsync_model.proofs.ContentsLemmas.{found_key}
-use Rattle.moka_unsync_model.proofs.LimitLemmas.{found_there, total-upkeep}
+use Rattle.moka_unsync_model.proofs.LimitLemmas.{found_there, total-cleanup}
 use Rattle.moka_unsync_model.proofs.MapLemmas.{entry_at-equal, entry_at-latest, entry_at-using}
 use Rattle.moka_unsync_model.proofs.KeyLemmas.{StandOnce, contents-standing, once-remains}
-use Rattle.moka_unsync_model.proofs.RemainLemmas.{remains-upkeep}
+use Rattle.moka_unsync_model.proofs.RemainLemmas.{remains-cleanup}
 use Rattle.moka_unsync_model.proofs.TiedLemmas.{absent-left, tied-run}
 use Rattle.moka_unsync_model.proofs.CauseLemmas.{main-less, new-rejected, no-room, step-cause, use-stands, windowed-is, using-stands}
 use Rattle.moka_unsync_model.specs.declared.shares.PartLimits.{PartLimits}
@@ -93,7 +93,7 @@ module _ {K V S W : Type 0} (keys : Keys K S) (laws : IsEquivalence keys.eq) (we
       put-rejected (record old { weigher = inserted.weigher; capacity = inserted.capacity; contents = kept })
       (new_entry keys old.settings.hash_state other value inserted.weight now) inserted.refused
       (entry_at keys.eq other kept.entries)
-      (once-remains keys.eq old.contents kept (remains-upkeep keys.eq old.settings.policy now old.contents) once) refl
+      (once-remains keys.eq old.contents kept (remains-cleanup keys.eq old.settings.policy now old.contents) once) refl
       (entry_at-equal laws other key equal _ ∙ (sym (ap (λ c. entry_at keys.eq key c.contents.entries) inserted.step) ∙ none)) in
       record {
         other = other;
@@ -107,7 +107,7 @@ module _ {K V S W : Type 0} (keys : Keys K S) (laws : IsEquivalence keys.eq) (we
         absent = none;
         weighed = inserted.weighed;
         limited = limited;
-        no_room = grind (arith, full, total-upkeep keys.eq old.settings.policy now old.contents);
+        no_room = grind (arith, full, total-cleanup keys.eq old.settings.policy now old.contents);
       }
   rejected key old new (Insert other value now) answer (inr (refused, same)) once written none =
       absurd (false≢true (sym (ap (λ a. is_written keys (Insert other value now) a key) refused) ∙ written))
@@ -195,7 +195,7 @@ module _ {K V S W : Type 0} (keys : Keys K S) (laws : IsEquivalence keys.eq) (we
             | inl expired ↦
                 inr (
                   last_write_of e,
-                  told-upkeep keys laws (λ key. last_write keys key (exchanges past)) call.before now
+                  told-cleanup keys laws (λ key. last_write keys key (exchanges past)) call.before now
                       (told-run keys laws weighs settings shares weigher capacity past call.before leads) key e at,
                   subst (λ s. is_over s.policy now (last_write_of e) ≡ true)
                       (settings-run keys laws weighs settings shares weigher capacity past call.before leads) expired,
@@ -205,14 +205,14 @@ module _ {K V S W : Type 0} (keys : Keys K S) (laws : IsEquivalence keys.eq) (we
 
   -- ---- and no entry stands at a key that is missing
 
-  absent-upkeep : (cache : CacheState K V S W) (now : ℕ) (key : K) → entry_at keys.eq key cache.contents.entries ≡ None
+  absent-cleanup : (cache : CacheState K V S W) (now : ℕ) (key : K) → entry_at keys.eq key cache.contents.entries ≡ None
       → entry_at keys.eq key (after_look keys cache now).contents.entries ≡ None
-  absent-upkeep cache now key none = by (entry_at keys.eq key (after_look keys cache now).contents.entries) refl
+  absent-cleanup cache now key none = by (entry_at keys.eq key (after_look keys cache now).contents.entries) refl
     where
       by : (o : Option (Entry K V)) → entry_at keys.eq key (after_look keys cache now).contents.entries ≡ o
           → entry_at keys.eq key (after_look keys cache now).contents.entries ≡ None
       by None at = at
-      by (Some e) at = something none (found-upkeep laws cache.settings.policy now cache.contents key e at)
+      by (Some e) at = something none (found-cleanup laws cache.settings.policy now cache.contents key e at)
 
   -- a use of another leaves none
   absent-using : (room : ℕ) (key : K) (used : Entry K V) (contents : Contents K V) → keys.eq used.key key ≡ false
@@ -278,28 +278,28 @@ module _ {K V S W : Type 0} (keys : Keys K S) (laws : IsEquivalence keys.eq) (we
       let kept = (after_look keys old now).contents in
       ap (λ c. entry_at keys.eq key c.contents.entries) step.1
       ∙ absent-use (room_of old) now other key (unexpired_at keys.eq old.settings.policy now other kept) kept
-      (found_there old.settings.policy now (entry_at keys.eq other kept.entries)) (absent-upkeep old now key none)
+      (found_there old.settings.policy now (entry_at keys.eq other kept.entries)) (absent-cleanup old now key none)
   absent-step key old new (Peek other now) answer step once written none =
       ap (λ c. entry_at keys.eq key c.contents.entries) step.1 ∙ none
   absent-step key old new (ContainsKey other now) answer step once written none =
-      ap (λ c. entry_at keys.eq key c.contents.entries) step.1 ∙ absent-upkeep old now key none
+      ap (λ c. entry_at keys.eq key c.contents.entries) step.1 ∙ absent-cleanup old now key none
   absent-step key old new (Insert other value now) answer (inl (done, inserted)) once written none =
       let kept = (after_look keys old now).contents in
       ap (λ c. entry_at keys.eq key c.contents.entries) inserted.step
       ∙ absent-put (record old { weigher = inserted.weigher; capacity = inserted.capacity; contents = kept })
       (new_entry keys old.settings.hash_state other value inserted.weight now) inserted.refused key
       (entry_at keys.eq other kept.entries)
-      (once-remains keys.eq old.contents kept (remains-upkeep keys.eq old.settings.policy now old.contents) once) refl
+      (once-remains keys.eq old.contents kept (remains-cleanup keys.eq old.settings.policy now old.contents) once) refl
       (sym (ap (λ a. is_written keys (Insert other value now) a key) done) ∙ written)
-      (absent-upkeep old now key none)
+      (absent-cleanup old now key none)
   absent-step key old new (Insert other value now) answer (inr (refused, same)) once written none =
       ap (λ c. entry_at keys.eq key c.contents.entries) same.same ∙ none
   absent-step key old new (Invalidate other now) answer step once written none =
       ap (λ c. entry_at keys.eq key c.contents.entries) step.1 ∙ absent-leaving keys.eq key (other ∷ [])
-      (after_look keys old now).contents (absent-upkeep old now key none)
+      (after_look keys old now).contents (absent-cleanup old now key none)
   absent-step key old new (Remove other now) answer step once written none =
       ap (λ c. entry_at keys.eq key c.contents.entries) step.1 ∙ absent-leaving keys.eq key (other ∷ [])
-      (after_look keys old now).contents (absent-upkeep old now key none)
+      (after_look keys old now).contents (absent-cleanup old now key none)
   absent-step key old new InvalidateAll answer step once written none = ap (λ c. entry_at keys.eq key c.contents.entries) step.1
   absent-step key old new (InvalidateEntriesIf answers) answer step once written none =
       ap (λ c. entry_at keys.eq key c.contents.entries) step.1 ∙ absent-leaving keys.eq key
@@ -357,7 +357,7 @@ module _ {K V S W : Type 0} (keys : Keys K S) (laws : IsEquivalence keys.eq) (we
             | inr (write, known, over) ↦
                 let same : write ≡ last_write_of used =
                 one_of known
-                (told-upkeep keys laws (λ key. last_write keys key (exchanges past)) call.before now
+                (told-cleanup keys laws (λ key. last_write keys key (exchanges past)) call.before now
                 (told-run keys laws weighs settings shares weigher capacity past call.before leads) key used (there used at)) in
                 absurd (false≢true
                 (sym (subst (λ s. is_over s.policy now (last_write_of used) ≡ false)

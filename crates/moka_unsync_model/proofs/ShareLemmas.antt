@@ -16,7 +16,7 @@ use Rattle.moka_unsync_model.specs.CacheState.{CacheState, new_cache, room_of, w
 use Rattle.moka_unsync_model.specs.Lookup.{after_look, after_use, unexpired_at, after_using, used_part}
 use Rattle.moka_unsync_model.specs.Insert.{after_entering, after_entry, after_new, after_put, after_verdict, new_entry}
 use Rattle.moka_unsync_model.specs.Window.{after_candidacy, after_candidate, after_candidates, candidates, victims_of}
-use Rattle.moka_unsync_model.specs.Upkeep.{least_recent}
+use Rattle.moka_unsync_model.specs.Cleanup.{least_recent}
 use Rattle.moka_unsync_model.specs.Invalidate.{chosen}
 use Rattle.moka_unsync_model.specs.Step.{Answer, IsStep, Request, Runs, Get, Peek, ContainsKey, Insert, Invalidate, Remove, InvalidateAll}
 use Rattle.moka_unsync_model.specs.Step.{InvalidateEntriesIf, Iterate, EntryCount, WeightedSize}
@@ -26,7 +26,7 @@ use Rattle.moka_unsync_model.specs.Laws.{TakeProbationFirst, TakesProbationFirst
 use Rattle.moka_unsync_model.proofs.CandidateLemmas.{All-new}
 use Rattle.moka_unsync_model.proofs.KeyLemmas.{contents-standing}
 use Rattle.moka_unsync_model.proofs.LimitLemmas.{total-cons, total-filter}
-use Rattle.moka_unsync_model.proofs.RemainLemmas.{remains-leaving, remains-upkeep}
+use Rattle.moka_unsync_model.proofs.RemainLemmas.{remains-leaving, remains-cleanup}
 use Rattle.moka_unsync_model.proofs.OrderLemmas.{order-candidacy, order-new, order-push, order-remains, terms-runs}
 use Rattle.moka_unsync_model.specs.Contents.{InOrder}
 use Rattle.moka_unsync_model.proofs.PartLemmas.{All-using, order-parts, protected-using}
@@ -219,7 +219,7 @@ module _ {K V S W : Type 0} where
 module _ {K V S W : Type 0} (keys : Keys K S) (weighs : W → K → V → ℕ → W → Type 0) where
   shared-look : (cache : CacheState K V S W) (now : ℕ) → IsShared cache → IsShared (after_look keys cache now)
   shared-look cache now shared =
-      shared-remains cache (after_look keys cache now) refl (remains-upkeep keys.eq cache.settings.policy now cache.contents) shared
+      shared-remains cache (after_look keys cache now) refl (remains-cleanup keys.eq cache.settings.policy now cache.contents) shared
 
   shared-step : (old new : CacheState K V S W) (request : Request K V) (answer : Answer K V) → IsStep keys weighs old request answer new
       → IsShared old → IsShared new

@@ -16,7 +16,7 @@ use Rattle.moka_unsync_model.specs.Contents.{Contents, Write, after_leaving, aft
 use Rattle.moka_unsync_model.specs.Contents.{entry_keys, no_contents, total_weight, without}
 use Rattle.moka_unsync_model.specs.Contents.{write_of, writes_without, probation_of, protected_of}
 use Rattle.moka_unsync_model.specs.CacheState.{CacheState, new_cache, room_of, windowed}
-use Rattle.moka_unsync_model.specs.Upkeep.{after_expiry, after_idle, after_live_expiry, after_trim, after_upkeep, is_past_ttl, least_recent}
+use Rattle.moka_unsync_model.specs.Cleanup.{after_expiry, after_idle, after_live_expiry, after_trim, after_cleanup, is_past_ttl, least_recent}
 use Rattle.moka_unsync_model.specs.Lookup.{after_look, after_use, unexpired_at, after_using}
 use Rattle.moka_unsync_model.specs.Insert.{after_asking, after_entering, after_entry, after_new, after_put, after_update, after_verdict, new_entry}
 use Rattle.moka_unsync_model.specs.Insert.{after_arrival}
@@ -29,7 +29,7 @@ use Rattle.moka_unsync_model.specs.Laws.{AreWritesOf, WritesFollowEntries}
 use Rattle.moka_unsync_model.proofs.KeyLemmas.{StandOnce, entry_at-gone, none_stand, once-candidacy, once-push, once-put, once-remains, once-step}
 use Rattle.moka_unsync_model.proofs.MapLemmas.{entry_at-equal, entry_at-other, entry_at-moved, entry_at-push, entry_at-put, settings-step, entry_at-latest}
 use Rattle.moka_unsync_model.proofs.MapLemmas.{entry_at-using}
-use Rattle.moka_unsync_model.proofs.RemainLemmas.{remains-upkeep}
+use Rattle.moka_unsync_model.proofs.RemainLemmas.{remains-cleanup}
 use Rattle.moka_unsync_model.proofs.StandLemmas.{AreCandidates, StandsIn, are-chosen, are-left, stands-left}
 use Rattle.moka_unsync_model.proofs.OwnLemmas.{unexpired-found}
 use Rattle.moka_unsync_model.specs.declared.shares.PartLimits.{PartLimits}
@@ -211,9 +211,9 @@ module _ {K V : Type 0} (eq : K → K → Bool) (laws : IsEquivalence eq) where
       follow-leaving keeps (entry_keys (take EVICTION_BATCH_SIZE (least_recent (total_weight contents.entries - limit) contents.entries)))
       contents f
 
-  follow-upkeep : (keeps : Bool) (policy : Policy) (now : ℕ) (contents : Contents K V) → Follow keeps contents
-      → Follow keeps (after_upkeep eq policy now contents)
-  follow-upkeep keeps policy now contents f =
+  follow-cleanup : (keeps : Bool) (policy : Policy) (now : ℕ) (contents : Contents K V) → Follow keeps contents
+      → Follow keeps (after_cleanup eq policy now contents)
+  follow-cleanup keeps policy now contents f =
       let lived = after_live_expiry eq policy now EVICTION_BATCH_SIZE contents in
       let waited = after_idle eq policy now EVICTION_BATCH_SIZE (window_of lived.entries) lived in
       let tried = after_idle eq policy now EVICTION_BATCH_SIZE (probation_of lived.entries) waited in
@@ -324,7 +324,7 @@ module _ {K V S W : Type 0} (keys : Keys K S) (laws : IsEquivalence keys.eq) (we
   Follows cache = Follow keys.eq laws (keeps_writes cache.settings.policy) cache.contents
 
   follow-look : (cache : CacheState K V S W) (now : ℕ) → Follows cache → Follows (after_look keys cache now)
-  follow-look cache now f = follow-upkeep keys.eq laws (keeps_writes cache.settings.policy) cache.settings.policy now cache.contents f
+  follow-look cache now f = follow-cleanup keys.eq laws (keeps_writes cache.settings.policy) cache.settings.policy now cache.contents f
 
   -- and do so after each call
   pub follow-step : (old new : CacheState K V S W) (request : Request K V) (answer : Answer K V) → IsStep keys weighs old request answer new
@@ -344,7 +344,7 @@ module _ {K V S W : Type 0} (keys : Keys K S) (laws : IsEquivalence keys.eq) (we
       (subst (λ c. Follow keys.eq laws (keeps_writes old.settings.policy) c.contents) (sym inserted.step)
       (follow-put keys.eq laws asked (entry_at keys.eq key kept.entries)
       (new_entry keys old.settings.hash_state key value inserted.weight now) inserted.refused refl
-      (once-remains keys.eq old.contents kept (remains-upkeep keys.eq old.settings.policy now old.contents) once) (follow-look old now f)))
+      (once-remains keys.eq old.contents kept (remains-cleanup keys.eq old.settings.policy now old.contents) once) (follow-look old now f)))
   follow-step old new (Insert key value now) answer (inr (refused, same)) once f = subst Follows (sym same.same) f
   follow-step old new (Invalidate key now) answer step once f =
       subst Follows (sym step.1)

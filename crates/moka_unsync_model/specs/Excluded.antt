@@ -5,10 +5,10 @@ use Rattle.moka_common.specs.Policy.{Policy}
 use Rattle.moka_common.specs.Settings.{live_nanos}
 use Rattle.moka_unsync_model.specs.declared.entry.Entry.{Entry}
 use Rattle.moka_unsync_model.specs.CacheState.{CacheState}
-use Rattle.moka_unsync_model.specs.Upkeep.{is_expired}
+use Rattle.moka_unsync_model.specs.Cleanup.{is_expired}
 use Rattle.moka_unsync_model.specs.Step.{Request, Insert, Done}
 use Rattle.moka_unsync_model.specs.History.{Exchange, IsCurrent, chosen_keys, is_invalidated}
-use Rattle.moka_unsync_model.specs.Removal.{RemovalCause, upkeep_moment}
+use Rattle.moka_unsync_model.specs.Removal.{RemovalCause, cleanup_moment}
 
 -- an accepted insert
 abbrev pub inserted : {K V : Type 0} → K → V → ℕ → Exchange K V
@@ -32,5 +32,5 @@ abbrev pub EntriesWithoutCauseStay : {K S : Type 0} → Keys K S → Type 0 → 
 EntriesWithoutCauseStay {K = K} {S = S} keys V W =
     (old new : CacheState K V S W) (request : Request K V) (e : Entry K V) → old.settings.policy.max_capacity ≡ None →
     is_invalidated keys request (chosen_keys request old.contents.entries) e.key ≡ false →
-    ((now : ℕ) → upkeep_moment request ≡ Some now → is_expired old.settings.policy now e ≡ false) →
+    ((now : ℕ) → cleanup_moment request ≡ Some now → is_expired old.settings.policy now e ≡ false) →
     RemovalCause keys old request new e → ⊥

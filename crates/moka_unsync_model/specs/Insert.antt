@@ -11,7 +11,7 @@ use Rattle.moka_unsync_model.specs.CacheState.{CacheState, room_of, windowed}
 use Rattle.moka_common.specs.Settings.{Settings, keeps_writes}
 use Rattle.moka_unsync_model.specs.declared.shares.PartLimits.{PartLimits}
 use Rattle.moka_unsync_model.specs.Lookup.{after_using}
-use Rattle.moka_unsync_model.specs.Upkeep.{after_upkeep}
+use Rattle.moka_unsync_model.specs.Cleanup.{after_cleanup}
 use Rattle.moka_unsync_model.specs.Window.{candidates, victims_of, after_candidates}
 
 -- the writes with one more, where they are kept
@@ -89,10 +89,10 @@ module _ {K V S W : Type 0} (eq : K → K → Bool) where
       record cache { contents = after_update eq (keeps_writes cache.settings.policy) (room_of cache) old new cache.contents }
   after_put cache None new refused = after_new cache (windowed cache) new refused
 
-  -- the cache after an insert that had its room: upkeep, and then the entry is put
+  -- the cache after an insert that had its room: cleanup, and then the entry is put
   abbrev pub after_insert : CacheState K V S W → Entry K V → ℕ → Bool → CacheState K V S W
   after_insert cache new now refused =
-      let kept = after_upkeep eq cache.settings.policy now cache.contents in
+      let kept = after_cleanup eq cache.settings.policy now cache.contents in
       after_put (record cache { contents = kept }) (entry_at eq new.key kept.entries) new refused
 
 -- the entry of a key, as it is written

@@ -34,7 +34,7 @@ module _ {P K V : Type 0} (calls : P → Bor K → Bor V → Bool → P → Type
       × (answers ≡ answer ∷ rest) × AnswersAt predicate entry answer next × AnswersInTurn next entries rest
 
 module _ {K V S W : Type 0} (keys : Keys K S) where
-  -- the cache once a key is invalidated or removed: upkeep, and then its entry leaves
+  -- the cache once a key is invalidated or removed: cleanup, and then its entry leaves
   abbrev pub after_invalidate : CacheState K V S W → K → ℕ → CacheState K V S W
   after_invalidate cache key now = record cache { contents = without keys.eq (after_look keys cache now).contents key }
 

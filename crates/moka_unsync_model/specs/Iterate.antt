@@ -5,7 +5,7 @@ use Rattle.moka_common.specs.Keys.{Keys}
 use Rattle.moka_common.specs.Policy.{Policy}
 use Rattle.moka_unsync_model.specs.declared.entry.Entry.{Entry}
 use Rattle.moka_unsync_model.specs.CacheState.{CacheState}
-use Rattle.moka_unsync_model.specs.Upkeep.{is_expired}
+use Rattle.moka_unsync_model.specs.Cleanup.{is_expired}
 
 -- the pairs of these entries, in their order
 abbrev pub pairs_of : {K V : Type 0} → List (Entry K V) → List (K × V)

@@ -7,7 +7,7 @@ use Rattle.moka_unsync_model.specs.Contents.{Contents, entry_at, entry_keys, is_
 use Rattle.moka_unsync_model.specs.declared.entry.Entry.{Entry}
 use Rattle.moka_unsync_model.specs.declared.entry.Part.TheVariants.{Probation, Protected, Window}
 use Rattle.moka_unsync_model.specs.CacheState.{CacheState, new_cache, room_of}
-use Rattle.moka_unsync_model.specs.Upkeep.{least_recent}
+use Rattle.moka_unsync_model.specs.Cleanup.{least_recent}
 use Rattle.moka_unsync_model.specs.Insert.{after_entry}
 use Rattle.moka_unsync_model.specs.Window.{after_candidate, candidates, victims_of}
 use Rattle.moka_common.specs.Sketch.{Table}

@@ -1,7 +1,7 @@
 pub mod Contents
 pub mod Shares
 pub mod CacheState
-pub mod Upkeep
+pub mod Cleanup
 pub mod Lookup
 pub mod Window
 pub mod Insert

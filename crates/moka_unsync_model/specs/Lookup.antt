@@ -8,7 +8,7 @@ use Rattle.moka_unsync_model.specs.declared.entry.Part.{Part}
 use Rattle.moka_unsync_model.specs.declared.entry.Part.TheVariants.{Probation, Protected, Window}
 use Rattle.moka_unsync_model.specs.Contents.{Contents, entry_at, after_moving, balanced, is_window}
 use Rattle.moka_unsync_model.specs.CacheState.{CacheState, room_of}
-use Rattle.moka_unsync_model.specs.Upkeep.{after_upkeep, unexpired}
+use Rattle.moka_unsync_model.specs.Cleanup.{after_cleanup, unexpired}
 
 -- where an entry of this part and weight is once it was used: in main it is protected, if that has room for it at all
 abbrev pub used_part : ℕ → Part → ℕ → Part
@@ -39,11 +39,11 @@ module _ {K V : Type 0} (eq : K → K → Bool) where
   after_search room policy now key contents = after_use room now (unexpired_at policy now key contents) contents
 
 module _ {K V S W : Type 0} (keys : Keys K S) where
-  -- the cache after a call that only looks: upkeep
+  -- the cache after a call that only looks: cleanup
   abbrev pub after_look : CacheState K V S W → ℕ → CacheState K V S W
-  after_look cache now = record cache { contents = after_upkeep keys.eq cache.settings.policy now cache.contents }
+  after_look cache now = record cache { contents = after_cleanup keys.eq cache.settings.policy now cache.contents }
 
-  -- the cache after a get: upkeep, then the key is counted, and its unexpired entry is used
+  -- the cache after a get: cleanup, then the key is counted, and its unexpired entry is used
   abbrev pub after_get : CacheState K V S W → K → ℕ → CacheState K V S W
   after_get cache key now =
       record cache {

@@ -11,7 +11,7 @@ use Rattle.moka_unsync_model.specs.declared.entry.Part.TheVariants.{Probation, W
 use Rattle.moka_unsync_model.specs.Contents.{Contents, after_leaving, entries_without, entry_at, entry_keys, is_window, main_of, total_weight, window_of}
 use Rattle.moka_unsync_model.specs.Contents.{weighted_size, without, writes_without}
 use Rattle.moka_unsync_model.specs.CacheState.{CacheState}
-use Rattle.moka_unsync_model.specs.Upkeep.{after_idle, after_live_expiry, after_trim, least_recent}
+use Rattle.moka_unsync_model.specs.Cleanup.{after_idle, after_live_expiry, after_trim, least_recent}
 use Rattle.moka_unsync_model.specs.Window.{victims_of}
 use Rattle.moka_unsync_model.specs.Lookup.{found_by_peek, unexpired_at}
 use Rattle.moka_unsync_model.specs.Insert.{IsRefused, after_asking, after_entry, after_standing, new_entry, with_write}
@@ -59,8 +59,8 @@ module _ {K V : Type 0} (eq : K → K → Bool) where
       after_idle eq policy now most (main_of contents.entries) (after_idle eq policy now most (window_of contents.entries) contents)
 
   -- what a call finds when it acts
-  abbrev pub after_upkeep : Policy → ℕ → Contents K V → Contents K V
-  after_upkeep policy now contents =
+  abbrev pub after_cleanup : Policy → ℕ → Contents K V → Contents K V
+  after_cleanup policy now contents =
       after_trim eq policy.max_capacity
       (after_idle_expiry policy now EVICTION_BATCH_SIZE (after_live_expiry eq policy now EVICTION_BATCH_SIZE contents))
 
@@ -126,13 +126,13 @@ module _ {K V S W : Type 0} (eq : K → K → Bool) where
   -- the cache after an insert that had its room
   abbrev pub after_insert : CacheState K V S W → Entry K V → ℕ → Bool → CacheState K V S W
   after_insert cache new now refused =
-      let kept = after_upkeep eq cache.settings.policy now cache.contents in
+      let kept = after_cleanup eq cache.settings.policy now cache.contents in
       after_put (record cache { contents = kept }) (entry_at eq new.key kept.entries) new refused
 
 module _ {K V S W : Type 0} (keys : Keys K S) where
-  -- the cache after a call that only looks: upkeep
+  -- the cache after a call that only looks: cleanup
   abbrev pub after_look : CacheState K V S W → ℕ → CacheState K V S W
-  after_look cache now = record cache { contents = after_upkeep keys.eq cache.settings.policy now cache.contents }
+  after_look cache now = record cache { contents = after_cleanup keys.eq cache.settings.policy now cache.contents }
 
   -- what a call finds at a key once it has looked
   abbrev pub found : CacheState K V S W → K → ℕ → Option (Entry K V)

@@ -6,7 +6,7 @@ use Rattle.moka_common.specs.Sketch.{estimate}
 use Rattle.moka_unsync_model.specs.declared.entry.Entry.{Entry}
 use Rattle.moka_unsync_model.specs.Contents.{entry_at, total_weight, is_window}
 use Rattle.moka_unsync_model.specs.CacheState.{CacheState, new_cache}
-use Rattle.moka_unsync_model.specs.Upkeep.{is_expired}
+use Rattle.moka_unsync_model.specs.Cleanup.{is_expired}
 use Rattle.moka_unsync_model.specs.Step.{Request, Get, ContainsKey, Insert, Invalidate, Remove, Done, Found}
 use Rattle.moka_unsync_model.specs.History.{LastWrite, Leads, Transition, chosen_keys, exchanges}
 use Rattle.moka_unsync_model.specs.History.{is_invalidated, is_over, is_written, last_write}
@@ -14,13 +14,13 @@ use Rattle.moka_unsync_model.specs.declared.shares.Shares.{Shares}
 use Rattle.moka_unsync_model.specs.Shares.{limits_of, main_limit}
 
 -- the moment of a call that first removes what is expired or above the limit
-abbrev pub upkeep_moment : {K V : Type 0} → Request K V → Option ℕ
-upkeep_moment (Get key now) = Some now
-upkeep_moment (ContainsKey key now) = Some now
-upkeep_moment (Insert key value now) = Some now
-upkeep_moment (Invalidate key now) = Some now
-upkeep_moment (Remove key now) = Some now
-upkeep_moment request = None
+abbrev pub cleanup_moment : {K V : Type 0} → Request K V → Option ℕ
+cleanup_moment (Get key now) = Some now
+cleanup_moment (ContainsKey key now) = Some now
+cleanup_moment (Insert key value now) = Some now
+cleanup_moment (Invalidate key now) = Some now
+cleanup_moment (Remove key now) = Some now
+cleanup_moment request = None
 
 -- what is known of an entry's write
 abbrev pub last_write_of : {K V : Type 0} → Entry K V → LastWrite V
@@ -38,9 +38,9 @@ module _ {K V S W : Type 0} (keys : Keys K S) where
     Invalidated : is_invalidated keys request (chosen_keys request old.contents.entries) e.key ≡ true
         → RemovalCause old request new e
     -- one of its durations has passed
-    Expired : (now : ℕ) → upkeep_moment request ≡ Some now → is_expired old.settings.policy now e ≡ true → RemovalCause old request new e
+    Expired : (now : ℕ) → cleanup_moment request ≡ Some now → is_expired old.settings.policy now e ≡ true → RemovalCause old request new e
     -- it and those behind it weigh more than the limit
-    AboveLimit : (now limit : ℕ) → upkeep_moment request ≡ Some now → old.settings.policy.max_capacity ≡ Some limit
+    AboveLimit : (now limit : ℕ) → cleanup_moment request ≡ Some now → old.settings.policy.max_capacity ≡ Some limit
         → limit < total_weight (entries_from keys.eq e.key old.contents.entries) → RemovalCause old request new e
     -- with an insert, one of another key that is used more stands then, and main has no room for all
     Displaced : (key : K) (value : V) (now limit : ℕ) (entered : Entry K V) → request ≡ Insert key value now

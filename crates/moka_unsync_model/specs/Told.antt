@@ -3,7 +3,7 @@ use Rattle.std.specs.Prelude.{◌≡◌, ℕ, zero, suc, ◌<◌, ◌+◌, ◌-�
 use Rattle.std.specs.List.Sorted.{IsPermutation}
 use Rattle.moka_common.specs.Policy.{Policy}
 use Rattle.moka_unsync_model.specs.Contents.{Contents, total_weight}
-use Rattle.moka_unsync_model.specs.Upkeep.{after_expiry, after_upkeep, is_expired}
+use Rattle.moka_unsync_model.specs.Cleanup.{after_expiry, after_cleanup, is_expired}
 use Rattle.moka_unsync_model.specs.declared.entry.Entry.{Entry}
 use Rattle.moka_unsync_model.specs.declared.entry.Part.TheVariants.{Probation}
 use Rattle.moka_unsync_model.specs.declared.listener.Cause.{Cause}
@@ -56,13 +56,13 @@ module _ {L K V : Type 0} (hears : L → K → V → Cause → L → Type 0) whe
       × hears between new.key new.value cause.Rejected after × IsAbove limit (total_weight were + new.weight)
 
 module _ {L K V : Type 0} (hears : L → K → V → Cause → L → Type 0) (eq : K → K → Bool) where
-  -- a listener was told of what upkeep removes: first of entries whose time has passed, and then of entries above the limit
-  pub record TellsUpkeep (policy : Policy) (now : ℕ) (contents : Contents K V) (before after : L) : Type 0 where
+  -- a listener was told of what cleanup removes: first of entries whose time has passed, and then of entries above the limit
+  pub record TellsCleanup (policy : Policy) (now : ℕ) (contents : Contents K V) (before after : L) : Type 0 where
     pub between : L
     pub expired : TellsWhatLeft hears cause.Expired (λ e. is_expired policy now e ≡ true) contents.entries
         (after_expiry eq policy now contents).entries before between
     pub above : TellsWhatLeft hears cause.Size (λ e. IsAbove policy.max_capacity (total_weight (after_expiry eq policy now contents).entries))
-        (after_expiry eq policy now contents).entries (after_upkeep eq policy now contents).entries between after
+        (after_expiry eq policy now contents).entries (after_cleanup eq policy now contents).entries between after
 
 -- one more, or the largest number
 abbrev pub one_more : ℕ → ℕ

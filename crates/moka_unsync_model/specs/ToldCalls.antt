@@ -10,8 +10,8 @@ use Rattle.moka_unsync_model.specs.Contents.{Contents, entries_without, entry_at
 use Rattle.moka_unsync_model.specs.Insert.{new_entry}
 use Rattle.moka_unsync_model.specs.Lookup.{after_get}
 use Rattle.moka_unsync_model.specs.Shares.{main_limit}
-use Rattle.moka_unsync_model.specs.Told.{TellsExpired, TellsPut, TellsUpkeep, TellsWhatLeft}
-use Rattle.moka_unsync_model.specs.Upkeep.{after_upkeep}
+use Rattle.moka_unsync_model.specs.Told.{TellsExpired, TellsPut, TellsCleanup, TellsWhatLeft}
+use Rattle.moka_unsync_model.specs.Cleanup.{after_cleanup}
 
 -- how much main may weigh, if there is a limit
 abbrev pub main_max : Option PartLimits → Option ℕ → Option ℕ
@@ -21,22 +21,22 @@ main_max (Some limits) max = Some (main_limit limits)
 module _ {L K V S W : Type 0} (hears : L → K → V → Cause → L → Type 0) (keys : Keys K S) (old : CacheState K V S W) (now : ℕ) where
   -- what a call finds when it acts
   abbrev pub kept : Contents K V
-  kept = after_upkeep keys.eq old.settings.policy now old.contents
+  kept = after_cleanup keys.eq old.settings.policy now old.contents
 
-  -- a look-up tells of what upkeep removes
+  -- a look-up tells of what cleanup removes
   abbrev pub TellsLook : L → L → Type 0
-  TellsLook before after = TellsUpkeep hears keys.eq old.settings.policy now old.contents before after
+  TellsLook before after = TellsCleanup hears keys.eq old.settings.policy now old.contents before after
 
   -- an invalidation tells of that, and of the entry of its key
   pub record TellsInvalidate (key : K) (before after : L) : Type 0 where
     pub between : L
-    pub upkeep : TellsLook before between
+    pub cleanup : TellsLook before between
     pub left : TellsWhatLeft hears cause.Explicit (λ e. keys.eq key e.key ≡ true) kept.entries (entries_without keys.eq key kept.entries) between after
 
   -- a removal tells of that, and of the entry of its key only if it doesn't return the value
   pub record TellsRemove (key : K) (before after : L) : Type 0 where
     pub between : L
-    pub upkeep : TellsLook before between
+    pub cleanup : TellsLook before between
     pub found : TellsExpired hears old.settings.policy now (entry_at keys.eq key kept.entries) between after
 
   -- the entry that is put replaces a value, or is new: then entries may give way to it, or it is not let in
@@ -46,10 +46,10 @@ module _ {L K V S W : Type 0} (hears : L → K → V → Cause → L → Type 0)
       (weight : ℕ) × TellsPut hears (main_max (windowed old) old.settings.policy.max_capacity) (is_some (entry_at keys.eq key new.contents.entries))
       (new_entry keys old.settings.hash_state key value weight now) kept.entries new.contents.entries before after
 
-  -- an insert tells of what upkeep removes, and then of what leaves for the entry that is put
+  -- an insert tells of what cleanup removes, and then of what leaves for the entry that is put
   pub record TellsInsert (key : K) (value : V) (new : CacheState K V S W) (before after : L) : Type 0 where
     pub between : L
-    pub upkeep : TellsLook before between
+    pub cleanup : TellsLook before between
     pub put : TellsNew (entry_at keys.eq key kept.entries) key value new between after
 
 module _ {L K V S W : Type 0} (hears : L → K → V → Cause → L → Type 0) (keys : Keys K S) (old : CacheState K V S W) (now : ℕ) where

@@ -7,7 +7,7 @@ use Rattle.moka_unsync_model.specs.declared.entry.Part.TheVariants.{Probation}
 use Rattle.moka_unsync_model.specs.Contents.{Contents, total_weight, main_of, window_of, entry_keys, without, after_leaving, after_moving}
 use Rattle.moka_unsync_model.specs.declared.shares.PartLimits.{PartLimits}
 use Rattle.moka_unsync_model.specs.Shares.{main_limit}
-use Rattle.moka_unsync_model.specs.Upkeep.{least_recent}
+use Rattle.moka_unsync_model.specs.Cleanup.{least_recent}
 
 module _ {K V : Type 0} where
   -- how much has to leave the window: what it weighs above its limit, or all entries above theirs, if that is more

@@ -5,7 +5,7 @@ use moka_common::shared::Shared;
 use moka_common::time::Instant;
 use moka_sync_model::constants::CALLER;
 use moka_sync_model::event::Reply;
-use moka_sync_model::place::Place;
+use moka_sync_model::phase::Phase;
 use moka_sync_model::steps::{ReadPush, Steps, TakingSteps, WhichLog, WritePush};
 use moka_sync_model::weigh::WeighShared;
 use std::alloc::Allocator;
@@ -106,10 +106,10 @@ impl<
         let _ = self.machine.begin(now);
     }
 
-    fn turn<R: Wait>(&mut self, _rt: &R) -> Place {
+    fn turn<R: Wait>(&mut self, _rt: &R) -> Phase {
         match self.machine.turn() {
-            Reply::At(place) => place,
-            _ => Place::Idle,
+            Reply::At(phase) => phase,
+            _ => Phase::Idle,
         }
     }
 }

@@ -6,7 +6,7 @@ ghost use Rattle.moka_core.specs.Calls.{CorePushesWrite, MaintainsAsDue, Pends, 
 ghost use Rattle.moka_core.specs.Machine.{KeepsRoom};
 ghost use Rattle.moka_sync_model.specs.Consistent.{IsConsistent};
 ghost use Rattle.moka_sync_model.specs.CoreCall.{CoreTurns, Finishes, IsAtRest, IsCall, scheduled};
-ghost use Rattle.moka_sync_model.specs.Place.{Idle};
+ghost use Rattle.moka_sync_model.specs.Phase.{Idle};
 ghost use Rattle.moka_sync_model.specs.declared.call.Call.TheVariants as call;
 ghost use Rattle.moka_sync_model.specs.declared.operation.Operation.TheVariants.{Reading, Writing};
 
@@ -21,7 +21,7 @@ use moka_sync_model::constants::{CALLER, FLUSH_POINT};
 use moka_sync_model::event::Reply;
 use moka_sync_model::housekeeper::{due_after, is_due};
 use moka_sync_model::operation::{Operation, Write};
-use moka_sync_model::place::Place;
+use moka_sync_model::phase::Phase;
 use moka_sync_model::weigh::WeighShared;
 use std::alloc::Allocator;
 use std::hash::{BuildHasher, Hash};
@@ -223,7 +223,7 @@ impl<
     /// A whole maintenance.
     fn maintain(&mut self, now: Instant)
         requires good { IsConsistent (keys_by K.Hash S.BuildHasher S.Hasher.Hasher) self.old.state }
-        requires idle { self.old.state.maintenance.place ≡ Idle }
+        requires idle { self.old.state.maintenance.phase ≡ Idle }
         ensures step { CoreMaintains (keys_by K.Hash S.BuildHasher S.Hasher.Hasher) (W.weighs self.old.weigher)
             now self.old.state self.new.state }
         ensures weigher { self.new.weigher ≡ self.old.weigher }
@@ -239,7 +239,7 @@ impl<
             self.old.state result self.new.state }
         ensures weigher { self.new.weigher ≡ self.old.weigher }
     {
-        if self.maintenance.place() == Place::Idle {
+        if self.maintenance.phase() == Phase::Idle {
             return false;
         }
         self.finish();
@@ -249,7 +249,7 @@ impl<
     /// Turns until no maintenance is under way.
     fn finish(&mut self)
         requires good { IsConsistent (keys_by K.Hash S.BuildHasher S.Hasher.Hasher) self.old.state }
-        requires busy { self.old.state.maintenance.place ≢ Idle }
+        requires busy { self.old.state.maintenance.phase ≢ Idle }
         ensures turns { CoreTurns (keys_by K.Hash S.BuildHasher S.Hasher.Hasher) (W.weighs self.old.weigher)
             self.old.state self.new.state }
         ensures weigher { self.new.weigher ≡ self.old.weigher }
@@ -259,7 +259,7 @@ impl<
                 continue;
             }
             self.take_turn();
-            if let Place::Idle = self.maintenance.place() {
+            if let Phase::Idle = self.maintenance.phase() {
                 return;
             }
         }

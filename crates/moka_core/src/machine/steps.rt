@@ -20,7 +20,7 @@ use moka_sync_model::constants::{CALLER, FLUSH_POINT, SHARDS};
 use moka_sync_model::event::{Event, Reply};
 use moka_sync_model::housekeeper::is_due;
 use moka_sync_model::operation::{Operation, Read, Write};
-use moka_sync_model::place::Place;
+use moka_sync_model::phase::Phase;
 use moka_sync_model::steps::WhichLog;
 use moka_sync_model::weigh::WeighShared;
 use std::alloc::Allocator;
@@ -268,7 +268,7 @@ impl<
             self.old.state (Event.Begin now) result self.new.state }
         ensures kept { KeepsRoom self.old self.new }
     {
-        if self.maintenance.place() != Place::Idle {
+        if self.maintenance.phase() != Phase::Idle {
             return Reply::NotPossible;
         }
         self.maintenance.begin(now);
@@ -281,11 +281,11 @@ impl<
             self.old.state Event.Turn result self.new.state }
         ensures kept { KeepsRoom self.old self.new }
     {
-        if let Place::Idle = self.maintenance.place() {
+        if let Phase::Idle = self.maintenance.phase() {
             return Reply::NotPossible;
         }
         self.take_turn();
-        Reply::At(self.maintenance.place())
+        Reply::At(self.maintenance.phase())
     }
 
     /// One turn of the maintenance, with what it needs.

@@ -32,10 +32,10 @@ impl<
         maintenance: &mut Maintenance<A>,
         taken: &mut TakenWrites,
     )
-        requires { length taken.old ≤ writes_left maintenance.old.place }
+        requires { length taken.old ≤ writes_left maintenance.old.phase }
         ensures turns { AreTurns K V self.now.settings (record { maintenance = maintenance.old; taken = taken.old })
             (record { maintenance = maintenance.new; taken = taken.new }) }
-        ensures left { length taken.new ≤ writes_left maintenance.new.place }
+        ensures left { length taken.new ≤ writes_left maintenance.new.phase }
     {
         if maintenance.takes_read() {
             self.apply_next_reads(rt, maintenance);
@@ -133,10 +133,10 @@ impl<
         taken: &mut TakenWrites,
     )
         requires takes { TakesWrite maintenance.old }
-        requires left { length taken.old ≤ writes_left maintenance.old.place }
+        requires left { length taken.old ≤ writes_left maintenance.old.phase }
         ensures turns { AreTurns K V self.now.settings (record { maintenance = maintenance.old; taken = taken.old })
             (record { maintenance = maintenance.new; taken = taken.new }) }
-        ensures left { length taken.new ≤ writes_left maintenance.new.place }
+        ensures left { length taken.new ≤ writes_left maintenance.new.phase }
     {
         let Some(write) = self.next_write(rt, maintenance, taken) else {
             return;
@@ -158,8 +158,8 @@ impl<
         taken: &mut TakenWrites,
     ) -> Option<Write>
         requires takes { TakesWrite maintenance.now }
-        requires left { length taken.old ≤ writes_left maintenance.now.place }
-        ensures some { IfSome result (λ write. length taken.new < writes_left maintenance.now.place) }
+        requires left { length taken.old ≤ writes_left maintenance.now.phase }
+        ensures some { IfSome result (λ write. length taken.new < writes_left maintenance.now.phase) }
         ensures none { IsNone result → taken.new ≡ [] }
         ensures first { 0 < length taken.old → (result ≡ slice_get taken.old 0) × (taken.new ≡ drop 1 taken.old) }
     {

@@ -12,11 +12,11 @@ ghost use Rattle.moka_sync_model.specs.Turn.Admission.{after_entering, after_fin
 ghost use Rattle.moka_sync_model.specs.Turn.Admission.{after_victim, is_decided, next_seen, removing_or_enter};
 ghost use Rattle.moka_queues.specs.OrdersState.{AtNode, orders_of};
 ghost use Rattle.moka_maintenance.specs.Held.{HoldsIn, IsEntering, IsRemoving, IsScanning, LooksAt, first_seen, first_tickets};
-ghost use Rattle.moka_maintenance.specs.Held.{maintenance_of, next_id_if, outcome_of, removal_plan, scan_plan, stage_of_removal};
+ghost use Rattle.moka_maintenance.specs.Held.{maintenance_of, next_id_if, outcome_of, removal_plan, scan_plan, state_of_removal};
 
 use crate::maintenance::Need;
 use crate::maintenance::fronts::{requeue_front, requeue_missing};
-use crate::maintenance::place::{Removal, Scan, Stage};
+use crate::maintenance::phase::{PhaseState, Removal, Scan};
 use crate::maintenance::state::State;
 use crate::maintenance::writes::writes_or_on;
 use moka_list::chain::NodeId;
@@ -39,18 +39,18 @@ impl Scan {
     }
 }
 
-/// The stage where victims are left, or none.
-fn removing_or_enter(work: Work, removal: Removal) -> Stage
-    ensures { result ≡ stage_of_removal work removal }
+/// The state where victims are left, or none.
+fn removing_or_enter(work: Work, removal: Removal) -> PhaseState
+    ensures { result ≡ state_of_removal work removal }
 {
     if removal.left == 0 {
-        return Stage::Enter {
+        return PhaseState::Enter {
             work,
             candidate: removal.candidate,
             skipped: removal.skipped,
         };
     }
-    Stage::Removing { work, removal }
+    PhaseState::Removing { work, removal }
 }
 
 impl<A: Allocator + Clone + Drop> State<A> {
@@ -69,13 +69,13 @@ impl<A: Allocator + Clone + Drop> State<A> {
             → AtNode self.old.orders id (λ n. outcome_of EntryChange.Stays self.new
             ≡ after_seeing work scan.candidate scan.tally (first_seen scan.seen self.old.orders.nodes)
             n.ticket (maintenance_of self.old) found) }
-        ensures holds { HoldsIn self.new.orders self.new.stage }
+        ensures holds { HoldsIn self.new.orders self.new.phase }
     {
         let ticket = self.orders.get(id).ticket;
         let tally = self.with_found::<K, V>(scan.tally, ticket, weight);
         let next = self.orders.next(id);
-        self.orders.mark(id, weight.is_some());
-        self.stage = Stage::Scanning {
+        self.orders.set_present(id, weight.is_some());
+        self.phase = PhaseState::Scanning {
             work,
             scan: Scan {
                 candidate: scan.candidate,
@@ -117,10 +117,10 @@ impl<A: Allocator + Clone + Drop> State<A> {
         requires scanning { IsScanning self.old.orders scan }
         ensures step { (found : Option (EntryState K V)) → outcome_of result self.new
             ≡ after_rejection work (first_seen scan.seen self.old.orders.nodes) (maintenance_of self.old) found }
-        ensures holds { HoldsIn self.new.orders self.new.stage }
+        ensures holds { HoldsIn self.new.orders self.new.phase }
     {
         requeue_missing(&mut self.orders, scan.seen);
-        self.stage = writes_or_on(work);
+        self.phase = writes_or_on(work);
         EntryChange::Leaves
     }
 
@@ -130,9 +130,9 @@ impl<A: Allocator + Clone + Drop> State<A> {
         requires scanning { IsScanning self.old.orders scan }
         ensures step { maintenance_of self.new ≡ gone_to (removing_or_enter work scan.candidate scan.tally []
             (first_seen scan.seen self.old.orders.nodes)) (maintenance_of self.old) }
-        ensures holds { HoldsIn self.new.orders self.new.stage }
+        ensures holds { HoldsIn self.new.orders self.new.phase }
     {
-        self.stage = removing_or_enter(
+        self.phase = removing_or_enter(
             work,
             Removal {
                 candidate: scan.candidate,
@@ -154,9 +154,9 @@ impl<A: Allocator + Clone + Drop> State<A> {
             ≡ gone_to (removing_or_enter work removal.candidate removal.tally
             (first_tickets removal.skipped self.old.orders.nodes ++ n.ticket ∷ [])
             (drop 1 (first_seen removal.left (drop removal.skipped self.old.orders.nodes)))) (maintenance_of self.old)) }
-        ensures holds { HoldsIn self.new.orders self.new.stage }
+        ensures holds { HoldsIn self.new.orders self.new.phase }
     {
-        self.stage = removing_or_enter(
+        self.phase = removing_or_enter(
             work,
             Removal {
                 candidate: removal.candidate,
@@ -179,11 +179,11 @@ impl<A: Allocator + Clone + Drop> State<A> {
             (removing_or_enter work removal.candidate removal.tally
             (first_tickets removal.skipped self.old.orders.nodes)
             (drop 1 (first_seen removal.left (drop removal.skipped self.old.orders.nodes))))) }
-        ensures holds { HoldsIn self.new.orders self.new.stage }
+        ensures holds { HoldsIn self.new.orders self.new.phase }
     {
         let next = self.orders.next(id);
         self.orders.remove(id);
-        self.stage = removing_or_enter(
+        self.phase = removing_or_enter(
             work,
             Removal {
                 candidate: removal.candidate,
@@ -211,7 +211,7 @@ impl<A: Allocator + Clone + Drop> State<A> {
             ≡ after_victim work removal.candidate removal.tally
             (first_tickets removal.skipped self.old.orders.nodes) (record { ticket = n.ticket; is_present = n.is_present })
             (drop 1 (first_seen removal.left (drop removal.skipped self.old.orders.nodes))) (maintenance_of self.old) (option_copied found.entry)) }
-        ensures holds { HoldsIn self.new.orders self.new.stage }
+        ensures holds { HoldsIn self.new.orders self.new.phase }
     {
         if found.is_none() {
             self.skip(work, removal, id);
@@ -235,19 +235,19 @@ impl<A: Allocator + Clone + Drop> State<A> {
         ensures step { outcome_of result self.new
             ≡ after_entering (keeps_writes settings.now.policy) work candidate
             (first_tickets skipped self.old.orders.nodes) (maintenance_of self.old) (option_copied found.entry) }
-        ensures holds { HoldsIn self.new.orders self.new.stage }
+        ensures holds { HoldsIn self.new.orders self.new.phase }
     {
         let Some(standing) = found else {
             requeue_front(&mut self.orders, skipped);
-            self.stage = writes_or_on(work);
+            self.phase = writes_or_on(work);
             return EntryChange::Stays;
         };
-        let place = self
+        let hint = self
             .orders
             .enter(candidate.ticket, standing.weight(), settings.limits());
-        standing.set_node_hint(place);
+        standing.set_node_hint(hint);
         requeue_front(&mut self.orders, skipped);
-        self.stage = writes_or_on(work);
+        self.phase = writes_or_on(work);
         EntryChange::UpsertDone
     }
 
@@ -278,7 +278,7 @@ impl<A: Allocator + Clone + Drop> State<A> {
         requires need { (t : Ticket) × (need_of (scan_plan {K = K} {V = V} work scan self.old) ≡ NeedsShard t) }
         ensures step { (found : Option (EntryState K V)) → option_map (λ e. e.weight) found ≡ weight
             → LooksAt (scan_plan work scan self.old) found result self.new }
-        ensures holds { HoldsIn self.new.orders self.new.stage }
+        ensures holds { HoldsIn self.new.orders self.new.phase }
     {
         let Some(id) = scan.next_seen() else {
             return self.reject::<K, V>(work, scan);
@@ -310,7 +310,7 @@ impl<A: Allocator + Clone + Drop> State<A> {
         requires removing { IsRemoving self.old.orders removal }
         requires need { need_of (removal_plan {K = K} {V = V} work removal self.old) ≡ NeedsNothing }
         ensures step { removal_plan {K = K} {V = V} work removal self.old ≡ Alone (maintenance_of self.new) }
-        ensures holds { HoldsIn self.new.orders self.new.stage }
+        ensures holds { HoldsIn self.new.orders self.new.phase }
     {
         if let Some(id) = removal.next {
             self.skip(work, removal, id);
@@ -329,7 +329,7 @@ impl<A: Allocator + Clone + Drop> State<A> {
         requires removing { IsRemoving self.old.orders removal }
         requires need { (t : Ticket) × (need_of (removal_plan {K = K} {V = V} work removal self.old) ≡ NeedsShard t) }
         ensures step { LooksAt (removal_plan work removal self.old) (option_copied found.entry) result self.new }
-        ensures holds { HoldsIn self.new.orders self.new.stage }
+        ensures holds { HoldsIn self.new.orders self.new.phase }
     {
         let Some(id) = removal.next else {
             return EntryChange::Stays;

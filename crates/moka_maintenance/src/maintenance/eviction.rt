@@ -7,7 +7,7 @@ ghost use Rattle.moka_maintenance.specs.Fronts.{front_of};
 ghost use Rattle.moka_maintenance.specs.Held.{HoldsIn, maintenance_of, outcome_of};
 
 use crate::maintenance::fronts::{front_ticket, remove_front, touch_front, touch_front_both};
-use crate::maintenance::place::Stage;
+use crate::maintenance::phase::PhaseState;
 use crate::maintenance::state::State;
 use crate::maintenance::writes::is_within;
 use moka_sync_model::constants::SYNC_BATCH_SIZE;
@@ -42,9 +42,9 @@ impl<A: Allocator + Clone + Drop> State<A> {
         requires front { IsSome (front_of self.old.orders) }
         ensures step { (ticket : Ticket) → front_of self.old.orders ≡ Some ticket
             → outcome_of result self.new ≡ after_eviction turns ticket (maintenance_of self.old) (option_copied found.entry) }
-        ensures holds { HoldsIn self.new.orders self.new.stage }
+        ensures holds { HoldsIn self.new.orders self.new.phase }
     {
-        self.stage = Stage::Evict { turns: turns + 1 };
+        self.phase = PhaseState::Evict { turns: turns + 1 };
         let Some(entry) = found else {
             touch_front(&mut self.orders);
             return EntryChange::Stays;

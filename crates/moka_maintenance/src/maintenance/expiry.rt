@@ -1,13 +1,13 @@
 // The turns at the front of an order by which entries expire.
 ghost use Rattle.std.specs.Prelude.{◌≡◌, ◌+◌, IsSome, Some, option_copied};
 ghost use Rattle.moka_sync_model.specs.Orders.{rewritten, used};
-ghost use Rattle.moka_sync_model.specs.Place.{Evict, ExpireAccess, ExpireWrite};
+ghost use Rattle.moka_sync_model.specs.Phase.{Evict, ExpireAccess, ExpireWrite};
 ghost use Rattle.moka_sync_model.specs.Turn.Expiry.{access_front, after_front, is_past_tti_or_hidden, is_past_ttl_or_hidden, write_front};
 ghost use Rattle.moka_queues.specs.OrdersState.{orders_of};
 ghost use Rattle.moka_maintenance.specs.Held.{HoldsIn, maintenance_of, outcome_of};
 
 use crate::maintenance::fronts::{front_ticket, remove_front, remove_ticket, touch_front};
-use crate::maintenance::place::Stage;
+use crate::maintenance::phase::PhaseState;
 use crate::maintenance::state::State;
 use moka_common::time::Instant;
 use moka_sync_model::constants::SYNC_BATCH_SIZE;
@@ -84,19 +84,19 @@ impl<A: Allocator + Clone + Drop> State<A> {
         ensures step { outcome_of result self.new
             ≡ after_front (is_past_ttl_or_hidden settings.now valid_after self.old.moment) rewritten (ExpireWrite (turns + 1)) (ExpireAccess 0)
             ticket (maintenance_of self.old) (option_copied found.entry) }
-        ensures holds { HoldsIn self.new.orders self.new.stage }
+        ensures holds { HoldsIn self.new.orders self.new.phase }
     {
         let Some(entry) = found else {
             self.orders.requeue_oldest_write();
-            self.stage = Stage::ExpireWrite { turns: turns + 1 };
+            self.phase = PhaseState::ExpireWrite { turns: turns + 1 };
             return EntryChange::Stays;
         };
         if is_past_ttl_or_hidden(settings, valid_after, self.moment, entry) {
             remove_ticket(&mut self.orders, ticket);
-            self.stage = Stage::ExpireWrite { turns: turns + 1 };
+            self.phase = PhaseState::ExpireWrite { turns: turns + 1 };
             return EntryChange::Leaves;
         }
-        self.stage = Stage::ExpireAccess { turns: 0 };
+        self.phase = PhaseState::ExpireAccess { turns: 0 };
         EntryChange::Stays
     }
 
@@ -113,19 +113,19 @@ impl<A: Allocator + Clone + Drop> State<A> {
             → outcome_of result self.new
             ≡ after_front (is_past_tti_or_hidden settings.now valid_after self.old.moment) used (ExpireAccess (turns + 1)) (Evict 0)
             ticket (maintenance_of self.old) (option_copied found.entry) }
-        ensures holds { HoldsIn self.new.orders self.new.stage }
+        ensures holds { HoldsIn self.new.orders self.new.phase }
     {
         let Some(entry) = found else {
             touch_front(&mut self.orders);
-            self.stage = Stage::ExpireAccess { turns: turns + 1 };
+            self.phase = PhaseState::ExpireAccess { turns: turns + 1 };
             return EntryChange::Stays;
         };
         if is_past_tti_or_hidden(settings, valid_after, self.moment, entry) {
             remove_front(&mut self.orders);
-            self.stage = Stage::ExpireAccess { turns: turns + 1 };
+            self.phase = PhaseState::ExpireAccess { turns: turns + 1 };
             return EntryChange::Leaves;
         }
-        self.stage = Stage::Evict { turns: 0 };
+        self.phase = PhaseState::Evict { turns: 0 };
         EntryChange::Stays
     }
 }

@@ -12,15 +12,15 @@ use moka_queues::orders::Orders;
 use moka_sync_model::ticket::Ticket;
 use std::alloc::Allocator;
 
-/// The ticket's node, if there is one, becomes the most recently used one. It is looked for at a place first.
+/// Makes the node of a ticket, if there is one, the most recently used one, looking at `hint` first.
 pub(crate) fn touch_ticket<A: Allocator + Clone + Drop>(
     orders: &mut Orders<A>,
     ticket: Ticket,
-    place: usize,
+    hint: usize,
 )
     ensures { orders_of orders.new ≡ used ticket (orders_of orders.old) }
 {
-    if let Some(id) = orders.find_at(ticket, place) {
+    if let Some(id) = orders.find_at(ticket, hint) {
         orders.touch(id);
     }
 }

@@ -12,7 +12,7 @@ ghost use Rattle.moka_queues.specs.LoggedReads.{reads_of};
 ghost use Rattle.moka_maintenance.specs.Taken.{counted, hash_of_read, having_applied, used_by};
 
 use crate::maintenance::fronts::touch_ticket;
-use crate::maintenance::place::Stage;
+use crate::maintenance::phase::PhaseState;
 use crate::maintenance::state::State;
 use moka_common::frequency_sketch::FrequencySketch;
 use moka_queues::logs::{LoggedRead, ReadLog};
@@ -23,29 +23,29 @@ use moka_sync_model::progress::Work;
 use moka_sync_model::ticket::Ticket;
 use std::alloc::Allocator;
 
-/// The stage after an operation, where this is left of the reads.
-fn reads_or_on(work: Work) -> Stage
+/// The state after an operation, where this is left of the reads.
+fn reads_or_on(work: Work) -> PhaseState
     requires { work.round ≤ MAX_ROUNDS }
     ensures { IsPlain result (reads_or_on work) }
 {
     if work.left == 0 {
-        return Stage::WriteCount { round: work.round };
+        return PhaseState::WriteCount { round: work.round };
     }
-    Stage::Reads { work }
+    PhaseState::Reads { work }
 }
 
-/// The stage once the read log was looked at behind a round.
-fn after_more_reads(round: usize, len: usize) -> Stage
+/// The state once the read log was looked at behind a round.
+fn after_more_reads(round: usize, len: usize) -> PhaseState
     requires { round ≤ MAX_ROUNDS }
     ensures { IsPlain result (after_more_reads round len) }
 {
     if round == MAX_ROUNDS {
-        return Stage::ExpireWrite { turns: 0 };
+        return PhaseState::ExpireWrite { turns: 0 };
     }
     if len >= FLUSH_POINT {
-        return Stage::ReadCount { round: round + 1 };
+        return PhaseState::ReadCount { round: round + 1 };
     }
-    Stage::MoreWrites { round }
+    PhaseState::MoreWrites { round }
 }
 
 /// The hash that a read counts.
@@ -67,7 +67,7 @@ fn count_hashes<A: Allocator + Clone + Drop>(sketch: &mut FrequencySketch<A>, re
     }
 }
 
-/// The node of a hit becomes the most recently used one. It is looked for at the place of its hint first.
+/// Makes the node of a hit the most recently used one, looking at its hint first.
 fn touch_node<A: Allocator + Clone + Drop>(orders: &mut Orders<A>, logged: LoggedRead)
     ensures { orders_of orders.new ≡ used_by (orders_of orders.old) logged.read }
 {
@@ -91,20 +91,20 @@ impl<A: Allocator + Clone + Drop> State<A> {
         requires { round ≤ MAX_ROUNDS }
         ensures step { maintenance_of self.new
             ≡ gone_to (reads_or_on (record { round = round; left = len })) (maintenance_of self.old) }
-        ensures holds { HoldsIn self.new.orders self.new.stage }
+        ensures holds { HoldsIn self.new.orders self.new.phase }
     {
-        self.stage = reads_or_on(Work { round, left: len });
+        self.phase = reads_or_on(Work { round, left: len });
     }
 
     /// The first read leaves the log.
     pub(crate) fn take_read(&mut self, work: Work, log: &mut ReadLog<A>)
         requires round { work.round ≤ MAX_ROUNDS }
-        requires holds { HoldsIn self.old.orders self.old.stage }
+        requires holds { HoldsIn self.old.orders self.old.phase }
         ensures step { (maintenance_of self.new, log.new) ≡ after_read_taken work (maintenance_of self.old) log.old }
-        ensures holds { HoldsIn self.new.orders self.new.stage }
+        ensures holds { HoldsIn self.new.orders self.new.phase }
     {
         if let Some(read) = log.pop() {
-            self.stage = Stage::ReadApply {
+            self.phase = PhaseState::ReadApply {
                 work: work.less_one(),
                 read,
             };
@@ -115,29 +115,29 @@ impl<A: Allocator + Clone + Drop> State<A> {
     pub(crate) fn look_for_reads(&mut self, round: usize, len: usize)
         requires { round ≤ MAX_ROUNDS }
         ensures step { maintenance_of self.new ≡ gone_to (after_more_reads round len) (maintenance_of self.old) }
-        ensures holds { HoldsIn self.new.orders self.new.stage }
+        ensures holds { HoldsIn self.new.orders self.new.phase }
     {
-        self.stage = after_more_reads(round, len);
+        self.phase = after_more_reads(round, len);
     }
 
     /// A miss: its hash is counted.
     pub(crate) fn apply_miss(&mut self, work: Work, hash: u64)
         requires { work.round ≤ MAX_ROUNDS }
         ensures step { maintenance_of self.new ≡ after_miss work hash (maintenance_of self.old) }
-        ensures holds { HoldsIn self.new.orders self.new.stage }
+        ensures holds { HoldsIn self.new.orders self.new.phase }
     {
         self.sketch.increment(hash);
-        self.stage = reads_or_on(work);
+        self.phase = reads_or_on(work);
     }
 
-    /// A hit: its hash is counted, and its node, which is looked for at a place first, becomes the most recently used one.
-    pub(crate) fn apply_hit(&mut self, work: Work, ticket: Ticket, place: usize)
+    /// Counts the hash of a hit, and makes its node the most recently used one, looking at `hint` first.
+    pub(crate) fn apply_hit(&mut self, work: Work, ticket: Ticket, hint: usize)
         requires { work.round ≤ MAX_ROUNDS }
         ensures step { maintenance_of self.new ≡ moved_on (after_miss work ticket.hash (maintenance_of self.old))
             (used ticket (orders_of self.old.orders)) (reads_or_on work) }
-        ensures holds { HoldsIn self.new.orders self.new.stage }
+        ensures holds { HoldsIn self.new.orders self.new.phase }
     {
-        touch_ticket(&mut self.orders, ticket, place);
+        touch_ticket(&mut self.orders, ticket, hint);
         self.apply_miss(work, ticket.hash);
     }
 
@@ -145,10 +145,10 @@ impl<A: Allocator + Clone + Drop> State<A> {
     pub(crate) fn apply_reads(&mut self, work: Work, reads: &[LoggedRead])
         requires { work.round ≤ MAX_ROUNDS }
         ensures step { maintenance_of self.new ≡ having_applied work (reads_of reads.now) (maintenance_of self.old) }
-        ensures holds { HoldsIn self.new.orders self.new.stage }
+        ensures holds { HoldsIn self.new.orders self.new.phase }
     {
         count_hashes(&mut self.sketch, reads);
         use_nodes(&mut self.orders, reads);
-        self.stage = reads_or_on(work.less(reads.len()));
+        self.phase = reads_or_on(work.less(reads.len()));
     }
 }

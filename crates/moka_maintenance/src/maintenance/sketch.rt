@@ -1,13 +1,13 @@
 // The turn that asks whether to turn the sketch on.
 ghost use Rattle.std.specs.Prelude.{◌≡◌, ◌≤◌, Bool};
 ghost use Rattle.moka_sync_model.specs.declared.constants.TheConstants.{MAX_ROUNDS};
-ghost use Rattle.moka_sync_model.specs.Place.{MoreReads};
+ghost use Rattle.moka_sync_model.specs.Phase.{MoreReads};
 ghost use Rattle.moka_sync_model.specs.Turn.Turn.{load_of};
 ghost use Rattle.moka_queues.specs.OrdersState.{orders_of};
 ghost use Rattle.moka_common.specs.Enabling.{after_enabling};
 ghost use Rattle.moka_maintenance.specs.Held.{HoldsIn, maintenance_of};
 
-use crate::maintenance::place::Stage;
+use crate::maintenance::phase::PhaseState;
 use crate::maintenance::state::State;
 use moka_common::frequency_sketch::enabling::Load;
 use moka_sync_model::settings::Settings;
@@ -20,12 +20,12 @@ impl<A: Allocator + Clone + Drop> State<A> {
         requires { round ≤ MAX_ROUNDS }
         ensures step { (refused : Bool) × (maintenance_of self.new ≡ record (maintenance_of self.old) {
           sketch = after_enabling settings.now.policy.max_capacity (load_of settings.now (orders_of self.old.orders)) refused self.old.sketch;
-          place = MoreReads round;
+          phase = MoreReads round;
         }) }
-        ensures holds { HoldsIn self.new.orders self.new.stage }
+        ensures holds { HoldsIn self.new.orders self.new.phase }
     {
         self.enable_sketch(settings);
-        self.stage = Stage::MoreReads { round };
+        self.phase = PhaseState::MoreReads { round };
     }
 
     fn enable_sketch<S: Drop>(&mut self, settings: &Settings<S, A>)

@@ -3,7 +3,7 @@ ghost use Rattle.std.specs.Prelude.{◌≡◌, ◌↔◌, IsTrue};
 ghost use Rattle.moka_sync_model.specs.CoreState.{new_maintenance};
 ghost use Rattle.moka_maintenance.specs.Held.{maintenance_of};
 
-use crate::maintenance::place::Stage;
+use crate::maintenance::phase::PhaseState;
 use moka_common::frequency_sketch::FrequencySketch;
 use moka_common::time::Instant;
 use moka_queues::orders::Orders;
@@ -16,7 +16,7 @@ use std::marker::Model;
 pub(crate) struct State<A: Allocator + Clone + Drop = Global> {
     pub(crate) orders: Orders<A>,
     pub(crate) sketch: FrequencySketch<A>,
-    pub(crate) stage: Stage,
+    pub(crate) phase: PhaseState,
     /// The moment at which it began last.
     pub(crate) moment: Instant,
     pub(crate) published: Published,
@@ -30,7 +30,7 @@ impl<A: Allocator + Clone + Drop> Model for State<A> {
     ghost view = { λ s. record {
       orders = s.orders;
       sketch = s.sketch;
-      stage = s.stage;
+      phase = s.phase;
       moment = s.moment;
       published = s.published;
     } };
@@ -56,6 +56,6 @@ impl<A: Allocator + Clone + Drop> State<A> {
         if self.orders.oldest_write().is_some() {
             return false;
         }
-        matches!(self.stage, Stage::Idle)
+        matches!(self.phase, PhaseState::Idle)
     }
 }

@@ -10,7 +10,7 @@ ghost use Rattle.moka_queues.specs.OrdersState.{orders_of};
 ghost use Rattle.moka_maintenance.specs.Held.{HoldsIn, IsPlain, maintenance_of, outcome_of, scan_begun};
 
 use crate::maintenance::fronts::remove_ticket;
-use crate::maintenance::place::{Scan, Stage};
+use crate::maintenance::phase::{PhaseState, Scan};
 use crate::maintenance::state::State;
 use moka_common::limits::Limits;
 use moka_queues::logs::WriteLog;
@@ -22,26 +22,26 @@ use moka_sync_model::settings::Settings;
 use moka_sync_model::ticket::Ticket;
 use std::alloc::Allocator;
 
-/// The stage after an operation, where this is left of the writes.
-pub(crate) fn writes_or_on(work: Work) -> Stage
+/// The state after an operation, where this is left of the writes.
+pub(crate) fn writes_or_on(work: Work) -> PhaseState
     requires { work.round ≤ MAX_ROUNDS }
     ensures { IsPlain result (writes_or_on work) }
 {
     if work.left == 0 {
-        return Stage::Sketch { round: work.round };
+        return PhaseState::Sketch { round: work.round };
     }
-    Stage::Writes { work }
+    PhaseState::Writes { work }
 }
 
-/// The stage once the write log was looked at behind a round that isn't the last.
-fn after_more_writes(round: usize, len: usize) -> Stage
+/// The state once the write log was looked at behind a round that isn't the last.
+fn after_more_writes(round: usize, len: usize) -> PhaseState
     requires { round < MAX_ROUNDS }
     ensures { IsPlain result (after_more_writes round len) }
 {
     if len >= FLUSH_POINT {
-        return Stage::ReadCount { round: round + 1 };
+        return PhaseState::ReadCount { round: round + 1 };
     }
-    Stage::ExpireWrite { turns: 0 }
+    PhaseState::ExpireWrite { turns: 0 }
 }
 
 /// Returns `true` if a weight is within the limit, or there is none.
@@ -60,20 +60,20 @@ impl<A: Allocator + Clone + Drop> State<A> {
         requires { round ≤ MAX_ROUNDS }
         ensures step { maintenance_of self.new
             ≡ gone_to (writes_or_on (record { round = round; left = len })) (maintenance_of self.old) }
-        ensures holds { HoldsIn self.new.orders self.new.stage }
+        ensures holds { HoldsIn self.new.orders self.new.phase }
     {
-        self.stage = writes_or_on(Work { round, left: len });
+        self.phase = writes_or_on(Work { round, left: len });
     }
 
     /// The first write leaves the log.
     pub(crate) fn take_write(&mut self, work: Work, log: &mut WriteLog<A>)
         requires round { work.round ≤ MAX_ROUNDS }
-        requires holds { HoldsIn self.old.orders self.old.stage }
+        requires holds { HoldsIn self.old.orders self.old.phase }
         ensures step { (maintenance_of self.new, log.new) ≡ after_write_taken work (maintenance_of self.old) log.old }
-        ensures holds { HoldsIn self.new.orders self.new.stage }
+        ensures holds { HoldsIn self.new.orders self.new.phase }
     {
         if let Some(write) = log.pop() {
-            self.stage = Stage::Apply {
+            self.phase = PhaseState::Apply {
                 work: work.less_one(),
                 write,
             };
@@ -84,19 +84,19 @@ impl<A: Allocator + Clone + Drop> State<A> {
     pub(crate) fn look_for_writes(&mut self, round: usize, len: usize)
         requires { round < MAX_ROUNDS }
         ensures step { maintenance_of self.new ≡ gone_to (after_more_writes round len) (maintenance_of self.old) }
-        ensures holds { HoldsIn self.new.orders self.new.stage }
+        ensures holds { HoldsIn self.new.orders self.new.phase }
     {
-        self.stage = after_more_writes(round, len);
+        self.phase = after_more_writes(round, len);
     }
 
     /// A removal: the ticket's node leaves.
     pub(crate) fn apply_removal(&mut self, work: Work, ticket: Ticket)
         requires { work.round ≤ MAX_ROUNDS }
         ensures step { maintenance_of self.new ≡ after_removal work ticket (maintenance_of self.old) }
-        ensures holds { HoldsIn self.new.orders self.new.stage }
+        ensures holds { HoldsIn self.new.orders self.new.phase }
     {
         remove_ticket(&mut self.orders, ticket);
-        self.stage = writes_or_on(work);
+        self.phase = writes_or_on(work);
     }
 
     /// An upsert: it is dropped where its entry has left, and sets the charge where there is one.
@@ -111,10 +111,10 @@ impl<A: Allocator + Clone + Drop> State<A> {
         requires { work.round ≤ MAX_ROUNDS }
         ensures step { (refused : Bool) × (outcome_of result self.new
             ≡ after_upsert settings.now refused work ticket (maintenance_of self.old) (option_copied found.entry)) }
-        ensures holds { HoldsIn self.new.orders self.new.stage }
+        ensures holds { HoldsIn self.new.orders self.new.phase }
     {
         let Some(entry) = found else {
-            self.stage = writes_or_on(work);
+            self.phase = writes_or_on(work);
             return EntryChange::Stays;
         };
         let Some(id) = self.orders.find_at(ticket, entry.node_hint()) else {
@@ -122,7 +122,7 @@ impl<A: Allocator + Clone + Drop> State<A> {
         };
         self.orders.recharge(id, entry.weight());
         self.orders.touch_both(id);
-        self.stage = writes_or_on(work);
+        self.phase = writes_or_on(work);
         EntryChange::UpsertDone
     }
 
@@ -138,25 +138,25 @@ impl<A: Allocator + Clone + Drop> State<A> {
         requires absent { charge_of ticket (orders_of self.old.orders) ≡ None }
         ensures step { (refused : Bool) × (outcome_of result self.new
             ≡ after_first_upsert settings.now refused work ticket entry.now (maintenance_of self.old)) }
-        ensures holds { HoldsIn self.new.orders self.new.stage }
+        ensures holds { HoldsIn self.new.orders self.new.phase }
     {
         let weight = entry.weight();
         if self.orders.reserve(settings.limits()).is_err() {
-            self.stage = writes_or_on(work);
+            self.phase = writes_or_on(work);
             return EntryChange::Leaves;
         }
         let charged = self.orders.charged_weight() + u128::from(weight);
         if is_within(settings.limits(), charged) {
-            let place = self.orders.enter(ticket, weight, settings.limits());
-            entry.set_node_hint(place);
-            self.stage = writes_or_on(work);
+            let hint = self.orders.enter(ticket, weight, settings.limits());
+            entry.set_node_hint(hint);
+            self.phase = writes_or_on(work);
             return EntryChange::UpsertDone;
         }
         if is_within(settings.limits(), u128::from(weight)) {
             self.begin_scan(work, ticket, weight);
             return EntryChange::Stays;
         }
-        self.stage = writes_or_on(work);
+        self.phase = writes_or_on(work);
         EntryChange::Leaves
     }
 
@@ -168,11 +168,11 @@ impl<A: Allocator + Clone + Drop> State<A> {
         requires absent { charge_of ticket (orders_of self.old.orders) ≡ None }
         ensures step { maintenance_of self.new
             ≡ gone_to (scan_begun work ticket weight self.old.sketch) (maintenance_of self.old) }
-        ensures holds { HoldsIn self.new.orders self.new.stage }
+        ensures holds { HoldsIn self.new.orders self.new.phase }
     {
         // No id stands twice, and there are fewer nodes than 2^64.
         let _ = self.orders.len();
-        self.stage = Stage::Scanning {
+        self.phase = PhaseState::Scanning {
             work,
             scan: Scan {
                 candidate: Candidate {

@@ -9,7 +9,7 @@ use Rattle.moka_sync_model.specs.Orders.{Node, Orders, without_node, with_node, 
 use Rattle.moka_sync_model.specs.declared.progress.Work.{Work}
 use Rattle.moka_sync_model.specs.declared.progress.Candidate.{Candidate}
 use Rattle.moka_sync_model.specs.declared.progress.Tally.{Tally}
-use Rattle.moka_sync_model.specs.Place.{Place, Seen, Scan, Removing, Enter}
+use Rattle.moka_sync_model.specs.Phase.{Phase, Seen, Scan, Removing, Enter}
 use Rattle.moka_sync_model.specs.CoreState.{Maintenance}
 use Rattle.moka_sync_model.specs.Turn.Plan.{Stays, Becomes, Leaves, Outcome, outcome, writes_or_on, Plan, Alone, AtEntry, gone_to}
 
@@ -39,8 +39,8 @@ next_if false (n ∷ nodes) = Some n
 abbrev pub next_seen : Candidate → Tally → List Seen → Orders → Option Node
 next_seen c tally seen orders = next_if (is_decided c tally) (drop (length seen) orders.access)
 
--- the place where victims are left, or none
-abbrev pub removing_or_enter : Work → Candidate → Tally → List Ticket → List Seen → Place
+-- the phase where victims are left, or none
+abbrev pub removing_or_enter : Work → Candidate → Tally → List Ticket → List Seen → Phase
 removing_or_enter work c tally skipped [] = Enter work c skipped
 removing_or_enter work c tally skipped (s ∷ left) = Removing work c tally skipped (s ∷ left)
 

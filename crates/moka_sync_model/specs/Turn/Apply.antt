@@ -7,18 +7,18 @@ use Rattle.moka_sync_model.specs.Entry.{Entry, touched, with_upsert_done}
 use Rattle.moka_sync_model.specs.Orders.{charge_of, charged_weight, without_node, with_node, used, renewed, recharged}
 use Rattle.moka_sync_model.specs.declared.progress.Work.{Work}
 use Rattle.moka_sync_model.specs.declared.progress.Tally.{Tally}
-use Rattle.moka_sync_model.specs.Place.{Scan}
+use Rattle.moka_sync_model.specs.Phase.{Scan}
 use Rattle.moka_common.specs.Settings.{Settings, keeps_writes}
 use Rattle.moka_sync_model.specs.CoreState.{Maintenance}
 use Rattle.moka_sync_model.specs.Turn.Plan.{Stays, Becomes, Leaves, Outcome, outcome, reads_or_on, writes_or_on}
 
 -- a miss: its hash is counted
 abbrev pub after_miss : Work → ℕ → Maintenance → Maintenance
-after_miss work hash m = record m { sketch = after_increment m.sketch hash; place = reads_or_on work }
+after_miss work hash m = record m { sketch = after_increment m.sketch hash; phase = reads_or_on work }
 
 -- a removal: the ticket's node leaves
 abbrev pub after_removal : Work → Ticket → Maintenance → Maintenance
-after_removal work t m = record m { orders = without_node t m.orders; place = writes_or_on work }
+after_removal work t m = record m { orders = without_node t m.orders; phase = writes_or_on work }
 
 -- nothing found yet
 abbrev pub no_tally : Tally

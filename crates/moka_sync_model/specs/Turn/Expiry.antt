@@ -7,7 +7,7 @@ use Rattle.moka_sync_model.specs.declared.constants.TheConstants.{SYNC_BATCH_SIZ
 use Rattle.moka_sync_model.specs.declared.ticket.Ticket.{Ticket}
 use Rattle.moka_sync_model.specs.Entry.{Entry}
 use Rattle.moka_sync_model.specs.Orders.{Orders, charged_weight, without_node, used, renewed}
-use Rattle.moka_sync_model.specs.Place.{Place, Evict}
+use Rattle.moka_sync_model.specs.Phase.{Phase, Evict}
 use Rattle.moka_common.specs.Settings.{Settings, idle_nanos, live_nanos, keeps_writes}
 use Rattle.moka_sync_model.specs.CoreState.{Maintenance}
 use Rattle.moka_sync_model.specs.Turn.Plan.{Stays, Leaves, Outcome, outcome, Plan, Alone, AtEntry, gone_to}
@@ -30,7 +30,7 @@ module _ {K V S : Type 0} (settings : Settings S) (valid_after : ℕ) where
 module _ {K V : Type 0} where
   -- a turn at the front of an order: an absent entry's node is sent to the back, an entry that is over leaves, and at a fresh one the
   -- pass ends
-  abbrev pub after_front : (Entry K V → Bool) → (Ticket → Orders → Orders) → Place → Place → Ticket → Maintenance → Option (Entry K V)
+  abbrev pub after_front : (Entry K V → Bool) → (Ticket → Orders → Orders) → Phase → Phase → Ticket → Maintenance → Option (Entry K V)
       → Outcome K V
   after_front is_over sends more done t m None = outcome Stays m (sends t m.orders) more
   after_front is_over sends more done t m (Some e) =
@@ -62,6 +62,6 @@ module _ {S : Type 0} (settings : Settings S) where
 
 module _ {K V : Type 0} where
   -- there is a turn at a front, or none, which ends the pass
-  abbrev pub after_pass : Option Ticket → Place → (Ticket → Maintenance → Option (Entry K V) → Outcome K V) → Maintenance → Plan K V
+  abbrev pub after_pass : Option Ticket → Phase → (Ticket → Maintenance → Option (Entry K V) → Outcome K V) → Maintenance → Plan K V
   after_pass None done looks m = Alone (gone_to done m)
   after_pass (Some t) done looks m = AtEntry t (looks t m)

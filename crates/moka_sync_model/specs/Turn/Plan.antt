@@ -7,7 +7,7 @@ use Rattle.moka_sync_model.specs.declared.operation.Read.{Read}
 use Rattle.moka_sync_model.specs.declared.operation.Write.{Write}
 use Rattle.moka_sync_model.specs.Orders.{Orders}
 use Rattle.moka_sync_model.specs.declared.progress.Work.{Work}
-use Rattle.moka_sync_model.specs.Place.{Place, Reads, WriteCount, Writes, Sketch}
+use Rattle.moka_sync_model.specs.Phase.{Phase, Reads, WriteCount, Writes, Sketch}
 use Rattle.moka_sync_model.specs.CoreState.{CoreState, Maintenance}
 
 -- what becomes of the entry that the turn looked at
@@ -21,9 +21,9 @@ pub record Outcome (K V : Type 0) : Type 0 where
   pub change : Change K V
   pub maintenance : Maintenance
 
--- the maintenance at another place, with other orders
-abbrev pub moved_on : Maintenance → Orders → Place → Maintenance
-moved_on m orders place = record m { orders = orders; place = place }
+-- the maintenance at another phase, with other orders
+abbrev pub moved_on : Maintenance → Orders → Phase → Maintenance
+moved_on m orders phase = record m { orders = orders; phase = phase }
 
 module _ {K V : Type 0} where
   -- the entries once that has become of the ticket's
@@ -32,9 +32,9 @@ module _ {K V : Type 0} where
   after_change t (Becomes change) entries = changed (λ e. e.ticket) t change entries
   after_change t Leaves entries = without (λ e. e.ticket) t entries
 
-  -- this change, and the maintenance with other orders at another place
-  abbrev pub outcome : Change K V → Maintenance → Orders → Place → Outcome K V
-  outcome change m orders place = record { change = change; maintenance = moved_on m orders place }
+  -- this change, and the maintenance with other orders at another phase
+  abbrev pub outcome : Change K V → Maintenance → Orders → Phase → Outcome K V
+  outcome change m orders phase = record { change = change; maintenance = moved_on m orders phase }
 
 -- what a turn looks at besides the maintenance itself, and what it makes of what it sees: nothing, the read log, the write log, or the
 -- entry of a ticket
@@ -58,14 +58,14 @@ module _ {K V S : Type 0} where
   after_plan (AtWrites looks) core = let end = looks core.write_log in record core { write_log = end.1; maintenance = end.0 }
   after_plan (AtEntry t looks) core = after_plan_at t looks core
 
--- the maintenance at another place
-abbrev pub gone_to : Place → Maintenance → Maintenance
-gone_to place m = record m { place = place }
+-- the maintenance at another phase
+abbrev pub gone_to : Phase → Maintenance → Maintenance
+gone_to phase m = record m { phase = phase }
 
--- the place after an operation, where so many are left
-abbrev pub reads_or_on : Work → Place
+-- the phase after an operation, where so many are left
+abbrev pub reads_or_on : Work → Phase
 reads_or_on work = if work.left == 0 then WriteCount work.round else Reads work
 
 -- the same of writes
-abbrev pub writes_or_on : Work → Place
+abbrev pub writes_or_on : Work → Phase
 writes_or_on work = if work.left == 0 then Sketch work.round else Writes work

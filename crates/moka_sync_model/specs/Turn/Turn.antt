@@ -9,9 +9,9 @@ use Rattle.moka_sync_model.specs.declared.operation.Read.TheVariants.{Hit, Miss}
 use Rattle.moka_sync_model.specs.declared.operation.Write.{Write}
 use Rattle.moka_sync_model.specs.declared.operation.Write.TheVariants.{Upsert, Remove}
 use Rattle.moka_sync_model.specs.Orders.{Orders, charged_weight, used, rewritten}
-use Rattle.moka_sync_model.specs.Place as place
+use Rattle.moka_sync_model.specs.Phase as phase
 use Rattle.moka_sync_model.specs.declared.progress.Work.{Work}
-use Rattle.moka_sync_model.specs.Place.{Place}
+use Rattle.moka_sync_model.specs.Phase.{Phase}
 use Rattle.moka_sync_model.specs.CoreState.{CoreState, Maintenance}
 use Rattle.moka_sync_model.specs.declared.published.Published.{Published}
 use Rattle.moka_common.specs.Settings.{Settings, keeps_writes}
@@ -29,16 +29,16 @@ load_of settings orders = record {
   weight = charged_weight orders;
 }
 
--- the place once a log of this length was looked at
-abbrev pub after_more_reads : ℕ → ℕ → Place
+-- the phase once a log of this length was looked at
+abbrev pub after_more_reads : ℕ → ℕ → Phase
 after_more_reads round len =
-    if round == MAX_ROUNDS then place.ExpireWrite 0
-    else if nat_le FLUSH_POINT len then place.ReadCount (round + 1)
-    else place.MoreWrites round
+    if round == MAX_ROUNDS then phase.ExpireWrite 0
+    else if nat_le FLUSH_POINT len then phase.ReadCount (round + 1)
+    else phase.MoreWrites round
 
 -- the same of the write log, after which the rounds end
-abbrev pub after_more_writes : ℕ → ℕ → Place
-after_more_writes round len = if nat_le FLUSH_POINT len then place.ReadCount (round + 1) else place.ExpireWrite 0
+abbrev pub after_more_writes : ℕ → ℕ → Phase
+after_more_writes round len = if nat_le FLUSH_POINT len then phase.ReadCount (round + 1) else phase.ExpireWrite 0
 
 -- what is published: the count and the weight charged, as far as 64 bits tell
 abbrev pub next_published : Maintenance → Published
@@ -51,12 +51,12 @@ next_published m = record {
 -- the front operation of a log is taken
 abbrev pub after_read_taken : Work → Maintenance → List Read → Maintenance × List Read
 after_read_taken work m [] = (m, [])
-after_read_taken work m (read ∷ reads) = (gone_to (place.ReadApply (record work { left = work.left - 1 }) read) m, reads)
+after_read_taken work m (read ∷ reads) = (gone_to (phase.ReadApply (record work { left = work.left - 1 }) read) m, reads)
 
 -- the same of the write log
 abbrev pub after_write_taken : Work → Maintenance → List Write → Maintenance × List Write
 after_write_taken work m [] = (m, [])
-after_write_taken work m (write ∷ writes) = (gone_to (place.Apply (record work { left = work.left - 1 }) write) m, writes)
+after_write_taken work m (write ∷ writes) = (gone_to (phase.Apply (record work { left = work.left - 1 }) write) m, writes)
 
 module _ {K V : Type 0} where
   -- a read is applied
@@ -70,35 +70,35 @@ module _ {K V S : Type 0} (settings : Settings S) (valid_after : ℕ) where
   write_turn refused work (Upsert t) m = AtEntry t (after_upsert settings refused work t m)
   write_turn refused work (Remove t) m = Alone (after_removal work t m)
 
-  -- the turn at a place, and whether memory refuses what it asks for
-  abbrev pub turn_at : Bool → Place → Maintenance → Plan K V
-  turn_at refused place.Idle m = Alone m
-  turn_at refused (place.ReadCount round) m = AtReads (λ log. (gone_to (reads_or_on (record { round = round; left = length log })) m, log))
-  turn_at refused (place.Reads work) m = AtReads (after_read_taken work m)
-  turn_at refused (place.ReadApply work read) m = read_turn work read m
-  turn_at refused (place.WriteCount round) m =
+  -- the turn at a phase, and whether memory refuses what it asks for
+  abbrev pub turn_at : Bool → Phase → Maintenance → Plan K V
+  turn_at refused phase.Idle m = Alone m
+  turn_at refused (phase.ReadCount round) m = AtReads (λ log. (gone_to (reads_or_on (record { round = round; left = length log })) m, log))
+  turn_at refused (phase.Reads work) m = AtReads (after_read_taken work m)
+  turn_at refused (phase.ReadApply work read) m = read_turn work read m
+  turn_at refused (phase.WriteCount round) m =
       AtWrites (λ log. (gone_to (writes_or_on (record { round = round; left = length log })) m, log))
-  turn_at refused (place.Writes work) m = AtWrites (after_write_taken work m)
-  turn_at refused (place.Apply work write) m = write_turn refused work write m
-  turn_at refused (place.Scan work c tally seen) m = after_scan work c tally seen (next_seen c tally seen m.orders) m
-  turn_at refused (place.Removing work c tally skipped left) m = after_removing work c tally skipped left m
-  turn_at refused (place.Enter work c skipped) m = AtEntry c.ticket (after_entering (keeps_writes settings.policy) work c skipped m)
-  turn_at refused (place.Sketch round) m =
+  turn_at refused (phase.Writes work) m = AtWrites (after_write_taken work m)
+  turn_at refused (phase.Apply work write) m = write_turn refused work write m
+  turn_at refused (phase.Scan work c tally seen) m = after_scan work c tally seen (next_seen c tally seen m.orders) m
+  turn_at refused (phase.Removing work c tally skipped left) m = after_removing work c tally skipped left m
+  turn_at refused (phase.Enter work c skipped) m = AtEntry c.ticket (after_entering (keeps_writes settings.policy) work c skipped m)
+  turn_at refused (phase.Sketch round) m =
       Alone (record m {
         sketch = after_enabling settings.policy.max_capacity (load_of settings m.orders) refused m.sketch;
-        place = place.MoreReads round;
+        phase = phase.MoreReads round;
       })
-  turn_at refused (place.MoreReads round) m = AtReads (λ log. (gone_to (after_more_reads round (length log)) m, log))
-  turn_at refused (place.MoreWrites round) m = AtWrites (λ log. (gone_to (after_more_writes round (length log)) m, log))
-  turn_at refused (place.ExpireWrite turns) m =
-      after_pass (write_front settings turns m.orders) (place.ExpireAccess 0)
-      (after_front (is_past_ttl_or_hidden settings valid_after m.moment) rewritten (place.ExpireWrite (turns + 1)) (place.ExpireAccess 0)) m
-  turn_at refused (place.ExpireAccess turns) m =
-      after_pass (access_front settings valid_after turns m.orders) (place.Evict 0)
-      (after_front (is_past_tti_or_hidden settings valid_after m.moment) used (place.ExpireAccess (turns + 1)) (place.Evict 0)) m
-  turn_at refused (place.Evict turns) m = after_pass (eviction_front settings turns m.orders) (place.Publish turns) (after_eviction turns) m
-  turn_at refused (place.Publish turns) m = Alone (record m { place = place.Idle; published = next_published m })
+  turn_at refused (phase.MoreReads round) m = AtReads (λ log. (gone_to (after_more_reads round (length log)) m, log))
+  turn_at refused (phase.MoreWrites round) m = AtWrites (λ log. (gone_to (after_more_writes round (length log)) m, log))
+  turn_at refused (phase.ExpireWrite turns) m =
+      after_pass (write_front settings turns m.orders) (phase.ExpireAccess 0)
+      (after_front (is_past_ttl_or_hidden settings valid_after m.moment) rewritten (phase.ExpireWrite (turns + 1)) (phase.ExpireAccess 0)) m
+  turn_at refused (phase.ExpireAccess turns) m =
+      after_pass (access_front settings valid_after turns m.orders) (phase.Evict 0)
+      (after_front (is_past_tti_or_hidden settings valid_after m.moment) used (phase.ExpireAccess (turns + 1)) (phase.Evict 0)) m
+  turn_at refused (phase.Evict turns) m = after_pass (eviction_front settings turns m.orders) (phase.Publish turns) (after_eviction turns) m
+  turn_at refused (phase.Publish turns) m = Alone (record m { phase = phase.Idle; published = next_published m })
 
 -- one turn
 abbrev pub after_turn : {K V S : Type 0} → Bool → CoreState K V S → CoreState K V S
-after_turn refused core = after_plan (turn_at core.settings core.valid_after refused core.maintenance.place core.maintenance) core
+after_turn refused core = after_plan (turn_at core.settings core.valid_after refused core.maintenance.phase core.maintenance) core

@@ -65,7 +65,7 @@ impl<
         ensures step { self.new ≡ after_look (keys_by K.Hash S.BuildHasher S.Hasher.Hasher) self.old now }
         ensures told { TellsLook L.hears (keys_by K.Hash S.BuildHasher S.Hasher.Hasher) self.old now listener.old listener.new }
     {
-        self.bounds.upkeep(&mut self.store, now, listener);
+        self.bounds.clean_up(&mut self.store, now, listener);
         match self.store.find(key, hash) {
             Some(id) => !self.bounds.is_expired(self.store.get(id), now),
             None => false,
@@ -111,7 +111,7 @@ impl<
         ensures value { option_copied result ≡ found_by_get (keys_by K.Hash S.BuildHasher S.Hasher.Hasher) self.old key.now now }
         ensures told { TellsLook L.hears (keys_by K.Hash S.BuildHasher S.Hasher.Hasher) self.old now listener.old listener.new }
     {
-        self.bounds.upkeep(&mut self.store, now, listener);
+        self.bounds.clean_up(&mut self.store, now, listener);
         // The index is asked first, so that the processor waits for it and for the sketch at once.
         let candidates = self.store.candidates(hash);
         self.sketch.increment(hash);
@@ -153,7 +153,7 @@ impl<
         ensures step { self.new ≡ after_invalidate (keys_by K.Hash S.BuildHasher S.Hasher.Hasher) self.old key.now now }
         ensures told { TellsInvalidate L.hears (keys_by K.Hash S.BuildHasher S.Hasher.Hasher) self.old now key.now listener.old listener.new }
     {
-        self.bounds.upkeep(&mut self.store, now, listener);
+        self.bounds.clean_up(&mut self.store, now, listener);
         remove_notifying(&mut self.store, key, hash, listener);
     }
 
@@ -196,7 +196,7 @@ impl<
         ensures step { self.new ≡ after_invalidate (keys_by K.Hash S.BuildHasher S.Hasher.Hasher) self.old key.now now }
         ensures told { TellsRemove L.hears (keys_by K.Hash S.BuildHasher S.Hasher.Hasher) self.old now key.now listener.old listener.new }
     {
-        self.bounds.upkeep(&mut self.store, now, listener);
+        self.bounds.clean_up(&mut self.store, now, listener);
         let entry = remove(&mut self.store, key, hash)?;
         if self.bounds.is_expired(&entry, now) {
             let Entry { key, value, .. } = entry;
@@ -313,7 +313,7 @@ impl<
         if self.store.reserve(1, self.max_entries).is_err() {
             return Err(InsertError::OutOfMemory);
         }
-        self.bounds.upkeep(&mut self.store, now, listener);
+        self.bounds.clean_up(&mut self.store, now, listener);
         let entry = Entry {
             hash,
             weight: self.weigher.weigh(&key, &value),

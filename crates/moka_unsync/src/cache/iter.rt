@@ -4,7 +4,7 @@ ghost use Rattle.std.specs.Iterator.{at_most};
 ghost use Rattle.std.specs.Map.Iter.{TakesFirst, deref_pair};
 ghost use Rattle.moka_unsync_model.specs.Iterate.{unexpired_pairs};
 
-use crate::upkeep::Bounds;
+use crate::cleanup::Bounds;
 use moka_common::time::Instant;
 use moka_list::chain::Iter as Entries;
 use moka_unsync_model::entry::Entry;

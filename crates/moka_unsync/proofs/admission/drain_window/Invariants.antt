@@ -3,7 +3,7 @@ use Rattle.moka_unsync_model.specs.Contents.{total_weight, window_of}
 use Rattle.moka_unsync_model.specs.Shares.{main_limit}
 use Rattle.moka_unsync_model.specs.Told.{IsAbove, TellsWhatLeft}
 use Rattle.moka_unsync_model.specs.declared.listener.Cause.TheVariants.{Size}
-use Rattle.moka_unsync_model.specs.Upkeep.{least_recent}
+use Rattle.moka_unsync_model.specs.Cleanup.{least_recent}
 use Rattle.moka_unsync_model.specs.Window.{after_candidates}
 use Rattle.moka_store.specs.Store.{Continues, contents_of, entries_of}
 use Rattle.moka_unsync.proofs.admission.drain_window.Given as goal

@@ -1,7 +1,7 @@
 use Rattle.std.proofs.Common.{◌≡◌, ◌∙◌, ◌+◌, ◌-◌, ◌<◌, None, Some, ap, arith, is_some, refl, subst, sym}
 use Rattle.moka_unsync_model.specs.Contents.{entry_at, main_of, total_weight, window_of}
 use Rattle.moka_unsync_model.specs.Insert.{after_admission, after_entry}
-use Rattle.moka_unsync_model.specs.Upkeep.{least_recent}
+use Rattle.moka_unsync_model.specs.Cleanup.{least_recent}
 use Rattle.moka_unsync_model.specs.Shares.{main_limit}
 use Rattle.moka_unsync_model.specs.Told.{IsAbove, TellsPut, TellsWhatLeft}
 use Rattle.moka_unsync_model.specs.declared.listener.Cause.TheVariants.{Size}

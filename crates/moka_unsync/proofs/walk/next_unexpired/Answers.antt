@@ -5,7 +5,7 @@ use Rattle.moka_list.specs.Nodes.{next_id}
 use Rattle.moka_list.proofs.WalkLemmas.{fewer_behind, from_next, from_node, from_none, next_is_in}
 use Rattle.moka_unsync_model.specs.declared.entry.Entry.{Entry}
 use Rattle.moka_unsync_model.specs.Iterate.{first_unexpired}
-use Rattle.moka_unsync_model.specs.Upkeep.{is_expired}
+use Rattle.moka_unsync_model.specs.Cleanup.{is_expired}
 use Rattle.moka_unsync.proofs.BehindLemmas.{behind_absent, found_behind}
 use Rattle.moka_store.specs.Store.{entries_of}
 use Rattle.moka_unsync.proofs.walk.next_unexpired.Given.{Over}

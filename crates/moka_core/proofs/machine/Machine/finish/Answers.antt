@@ -1,9 +1,9 @@
 use Rattle.std.proofs.Common.{◌≡◌, ◌∙◌, ◌<◌, ap, subst, sym}
 use Rattle.moka_common.specs.Keys.{Keys, keys_by}
-use Rattle.moka_sync_model.specs.declared.place.Place.TheVariants as name
+use Rattle.moka_sync_model.specs.declared.phase.Phase.TheVariants as name
 use Rattle.moka_sync_model.specs.Consistent.{IsConsistent}
 use Rattle.moka_sync_model.specs.CoreCall.{CoreTurns}
-use Rattle.moka_sync_model.specs.Place.{Idle, name_of}
+use Rattle.moka_sync_model.specs.Phase.{Idle, name_of}
 use Rattle.moka_sync_model.specs.TurnsLeft.{turns_left}
 use Rattle.moka_core.proofs.MaintenanceLemmas.{last_turn, next_advance, next_turn, still_busy, turn_keeps, turn_leaves}
 use Rattle.moka_core.proofs.machine.Machine.finish.Given.{Over}
@@ -40,8 +40,8 @@ returns-in-Idle-clause-turns g c =
     c.loop-self.invariant.took new
     (subst (λ s. CoreTurns (keys g) weighs s new) same
     (last_turn (keys g) g.met.K.Eq.laws weighs turn.0 c.apply_next.new.self.state new
-    (λ idle. c.loop-self.invariant.busy (sym (ap (λ s. s.maintenance.place) same) ∙ idle)) turn.1
-    (rw (← c.self.view_is) (sym c.place.ensures ∙ c.in-Idle.is))))
+    (λ idle. c.loop-self.invariant.busy (sym (ap (λ s. s.maintenance.phase) same) ∙ idle)) turn.1
+    (rw (← c.self.view_is) (sym c.phase.ensures ∙ c.in-Idle.is))))
 
 pub loop-self-smaller : goal.loop-self-smaller
 loop-self-smaller g c =
@@ -51,7 +51,7 @@ loop-self-smaller g c =
     let same : c.apply_next.new.self.state ≡ c.loop-self.self.state = c.if-apply_next.ensures.turns.0.0 in
     subst (λ s. turns_left new < turns_left s) same
     (turn_leaves (keys g) g.met.K.Eq.laws weighs turn.0 c.apply_next.new.self.state new
-    (λ idle. c.loop-self.invariant.busy (sym (ap (λ s. s.maintenance.place) same) ∙ idle)) turn.1
+    (λ idle. c.loop-self.invariant.busy (sym (ap (λ s. s.maintenance.phase) same) ∙ idle)) turn.1
     (subst (IsConsistent (keys g)) (sym same) c.loop-self.invariant.good))
 
 pub loop-self-preserved : goal.loop-self-preserved
@@ -60,10 +60,10 @@ loop-self-preserved g c =
     let turn = c.take_turn.ensures.turn in
     let new = c.take_turn.new.self.state in
     let same : c.apply_next.new.self.state ≡ c.loop-self.self.state = c.if-apply_next.ensures.turns.0.0 in
-    let busy : c.apply_next.new.self.state.maintenance.place ≡ Idle → ⊥ =
-    λ idle. c.loop-self.invariant.busy (sym (ap (λ s. s.maintenance.place) same) ∙ idle) in
-    let more : name_of new.maintenance.place ≡ name.Idle → ⊥ =
-    rw (← c.self.view_is) (λ idle. c.in_default.not-Idle (c.place.ensures ∙ idle)) in
+    let busy : c.apply_next.new.self.state.maintenance.phase ≡ Idle → ⊥ =
+    λ idle. c.loop-self.invariant.busy (sym (ap (λ s. s.maintenance.phase) same) ∙ idle) in
+    let more : name_of new.maintenance.phase ≡ name.Idle → ⊥ =
+    rw (← c.self.view_is) (λ idle. c.in_default.not-Idle (c.phase.ensures ∙ idle)) in
     record {
       weigher = c.take_turn.ensures.kept.weigher ∙ c.apply_next.ensures.weigher ∙ c.loop-self.invariant.weigher;
       good = turn_keeps (keys g) g.met.K.Eq.laws weighs turn.0 c.apply_next.new.self.state new busy turn.1

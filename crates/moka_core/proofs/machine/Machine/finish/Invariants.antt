@@ -2,7 +2,7 @@ use Rattle.std.proofs.Common.{◌≡◌}
 use Rattle.moka_common.specs.Keys.{keys_by}
 use Rattle.moka_sync_model.specs.Consistent.{IsConsistent}
 use Rattle.moka_sync_model.specs.CoreCall.{CoreTurns}
-use Rattle.moka_sync_model.specs.Place.{Idle}
+use Rattle.moka_sync_model.specs.Phase.{Idle}
 use Rattle.moka_sync_model.specs.TurnsLeft.{turns_left}
 use Rattle.moka_core.proofs.machine.Machine.finish.Given as goal
 
@@ -12,7 +12,7 @@ invariant-loop-self g l = record {
   weigher : l.self.weigher ≡ l.fn.self.weigher;
   good : IsConsistent (keys_by (record { eq = g.K.PartialEq.eq; hash_input = g.K.Hash.hash_input }) g.S.BuildHasher g.S.Hasher.Hasher)
       l.self.state;
-  busy : l.self.state.maintenance.place ≡ Idle → ⊥;
+  busy : l.self.state.maintenance.phase ≡ Idle → ⊥;
   took : (end : _)
       → CoreTurns (keys_by (record { eq = g.K.PartialEq.eq; hash_input = g.K.Hash.hash_input }) g.S.BuildHasher g.S.Hasher.Hasher)
       (g.W.WeighShared.weighs l.fn.self.weigher) l.self.state end

@@ -21,7 +21,7 @@ returns g c =
     let held : length (take count copied) ≡ count =
     length-take-le count copied (omega (arith, c.take_reads-count.ensures.held, c.take_reads-count.ensures.same)) in
     let same : length reads ≡ count = length-map c.touch_all.new.reads (λ (l : LoggedRead). l.read) ∙ c.touch_all.ensures ∙ held in
-    let left : count ≤ reads_left old.place = omega (arith, c.take_reads-count.ensures.wanted, c.reads_left.ensures) in
+    let left : count ≤ reads_left old.phase = omega (arith, c.take_reads-count.ensures.wanted, c.reads_left.ensures) in
     let within : length reads ≤ work.left = omega (arith, same, subst (λ p. count ≤ reads_left p) at left) in
     rw (← c.self.view_is, c.apply_reads.ensures.2)
     (reads_turn g.row.K.Denot g.row.V.Denot c.self.inside.settings reads work old at (omega (arith, same, c.if-count-eq0.false)) within)

@@ -23,7 +23,7 @@ returns-in-Upsert-clause-turns g c =
 pub returns-in-Upsert-clause-left : goal.returns-in-Upsert-clause-left
 returns-in-Upsert-clause-left g c =
     let new = c.apply_upsert.new.maintenance in
-    let kept : writes_left c.args.maintenance.now.place ≤ writes_left new.place + 1 =
+    let kept : writes_left c.args.maintenance.now.phase ≤ writes_left new.phase + 1 =
     takes_one g.row.K.Denot g.row.V.Denot c.self.inside.settings (Upsert c.in-Upsert.ticket) c.args.maintenance.now new c.requires.takes
     c.apply_upsert.ensures.turn in
     omega (arith, c.in-Some.ensures.some, kept)
@@ -43,6 +43,6 @@ returns-in-Remove-clause-left g c =
     let new = c.turn_with_removal.new.self in
     let turn = alone g.row.K.Denot g.row.V.Denot c.self.inside.settings 0 false (having_taken_write (Remove c.in-Remove.ticket) old) new
     (c.turn_with_removal.ensures c.self.inside.settings 0) in
-    let kept : writes_left old.place ≤ writes_left new.place + 1 =
+    let kept : writes_left old.phase ≤ writes_left new.phase + 1 =
     takes_one g.row.K.Denot g.row.V.Denot c.self.inside.settings (Remove c.in-Remove.ticket) old new c.requires.takes turn in
     omega (arith, c.in-Some.ensures.some, kept)

@@ -17,7 +17,7 @@ pub returns-clause-left : goal.returns-clause-left
 returns-clause-left g c =
     let old = c.args.maintenance.now in
     let new = c.turn_by_need.new.maintenance in
-    let kept : writes_left old.place ≤ writes_left new.place =
+    let kept : writes_left old.phase ≤ writes_left new.phase =
     keeps_left g.row.K.Denot g.row.V.Denot c.args.self.now.settings old new
     (no_write c.takes_write.ensures c.if-takes_write.false) c.turn_by_need.ensures in
     omega (arith, c.requires, kept)

@@ -1,7 +1,7 @@
 use Rattle.std.proofs.Common.{◌≡◌, ◌∙◌, List, [], ap}
 use Rattle.moka_sync_model.specs.declared.operation.Write.{Write}
 use Rattle.moka_sync_model.specs.CoreState.{Maintenance}
-use Rattle.moka_sync_model.specs.Place.{ReadCount}
+use Rattle.moka_sync_model.specs.Phase.{ReadCount}
 use Rattle.moka_locks.specs.MaintenanceTurn.{empty_handed}
 use Rattle.moka_locks.specs.SameTickets.{AtWork}
 use Rattle.moka_locks.proofs.running.RunningMaintenance.of.Goals as goal
@@ -10,7 +10,7 @@ pub returns-clause-begun : goal.returns-clause-begun
 returns-clause-begun g c =
     let keeps = c.idle.inside.keeps_writes in
     let old = c.idle.inside.maintenance.value in
-    let begun : Maintenance → Maintenance = λ m. record m { place = ReadCount 1; moment = c.args.now } in
+    let begun : Maintenance → Maintenance = λ m. record m { phase = ReadCount 1; moment = c.args.now } in
     let at_work : Maintenance → List Write → AtWork =
     λ m writes. record { keeps_writes = keeps; working = record { maintenance = m; taken = writes } } in
     let is : c.begin.new.self ≡ begun old = c.begin.ensures ∙ ap begun c.deref_mut.ensures.value in (

@@ -1,9 +1,9 @@
 use Rattle.std.proofs.Common.{◌∙◌, ap, refl, sym}
-use Rattle.moka_maintenance.specs.Held.{place_of}
+use Rattle.moka_maintenance.specs.Held.{phase_of}
 use Rattle.moka_maintenance.proofs.maintenance.Maintenance.takes_write.Goals as goal
 
 pub returns-in-Writes : goal.returns-in-Writes
 returns-in-Writes g c =
     let held = c.self.inside.state in
-    let is = ap (λ m. m.state.stage) (sym c.self-inside.view_is) ∙ c.in-Writes.is in
-    rw (← c.self.view_is) (λ yes. (c.in-Writes.work, ap (place_of held.orders.nodes) is), λ writes. refl)
+    let is = ap (λ m. m.state.phase) (sym c.self-inside.view_is) ∙ c.in-Writes.is in
+    rw (← c.self.view_is) (λ yes. (c.in-Writes.work, ap (phase_of held.orders.nodes) is), λ writes. refl)

@@ -1,23 +1,23 @@
 use Rattle.std.proofs.Common.{◌≡◌, subst, sym}
 use Rattle.moka_common.specs.Keys.{keys_by}
-use Rattle.moka_unsync.proofs.CachedLemmas.{IsCached-touch, IsCached-upkeep, has_hash}
+use Rattle.moka_unsync.proofs.CachedLemmas.{IsCached-touch, IsCached-cleanup, has_hash}
 use Rattle.moka_unsync.proofs.cache.Cache.get_notifying.Goals as goal
 
 pub find_among-requires-clause-hashed : goal.find_among-requires-clause-hashed
 find_among-requires-clause-hashed g c =
     has_hash g.K.PartialEq.eq g.K.Hash.hash_input g.S.BuildHasher g.S.Hasher.Hasher g.met.K.Hash.respects_eq
-    (IsCached-upkeep c.args.now c.self.invariant c.upkeep.ensures.step c.upkeep.ensures.kept)
+    (IsCached-cleanup c.args.now c.self.invariant c.clean_up.ensures.step c.clean_up.ensures.kept)
     (subst (λ cache. c.args.hash ≡
     (keys_by (record { eq = g.K.PartialEq.eq; hash_input = g.K.Hash.hash_input }) g.S.BuildHasher g.S.Hasher.Hasher).hash_of
     cache.settings.hash_state c.args.key.now) (sym c.self.view_is) c.requires)
 
 pub invariant_of-self : goal.invariant_of-self
-invariant_of-self g c = IsCached-upkeep c.args.now c.self.invariant c.upkeep.ensures.step c.upkeep.ensures.kept
+invariant_of-self g c = IsCached-cleanup c.args.now c.self.invariant c.clean_up.ensures.step c.clean_up.ensures.kept
 
 pub invariant_of-self-then-is_expired : goal.invariant_of-self-then-is_expired
-invariant_of-self-then-is_expired g c = IsCached-upkeep c.args.now c.self.invariant c.upkeep.ensures.step c.upkeep.ensures.kept
+invariant_of-self-then-is_expired g c = IsCached-cleanup c.args.now c.self.invariant c.clean_up.ensures.step c.clean_up.ensures.kept
 
 pub invariant_of-self-2 : goal.invariant_of-self-2
 invariant_of-self-2 g c =
-    IsCached-touch c.in_ok-id.id c.self.inside.room c.args.now c.upkeep.new.store c.touch.new.self
-    (IsCached-upkeep c.args.now c.self.invariant c.upkeep.ensures.step c.upkeep.ensures.kept) c.touch.ensures
+    IsCached-touch c.in_ok-id.id c.self.inside.room c.args.now c.clean_up.new.store c.touch.new.self
+    (IsCached-cleanup c.args.now c.self.invariant c.clean_up.ensures.step c.clean_up.ensures.kept) c.touch.ensures

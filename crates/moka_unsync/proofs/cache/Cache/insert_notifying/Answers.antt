@@ -4,7 +4,7 @@ use Rattle.moka_unsync_model.specs.CacheState.{CacheState}
 use Rattle.moka_unsync_model.specs.Contents.{entry_at, main_of}
 use Rattle.moka_list.proofs.IdLemmas.{some_parts}
 use Rattle.moka_unsync_model.specs.Insert.{after_admission, after_update, new_entry}
-use Rattle.moka_unsync_model.specs.Upkeep.{after_upkeep}
+use Rattle.moka_unsync_model.specs.Cleanup.{after_cleanup}
 use Rattle.moka_unsync_model.specs.Window.{victims_of}
 use Rattle.moka_store.specs.Store.{Store, contents_of, entries_of}
 use Rattle.moka_common.specs.Keys.{keys_by}
@@ -13,20 +13,20 @@ use Rattle.moka_unsync_model.specs.declared.entry.Part.TheVariants.{Probation}
 use Rattle.moka_unsync_model.specs.declared.shares.PartLimits.{PartLimits}
 use Rattle.moka_unsync_model.specs.Shares.{windowed_limits}
 use Rattle.moka_unsync.specs.Cached.{IsCached, IsPut}
-use Rattle.moka_unsync.proofs.CachedLemmas.{IsCached-put, IsCached-room, IsCached-update, IsCached-upkeep, has_hash, length-entries}
+use Rattle.moka_unsync.proofs.CachedLemmas.{IsCached-put, IsCached-room, IsCached-update, IsCached-cleanup, has_hash, length-entries}
 use Rattle.moka_unsync.proofs.InsertLemmas.{insert_drops, insert_stays, insert_updates, kept, put_main, stays_main}
 use Rattle.moka_unsync_model.specs.declared.listener.Cause.TheVariants.{Replaced}
 use Rattle.moka_unsync_model.specs.Shares.{main_limit}
-use Rattle.moka_unsync_model.specs.Told.{TellsPut, TellsUpkeep}
+use Rattle.moka_unsync_model.specs.Told.{TellsPut, TellsCleanup}
 use Rattle.moka_unsync_model.specs.ToldCalls.{TellsInsert, main_max}
 use Rattle.moka_unsync_model.proofs.EnteringLemmas.{stands-arrived}
 use Rattle.moka_unsync.proofs.LeavingLemmas.{put_told, update_told}
 use Rattle.moka_unsync.proofs.cache.Cache.insert_notifying.Given.{Over}
-use Rattle.moka_unsync.proofs.cache.Cache.insert_notifying.Goals.{After-upkeep, After-weigh}
+use Rattle.moka_unsync.proofs.cache.Cache.insert_notifying.Goals.{After-clean_up, After-weigh}
 use Rattle.moka_unsync.proofs.cache.Cache.insert_notifying.Goals as goal
 
 -- the hash is that of the key
-its_own : (g : Over) (c : After-upkeep g) → c.args.hash
+its_own : (g : Over) (c : After-clean_up g) → c.args.hash
     ≡ (keys_by (record { eq = g.K.PartialEq.eq; hash_input = g.K.Hash.hash_input }) g.S.BuildHasher g.S.Hasher.Hasher).hash_of
     c.self.inside.hash_state c.args.key
 its_own g c =
@@ -37,13 +37,13 @@ its_own g c =
 pub find-requires : goal.find-requires
 find-requires g c =
     has_hash g.K.PartialEq.eq g.K.Hash.hash_input g.S.BuildHasher g.S.Hasher.Hasher g.met.K.Hash.respects_eq
-    (IsCached-upkeep c.args.now (IsCached-room c.self.invariant c.reserve.ensures.unchanged) c.upkeep.ensures.step c.upkeep.ensures.kept)
-    (its_own g (goal.at.find-requires g c).After-upkeep)
+    (IsCached-cleanup c.args.now (IsCached-room c.self.invariant c.reserve.ensures.unchanged) c.clean_up.ensures.step c.clean_up.ensures.kept)
+    (its_own g (goal.at.find-requires g c).After-clean_up)
 
 pub invariant_of-self-in-Some : goal.invariant_of-self-in-Some
 invariant_of-self-in-Some g c =
-    IsCached-update c.in-Some.id c.self.inside.room _ c.upkeep.new.store c.update-key.new.self
-    (IsCached-upkeep c.args.now (IsCached-room c.self.invariant c.reserve.ensures.unchanged) c.upkeep.ensures.step c.upkeep.ensures.kept)
+    IsCached-update c.in-Some.id c.self.inside.room _ c.clean_up.new.store c.update-key.new.self
+    (IsCached-cleanup c.args.now (IsCached-room c.self.invariant c.reserve.ensures.unchanged) c.clean_up.ensures.step c.clean_up.ensures.kept)
     c.update-key.ensures.step
 
 -- the hash is that of the key once the weigher was asked
@@ -83,22 +83,22 @@ its_hash g c =
     (keys_by (record { eq = g.K.PartialEq.eq; hash_input = g.K.Hash.hash_input }) g.S.BuildHasher g.S.Hasher.Hasher).hash_of
     c.self.inside.hash_state c.args.key
 
--- the contents that upkeep leaves
+-- the contents that cleanup leaves
 its_contents : (g : Over) (c : After-weigh g)
-    → contents_of c.upkeep.new.store ≡ kept g.K.PartialEq.eq (its_cache g c) (its_entry g c (its_hash g c)) c.args.now true
+    → contents_of c.clean_up.new.store ≡ kept g.K.PartialEq.eq (its_cache g c) (its_entry g c (its_hash g c)) c.args.now true
 its_contents g c =
-    c.upkeep.ensures.step ∙ ap (λ s. after_upkeep g.K.PartialEq.eq c.self.inside.bounds c.args.now (contents_of s))
+    c.clean_up.ensures.step ∙ ap (λ s. after_cleanup g.K.PartialEq.eq c.self.inside.bounds c.args.now (contents_of s))
     c.reserve.ensures.unchanged
 
-its_absence : (g : Over) (c : After-weigh g) → entry_at g.K.PartialEq.eq c.args.key (entries_of c.upkeep.new.store) ≡ None
+its_absence : (g : Over) (c : After-weigh g) → entry_at g.K.PartialEq.eq c.args.key (entries_of c.clean_up.new.store) ≡ None
     → entry_at g.K.PartialEq.eq c.args.key (kept g.K.PartialEq.eq (its_cache g c) (its_entry g c (its_hash g c)) c.args.now true).entries ≡ None
 its_absence g c absent = subst (λ contents. entry_at g.K.PartialEq.eq c.args.key contents.entries ≡ None) (its_contents g c) absent
 
 -- what the new entry leaves, as it was put
 abbrev IsPutThere : (g : Over) (c : After-weigh g) → Option PartLimits → Store g.row.K.Denot g.row.V.Denot → Bool → Type 0
 IsPutThere g c windowed put stays =
-    IsPut g.K.PartialEq.eq c.upkeep.new.store.keeps_writes windowed c.self.inside.bounds.max_capacity c.self.inside.sketch
-    (its_entry g c c.args.hash) (contents_of c.upkeep.new.store) stays (contents_of put)
+    IsPut g.K.PartialEq.eq c.clean_up.new.store.keeps_writes windowed c.self.inside.bounds.max_capacity c.self.inside.sketch
+    (its_entry g c c.args.hash) (contents_of c.clean_up.new.store) stays (contents_of put)
 
 -- and as the machine says
 its_put : (g : Over) (c : After-weigh g) (put : Store g.row.K.Denot g.row.V.Denot) (stays : Bool) → IsPutThere g c c.self.inside.windowed put stays
@@ -106,28 +106,28 @@ its_put : (g : Over) (c : After-weigh g) (put : Store g.row.K.Denot g.row.V.Deno
     (windowed_limits c.self.inside.shares c.self.inside.bounds.max_capacity) c.self.inside.bounds.max_capacity c.self.inside.sketch
     (its_entry g c (its_hash g c)) (kept g.K.PartialEq.eq (its_cache g c) (its_entry g c (its_hash g c)) c.args.now true) stays (contents_of put)
 its_put g c put stays step =
-    let keeps = c.upkeep.ensures.kept.keeps ∙ (ap (λ s. s.keeps_writes) c.reserve.ensures.unchanged ∙ c.self.invariant.keeps) in
+    let keeps = c.clean_up.ensures.kept.keeps ∙ (ap (λ s. s.keeps_writes) c.reserve.ensures.unchanged ∙ c.self.invariant.keeps) in
     let eq = g.K.PartialEq.eq in
     let sketch = c.self.inside.sketch in
     let left = contents_of put in
     let new = its_entry g c (its_hash g c) in
     let max = c.self.inside.bounds.max_capacity in
     subst (λ k. IsPut eq k (windowed_limits c.self.inside.shares max) max sketch new (kept eq (its_cache g c) new c.args.now true) stays left) keeps
-    (subst (λ w. IsPut eq c.upkeep.new.store.keeps_writes w max sketch new (kept eq (its_cache g c) new c.args.now true) stays left)
+    (subst (λ w. IsPut eq c.clean_up.new.store.keeps_writes w max sketch new (kept eq (its_cache g c) new c.args.now true) stays left)
     c.self.invariant.windowed
-    (subst (λ s. IsPut eq c.upkeep.new.store.keeps_writes c.self.inside.windowed max sketch new s stays left) (its_contents g c)
-    (subst (λ h. IsPut eq c.upkeep.new.store.keeps_writes c.self.inside.windowed max sketch (its_entry g c h) (contents_of c.upkeep.new.store)
+    (subst (λ s. IsPut eq c.clean_up.new.store.keeps_writes c.self.inside.windowed max sketch new s stays left) (its_contents g c)
+    (subst (λ h. IsPut eq c.clean_up.new.store.keeps_writes c.self.inside.windowed max sketch (its_entry g c h) (contents_of c.clean_up.new.store)
     stays left) (put_own g c) step)))
 
 -- the verdict on the new entry keeps the parts tied
 admitted : (g : Over) (c : After-weigh g) (put : Store g.row.K.Denot g.row.V.Denot) (stays : Bool)
-    → IsPut g.K.PartialEq.eq c.upkeep.new.store.keeps_writes c.self.inside.windowed c.self.inside.bounds.max_capacity c.self.inside.sketch
-    (its_entry g c c.args.hash) (contents_of c.upkeep.new.store) stays (contents_of put) → put.keeps_writes ≡ c.upkeep.new.store.keeps_writes
+    → IsPut g.K.PartialEq.eq c.clean_up.new.store.keeps_writes c.self.inside.windowed c.self.inside.bounds.max_capacity c.self.inside.sketch
+    (its_entry g c c.args.hash) (contents_of c.clean_up.new.store) stays (contents_of put) → put.keeps_writes ≡ c.clean_up.new.store.keeps_writes
     → IsCached (keys_by (record { eq = g.K.PartialEq.eq; hash_input = g.K.Hash.hash_input }) g.S.BuildHasher g.S.Hasher.Hasher)
     c.self.inside.hash_state c.self.inside.bounds c.self.inside.shares c.self.inside.windowed c.self.inside.room put
 admitted g c put stays step keeps =
     IsCached-put (its_entry g c c.args.hash) c.self.inside.sketch stays
-    (IsCached-upkeep c.args.now (IsCached-room c.self.invariant c.reserve.ensures.unchanged) c.upkeep.ensures.step c.upkeep.ensures.kept)
+    (IsCached-cleanup c.args.now (IsCached-room c.self.invariant c.reserve.ensures.unchanged) c.clean_up.ensures.step c.clean_up.ensures.kept)
     (put_own g c) refl step keeps
 
 -- what an entry leaves that enters the window
@@ -139,16 +139,16 @@ its_entering g c limits some put stays step = subst (λ w. IsPutThere g c w put 
 -- and one that is judged where there is no window
 its_admission : (g : Over) (c : After-weigh g) → c.self.inside.windowed ≡ None → (put : Store g.row.K.Denot g.row.V.Denot) (stays : Bool) (max : Option ℕ)
     → max ≡ c.self.inside.bounds.max_capacity
-    → (contents_of put ≡ after_admission g.K.PartialEq.eq c.upkeep.new.store.keeps_writes (its_entry g c c.args.hash)
-    (victims_of max c.self.inside.sketch (its_entry g c c.args.hash) (main_of (entries_of c.upkeep.new.store))) (contents_of c.upkeep.new.store))
-    → stays ≡ is_some (victims_of max c.self.inside.sketch (its_entry g c c.args.hash) (main_of (entries_of c.upkeep.new.store)))
+    → (contents_of put ≡ after_admission g.K.PartialEq.eq c.clean_up.new.store.keeps_writes (its_entry g c c.args.hash)
+    (victims_of max c.self.inside.sketch (its_entry g c c.args.hash) (main_of (entries_of c.clean_up.new.store))) (contents_of c.clean_up.new.store))
+    → stays ≡ is_some (victims_of max c.self.inside.sketch (its_entry g c c.args.hash) (main_of (entries_of c.clean_up.new.store)))
     → IsPutThere g c c.self.inside.windowed put stays
 its_admission g c none put stays max max_is step value =
     let eq = g.K.PartialEq.eq in
     let new = its_entry g c c.args.hash in
-    let old = c.upkeep.new.store in
-    let all = (IsCached-upkeep c.args.now (IsCached-room c.self.invariant c.reserve.ensures.unchanged) c.upkeep.ensures.step
-    c.upkeep.ensures.kept).main none in
+    let old = c.clean_up.new.store in
+    let all = (IsCached-cleanup c.args.now (IsCached-room c.self.invariant c.reserve.ensures.unchanged) c.clean_up.ensures.step
+    c.clean_up.ensures.kept).main none in
     subst (λ w. IsPutThere g c w put stays) (sym none)
     (subst (λ l. IsPut eq old.keeps_writes None l c.self.inside.sketch new (contents_of old) stays (contents_of put)) max_is (
       put_main eq old.keeps_writes max c.self.inside.sketch new (contents_of old) (contents_of put) all step,
@@ -184,13 +184,13 @@ invariant_of-self-else-admit g c =
     admitted g at c.admit.new.store c.admit.result put c.admit.ensures.keeps
 
 -- room was made for the entry
-its_room : (g : Over) (c : After-upkeep g) → length (entries_of c.self.inside.store) < c.reserve.new.self.capacity
+its_room : (g : Over) (c : After-clean_up g) → length (entries_of c.self.inside.store) < c.reserve.new.self.capacity
 its_room g c =
     let made : length c.reserve.new.self.nodes + 1 ≤ c.reserve.new.self.capacity = search rules in
     omega (arith, length-entries c.self.inside.store, ap (λ s. length s.nodes) c.reserve.ensures.unchanged, made)
 
 -- and none was made where there was some
-its_capacity : (g : Over) (c : After-upkeep g) → length (entries_of c.self.inside.store) < c.self.inside.store.capacity
+its_capacity : (g : Over) (c : After-clean_up g) → length (entries_of c.self.inside.store) < c.self.inside.store.capacity
     → c.reserve.new.self.capacity ≡ c.self.inside.store.capacity
 its_capacity g c fits =
     let room : length c.self.inside.store.nodes + 1 ≤ c.self.inside.store.capacity =
@@ -199,11 +199,11 @@ its_capacity g c fits =
 
 pub returns-in-Some-clause-step : goal.returns-in-Some-clause-step
 returns-in-Some-clause-step g c =
-    let made = (goal.at.returns-in-Some-clause-step g c).After-upkeep in
+    let made = (goal.at.returns-in-Some-clause-step g c).After-clean_up in
     let eq = g.K.PartialEq.eq in
     let keys = keys_by (record { eq = eq; hash_input = g.K.Hash.hash_input }) g.S.BuildHasher g.S.Hasher.Hasher in
     let start = c.self.inside.store in
-    let mid = c.upkeep.new.store in
+    let mid = c.clean_up.new.store in
     let cache : CacheState g.row.K.Denot g.row.V.Denot g.row.S.Denot g.row.W.Denot = record {
       settings = record { hash_state = c.self.inside.hash_state; policy = c.self.inside.bounds; is_weighed = c.self.inside.is_weighed };
       shares = c.self.inside.shares;
@@ -216,8 +216,8 @@ returns-in-Some-clause-step g c =
     new_entry keys c.self.inside.hash_state c.args.key c.args.value c.weigh.result c.args.now in
     let found = (c.in-Some.ensures {u = tt}).found in
     let is : contents_of mid ≡ kept eq cache new c.args.now true =
-    c.upkeep.ensures.step ∙ ap (λ s. after_upkeep eq c.self.inside.bounds c.args.now (contents_of s)) c.reserve.ensures.unchanged in
-    let keeps = c.upkeep.ensures.kept.keeps ∙ (ap (λ s. s.keeps_writes) c.reserve.ensures.unchanged ∙ c.self.invariant.keeps) in
+    c.clean_up.ensures.step ∙ ap (λ s. after_cleanup eq c.self.inside.bounds c.args.now (contents_of s)) c.reserve.ensures.unchanged in
+    let keeps = c.clean_up.ensures.kept.keeps ∙ (ap (λ s. s.keeps_writes) c.reserve.ensures.unchanged ∙ c.self.invariant.keeps) in
     let own = some_parts c.update-key.ensures.step.entry found.0 (sym c.update-key.ensures.step.stood ∙ found.1) in
     rw (← c.self.view_is)
     (record {
@@ -234,14 +234,14 @@ returns-in-Some-clause-step g c =
           (contents_of c.update-key.new.self) c.update-key.new.self.capacity
           (c.update-key.ensures.step.contents
           ∙ (λ i. after_update eq (keeps i) (c.self.invariant.room i) (own i) new (is i)))
-          (c.update-key.ensures.step.kept.capacity ∙ c.upkeep.ensures.kept.capacity);
+          (c.update-key.ensures.step.kept.capacity ∙ c.clean_up.ensures.kept.capacity);
     })
 
 pub returns-then-insert_into_window-clause-step : goal.returns-then-insert_into_window-clause-step
 returns-then-insert_into_window-clause-step g c =
-    let made = (goal.at.returns-then-insert_into_window-clause-step g c).After-upkeep in
+    let made = (goal.at.returns-then-insert_into_window-clause-step g c).After-clean_up in
     let at = (goal.at.returns-then-insert_into_window-clause-step g c).After-weigh in
-    let absent : entry_at g.K.PartialEq.eq c.args.key (entries_of c.upkeep.new.store) ≡ None = search rules in
+    let absent : entry_at g.K.PartialEq.eq c.args.key (entries_of c.clean_up.new.store) ≡ None = search rules in
     let put = its_entering g at c.in-Some-windowed.limits c.in-Some-windowed.is c.insert_into_window.new.store c.insert_into_window.result
     (c.insert_into_window.ensures.step, c.insert_into_window.ensures.value) in
     rw (← c.self.view_is)
@@ -258,14 +258,14 @@ returns-then-insert_into_window-clause-step g c =
           c.enable_sketch.ensures.1
           ∙ insert_stays g.K.PartialEq.eq (its_cache g at) (its_entry g at (its_hash g at)) c.args.now c.enable_sketch.ensures.0
           (its_absence g at absent) (contents_of c.insert_into_window.new.store) c.insert_into_window.new.store.capacity c.insert_into_window.result
-          (its_put g at c.insert_into_window.new.store c.insert_into_window.result put) (c.insert_into_window.ensures.capacity ∙ c.upkeep.ensures.kept.capacity) c.if-insert_into_window.true;
+          (its_put g at c.insert_into_window.new.store c.insert_into_window.result put) (c.insert_into_window.ensures.capacity ∙ c.clean_up.ensures.kept.capacity) c.if-insert_into_window.true;
     })
 
 pub returns-else-insert_into_window-clause-step : goal.returns-else-insert_into_window-clause-step
 returns-else-insert_into_window-clause-step g c =
-    let made = (goal.at.returns-else-insert_into_window-clause-step g c).After-upkeep in
+    let made = (goal.at.returns-else-insert_into_window-clause-step g c).After-clean_up in
     let at = (goal.at.returns-else-insert_into_window-clause-step g c).After-weigh in
-    let absent : entry_at g.K.PartialEq.eq c.args.key (entries_of c.upkeep.new.store) ≡ None = search rules in
+    let absent : entry_at g.K.PartialEq.eq c.args.key (entries_of c.clean_up.new.store) ≡ None = search rules in
     let put = its_entering g at c.in-Some-windowed.limits c.in-Some-windowed.is c.insert_into_window.new.store c.insert_into_window.result
     (c.insert_into_window.ensures.step, c.insert_into_window.ensures.value) in
     rw (← c.self.view_is)
@@ -281,14 +281,14 @@ returns-else-insert_into_window-clause-step g c =
       step =
           insert_drops g.K.PartialEq.eq (its_cache g at) (its_entry g at (its_hash g at)) c.args.now true
           (its_absence g at absent) (contents_of c.insert_into_window.new.store) c.insert_into_window.new.store.capacity c.insert_into_window.result
-          (its_put g at c.insert_into_window.new.store c.insert_into_window.result put) (c.insert_into_window.ensures.capacity ∙ c.upkeep.ensures.kept.capacity) c.if-insert_into_window.false;
+          (its_put g at c.insert_into_window.new.store c.insert_into_window.result put) (c.insert_into_window.ensures.capacity ∙ c.clean_up.ensures.kept.capacity) c.if-insert_into_window.false;
     })
 
 pub returns-then-admit-clause-step : goal.returns-then-admit-clause-step
 returns-then-admit-clause-step g c =
-    let made = (goal.at.returns-then-admit-clause-step g c).After-upkeep in
+    let made = (goal.at.returns-then-admit-clause-step g c).After-clean_up in
     let at = (goal.at.returns-then-admit-clause-step g c).After-weigh in
-    let absent : entry_at g.K.PartialEq.eq c.args.key (entries_of c.upkeep.new.store) ≡ None = search rules in
+    let absent : entry_at g.K.PartialEq.eq c.args.key (entries_of c.clean_up.new.store) ≡ None = search rules in
     let put = its_admission g at c.in-None-windowed.is c.admit.new.store c.admit.result c.max_capacity-limit.result
     (c.max_capacity-limit.ensures ∙ ap (λ p. p.max_capacity) c.policy.ensures) c.admit.ensures.step c.admit.ensures.value in
     rw (← c.self.view_is)
@@ -305,14 +305,14 @@ returns-then-admit-clause-step g c =
           c.enable_sketch-then-admit.ensures.1
           ∙ insert_stays g.K.PartialEq.eq (its_cache g at) (its_entry g at (its_hash g at)) c.args.now c.enable_sketch-then-admit.ensures.0
           (its_absence g at absent) (contents_of c.admit.new.store) c.admit.new.store.capacity c.admit.result
-          (its_put g at c.admit.new.store c.admit.result put) (c.admit.ensures.capacity ∙ c.upkeep.ensures.kept.capacity) c.if-admit.true;
+          (its_put g at c.admit.new.store c.admit.result put) (c.admit.ensures.capacity ∙ c.clean_up.ensures.kept.capacity) c.if-admit.true;
     })
 
 pub returns-else-admit-clause-step : goal.returns-else-admit-clause-step
 returns-else-admit-clause-step g c =
-    let made = (goal.at.returns-else-admit-clause-step g c).After-upkeep in
+    let made = (goal.at.returns-else-admit-clause-step g c).After-clean_up in
     let at = (goal.at.returns-else-admit-clause-step g c).After-weigh in
-    let absent : entry_at g.K.PartialEq.eq c.args.key (entries_of c.upkeep.new.store) ≡ None = search rules in
+    let absent : entry_at g.K.PartialEq.eq c.args.key (entries_of c.clean_up.new.store) ≡ None = search rules in
     let put = its_admission g at c.in-None-windowed.is c.admit.new.store c.admit.result c.max_capacity-limit.result
     (c.max_capacity-limit.ensures ∙ ap (λ p. p.max_capacity) c.policy.ensures) c.admit.ensures.step c.admit.ensures.value in
     rw (← c.self.view_is)
@@ -328,7 +328,7 @@ returns-else-admit-clause-step g c =
       step =
           insert_drops g.K.PartialEq.eq (its_cache g at) (its_entry g at (its_hash g at)) c.args.now true
           (its_absence g at absent) (contents_of c.admit.new.store) c.admit.new.store.capacity c.admit.result
-          (its_put g at c.admit.new.store c.admit.result put) (c.admit.ensures.capacity ∙ c.upkeep.ensures.kept.capacity) c.if-admit.false;
+          (its_put g at c.admit.new.store c.admit.result put) (c.admit.ensures.capacity ∙ c.clean_up.ensures.kept.capacity) c.if-admit.false;
     })
 
 -- the cache as the call finds it
@@ -342,27 +342,27 @@ its_start g c = record {
   capacity = c.self.inside.store.capacity;
 }
 
--- the listener was told of what upkeep removes
-its_upkeep : (g : Over) (c : After-weigh g) → TellsUpkeep g.L.Listener.hears g.K.PartialEq.eq c.self.inside.bounds c.args.now
-    (contents_of c.self.inside.store) c.args.listener.now c.upkeep.new.listener
-its_upkeep g c =
-    subst (λ s. TellsUpkeep g.L.Listener.hears g.K.PartialEq.eq c.self.inside.bounds c.args.now (contents_of s) c.args.listener.now c.upkeep.new.listener)
-    c.reserve.ensures.unchanged c.upkeep.ensures.told
+-- the listener was told of what cleanup removes
+its_cleanup : (g : Over) (c : After-weigh g) → TellsCleanup g.L.Listener.hears g.K.PartialEq.eq c.self.inside.bounds c.args.now
+    (contents_of c.self.inside.store) c.args.listener.now c.clean_up.new.listener
+its_cleanup g c =
+    subst (λ s. TellsCleanup g.L.Listener.hears g.K.PartialEq.eq c.self.inside.bounds c.args.now (contents_of s) c.args.listener.now c.clean_up.new.listener)
+    c.reserve.ensures.unchanged c.clean_up.ensures.told
 
 -- and of what leaves for the new entry
 its_told : (g : Over) (c : After-weigh g) (limit : Option ℕ) (stays : Bool) (new : CacheState g.row.K.Denot g.row.V.Denot g.row.S.Denot g.row.W.Denot)
     (after : g.row.L.Denot) → limit ≡ main_max (windowed_limits c.self.inside.shares c.self.inside.bounds.max_capacity) c.self.inside.bounds.max_capacity
-    → entry_at g.K.PartialEq.eq c.args.key (entries_of c.upkeep.new.store) ≡ None
+    → entry_at g.K.PartialEq.eq c.args.key (entries_of c.clean_up.new.store) ≡ None
     → stays ≡ is_some (entry_at g.K.PartialEq.eq c.args.key new.contents.entries)
-    → TellsPut g.L.Listener.hears limit stays (its_entry g c c.args.hash) (entries_of c.upkeep.new.store) new.contents.entries c.upkeep.new.listener after
+    → TellsPut g.L.Listener.hears limit stays (its_entry g c c.args.hash) (entries_of c.clean_up.new.store) new.contents.entries c.clean_up.new.listener after
     → TellsInsert g.L.Listener.hears
     (keys_by (record { eq = g.K.PartialEq.eq; hash_input = g.K.Hash.hash_input }) g.S.BuildHasher g.S.Hasher.Hasher) (its_start g c) c.args.now c.args.key
     c.args.value new c.args.listener.now after
 its_told g c limit stays new after limited absent stands put =
     let keys = keys_by (record { eq = g.K.PartialEq.eq; hash_input = g.K.Hash.hash_input }) g.S.BuildHasher g.S.Hasher.Hasher in
-    put_told g.L.Listener.hears keys (its_start g c) new c.args.now c.args.key c.args.value (contents_of c.upkeep.new.store) c.args.listener.now
-    c.upkeep.new.listener after (its_contents g c) (its_upkeep g c) c.weigh.result limit stays limited absent stands
-    (subst (λ h. TellsPut g.L.Listener.hears limit stays (its_entry g c h) (entries_of c.upkeep.new.store) new.contents.entries c.upkeep.new.listener after)
+    put_told g.L.Listener.hears keys (its_start g c) new c.args.now c.args.key c.args.value (contents_of c.clean_up.new.store) c.args.listener.now
+    c.clean_up.new.listener after (its_contents g c) (its_cleanup g c) c.weigh.result limit stays limited absent stands
+    (subst (λ h. TellsPut g.L.Listener.hears limit stays (its_entry g c h) (entries_of c.clean_up.new.store) new.contents.entries c.clean_up.new.listener after)
     (put_own g c) put)
 
 -- the limit of main, where there is a window
@@ -379,15 +379,15 @@ its_main g c max none is =
 
 -- an entry that is judged without a window stays if it has victims or needs none
 its_stay : (g : Over) (c : After-weigh g) (put : Store g.row.K.Denot g.row.V.Denot) (stays : Bool) (max : Option ℕ)
-    → entry_at g.K.PartialEq.eq c.args.key (entries_of c.upkeep.new.store) ≡ None
-    → (contents_of put ≡ after_admission g.K.PartialEq.eq c.upkeep.new.store.keeps_writes (its_entry g c c.args.hash)
-    (victims_of max c.self.inside.sketch (its_entry g c c.args.hash) (main_of (entries_of c.upkeep.new.store))) (contents_of c.upkeep.new.store))
-    → stays ≡ is_some (victims_of max c.self.inside.sketch (its_entry g c c.args.hash) (main_of (entries_of c.upkeep.new.store)))
+    → entry_at g.K.PartialEq.eq c.args.key (entries_of c.clean_up.new.store) ≡ None
+    → (contents_of put ≡ after_admission g.K.PartialEq.eq c.clean_up.new.store.keeps_writes (its_entry g c c.args.hash)
+    (victims_of max c.self.inside.sketch (its_entry g c c.args.hash) (main_of (entries_of c.clean_up.new.store))) (contents_of c.clean_up.new.store))
+    → stays ≡ is_some (victims_of max c.self.inside.sketch (its_entry g c c.args.hash) (main_of (entries_of c.clean_up.new.store)))
     → stays ≡ is_some (entry_at g.K.PartialEq.eq c.args.key (entries_of put))
 its_stay g c put stays max absent step value =
     let eq = g.K.PartialEq.eq in
     let new = its_entry g c c.args.hash in
-    let old = c.upkeep.new.store in
+    let old = c.clean_up.new.store in
     value
     ∙ sym (ap (λ s. is_some (entry_at eq c.args.key s.entries)) step
     ∙ stands-arrived eq g.met.K.Eq.laws old.keeps_writes (record { all = 0; window = 0; protected = 0 }) c.self.inside.sketch new
@@ -402,27 +402,27 @@ returns-in-Some-clause-told g c =
     let left : c.update-key.result.1 ≡ found.0.value =
     ap (λ o. unwrap_or o c.update-key.result.1) (sym c.update-key.ensures.value ∙ ap (λ o. option_map (λ e. e.value) o) found.1) in
     rw (← c.self.view_is)
-    (update_told hears keys (its_start g at) _ c.args.now c.args.key c.args.value (contents_of c.upkeep.new.store) c.args.listener.now
-    c.upkeep.new.listener c.removed.new.self (its_contents g at) (its_upkeep g at) found.0 found.2
-    (subst (λ v. hears c.upkeep.new.listener c.args.key v Replaced c.removed.new.self) left
-    (subst (λ k. hears c.upkeep.new.listener k c.update-key.result.1 Replaced c.removed.new.self) c.update-key.ensures.key c.removed.ensures)))
+    (update_told hears keys (its_start g at) _ c.args.now c.args.key c.args.value (contents_of c.clean_up.new.store) c.args.listener.now
+    c.clean_up.new.listener c.removed.new.self (its_contents g at) (its_cleanup g at) found.0 found.2
+    (subst (λ v. hears c.clean_up.new.listener c.args.key v Replaced c.removed.new.self) left
+    (subst (λ k. hears c.clean_up.new.listener k c.update-key.result.1 Replaced c.removed.new.self) c.update-key.ensures.key c.removed.ensures)))
 
 pub returns-then-insert_into_window-clause-told : goal.returns-then-insert_into_window-clause-told
 returns-then-insert_into_window-clause-told g c =
     let at = (goal.at.returns-then-insert_into_window-clause-told g c).After-weigh in
-    let absent : entry_at g.K.PartialEq.eq c.args.key (entries_of c.upkeep.new.store) ≡ None = search rules in
+    let absent : entry_at g.K.PartialEq.eq c.args.key (entries_of c.clean_up.new.store) ≡ None = search rules in
     let same : c.enable_sketch.new.self.contents.entries ≡ entries_of c.insert_into_window.new.store = ap (λ cache. cache.contents.entries) c.enable_sketch.ensures.1 in
     rw (← c.self.view_is)
     (its_told g at (Some (main_limit c.in-Some-windowed.limits)) c.insert_into_window.result c.enable_sketch.new.self c.insert_into_window.new.listener
     (its_window g at c.in-Some-windowed.limits c.in-Some-windowed.is) absent
     (c.insert_into_window.ensures.value ∙ ap (λ es. is_some (entry_at g.K.PartialEq.eq c.args.key es)) (sym same))
     (subst (λ es. TellsPut g.L.Listener.hears (Some (main_limit c.in-Some-windowed.limits)) c.insert_into_window.result (its_entry g at c.args.hash)
-    (entries_of c.upkeep.new.store) es c.upkeep.new.listener c.insert_into_window.new.listener) (sym same) c.insert_into_window.ensures.told))
+    (entries_of c.clean_up.new.store) es c.clean_up.new.listener c.insert_into_window.new.listener) (sym same) c.insert_into_window.ensures.told))
 
 pub returns-else-insert_into_window-clause-told : goal.returns-else-insert_into_window-clause-told
 returns-else-insert_into_window-clause-told g c =
     let at = (goal.at.returns-else-insert_into_window-clause-told g c).After-weigh in
-    let absent : entry_at g.K.PartialEq.eq c.args.key (entries_of c.upkeep.new.store) ≡ None = search rules in
+    let absent : entry_at g.K.PartialEq.eq c.args.key (entries_of c.clean_up.new.store) ≡ None = search rules in
     rw (← c.self.view_is)
     (its_told g at (Some (main_limit c.in-Some-windowed.limits)) c.insert_into_window.result _ c.insert_into_window.new.listener
     (its_window g at c.in-Some-windowed.limits c.in-Some-windowed.is) absent c.insert_into_window.ensures.value c.insert_into_window.ensures.told)
@@ -430,7 +430,7 @@ returns-else-insert_into_window-clause-told g c =
 pub returns-then-admit-clause-told : goal.returns-then-admit-clause-told
 returns-then-admit-clause-told g c =
     let at = (goal.at.returns-then-admit-clause-told g c).After-weigh in
-    let absent : entry_at g.K.PartialEq.eq c.args.key (entries_of c.upkeep.new.store) ≡ None = search rules in
+    let absent : entry_at g.K.PartialEq.eq c.args.key (entries_of c.clean_up.new.store) ≡ None = search rules in
     let max = c.max_capacity-limit.result in
     let same : c.enable_sketch-then-admit.new.self.contents.entries ≡ entries_of c.admit.new.store =
     ap (λ cache. cache.contents.entries) c.enable_sketch-then-admit.ensures.1 in
@@ -439,13 +439,13 @@ returns-then-admit-clause-told g c =
     (its_main g at max c.in-None-windowed.is (c.max_capacity-limit.ensures ∙ ap (λ p. p.max_capacity) c.policy.ensures)) absent
     (its_stay g at c.admit.new.store c.admit.result max absent c.admit.ensures.step c.admit.ensures.value
     ∙ ap (λ es. is_some (entry_at g.K.PartialEq.eq c.args.key es)) (sym same))
-    (subst (λ es. TellsPut g.L.Listener.hears max c.admit.result (its_entry g at c.args.hash) (entries_of c.upkeep.new.store) es c.upkeep.new.listener
+    (subst (λ es. TellsPut g.L.Listener.hears max c.admit.result (its_entry g at c.args.hash) (entries_of c.clean_up.new.store) es c.clean_up.new.listener
     c.admit.new.listener) (sym same) c.admit.ensures.told))
 
 pub returns-else-admit-clause-told : goal.returns-else-admit-clause-told
 returns-else-admit-clause-told g c =
     let at = (goal.at.returns-else-admit-clause-told g c).After-weigh in
-    let absent : entry_at g.K.PartialEq.eq c.args.key (entries_of c.upkeep.new.store) ≡ None = search rules in
+    let absent : entry_at g.K.PartialEq.eq c.args.key (entries_of c.clean_up.new.store) ≡ None = search rules in
     let max = c.max_capacity-limit.result in
     rw (← c.self.view_is)
     (its_told g at max c.admit.result _ c.admit.new.listener

@@ -1,26 +1,26 @@
 use Rattle.std.proofs.Common.{[], ◌∷◌, ◌≡◌, subst, sym}
 use Rattle.moka_common.specs.Keys.{keys_by}
-use Rattle.moka_unsync.proofs.CachedLemmas.{IsCached-leaving, IsCached-upkeep, has_hash}
+use Rattle.moka_unsync.proofs.CachedLemmas.{IsCached-leaving, IsCached-cleanup, has_hash}
 use Rattle.moka_unsync.proofs.cache.Cache.remove_notifying.Goals as goal
 
 pub remove-requires : goal.remove-requires
 remove-requires g c =
     has_hash g.K.PartialEq.eq g.K.Hash.hash_input g.S.BuildHasher g.S.Hasher.Hasher g.met.K.Hash.respects_eq
-    (IsCached-upkeep c.args.now c.self.invariant c.upkeep.ensures.step c.upkeep.ensures.kept) (subst (λ cache. c.args.hash ≡
+    (IsCached-cleanup c.args.now c.self.invariant c.clean_up.ensures.step c.clean_up.ensures.kept) (subst (λ cache. c.args.hash ≡
     (keys_by (record { eq = g.K.PartialEq.eq; hash_input = g.K.Hash.hash_input }) g.S.BuildHasher g.S.Hasher.Hasher).hash_of
     cache.settings.hash_state c.args.key.now) (sym c.self.view_is) c.requires)
 
 pub invariant_of-self : goal.invariant_of-self
 invariant_of-self g c =
-    IsCached-leaving (c.args.key.now ∷ []) (IsCached-upkeep c.args.now c.self.invariant c.upkeep.ensures.step c.upkeep.ensures.kept)
+    IsCached-leaving (c.args.key.now ∷ []) (IsCached-cleanup c.args.now c.self.invariant c.clean_up.ensures.step c.clean_up.ensures.kept)
     c.remove.ensures.step c.remove.ensures.kept
 
 pub invariant_of-self-then-is_expired : goal.invariant_of-self-then-is_expired
 invariant_of-self-then-is_expired g c =
-    IsCached-leaving (c.args.key.now ∷ []) (IsCached-upkeep c.args.now c.self.invariant c.upkeep.ensures.step c.upkeep.ensures.kept)
+    IsCached-leaving (c.args.key.now ∷ []) (IsCached-cleanup c.args.now c.self.invariant c.clean_up.ensures.step c.clean_up.ensures.kept)
     c.remove.ensures.step c.remove.ensures.kept
 
 pub invariant_of-self-2 : goal.invariant_of-self-2
 invariant_of-self-2 g c =
-    IsCached-leaving (c.args.key.now ∷ []) (IsCached-upkeep c.args.now c.self.invariant c.upkeep.ensures.step c.upkeep.ensures.kept)
+    IsCached-leaving (c.args.key.now ∷ []) (IsCached-cleanup c.args.now c.self.invariant c.clean_up.ensures.step c.clean_up.ensures.kept)
     c.remove.ensures.step c.remove.ensures.kept

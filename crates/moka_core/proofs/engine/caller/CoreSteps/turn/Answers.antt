@@ -1,7 +1,7 @@
 use Rattle.std.proofs.Common.{◌∙◌, ap, subst, sym}
 use Rattle.moka_common.specs.Keys.{Keys, keys_by}
 use Rattle.moka_sync_model.specs.declared.event.Event.TheVariants.{Turn}
-use Rattle.moka_sync_model.specs.Place.{name_of}
+use Rattle.moka_sync_model.specs.Phase.{name_of}
 use Rattle.moka_sync_model.specs.Run.{Happens}
 use Rattle.moka_core.specs.Core.{Core}
 use Rattle.moka_core.specs.CoreCaller.{caller_of, core_allows}
@@ -24,11 +24,11 @@ returns-clause-caller g c =
     elim c.match-turn.branch [
       | in-At w ↦
           rw (← c.self.view_is) (
-          turned_to (keys g) weighs old.state new (rw (← c.self.view_is) at c.requires) c.turn.result c.turn.ensures.step w.in-At.place w.in-At.is
+          turned_to (keys g) weighs old.state new (rw (← c.self.view_is) at c.requires) c.turn.result c.turn.ensures.step w.in-At.phase w.in-At.is
           ∙ ap (λ p. maintaining (goes_on p) (caller_of old.state)) (sym w.result-is)
           )
       | in_default w ↦
-          absurd (w.in_default.not-At (name_of new.maintenance.place)
+          absurd (w.in_default.not-At (name_of new.maintenance.phase)
           (turned (keys g) weighs old.state new (rw (← c.self.view_is) at c.requires) c.turn.result c.turn.ensures.step).0)
     ]
 
@@ -43,11 +43,11 @@ returns-clause-turns g c =
       | in-At w ↦
           rw (← c.self.view_is) (
           subst (λ p. TakesTurns (core_allows (keys g) g.W.WeighShared.weighs) p before after) (sym w.result-is) (
-          OneTurn w.in-At.place before after
+          OneTurn w.in-At.phase before after
           (subst (λ r. Happens (keys g) weighs old.state Turn r after.state) w.in-At.is c.turn.ensures.step, c.turn.ensures.kept.weigher)
           ))
       | in_default w ↦
-          absurd (w.in_default.not-At (name_of after.state.maintenance.place)
+          absurd (w.in_default.not-At (name_of after.state.maintenance.phase)
           (turned (keys g) weighs old.state after.state (rw (← c.self.view_is) at c.requires) c.turn.result c.turn.ensures.step).0)
     ]
 

@@ -42,7 +42,7 @@ returns-clause-step g c =
         maintenance = record {
           orders = orders i;
           sketch = c.self.inside.sketch;
-          place = c.writes_or_on-self-inside-2.ensures.is c.touch_both.new.self.nodes i;
+          phase = c.writes_or_on-self-inside-2.ensures.is c.touch_both.new.self.nodes i;
           moment = c.self.inside.moment;
           published = c.self.inside.published;
         };

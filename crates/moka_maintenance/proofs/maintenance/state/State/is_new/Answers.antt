@@ -9,7 +9,7 @@ returns-in-Idle g c =
           (record {
             orders = c.self.inside.orders;
             sketch = c.self.inside.sketch;
-            stage = c.self.inside.stage;
+            phase = c.self.inside.phase;
             moment = c.self.inside.moment;
             published = c.self.inside.published;
           })

@@ -1,6 +1,6 @@
 use Rattle.std.proofs.Common.{ap, is_some, subst, sym}
 use Rattle.moka_maintenance.specs.Held.{HoldsIn, IsRemoving, Held}
-use Rattle.moka_maintenance.proofs.ScanLemmas.{next_node, removed_place, removed_holds}
+use Rattle.moka_maintenance.proofs.ScanLemmas.{next_node, removed_phase, removed_holds}
 use Rattle.moka_maintenance.proofs.maintenance.state.State.remove_next.Goals as goal
 
 pub next-next-requires : goal.next-next-requires
@@ -22,8 +22,8 @@ returns-clause-step g c =
     (λ n found. λ i. record {
       orders = c.remove.ensures.orders n found i;
       sketch = c.self.inside.sketch;
-      place =
-          removed_place c.self.inside.orders c.args.work c.args.removal s.counted.distinct s c.requires.left c.args.id c.requires.next
+      phase =
+          removed_phase c.self.inside.orders c.args.work c.args.removal s.counted.distinct s c.requires.left c.args.id c.requires.next
           c.remove.new.self c.remove.ensures.nodes c.next-next.result i;
       moment = c.self.inside.moment;
       published = c.self.inside.published;

@@ -1,5 +1,5 @@
 use Rattle.std.proofs.Common.{◌≡◌, ◌∙◌, ◌++◌, ◌∷◌, [], ap, is_some, subst, sym}
-use Rattle.moka_sync_model.specs.Place as place
+use Rattle.moka_sync_model.specs.Phase as phase
 use Rattle.moka_sync_model.specs.Turn.Plan.{Stays}
 use Rattle.moka_sync_model.specs.Turn.Admission.{after_finding, is_decided}
 use Rattle.moka_queues.specs.declared.orders.Node.{Node}
@@ -22,8 +22,8 @@ next-next-requires g c =
     c.requires.next in
     ap is_some (scanned_node c.self.inside.orders c.args.scan s.counted.distinct s c.args.id at.1).found
 
-pub mark-requires : goal.mark-requires
-mark-requires g c =
+pub set_present-requires : goal.set_present-requires
+set_present-requires g c =
     let s = subst (λ (v : Held). IsScanning v.orders c.args.scan) (sym c.self.view_is) c.requires.scanning in
     let at = next_parts (is_decided c.args.scan.candidate c.args.scan.tally) c.args.scan.next c.args.id
     c.requires.next in
@@ -43,16 +43,16 @@ returns-clause-step g c =
     after_finding v.sketch c.get.result.now.ticket c.args.scan.tally entry) (sym c.self.view_is)
     ∙ ap (λ (m : Node). after_finding c.self.inside.sketch m.ticket c.args.scan.tally entry) same in
     let seen =
-    seen_more c.self.inside.orders c.args.scan s.counted.distinct s c.args.id at.1 c.mark.new.self c.is_some.result
-    c.mark.ensures.step n found
+    seen_more c.self.inside.orders c.args.scan s.counted.distinct s c.args.id at.1 c.set_present.new.self c.is_some.result
+    c.set_present.ensures.step n found
     ∙ ap (λ b. first_seen c.args.scan.seen c.self.inside.orders.nodes ++ record { ticket = n.ticket; is_present = b } ∷ [])
     (c.is_some.ensures ∙ ap is_some (sym weighs) ∙ is_some_weighed entry) in
     λ i. record {
       change = Stays;
       maintenance = record {
-        orders = c.mark.ensures.orders i;
+        orders = c.set_present.ensures.orders i;
         sketch = c.self.inside.sketch;
-        place = place.Scan c.args.work c.args.scan.candidate (tally i) (seen i);
+        phase = phase.Scan c.args.work c.args.scan.candidate (tally i) (seen i);
         moment = c.self.inside.moment;
         published = c.self.inside.published;
       };
@@ -64,6 +64,6 @@ returns-clause-holds g c =
     let at = next_parts (is_decided c.args.scan.candidate c.args.scan.tally) c.args.scan.next c.args.id
     c.requires.next in (
       c.requires.round,
-      scanning_on c.self.inside.orders c.args.scan s.counted.distinct s c.args.id at.1 c.mark.new.self c.is_some.result
-          c.mark.ensures.step c.with_found-tally.result c.next-next.result c.next-next.ensures c.mark.ensures.orders,
+      scanning_on c.self.inside.orders c.args.scan s.counted.distinct s c.args.id at.1 c.set_present.new.self c.is_some.result
+          c.set_present.ensures.step c.with_found-tally.result c.next-next.result c.next-next.ensures c.set_present.ensures.orders,
     )

@@ -1,7 +1,7 @@
 use Rattle.std.proofs.Common.{ap, is_some, subst, sym}
 use Rattle.moka_sync_model.specs.Turn.Plan.{gone_to}
 use Rattle.moka_maintenance.specs.Held.{HoldsIn, IsRemoving, Held, maintenance_of}
-use Rattle.moka_maintenance.proofs.ScanLemmas.{next_node, skipped_place, skipped_holds}
+use Rattle.moka_maintenance.proofs.ScanLemmas.{next_node, skipped_phase, skipped_holds}
 use Rattle.moka_maintenance.proofs.maintenance.state.State.skip.Goals as goal
 
 pub next-requires : goal.next-requires
@@ -18,11 +18,11 @@ returns-clause-step g c =
     ap (λ p. gone_to p (maintenance_of (record {
       orders = c.self.inside.orders;
       sketch = c.self.inside.sketch;
-      stage = c.self.inside.stage;
+      phase = c.self.inside.phase;
       moment = c.self.inside.moment;
       published = c.self.inside.published;
     })))
-    (skipped_place c.self.inside.orders c.args.work c.args.removal s.counted.distinct s c.requires.left c.args.id
+    (skipped_phase c.self.inside.orders c.args.work c.args.removal s.counted.distinct s c.requires.left c.args.id
     c.requires.next n found
     c.next.result))
 

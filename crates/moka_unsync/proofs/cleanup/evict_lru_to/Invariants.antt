@@ -1,11 +1,11 @@
 use Rattle.std.proofs.Common.{◌≡◌}
 use Rattle.std.specs.Prelude.{⊤}
-use Rattle.moka_unsync_model.specs.Upkeep.{after_eviction}
+use Rattle.moka_unsync_model.specs.Cleanup.{after_eviction}
 use Rattle.moka_unsync_model.specs.declared.constants.TheConstants.{EVICTION_BATCH_SIZE}
 use Rattle.moka_unsync_model.specs.Told.{TellsWhatLeft}
 use Rattle.moka_unsync_model.specs.declared.listener.Cause.TheVariants.{Size}
 use Rattle.moka_store.specs.Store.{Continues, contents_of, entries_of}
-use Rattle.moka_unsync.proofs.upkeep.evict_lru_to.Given as goal
+use Rattle.moka_unsync.proofs.cleanup.evict_lru_to.Given as goal
 
 abbrev pub invariant-loop-left : goal.invariant-loop-left
 invariant-loop-left g l =

@@ -62,5 +62,5 @@ module _ {K V : Type 0} (eq : K → K → Bool) where
   after_trim (Some limit) contents = after_eviction limit EVICTION_BATCH_SIZE contents
 
   -- what a call finds when it acts
-  abbrev pub after_upkeep : Policy → ℕ → Contents K V → Contents K V
-  after_upkeep policy now contents = after_trim policy.max_capacity (after_expiry policy now contents)
+  abbrev pub after_cleanup : Policy → ℕ → Contents K V → Contents K V
+  after_cleanup policy now contents = after_trim policy.max_capacity (after_expiry policy now contents)

@@ -3,7 +3,7 @@ use Rattle.moka_unsync_model.proofs.ToldLemmas.{then_left, untold}
 use Rattle.moka_store.specs.Store.{contents_of}
 use Rattle.moka_unsync.specs.Turns.{after_idle_of}
 use Rattle.moka_unsync.proofs.TurnLemmas.{continued, next_turn}
-use Rattle.moka_unsync.proofs.upkeep.expire_part.Goals as goal
+use Rattle.moka_unsync.proofs.cleanup.expire_part.Goals as goal
 
 pub loop-left-preserved : goal.loop-left-preserved
 loop-left-preserved g c =

@@ -1,9 +1,9 @@
 //! Where a maintenance is.
 
-/// The places of a maintenance, by their names. A round goes from `ReadCount` to `MoreWrites`; after the last round come two expiries, the
+/// The phases of a maintenance, by their names. A round goes from `ReadCount` to `MoreWrites`; after the last round come two expiries, the
 /// eviction, and the counts are published.
 #[derive(Clone, Copy, Debug, PartialEq, Eq)]
-pub enum Place {
+pub enum Phase {
     /// No maintenance is under way.
     Idle,
     ReadCount,

@@ -1,15 +1,15 @@
 use Rattle.std.proofs.Common.{◌≡◌, ◌≤◌, ◌∙◌, ap, subst, sym, true}
 use Rattle.moka_unsync_model.specs.Contents.{total_weight}
-use Rattle.moka_unsync_model.specs.Upkeep.{after_expiry, after_trim, after_upkeep, is_expired}
-use Rattle.moka_unsync_model.specs.Told.{IsAbove, TellsUpkeep, TellsWhatLeft}
+use Rattle.moka_unsync_model.specs.Cleanup.{after_expiry, after_trim, after_cleanup, is_expired}
+use Rattle.moka_unsync_model.specs.Told.{IsAbove, TellsCleanup, TellsWhatLeft}
 use Rattle.moka_unsync_model.specs.declared.listener.Cause.TheVariants.{Expired}
 use Rattle.moka_unsync_model.proofs.ToldLemmas.{also_for, untold}
 use Rattle.moka_unsync_model.proofs.MapLemmas.{expiry-same}
 use Rattle.moka_store.specs.Store.{contents_of, entries_of}
 use Rattle.moka_unsync.proofs.TurnLemmas.{lasting, trim-above, trim-within}
-use Rattle.moka_unsync.proofs.LeavingLemmas.{is_above, upkeep_told}
-use Rattle.moka_unsync.proofs.upkeep.Bounds.upkeep.Goals.{then-self, else-self}
-use Rattle.moka_unsync.proofs.upkeep.Bounds.upkeep.Goals as goal
+use Rattle.moka_unsync.proofs.LeavingLemmas.{is_above, cleanup_told}
+use Rattle.moka_unsync.proofs.cleanup.Bounds.clean_up.Goals.{then-self, else-self}
+use Rattle.moka_unsync.proofs.cleanup.Bounds.clean_up.Goals as goal
 
 pub returns-then-weight-self-clause-step : goal.returns-then-weight-self-clause-step
 returns-then-weight-self-clause-step g c =
@@ -24,7 +24,7 @@ returns-then-weight-self-clause-step g c =
           (contents_of c.args.store.now))
     ] in
     let small = c.weight.type_inv in
-    subst (λ p. contents_of c.evict_lru_to.new.store ≡ after_upkeep eq p c.args.now (contents_of c.args.store.now)) c.self.view_is
+    subst (λ p. contents_of c.evict_lru_to.new.store ≡ after_cleanup eq p c.args.now (contents_of c.args.store.now)) c.self.view_is
     (c.evict_lru_to.ensures.step
     ∙ (trim-above eq c.self.inside.limits.max_capacity c.self.inside.max_weight c.weight.result c.self.invariant.limited c.if-weight-self.true small
     (contents_of c.if-self.store)
@@ -43,7 +43,7 @@ returns-else-weight-self-clause-step g c =
           (contents_of c.args.store.now))
     ] in
     let within : total_weight (entries_of c.if-self.store) ≤ c.self.inside.max_weight = subst (λ w. w ≤ c.self.inside.max_weight) c.weight.ensures.value c.if-weight-self.false in
-    subst (λ p. contents_of c.if-self.store ≡ after_upkeep eq p c.args.now (contents_of c.args.store.now)) c.self.view_is
+    subst (λ p. contents_of c.if-self.store ≡ after_cleanup eq p c.args.now (contents_of c.args.store.now)) c.self.view_is
     (trim-within eq c.self.inside.limits.max_capacity c.self.inside.max_weight c.self.invariant.limited (contents_of c.if-self.store) within
     ∙ ap (after_trim eq c.self.inside.limits.max_capacity) expired)
 
@@ -67,9 +67,9 @@ returns-then-weight-self-clause-told g c =
     let above : IsAbove policy.max_capacity (total_weight then.entries) =
     subst (λ w. IsAbove policy.max_capacity w) c.weight.ensures.value
     (is_above policy.max_capacity c.self.inside.max_weight c.weight.result c.self.invariant.limited c.if-weight-self.true c.weight.type_inv) in
-    subst (λ p. TellsUpkeep hears eq p c.args.now old c.args.listener.now c.evict_lru_to.new.listener) c.self.view_is
-    (upkeep_told hears eq policy c.args.now old then (contents_of c.evict_lru_to.new.store) c.args.listener.now c.if-self.listener c.evict_lru_to.new.listener
-    expired.0 (subst (λ p. contents_of c.evict_lru_to.new.store ≡ after_upkeep eq p c.args.now old) (sym c.self.view_is) (returns-then-weight-self-clause-step g c))
+    subst (λ p. TellsCleanup hears eq p c.args.now old c.args.listener.now c.evict_lru_to.new.listener) c.self.view_is
+    (cleanup_told hears eq policy c.args.now old then (contents_of c.evict_lru_to.new.store) c.args.listener.now c.if-self.listener c.evict_lru_to.new.listener
+    expired.0 (subst (λ p. contents_of c.evict_lru_to.new.store ≡ after_cleanup eq p c.args.now old) (sym c.self.view_is) (returns-then-weight-self-clause-step g c))
     expired.1 (also_for (λ e there. above) c.evict_lru_to.ensures.told))
 
 pub returns-else-weight-self-clause-told : goal.returns-else-weight-self-clause-told
@@ -89,7 +89,7 @@ returns-else-weight-self-clause-told g c =
         rw (w.store-is, w.listener-is) untold,
       )
     ] in
-    subst (λ p. TellsUpkeep hears eq p c.args.now old c.args.listener.now c.if-self.listener) c.self.view_is
-    (upkeep_told hears eq policy c.args.now old then then c.args.listener.now c.if-self.listener c.if-self.listener
-    expired.0 (subst (λ p. then ≡ after_upkeep eq p c.args.now old) (sym c.self.view_is) (returns-else-weight-self-clause-step g c))
+    subst (λ p. TellsCleanup hears eq p c.args.now old c.args.listener.now c.if-self.listener) c.self.view_is
+    (cleanup_told hears eq policy c.args.now old then then c.args.listener.now c.if-self.listener c.if-self.listener
+    expired.0 (subst (λ p. then ≡ after_cleanup eq p c.args.now old) (sym c.self.view_is) (returns-else-weight-self-clause-step g c))
     expired.1 untold)

@@ -1,12 +1,12 @@
 // Where a maintenance is, and what it keeps there.
 ghost use Rattle.std.specs.Prelude.{◌≡◌, ℕ, List};
-ghost use Rattle.moka_sync_model.specs.Place.{name_of};
+ghost use Rattle.moka_sync_model.specs.Phase.{name_of};
 ghost use Rattle.moka_queues.specs.declared.orders.Node.{Node};
-ghost use Rattle.moka_maintenance.specs.Held.{place_of};
+ghost use Rattle.moka_maintenance.specs.Held.{phase_of};
 
 use moka_list::chain::NodeId;
 use moka_sync_model::operation::{Read, Write};
-use moka_sync_model::place::Place;
+use moka_sync_model::phase::Phase;
 use moka_sync_model::progress::{Candidate, Tally, Work};
 
 /// A scan from the front of the order of use on. What it has seen is marked in the nodes.
@@ -30,9 +30,9 @@ pub(crate) struct Removal {
     pub(crate) next: Option<NodeId>,
 }
 
-/// The places of a maintenance, each with what it keeps there.
+/// The phases of a maintenance, each with what it keeps there.
 #[derive(Clone, Copy)]
-pub(crate) enum Stage {
+pub(crate) enum PhaseState {
     Idle,
     ReadCount {
         round: usize,
@@ -90,29 +90,29 @@ pub(crate) enum Stage {
     },
 }
 
-impl Stage {
+impl PhaseState {
     /// Its name.
-    pub(crate) fn name(&self) -> Place
-        ensures { (nodes : List (ℕ × Node)) → result ≡ name_of (place_of nodes self.now) }
+    pub(crate) fn name(&self) -> Phase
+        ensures { (nodes : List (ℕ × Node)) → result ≡ name_of (phase_of nodes self.now) }
     {
         match self {
-            Stage::Idle => Place::Idle,
-            Stage::ReadCount { .. } => Place::ReadCount,
-            Stage::Reads { .. } => Place::Reads,
-            Stage::ReadApply { .. } => Place::ReadApply,
-            Stage::WriteCount { .. } => Place::WriteCount,
-            Stage::Writes { .. } => Place::Writes,
-            Stage::Apply { .. } => Place::Apply,
-            Stage::Scanning { .. } => Place::Scan,
-            Stage::Removing { .. } => Place::Removing,
-            Stage::Enter { .. } => Place::Enter,
-            Stage::Sketch { .. } => Place::Sketch,
-            Stage::MoreReads { .. } => Place::MoreReads,
-            Stage::MoreWrites { .. } => Place::MoreWrites,
-            Stage::ExpireWrite { .. } => Place::ExpireWrite,
-            Stage::ExpireAccess { .. } => Place::ExpireAccess,
-            Stage::Evict { .. } => Place::Evict,
-            Stage::Publish { .. } => Place::Publish,
+            PhaseState::Idle => Phase::Idle,
+            PhaseState::ReadCount { .. } => Phase::ReadCount,
+            PhaseState::Reads { .. } => Phase::Reads,
+            PhaseState::ReadApply { .. } => Phase::ReadApply,
+            PhaseState::WriteCount { .. } => Phase::WriteCount,
+            PhaseState::Writes { .. } => Phase::Writes,
+            PhaseState::Apply { .. } => Phase::Apply,
+            PhaseState::Scanning { .. } => Phase::Scan,
+            PhaseState::Removing { .. } => Phase::Removing,
+            PhaseState::Enter { .. } => Phase::Enter,
+            PhaseState::Sketch { .. } => Phase::Sketch,
+            PhaseState::MoreReads { .. } => Phase::MoreReads,
+            PhaseState::MoreWrites { .. } => Phase::MoreWrites,
+            PhaseState::ExpireWrite { .. } => Phase::ExpireWrite,
+            PhaseState::ExpireAccess { .. } => Phase::ExpireAccess,
+            PhaseState::Evict { .. } => Phase::Evict,
+            PhaseState::Publish { .. } => Phase::Publish,
         }
     }
 }

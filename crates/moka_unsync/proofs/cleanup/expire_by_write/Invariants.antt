@@ -1,10 +1,10 @@
 use Rattle.std.proofs.Common.{◌≡◌, true}
-use Rattle.moka_unsync_model.specs.Upkeep.{after_live_expiry, is_expired}
+use Rattle.moka_unsync_model.specs.Cleanup.{after_live_expiry, is_expired}
 use Rattle.moka_unsync_model.specs.declared.constants.TheConstants.{EVICTION_BATCH_SIZE}
 use Rattle.moka_unsync_model.specs.Told.{TellsWhatLeft}
 use Rattle.moka_unsync_model.specs.declared.listener.Cause.TheVariants.{Expired}
 use Rattle.moka_store.specs.Store.{Continues, contents_of, entries_of}
-use Rattle.moka_unsync.proofs.upkeep.expire_by_write.Given as goal
+use Rattle.moka_unsync.proofs.cleanup.expire_by_write.Given as goal
 
 abbrev pub invariant-loop-left : goal.invariant-loop-left
 invariant-loop-left g l =

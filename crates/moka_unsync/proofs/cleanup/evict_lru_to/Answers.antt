@@ -1,9 +1,9 @@
 use Rattle.std.proofs.Common.{arith, refl}
-use Rattle.moka_unsync_model.specs.Upkeep.{after_eviction}
+use Rattle.moka_unsync_model.specs.Cleanup.{after_eviction}
 use Rattle.moka_unsync_model.proofs.ToldLemmas.{then_left, untold}
 use Rattle.moka_store.specs.Store.{contents_of}
 use Rattle.moka_unsync.proofs.TurnLemmas.{continued, last_turn, next_turn}
-use Rattle.moka_unsync.proofs.upkeep.evict_lru_to.Goals as goal
+use Rattle.moka_unsync.proofs.cleanup.evict_lru_to.Goals as goal
 
 pub loop-left-preserved : goal.loop-left-preserved
 loop-left-preserved g c =

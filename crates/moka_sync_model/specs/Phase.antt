@@ -6,8 +6,8 @@ use Rattle.moka_sync_model.specs.declared.progress.Tally.{Tally}
 use Rattle.moka_sync_model.specs.declared.operation.Read.{Read}
 use Rattle.moka_sync_model.specs.declared.operation.Write.{Write}
 use Rattle.moka_sync_model.specs.declared.operation.Write.TheVariants.{Upsert}
-use Rattle.moka_sync_model.specs.declared.place.Place.{Place as PlaceName}
-use Rattle.moka_sync_model.specs.declared.place.Place.TheVariants as name
+use Rattle.moka_sync_model.specs.declared.phase.Phase.{Phase as PhaseName}
+use Rattle.moka_sync_model.specs.declared.phase.Phase.TheVariants as name
 use Rattle.moka_sync_model.specs.declared.ticket.Ticket.{Ticket}
 
 -- a node that a scan has looked at: its entry stood, or was absent
@@ -15,31 +15,31 @@ pub record Seen : Type 0 where
   pub ticket : Ticket
   pub is_present : Bool
 
--- the places of a maintenance, each with what it has at hand
-pub data Place : Type 0 where
-  Idle : Place
-  ReadCount : ℕ → Place
-  Reads : Work → Place
-  ReadApply : Work → Read → Place
-  WriteCount : ℕ → Place
-  Writes : Work → Place
-  Apply : Work → Write → Place
+-- the phases of a maintenance, each with what it has at hand
+pub data Phase : Type 0 where
+  Idle : Phase
+  ReadCount : ℕ → Phase
+  Reads : Work → Phase
+  ReadApply : Work → Read → Phase
+  WriteCount : ℕ → Phase
+  Writes : Work → Phase
+  Apply : Work → Write → Phase
   -- the nodes seen so far are the first of the order of use
-  Scan : Work → Candidate → Tally → List Seen → Place
+  Scan : Work → Candidate → Tally → List Seen → Phase
   -- the nodes that are skipped, and after them those still to be removed, are the first of the order of use
-  Removing : Work → Candidate → Tally → List Ticket → List Seen → Place
-  Enter : Work → Candidate → List Ticket → Place
-  Sketch : ℕ → Place
-  MoreReads : ℕ → Place
-  MoreWrites : ℕ → Place
+  Removing : Work → Candidate → Tally → List Ticket → List Seen → Phase
+  Enter : Work → Candidate → List Ticket → Phase
+  Sketch : ℕ → Phase
+  MoreReads : ℕ → Phase
+  MoreWrites : ℕ → Phase
   -- with how many turns were used
-  ExpireWrite : ℕ → Place
-  ExpireAccess : ℕ → Place
-  Evict : ℕ → Place
-  Publish : ℕ → Place
+  ExpireWrite : ℕ → Phase
+  ExpireAccess : ℕ → Phase
+  Evict : ℕ → Phase
+  Publish : ℕ → Phase
 
--- the name of a place, without what it has at hand
-abbrev pub name_of : Place → PlaceName
+-- the name of a phase, without what it has at hand
+abbrev pub name_of : Phase → PhaseName
 name_of Idle = name.Idle
 name_of (ReadCount round) = name.ReadCount
 name_of (Reads work) = name.Reads
@@ -59,14 +59,14 @@ name_of (Evict turns) = name.Evict
 name_of (Publish turns) = name.Publish
 
 -- whether no maintenance is under way
-abbrev pub is_idle : Place → Bool
+abbrev pub is_idle : Phase → Bool
 is_idle Idle = true
 is_idle other = false
 
--- the write that a place holds
-abbrev pub held : Place → List Write
+-- the write that a phase holds
+abbrev pub held : Phase → List Write
 held (Apply work write) = write ∷ []
 held (Scan work candidate tally seen) = Upsert candidate.ticket ∷ []
 held (Removing work candidate tally skipped seen) = Upsert candidate.ticket ∷ []
 held (Enter work candidate skipped) = Upsert candidate.ticket ∷ []
-held place = []
+held phase = []

@@ -2,11 +2,11 @@ use Rattle.std.proofs.Common.{◌≡◌, false, true}
 use Rattle.moka_unsync_model.specs.declared.constants.TheConstants.{EVICTION_BATCH_SIZE}
 use Rattle.moka_unsync_model.specs.declared.entry.Part.{Part}
 use Rattle.moka_unsync_model.specs.Told.{TellsWhatLeft}
-use Rattle.moka_unsync_model.specs.Upkeep.{is_expired}
+use Rattle.moka_unsync_model.specs.Cleanup.{is_expired}
 use Rattle.moka_unsync_model.specs.declared.listener.Cause.TheVariants.{Expired}
 use Rattle.moka_store.specs.Store.{Continues, contents_of, entries_of, is_of, those_of}
 use Rattle.moka_unsync.specs.Turns.{after_idle_of}
-use Rattle.moka_unsync.proofs.upkeep.expire_part.Given as goal
+use Rattle.moka_unsync.proofs.cleanup.expire_part.Given as goal
 
 abbrev pub invariant-loop-left : goal.invariant-loop-left
 invariant-loop-left g l =

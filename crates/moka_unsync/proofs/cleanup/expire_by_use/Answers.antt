@@ -2,10 +2,10 @@ use Rattle.moka_unsync_model.proofs.ToldLemmas.{then_left}
 use Rattle.std.proofs.Common.{◌∙◌, refl}
 use Rattle.moka_unsync_model.specs.Contents.{protected_of}
 use Rattle.moka_unsync_model.specs.declared.entry.Part.TheVariants.{Probation, Protected}
-use Rattle.moka_unsync_model.specs.Upkeep.{after_idle}
+use Rattle.moka_unsync_model.specs.Cleanup.{after_idle}
 use Rattle.moka_unsync_model.specs.declared.constants.TheConstants.{EVICTION_BATCH_SIZE}
 use Rattle.moka_store.specs.Store.{entries_of}
-use Rattle.moka_unsync.proofs.upkeep.expire_by_use.Goals as goal
+use Rattle.moka_unsync.proofs.cleanup.expire_by_use.Goals as goal
 
 pub returns-clause-step : goal.returns-clause-step
 returns-clause-step g c =

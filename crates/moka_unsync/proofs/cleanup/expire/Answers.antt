@@ -1,11 +1,11 @@
 use Rattle.std.proofs.Common.{◌≡◌, true}
 use Rattle.moka_unsync_model.specs.Told.{TellsWhatLeft}
-use Rattle.moka_unsync_model.specs.Upkeep.{is_expired}
+use Rattle.moka_unsync_model.specs.Cleanup.{is_expired}
 use Rattle.moka_unsync_model.specs.declared.listener.Cause.TheVariants.{Expired}
 use Rattle.moka_unsync_model.proofs.ToldLemmas.{then_left, untold}
 use Rattle.moka_store.specs.Store.{entries_of}
-use Rattle.moka_unsync.proofs.upkeep.expire.Goals.{then-has_time_to_live, else-has_time_to_live}
-use Rattle.moka_unsync.proofs.upkeep.expire.Goals as goal
+use Rattle.moka_unsync.proofs.cleanup.expire.Goals.{then-has_time_to_live, else-has_time_to_live}
+use Rattle.moka_unsync.proofs.cleanup.expire.Goals as goal
 
 pub returns-then-has_time_to_idle-clause-told : goal.returns-then-has_time_to_idle-clause-told
 returns-then-has_time_to_idle-clause-told g c =

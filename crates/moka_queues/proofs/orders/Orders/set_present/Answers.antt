@@ -3,7 +3,7 @@ use Rattle.moka_queues.specs.declared.orders.Node.{Node}
 use Rattle.moka_queues.proofs.ChangeLemmas.{marked_orders}
 use Rattle.moka_queues.proofs.HighWaterLemmas.{AreCovered-set}
 use Rattle.moka_queues.proofs.KeptLemmas.{IsKept-set, charge_in_total}
-use Rattle.moka_queues.proofs.orders.Orders.mark.Goals as goal
+use Rattle.moka_queues.proofs.orders.Orders.set_present.Goals as goal
 
 pub invariant_of-self : goal.invariant_of-self
 invariant_of-self g c =

@@ -1,8 +1,8 @@
 // The work that each call does first: it removes expired entries, by write and then by use, and entries above the limit, in batches.
 ghost use Rattle.std.specs.Prelude.{◌≡◌, ⊤, false, true};
 ghost use Rattle.moka_unsync_model.specs.declared.constants.TheConstants.{EVICTION_BATCH_SIZE};
-ghost use Rattle.moka_unsync_model.specs.Upkeep.{after_eviction, after_expiry, after_idle_expiry, after_live_expiry, after_upkeep, is_expired};
-ghost use Rattle.moka_unsync_model.specs.Told.{TellsUpkeep, TellsWhatLeft};
+ghost use Rattle.moka_unsync_model.specs.Cleanup.{after_eviction, after_expiry, after_idle_expiry, after_live_expiry, after_cleanup, is_expired};
+ghost use Rattle.moka_unsync_model.specs.Told.{TellsCleanup, TellsWhatLeft};
 ghost use Rattle.moka_unsync_model.specs.declared.listener.Cause.TheVariants.{Expired, Size};
 ghost use Rattle.moka_store.specs.Store.{Continues, contents_of, entries_of, is_of, those_of};
 ghost use Rattle.moka_unsync.specs.Turns.{IsTurn, after_idle_of};
@@ -60,15 +60,15 @@ impl Bounds {
 
     /// Removes expired entries, and then entries above the limit. Each call does so first.
     #[inline(always)]
-    pub(crate) fn upkeep<K: Eq + Drop, V: Drop, A: Allocator + Clone + Drop, L: Listener<K, V>>(
+    pub(crate) fn clean_up<K: Eq + Drop, V: Drop, A: Allocator + Clone + Drop, L: Listener<K, V>>(
         &self,
         store: &mut Store<K, V, A>,
         now: Instant,
         listener: &mut L,
     )
-        ensures step { contents_of store.new ≡ after_upkeep K.eq self.now now (contents_of store.old) }
+        ensures step { contents_of store.new ≡ after_cleanup K.eq self.now now (contents_of store.old) }
         ensures kept { Continues store.old store.new }
-        ensures told { TellsUpkeep L.hears K.eq self.now now (contents_of store.old) listener.old listener.new }
+        ensures told { TellsCleanup L.hears K.eq self.now now (contents_of store.old) listener.old listener.new }
     {
         if self.expires {
             expire(store, &self.limits, now, listener);

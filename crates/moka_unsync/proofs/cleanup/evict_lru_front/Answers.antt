@@ -1,7 +1,7 @@
 use Rattle.moka_unsync_model.proofs.ToldLemmas.{also_for, untold}
 use Rattle.std.proofs.Common.{◌<◌, subst}
 use Rattle.moka_unsync.proofs.TurnLemmas.{trim_turn}
-use Rattle.moka_unsync.proofs.upkeep.evict_lru_front.Goals as goal
+use Rattle.moka_unsync.proofs.cleanup.evict_lru_front.Goals as goal
 
 pub returns-clause-turn : goal.returns-clause-turn
 returns-clause-turn g c =

@@ -1,8 +1,8 @@
 use Rattle.std.proofs.Common.{◌≡◌, ◌-◌, ◌∙◌, suc, ap, refl, sym, arith}
-use Rattle.moka_unsync_model.specs.Upkeep.{after_live_expiry}
+use Rattle.moka_unsync_model.specs.Cleanup.{after_live_expiry}
 use Rattle.moka_unsync_model.proofs.ToldLemmas.{then_left, untold}
 use Rattle.moka_store.specs.Store.{contents_of}
-use Rattle.moka_unsync.proofs.upkeep.expire_by_write.Goals as goal
+use Rattle.moka_unsync.proofs.cleanup.expire_by_write.Goals as goal
 
 pub loop-left-preserved : goal.loop-left-preserved
 loop-left-preserved g c =
