@@ -10,7 +10,7 @@ ghost use Rattle.moka_sync_model.specs.Phase.{Idle, ReadCount, name_of};
 ghost use Rattle.moka_sync_model.specs.Turn.Turn.{turn_at};
 ghost use Rattle.moka_sync_model.specs.Entry.{Entry as EntryState};
 ghost use Rattle.moka_sync_model.specs.declared.operation.Write.TheVariants.{Remove, Upsert};
-ghost use Rattle.moka_maintenance.specs.Need.{need_at_front, need_named, need_to_read, need_to_write};
+ghost use Rattle.moka_maintenance.specs.Need.{need_named};
 ghost use Rattle.moka_queues.specs.LoggedReads.{reads_of};
 ghost use Rattle.moka_maintenance.specs.Taken.{AppliesReads, IsScan, IsTaken, TakesRead, TakesWrite, having_taken_write, reads_left, writes_left};
 
@@ -18,6 +18,7 @@ mod admission;
 mod eviction;
 mod expiry;
 mod fronts;
+mod needs;
 mod phase;
 mod publish;
 mod reads;
@@ -25,6 +26,8 @@ mod sketch;
 mod state;
 mod writes;
 
+use crate::maintenance::admission::weight_of;
+use crate::maintenance::needs::{need_of_front, need_of_read, need_of_write};
 use crate::maintenance::phase::PhaseState;
 use crate::maintenance::state::State;
 use moka_common::frequency_sketch::FrequencySketch;
@@ -388,43 +391,5 @@ impl<A: Allocator + Clone + Drop> Maintenance<A> {
             PhaseState::Evict { turns } => self.state.evict(turns, found),
             _ => EntryChange::Stays,
         }
-    }
-}
-
-/// Returns the weight of an entry, if it stands.
-#[inline(always)]
-fn weight_of<K: Drop, V: Drop, A: Allocator + Drop>(found: Option<&Entry<K, V, A>>) -> Option<u32>
-    ensures { result ≡ option_map (λ e. e.weight) (option_copied found.entry) }
-{
-    Some(found?.weight())
-}
-
-/// Returns what a read needs to be applied.
-fn need_of_read(read: Read) -> Need
-    ensures { result ≡ need_to_read read }
-{
-    match read {
-        Read::Hit { ticket, .. } => Need::Entry(ticket),
-        Read::Miss { .. } => Need::Nothing,
-    }
-}
-
-/// Returns what a write needs to be applied.
-fn need_of_write(write: Write) -> Need
-    ensures { result ≡ need_to_write write }
-{
-    match write {
-        Write::Upsert { ticket } => Need::Entry(ticket),
-        Write::Remove { .. } => Need::Nothing,
-    }
-}
-
-/// Returns what a turn at a front needs: its entry, or nothing if there is none.
-fn need_of_front(front: Option<Ticket>) -> Need
-    ensures { result ≡ need_at_front front }
-{
-    match front {
-        Some(ticket) => Need::Entry(ticket),
-        None => Need::Nothing,
     }
 }

@@ -1,6 +1,6 @@
 // Admission of new entries by TinyLFU, size-aware as in Caffeine. A new entry first enters the window, if there is one; entries that leave the window are
 // the candidates for main.
-ghost use Rattle.std.specs.Prelude.{◌≡◌, ◌<◌, ◌≤◌, ◌-◌, ◌+◌, ◌^◌, ◌++◌, ◌∷◌, ◌⊎◌, ⊤, [], ℕ, All, IfSome, IsNone, List, None, Some, false, is_some, length};
+ghost use Rattle.std.specs.Prelude.{◌≡◌, ◌<◌, ◌≤◌, ◌-◌, ◌+◌, ◌^◌, ◌++◌, ◌∷◌, ◌⊎◌, [], IfSome, List, None, Some, false, is_some, length};
 ghost use Rattle.moka_common.specs.Admission.{outvoted};
 ghost use Rattle.moka_common.specs.Prefix.{shortest_prefix};
 ghost use Rattle.moka_common.specs.Sketch.{estimate};
@@ -14,11 +14,10 @@ ghost use Rattle.moka_unsync_model.specs.declared.listener.Cause.TheVariants.{Si
 ghost use Rattle.std.specs.List.Sorted.{IsPermutation};
 ghost use Rattle.moka_unsync_model.specs.Cleanup.{least_recent};
 ghost use Rattle.moka_unsync_model.specs.Window.{after_candidate, after_candidates, excess, victims_of};
-ghost use Rattle.moka_store.specs.Store.{Continues, IsFront, IsFrontOf, contents_of, entries_of};
-ghost use Rattle.moka_unsync.specs.Cached.{IsPut};
-ghost use Rattle.moka_unsync.specs.Turns.{IsTurn, after_eviction_of, counted};
+ghost use Rattle.moka_store.specs.Store.{Continues, IsFrontOf, contents_of, entries_of};
+ghost use Rattle.moka_unsync.specs.Turns.{after_eviction_of, counted};
 
-use crate::leaving::leave;
+use crate::leaving::{evict, leave, main_front};
 use moka_common::frequency_sketch::FrequencySketch;
 use moka_list::chain::NodeId;
 use moka_store::store::Store;
@@ -121,7 +120,7 @@ fn victims_outweighed_by<K: Eq + Drop, V: Drop, A: Allocator + Clone + Drop>(
 
 /// Tells if an entry is in the window.
 #[inline(always)]
-fn is_windowed<K: Drop, V: Drop>(entry: &Entry<K, V>) -> bool
+pub(crate) fn is_windowed<K: Drop, V: Drop>(entry: &Entry<K, V>) -> bool
     ensures { result ≡ is_window entry.now.part }
 {
     matches!(entry.part, Part::Window)
@@ -154,55 +153,6 @@ fn enter_for<K: Eq + Drop, V: Drop, A: Allocator + Clone + Drop, L: Listener<K, 
         }
         None => store.push(new),
     }
-}
-
-/// Evicts `count` LRU entries of main.
-#[inline(always)]
-fn evict<K: Eq + Drop, V: Drop, A: Allocator + Clone + Drop, L: Listener<K, V>>(
-    store: &mut Store<K, V, A>,
-    count: usize,
-    listener: &mut L,
-)
-    ensures step { (more : ℕ) → after_eviction_of K.eq (count + more) (contents_of store.old) ≡ after_eviction_of K.eq more (contents_of store.new) }
-    ensures kept { Continues store.old store.new }
-    ensures told { TellsWhatLeft L.hears Size (λ e. 0 < count) (entries_of store.old) (entries_of store.new) listener.old listener.new }
-{
-    let mut left = count;
-    while left > 0 && evict_front(store, listener) {
-        left -= 1;
-    }
-}
-
-/// Evicts main's least recently used entry, if there is one.
-fn evict_front<K: Eq + Drop, V: Drop, A: Allocator + Clone + Drop, L: Listener<K, V>>(
-    store: &mut Store<K, V, A>,
-    listener: &mut L,
-) -> bool
-    ensures turn { IsTurn (after_eviction_of K.eq)
-        result (contents_of store.old) (contents_of store.new) }
-    ensures kept { Continues store.old store.new }
-    ensures told { TellsWhatLeft L.hears Size (λ e. ⊤) (entries_of store.old) (entries_of store.new) listener.old listener.new }
-{
-    let Some(id) = main_front(store) else {
-        return false;
-    };
-    leave(store, id, Cause::Size, listener);
-    true
-}
-
-/// Returns the node of main's least recently used entry.
-#[inline(always)]
-fn main_front<K: Eq + Drop, V: Drop, A: Allocator + Clone + Drop>(
-    store: &Store<K, V, A>,
-) -> Option<NodeId>
-    ensures found { IfSome result (λ id. (front : IsFront K.eq store.now id) × (is_window front.entry.part ≡ false)) }
-    ensures absent { IsNone result → main_of (entries_of store.now) ≡ [] }
-{
-    let id = store.front()?;
-    if is_windowed(store.get(id)) {
-        return None;
-    }
-    Some(id)
 }
 
 /// Stores a new entry in the window. Then the window's least recently used entries move to main if they are admitted there, or leave the store, until its

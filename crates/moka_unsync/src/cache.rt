@@ -1,22 +1,20 @@
 //! The cache for one thread.
-ghost use Rattle.std.specs.Prelude.{◌≡◌, ◌⊎◌, ◌<◌, ◌≤◌, ◌^◌, Bool, List, [], All, false, length, None, Some};
-ghost use Rattle.std.specs.Prelude.{IfErr, IfOk, OnErr, OnOk, option_copied, option_map};
-ghost use Rattle.std.specs.Borrow.{sem};
+ghost use Rattle.std.specs.Prelude.{◌≡◌, ◌<◌, ◌≤◌, ◌^◌, Bool, [], false, length, None, Some};
+ghost use Rattle.std.specs.Prelude.{IfErr, IfOk, option_copied, option_map};
 ghost use Rattle.std.specs.Map.Iter.{deref_pair};
 ghost use Rattle.moka_common.specs.Keys.{keys_by};
 ghost use Rattle.moka_common.specs.Settings.{keeps_writes};
 ghost use Rattle.moka_unsync.specs.Builder.{new_builder};
 ghost use Rattle.moka_unsync_model.specs.CacheState.{new_cache};
 ghost use Rattle.moka_unsync_model.specs.Contents.{entry_at, weighted_size};
-ghost use Rattle.moka_unsync_model.specs.Lookup.{after_get, after_look, found_by_get, found_by_peek, is_contained};
-ghost use Rattle.moka_unsync_model.specs.GetOrInsert.{IsGotOrInserted, IsRefusedBehind};
-ghost use Rattle.moka_unsync_model.specs.Insert.{IsInserted, IsRefused, after_asking};
-ghost use Rattle.moka_unsync_model.specs.Invalidate.{AnswersInTurn, after_invalidate, after_invalidate_all, after_invalidate_if};
+ghost use Rattle.moka_unsync_model.specs.Lookup.{found_by_peek};
+ghost use Rattle.moka_unsync_model.specs.Insert.{after_asking};
 ghost use Rattle.moka_unsync_model.specs.Iterate.{pair_behind, pairs_at};
 ghost use Rattle.moka_unsync_model.specs.Shares.{default_shares};
 
 mod calls;
 mod debug;
+mod get_or_insert;
 mod iter;
 
 use crate::builder::CacheBuilder;
@@ -25,15 +23,14 @@ use crate::notifying_cache::NotifyingCache;
 use crate::part_limits::{protected_room, windowed_limits};
 use crate::walk::next_unexpired;
 pub use iter::Iter;
-use moka_common::error::{BuildError, InsertError, OutOfMemory};
+use moka_common::error::{BuildError, OutOfMemory};
 use moka_common::frequency_sketch::FrequencySketch;
 use moka_common::frequency_sketch::enabling::Load;
 use moka_common::hash::FixedState;
 use moka_common::policy::Policy;
 use moka_common::time::Instant;
-use moka_common::weigh::{UnitWeight, Weigh};
+use moka_common::weigh::UnitWeight;
 use moka_store::store::Store;
-use moka_unsync_model::listener::NoListener;
 use moka_unsync_model::shares::{PartLimits, Shares};
 use std::alloc::{Allocator, Global};
 use std::hash::{BuildHasher, Hash};

@@ -337,3 +337,13 @@ impl<A: Allocator + Clone + Drop> State<A> {
         self.remove_victim(work, removal, id, found)
     }
 }
+
+/// Returns the weight of an entry, if it stands.
+#[inline(always)]
+pub(super) fn weight_of<K: Drop, V: Drop, A: Allocator + Drop>(
+    found: Option<&Entry<K, V, A>>,
+) -> Option<u32>
+    ensures { result ≡ option_map (λ e. e.weight) (option_copied found.entry) }
+{
+    Some(found?.weight())
+}

@@ -2,7 +2,7 @@ use Rattle.std.proofs.Common.{◌≡◌, ◌∙◌, ap, refl, subst, sym, false}
 use Rattle.moka_unsync_model.specs.Contents.{is_window, main_of}
 use Rattle.moka_list.proofs.IdLemmas.{some_parts}
 use Rattle.moka_unsync.proofs.AdmissionLemmas.{no_main}
-use Rattle.moka_unsync.proofs.admission.main_front.Goals as goal
+use Rattle.moka_unsync.proofs.leaving.main_front.Goals as goal
 
 pub returns-in_err-id-clause-absent : goal.returns-in_err-id-clause-absent
 returns-in_err-id-clause-absent g c _ = ap (λ s. main_of s.entries) ((c.in_err-id.ensures {u = tt}).absent refl)

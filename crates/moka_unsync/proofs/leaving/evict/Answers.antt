@@ -3,7 +3,7 @@ use Rattle.moka_unsync_model.proofs.ToldLemmas.{also_for, then_left, untold}
 use Rattle.moka_store.specs.Store.{contents_of}
 use Rattle.moka_unsync.specs.Turns.{after_eviction_of}
 use Rattle.moka_unsync.proofs.TurnLemmas.{continued}
-use Rattle.moka_unsync.proofs.admission.evict.Goals as goal
+use Rattle.moka_unsync.proofs.leaving.evict.Goals as goal
 
 pub loop-left-preserved : goal.loop-left-preserved
 loop-left-preserved g c =

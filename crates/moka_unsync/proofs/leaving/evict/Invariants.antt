@@ -3,7 +3,7 @@ use Rattle.moka_unsync_model.specs.Told.{TellsWhatLeft}
 use Rattle.moka_unsync_model.specs.declared.listener.Cause.TheVariants.{Size}
 use Rattle.moka_store.specs.Store.{Continues, contents_of, entries_of}
 use Rattle.moka_unsync.specs.Turns.{after_eviction_of}
-use Rattle.moka_unsync.proofs.admission.evict.Given as goal
+use Rattle.moka_unsync.proofs.leaving.evict.Given as goal
 
 abbrev pub invariant-loop-left : goal.invariant-loop-left
 invariant-loop-left g l =

@@ -1,5 +1,5 @@
 use Rattle.moka_unsync_model.proofs.ToldLemmas.{also_for, untold}
-use Rattle.moka_unsync.proofs.admission.evict_front.Goals as goal
+use Rattle.moka_unsync.proofs.leaving.evict_front.Goals as goal
 
 pub returns-clause-told : goal.returns-clause-told
 returns-clause-told g c = also_for (λ e there. tt) c.leave.ensures.told
