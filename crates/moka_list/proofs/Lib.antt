@@ -6,6 +6,7 @@ pub mod InsertedLemmas
 pub mod NodesLemmas
 pub mod ChainLemmas
 pub mod ListingLemmas
+pub mod IdListLemmas
 pub mod ChosenLemmas
 pub mod RestLemmas
 pub mod StandsLemmas

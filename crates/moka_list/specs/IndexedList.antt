@@ -2,10 +2,11 @@
 use Rattle.std.specs.Prelude.{◌≡◌, ℕ, Bool, true, false, nat_eq, List, Some}
 use Rattle.std.specs.Map.{lookup}
 
--- the nodes from front to back, each with its element, and how many more surely fit with no allocation
+-- the nodes from front to back, each with its element; how many more surely fit with no allocation; and a number that the ids of all nodes are below
 pub record IndexedList (T : Type 0) : Type 0 where
   pub items : List (ℕ × T)
   pub room : ℕ
+  pub ids : ℕ
 
 module _ {T : Type 0} (test : T → Bool → Type 0) where
   -- the node's element passes the test

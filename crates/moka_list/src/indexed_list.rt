@@ -36,6 +36,7 @@ impl<T: Hashed, A: Allocator> Model for IndexedList<T, A> {
     ghost view = { λ l. record {
       items = l.list.items;
       room = room_beside (length l.list.items) l.list.room l.index.ids;
+      ids = l.index.ids;
     } };
 
     ghost invariant = { λ l. IsDistinct nat_eq (keys_of l.list.items) × IsIndexed T.hash_of l.list.items l.index };
@@ -44,7 +45,7 @@ impl<T: Hashed, A: Allocator> Model for IndexedList<T, A> {
 impl<T: Hashed, A: Allocator> IndexedList<T, A> {
     /// Makes an empty list, which allocates nothing. It takes an allocator for its elements, one for their links and one for the index.
     pub fn new(elements: A, links: A, index: A) -> Self
-        ensures { result ≡ record { items = []; room = 0 } }
+        ensures { result ≡ record { items = []; room = 0; ids = 0 } }
     {
         IndexedList {
             list: Chain::new(elements, links),
@@ -67,6 +68,13 @@ impl<T: Hashed, A: Allocator> IndexedList<T, A> {
         ensures { (id : ℕ) → IsIn self.now.items id → id < result }
     {
         self.list.capacity()
+    }
+
+    /// Returns a number that all ids are below, also those of the elements that fit with no allocation: the length of a table by ids.
+    pub fn ids(&self) -> usize
+        ensures { result ≡ self.now.ids }
+    {
+        self.index.ids()
     }
 
     /// Returns the number of elements that fit with no allocation.
@@ -173,6 +181,8 @@ impl<T: Hashed, A: Allocator> IndexedList<T, A> {
         ensures items { self.new.items ≡ self.old.items ++ (result, element) ∷ [] }
         ensures new_id { lookup (nat_eq result) self.old.items ≡ None }
         ensures room { self.old.room ≡ self.new.room + 1 }
+        ensures below { result < self.old.ids }
+        ensures ids { self.new.ids ≡ self.old.ids }
     {
         let hash = element.hash();
         let id = self.list.push_reserved(element);
@@ -186,6 +196,7 @@ impl<T: Hashed, A: Allocator> IndexedList<T, A> {
         ensures value { lookup (nat_eq id) self.old.items ≡ Some result }
         ensures items { self.new.items ≡ remove_entry (nat_eq id) self.old.items }
         ensures room { self.old.room ≤ self.new.room }
+        ensures ids { self.new.ids ≡ self.old.ids }
     {
         let element = self.list.unlink(id);
         self.index.remove(id.number(), element.hash());

@@ -7,11 +7,6 @@ use Rattle.std.specs.List.{IsDistinct, AllByRecursion, find}
 use Rattle.std.specs.Map.{lookup, remove_entry, set_value, keys_of, values_of}
 use Rattle.moka_list.proofs.IdLemmas.{some_parts, not_none}
 
--- a list in which each element is as it was
-pub map_same : {X : Type 0} (xs : List X) → map (λ (x : X). x) xs ≡ xs
-map_same [] = refl
-map_same (x ∷ xs) = ap (λ l. x ∷ l) (map_same xs)
-
 module _ {X Y : Type 0} (m : X → Y) where
   pub seen-push : (es : List (ℕ × X)) (p : ℕ × X) → map m (values_of (es ++ p ∷ [])) ≡ map m (values_of es) ++ m p.1 ∷ []
   seen-push [] p = refl

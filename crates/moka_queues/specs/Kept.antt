@@ -1,9 +1,9 @@
--- How the orders lie in a list and a deque. No public clause cites this module.
-use Rattle.std.specs.Prelude.{◌≡◌, ◌<◌, ℕ, ◌+◌, ◌^◌, nat_eq, List, Option, Some, None}
+-- How the orders lie in a list of nodes and a list of their ids. No public clause cites this module.
+use Rattle.std.specs.Prelude.{◌≡◌, ◌<◌, ℕ, ◌^◌, nat_eq, nat_le, if◌then◌else◌, true, List, Option, Some, IsSome, option_map}
 use Rattle.std.specs.Prelude.{sum_by}
-use Rattle.std.specs.List.{IsDistinct}
-use Rattle.std.specs.Map.{lookup, keys_of, remove_entry, values_of}
-use Rattle.moka_list.specs.Nodes.{moved_to_back}
+use Rattle.std.specs.List.{IsDistinct, filter_map}
+use Rattle.std.specs.Map.{lookup, keys_of, values_of}
+use Rattle.moka_list.specs.IdList.{is_listed}
 use Rattle.moka_sync_model.specs.declared.ticket.Ticket.{Ticket}
 use Rattle.moka_queues.specs.declared.orders.Node.{Node}
 
@@ -11,34 +11,24 @@ use Rattle.moka_queues.specs.declared.orders.Node.{Node}
 abbrev pub total_charge : List (ℕ × Node) → ℕ
 total_charge items = sum_by (λ n. n.charge) (values_of items)
 
--- the room that is left once a write is taken out, if there is one
-abbrev pub room_after : Option ℕ → ℕ → ℕ
-room_after None room = room
-room_after (Some write) room = room + 1
+-- how many more nodes fit, if there are links for all ids in the order of writing
+abbrev pub room_with : ℕ → ℕ → ℕ → ℕ
+room_with ids linked room = if nat_le ids linked then room else 0
 
--- where the node names its place in the order of writing, its ticket is there
-abbrev pub IsTied : List (ℕ × Ticket) → Ticket → Option ℕ → Type 0
-IsTied writes ticket None = Unit {0}
-IsTied writes ticket (Some write) = lookup (nat_eq write) writes ≡ Some ticket
+-- the ticket of a node
+abbrev pub ticket_under : List (ℕ × Node) → ℕ → Option Ticket
+ticket_under items id = option_map (λ n. n.ticket) (lookup (nat_eq id) items)
 
--- the writes without this one, if there is one
-abbrev pub without_write : Option ℕ → List (ℕ × Ticket) → List (ℕ × Ticket)
-without_write None writes = writes
-without_write (Some write) writes = remove_entry (nat_eq write) writes
+-- the tickets of these nodes
+abbrev pub written_under : List (ℕ × Node) → List ℕ → List Ticket
+written_under items ids = filter_map (ticket_under items) ids
 
--- the writes with this one at the back, if there is one
-abbrev pub with_write_last : Option ℕ → List (ℕ × Ticket) → List (ℕ × Ticket)
-with_write_last None writes = writes
-with_write_last (Some write) writes = moved_to_back write writes
-
--- no ticket comes twice, what a node names as its place in the order of writing is its, each place there is named by a node, and the sum is
--- that of all charges
-pub record IsKept (items : List (ℕ × Node)) (writes : List (ℕ × Ticket)) (total : ℕ) : Type 0 where
+-- no ticket comes twice, the order of writing has the nodes that say so, each once, and the sum is that of all charges
+pub record IsKept (items : List (ℕ × Node)) (ids : List ℕ) (total : ℕ) : Type 0 where
   pub apart : (i j : ℕ) (m n : Node) → lookup (nat_eq i) items ≡ Some m → lookup (nat_eq j) items ≡ Some n → m.ticket ≡ n.ticket → i ≡ j
-  pub tied : (i : ℕ) (n : Node) → lookup (nat_eq i) items ≡ Some n → IsTied writes n.ticket n.write
-  pub standing : (w : ℕ) (t : Ticket) → lookup (nat_eq w) writes ≡ Some t
-      → (i : ℕ) × (n : Node) × (lookup (nat_eq i) items ≡ Some n) × (n.ticket ≡ t) × (n.write ≡ Some w)
+  pub flagged : (i : ℕ) (n : Node) → lookup (nat_eq i) items ≡ Some n → is_listed ids i ≡ n.is_written
+  pub standing : (i : ℕ) → is_listed ids i ≡ true → IsSome (lookup (nat_eq i) items)
   pub once : IsDistinct nat_eq (keys_of items)
-  pub written_once : IsDistinct nat_eq (keys_of writes)
+  pub written_once : IsDistinct nat_eq ids
   pub small : (i : ℕ) (n : Node) → lookup (nat_eq i) items ≡ Some n → n.charge < 2 ^ 32
   pub sum : total ≡ total_charge items

@@ -7,16 +7,14 @@ ghost use Rattle.moka_common.specs.Settings.{keeps_writes};
 ghost use Rattle.moka_sync_model.specs.Ticket.{same_ticket};
 ghost use Rattle.moka_list.specs.Nodes.{IsIn, first_id, moved_to_back, next_id};
 ghost use Rattle.moka_sync_model.specs.Orders.{charge_of, charged_weight, is_written, used, rewritten, renewed, recharged, with_node, without_node};
-ghost use Rattle.moka_queues.specs.Kept.{room_after, without_write};
 ghost use Rattle.moka_queues.specs.OrdersState.{AddsNode, AtNode, IsNodeOf, orders_of};
 
 use crate::high_water::HighWater;
 use moka_common::error::OutOfMemory;
 use moka_common::hash::Hashed;
 use moka_common::limits::Limits;
-use moka_deque::deque::{CacheRegion, Deque, NodeId};
+use moka_list::chain::{IdList, NodeId};
 use moka_list::indexed_list::IndexedList;
-use moka_list::link::Link;
 use moka_sync_model::ticket::Ticket;
 use std::alloc::{AllocError, Allocator, Global};
 use std::marker::Model;
@@ -28,7 +26,8 @@ pub struct Node {
     pub charge: u32,
     /// Set if the last scan found the entry, live or not.
     pub is_present: bool,
-    write: Link,
+    /// Set if the order of writing lists the node.
+    is_written: bool,
 }
 
 impl Hashed for Node {
@@ -40,32 +39,31 @@ impl Hashed for Node {
     }
 }
 
-/// The nodes of the entries that are charged, least recently used first, and with a time to live their tickets in order of writing. A node is
-/// found by its ticket in constant time on average. A use moves a node by links alone.
+/// The nodes of the entries that are charged, least recently used first, and with a time to live the same nodes in order of writing. A node is found by
+/// its ticket in constant time on average. A use or a write moves a node by links alone.
 #[derive(Drop)]
 pub struct Orders<A: Allocator + Clone + Drop = Global> {
     access: IndexedList<Node, A>,
-    writes: Deque<Ticket, A>,
+    // Nodes by their ids, least recently written first.
+    writes: IdList<A>,
     total: u128,
     high_water: HighWater,
 }
 
 impl<A: Allocator + Clone + Drop> Model for Orders<A> {
-    ghost use Rattle.std.specs.Prelude.{min};
-    ghost use Rattle.std.specs.Map.{values_of};
     ghost use Rattle.moka_queues.specs.OrdersState.{OrdersState};
-    ghost use Rattle.moka_queues.specs.Kept.{IsKept};
+    ghost use Rattle.moka_queues.specs.Kept.{IsKept, room_with, written_under};
     ghost use Rattle.moka_queues.specs.HighWater.{AreCovered};
 
     ghost Value = { OrdersState };
 
     ghost view = { λ o. record {
       nodes = o.access.items;
-      written = values_of o.writes.items;
-      room = min o.access.room o.writes.room;
+      written = written_under o.access.items o.writes.ids;
+      room = room_with o.access.ids o.writes.capacity o.access.room;
     } };
 
-    ghost invariant = { λ o. IsKept o.access.items o.writes.items o.total × AreCovered o.access.items o.high_water };
+    ghost invariant = { λ o. IsKept o.access.items o.writes.ids o.total × AreCovered o.access.items o.high_water };
 }
 
 impl<A: Allocator + Clone + Drop> Orders<A> {
@@ -75,22 +73,21 @@ impl<A: Allocator + Clone + Drop> Orders<A> {
     {
         Ok(Orders {
             access: IndexedList::new(alloc.clone()?, alloc.clone()?, alloc.clone()?),
-            writes: Deque::new(alloc, CacheRegion::Other),
+            writes: IdList::new(alloc),
             total: 0,
             high_water: HighWater::new(),
         })
     }
 
     /// Makes room for one more node. Where there is none, there is room for twice as many nodes as before then, or for as many as the limit lets in and
-    /// one more, if that is less. Without a time to live the order of writing stays empty, with room for one.
+    /// one more, if that is less. The order of writing gets links for as many, also without a time to live: `enter` may be handed other limits.
     pub fn reserve(&mut self, limits: &Limits) -> Result<(), OutOfMemory>
         ensures ok { OnOk result (0 < self.new.room) }
         ensures unchanged { self.new ≡ record self.old { room = self.new.room } }
     {
         let more = nodes_to_reserve(self.access.len(), self.access.capacity(), limits);
         self.access.reserve_exact(more)?;
-        let more_writes = if limits.has_time_to_live() { more } else { 1 };
-        self.writes.reserve_exact(more_writes)
+        self.writes.reserve(self.access.ids())
     }
 
     /// Returns the number of nodes.
@@ -168,7 +165,8 @@ impl<A: Allocator + Clone + Drop> Orders<A> {
         ensures value { result ≡ slice_get self.now.written 0 }
         ensures stands { IfSome result (λ t. IsSome (charge_of t (orders_of self.now))) }
     {
-        self.writes.peek_front().copied()
+        let id = self.writes.front()?;
+        Some(self.access.get(id).ticket)
     }
 
     /// Makes the node the most recently used one.
@@ -186,7 +184,9 @@ impl<A: Allocator + Clone + Drop> Orders<A> {
         ensures step { self.new ≡ record self.old { written = self.new.written } }
         ensures orders { IfSome (slice_get self.old.written 0) (λ t. orders_of self.new ≡ rewritten t (orders_of self.old)) }
     {
-        self.writes.move_front_to_back();
+        if let Some(oldest) = self.writes.front() {
+            self.writes.move_to_back(oldest);
+        }
     }
 
     /// Makes the node the most recent one in both orders.
@@ -206,9 +206,8 @@ impl<A: Allocator + Clone + Drop> Orders<A> {
         ensures step { self.new ≡ record self.old { written = self.new.written } }
         ensures orders { AtNode self.old id (λ n. orders_of self.new ≡ rewritten n.ticket (orders_of self.old)) }
     {
-        let write = self.access.get(id).write.id();
-        if let Some(write) = write {
-            self.writes.move_to_back(write);
+        if self.access.get(id).is_written {
+            self.writes.move_to_back(id);
         }
     }
 
@@ -244,20 +243,18 @@ impl<A: Allocator + Clone + Drop> Orders<A> {
     {
         self.total = with_charge(&self.access, self.total, charge);
         self.high_water.rise_to(ticket);
-        let mut node = Node {
+        let is_written = limits.has_time_to_live();
+        let id = self.access.push_reserved(Node {
             ticket,
             charge,
             is_present: false,
-            write: Link::none(),
-        };
-        if !limits.has_time_to_live() {
-            return self.access.push_reserved(node).number();
+            is_written,
+        });
+        if !is_written {
+            return id.number();
         }
-        let write = self.writes.push_reserved(ticket);
-        // Its id is below the capacity, which is a word.
-        let _ = self.writes.capacity();
-        node.write = Link::to(write);
-        self.access.push_reserved(node).number()
+        self.writes.push_back(id);
+        id.number()
     }
 
     /// Removes the node from both orders. Its room stays.
@@ -269,7 +266,9 @@ impl<A: Allocator + Clone + Drop> Orders<A> {
     {
         let node = self.access.remove(id);
         self.total -= u128::from(node.charge);
-        unlink_write(&mut self.writes, node.write.id());
+        if node.is_written {
+            self.writes.remove(id);
+        }
     }
 }
 
@@ -281,17 +280,6 @@ fn with_charge<A: Allocator>(access: &IndexedList<Node, A>, total: u128, charge:
 {
     let _ = access.len();
     total + u128::from(charge)
-}
-
-/// Takes a write out of the order of writing, if there is one.
-fn unlink_write<A: Allocator>(writes: &mut Deque<Ticket, A>, write: Option<NodeId>)
-    requires { IfSome write (λ w. IsIn writes.old.items w) }
-    ensures items { writes.new.items ≡ without_write write writes.old.items }
-    ensures room { writes.new.room ≡ room_after write writes.old.room }
-{
-    if let Some(write) = write {
-        writes.unlink_and_drop(write);
-    }
 }
 
 /// Returns the number of nodes to reserve capacity for: one if it is there, or all up to the next capacity.

@@ -1,10 +1,9 @@
 -- Lemmas on the order of writing: what each change leaves of it, by nodes and by keys.
-use Rattle.std.proofs.Common.{◌≡◌, ℕ, Bool, true, false, cond, not, ◌||◌, nat_eq, List, [], ◌∷◌, ◌++◌, Option, Some, None, is_some, IsSome}
+use Rattle.std.proofs.Common.{◌≡◌, ℕ, Bool, true, false, cond, not, nat_eq, List, [], ◌∷◌, ◌++◌, Option, Some, None, is_some, IsSome}
 use Rattle.std.proofs.Common.{option_map, refl, sym, ap, ◌∙◌, inl, inr, subst}
-use Rattle.std.proofs.lemmas.Bool.{cases_Bool, cond-true, cond-false, eqb-true, false≢true, or_right}
+use Rattle.std.proofs.lemmas.Bool.{cases_Bool, cond-true, cond-false, eqb-true, false≢true}
 use Rattle.std.proofs.lemmas.Cmp.{nat_eq_equiv}
 use Rattle.std.proofs.lemmas.List.Elements.{filter_map-append}
-use Rattle.std.proofs.lemmas.Map.Keys.{IsDistinct-cons, IsDistinct-head, IsDistinct-push, IsDistinct-tail}
 use Rattle.std.specs.Cmp.{IsEquivalence}
 use Rattle.std.specs.List.{AllByRecursion, IsDistinct, cons_option}
 use Rattle.std.specs.Map.{lookup, remove_entry, keys_of, values_of}
@@ -15,89 +14,9 @@ use Rattle.moka_unsync_model.specs.Insert.{with_write}
 use Rattle.moka_store.specs.Nodes.{AreKeyed, IsWritten, SameBy, latest_node, write_added, write_last, write_left, write_under, written_under}
 use Rattle.moka_list.proofs.ItemLemmas.{nat_eq-same}
 use Rattle.moka_list.proofs.IdLemmas.{lookup-removed}
+use Rattle.moka_list.proofs.IdListLemmas.{all-listed, distinct-moved, distinct-push, distinct-without, listed-moved, listed-push, listed-without}
 use Rattle.moka_store.proofs.LatestLemmas.{lookup-latest}
 use Rattle.moka_store.proofs.NodeLemmas.{agrees_at, ids-none, key_absent}
-
--- ---- lists of ids
-
--- what holds of each listed id holds of all
-all-listed : (P : ℕ → Type 0) (ids : List ℕ) → ((id : ℕ) → is_listed ids id ≡ true → P id) → AllByRecursion P ids
-all-listed P [] each = tt
-all-listed P (i ∷ ids) each = (
-  each i (head i),
-  all-listed P ids (λ id h. each id (or_right (nat_eq id i) (is_listed ids id) h)),
-)
-  where
-    head : (i : ℕ) → is_listed (i ∷ ids) i ≡ true
-    head i = rw (nat_eq-same i) refl
-
--- an id is listed without another where it was
-pub listed-without : (id q : ℕ) (ids : List ℕ) → is_listed (ids_without id ids) q ≡ cond (nat_eq id q) false (is_listed ids q)
-listed-without id q [] = by (nat_eq id q)
-  where
-    by : (b : Bool) → false ≡ cond b false false
-    by true = refl
-    by false = refl
-listed-without id q (i ∷ ids) = by (nat_eq id i) refl (nat_eq q i) refl (nat_eq id q) refl (listed-without id q ids)
-  where
-    by : (a : Bool) → nat_eq id i ≡ a → (b : Bool) → nat_eq q i ≡ b → (c : Bool) → nat_eq id q ≡ c
-        → is_listed (ids_without id ids) q ≡ cond (nat_eq id q) false (is_listed ids q)
-        → is_listed (cond (not a) (i ∷ ids_without id ids) (ids_without id ids)) q ≡ cond c false (b || is_listed ids q)
-    by true ha b hb true hc rest = rest ∙ cond-true (nat_eq id q) false (is_listed ids q) hc
-    by true ha true hb false hc rest =
-        absurd (false≢true (sym hc ∙ (ap (nat_eq id) (eqb-true q i hb) ∙ ha)))
-    by true ha false hb false hc rest = rest ∙ cond-false (nat_eq id q) false (is_listed ids q) hc
-    by false ha true hb true hc rest =
-        absurd (false≢true (sym ha ∙ (ap (nat_eq id) (sym (eqb-true q i hb)) ∙ hc)))
-    by false ha true hb false hc rest = ap (λ b. b || is_listed (ids_without id ids) q) hb
-    by false ha false hb c hc rest = ap (λ b. b || is_listed (ids_without id ids) q) hb ∙ (rest ∙ ap (λ b. cond b false (is_listed ids q)) hc)
-
-listed-push : (ids : List ℕ) (id q : ℕ) → is_listed (ids ++ id ∷ []) q ≡ cond (nat_eq q id) true (is_listed ids q)
-listed-push [] id q = by (nat_eq q id)
-  where
-    by : (b : Bool) → (b || false) ≡ cond b true false
-    by true = refl
-    by false = refl
-listed-push (i ∷ ids) id q = by (nat_eq q i) (nat_eq q id) (listed-push ids id q)
-  where
-    by : (a b : Bool) → is_listed (ids ++ id ∷ []) q ≡ cond (nat_eq q id) true (is_listed ids q)
-        → (a || is_listed (ids ++ id ∷ []) q) ≡ cond (nat_eq q id) true (a || is_listed ids q)
-    by true b rest = first (nat_eq q id)
-      where
-        first : (c : Bool) → true ≡ cond c true true
-        first true = refl
-        first false = refl
-    by false b rest = rest
-
-distinct-without : (id : ℕ) (ids : List ℕ) → IsDistinct nat_eq ids → IsDistinct nat_eq (ids_without id ids)
-distinct-without id [] d = d
-distinct-without id (i ∷ ids) d =
-    let rest = distinct-without id ids (IsDistinct-tail nat_eq i ids d) in
-    elim (cases_Bool (nat_eq id i)) [
-      | inl same ↦
-          subst (IsDistinct nat_eq) (sym (cond-false (not (nat_eq id i)) (i ∷ ids_without id ids) (ids_without id ids) (ap not same))) rest
-      | inr other ↦
-          subst (IsDistinct nat_eq) (sym (cond-true (not (nat_eq id i)) (i ∷ ids_without id ids) (ids_without id ids) (ap not other)))
-          (IsDistinct-cons nat_eq i (ids_without id ids) (kept ids (IsDistinct-head nat_eq i ids d)) rest)
-    ]
-  where
-    kept : (js : List ℕ) → AllByRecursion (λ k. nat_eq i k ≡ false) js → AllByRecursion (λ k. nat_eq i k ≡ false) (ids_without id js)
-    kept [] a = tt
-    kept (j ∷ js) a =
-        elim (cases_Bool (nat_eq id j)) [
-          | inl same ↦
-              subst (AllByRecursion (λ k. nat_eq i k ≡ false))
-              (sym (cond-false (not (nat_eq id j)) (j ∷ ids_without id js) (ids_without id js) (ap not same))) (kept js a.1)
-          | inr other ↦
-              subst (AllByRecursion (λ k. nat_eq i k ≡ false))
-              (sym (cond-true (not (nat_eq id j)) (j ∷ ids_without id js) (ids_without id js) (ap not other))) (a.0, kept js a.1)
-        ]
-
-distinct-push : (id : ℕ) (ids : List ℕ) → IsDistinct nat_eq ids → is_listed ids id ≡ false → IsDistinct nat_eq (ids ++ id ∷ [])
-distinct-push id ids d absent = IsDistinct-push nat_eq_equiv ids id d absent
-
-gone-without : (id : ℕ) (ids : List ℕ) → is_listed (ids_without id ids) id ≡ false
-gone-without id ids = listed-without id id ids ∙ cond-true (nat_eq id id) false (is_listed ids id) (nat_eq-same id)
 
 -- ---- what is left of the writes of nodes
 
@@ -161,17 +80,11 @@ module _ {K V : Type 0} {keeps : Bool} {nodes : List (ℕ × Entry K V)} {ids : 
   written-last there = by keeps refl
     where
       same : keeps ≡ true → (q : ℕ) → is_listed (ids_without id ids ++ id ∷ []) q ≡ is_listed ids q
-      same kept q =
-          listed-push (ids_without id ids) id q
-          ∙ (ap (cond (nat_eq q id) true) (listed-without id q ids) ∙ joined (nat_eq q id) refl)
-        where
-          joined : (b : Bool) → nat_eq q id ≡ b → cond b true (cond (nat_eq id q) false (is_listed ids q)) ≡ is_listed ids q
-          joined true h = sym (ap (is_listed ids) (eqb-true q id h) ∙ s.listed kept id there)
-          joined false h = cond-false (nat_eq id q) false (is_listed ids q) (nat_eq_equiv.symm id q ∙ h)
+      same kept q = listed-moved id q ids (s.listed kept id there)
 
       by : (k : Bool) → keeps ≡ k → IsWritten k nodes (write_last k id ids)
       by true kept = record {
-        once = distinct-push id (ids_without id ids) (distinct-without id ids s.once) (gone-without id ids);
+        once = distinct-moved id ids s.once;
         standing = λ q h. s.standing q (sym (same kept q) ∙ h);
         listed = λ _ q h. same kept q ∙ s.listed kept q h;
         unkept = λ h. absurd (false≢true (sym h));

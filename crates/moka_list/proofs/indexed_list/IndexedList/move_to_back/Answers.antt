@@ -17,5 +17,5 @@ returns g c =
     let items = old.list.items in
     let here = node_at c.args.id items (subst (λ v. IsIn v.items c.args.id) (sym c.self.view_is) c.requires) in
     rw (← c.self.view_is, c.move_to_back.ensures.items, c.move_to_back.ensures.room)
-    (ap (λ n. record { items = moved_to_back c.args.id items; room = room_beside n old.list.room old.index.ids })
+    (ap (λ n. record { items = moved_to_back c.args.id items; room = room_beside n old.list.room old.index.ids; ids = old.index.ids })
     (length-moved c.args.id here.0 items here.1))

@@ -3,18 +3,26 @@ use Rattle.std.proofs.lemmas.List.{length_push}
 use Rattle.moka_list.specs.HashIndex.{Adds}
 use Rattle.moka_list.specs.Indexed.{room_beside}
 use Rattle.moka_list.proofs.IndexedListLemmas.{room_indexed, sound-pushed}
+use Rattle.moka_list.proofs.indexed_list.IndexedList.push_reserved.Goals.{After-add}
 use Rattle.moka_list.proofs.indexed_list.IndexedList.push_reserved.Goals as goal
+
+-- the index has room for the new id
+is_below : (g : _) (c : After-add g) → c.push_reserved-id.result < c.self.inside.index.ids
+is_below g c =
+    let old = c.self.inside in
+    let some : 0 < room_beside (length old.list.items) old.list.room old.index.ids = rw (← c.self.view_is) at c.requires in
+    let fits = room_indexed (length old.list.items) old.list.room old.index.ids some in
+    omega (arith, fits, ap length c.push_reserved-id.ensures.items, length_push old.list.items (c.push_reserved-id.result, c.args.element))
 
 pub invariant_of-self : goal.invariant_of-self
 invariant_of-self g c =
     let old = c.self.inside in
     let id = c.push_reserved-id.result in
     let e = c.args.element in
-    let some : 0 < room_beside (length old.list.items) old.list.room old.index.ids = rw (← c.self.view_is) at c.requires in
-    let fits = room_indexed (length old.list.items) old.list.room old.index.ids some in
-    let below : id < old.index.ids =
-    omega (arith, fits, ap length c.push_reserved-id.ensures.items, length_push old.list.items (id, e)) in
     let under = subst (λ i. Adds old.index i c.hash-hash.result c.add.new.self) c.number.ensures c.add.ensures.step in
     let added = subst (λ hash. Adds old.index id hash c.add.new.self) c.hash-hash.ensures under in
     rw c.push_reserved-id.ensures.items
-    (sound-pushed g.T.Hashed.hash_of c.self.invariant id e c.add.new.self c.push_reserved-id.ensures.new_id below added)
+    (sound-pushed g.T.Hashed.hash_of c.self.invariant id e c.add.new.self c.push_reserved-id.ensures.new_id (is_below g c) added)
+
+pub returns-clause-below : goal.returns-clause-below
+returns-clause-below g c = rw (← c.self.view_is) (is_below g c)

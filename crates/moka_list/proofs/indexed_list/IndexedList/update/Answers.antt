@@ -25,6 +25,6 @@ returns g c =
       new,
       c.get_mut.ensures.value,
       call,
-      ap (λ n. record { items = set_value (nat_eq c.args.id) items new; room = room_beside n old.list.room old.index.ids })
+      ap (λ n. record { items = set_value (nat_eq c.args.id) items new; room = room_beside n old.list.room old.index.ids; ids = old.index.ids })
           (length-set_value (nat_eq c.args.id) items new),
     )

@@ -5,4 +5,4 @@ use Rattle.moka_queues.proofs.orders.Orders.new.Goals as goal
 
 pub invariant_of-result : goal.invariant_of-result
 invariant_of-result g c =
-    rw (ap (λ l. l.items) c.new.ensures, c.new-2.ensures.items) (IsKept-new, AreCovered-none c.new-3.result)
+    rw (ap (λ l. l.items) c.new.ensures, c.new-2.ensures.ids) (IsKept-new, AreCovered-none c.new-3.result)

@@ -1,8 +1,7 @@
-use Rattle.std.specs.Map.{values_of}
-use Rattle.moka_queues.proofs.KeptLemmas.{oldest_stands}
+use Rattle.std.proofs.Common.{[]}
+use Rattle.moka_queues.proofs.ChangeLemmas.{oldest_charged}
 use Rattle.moka_queues.proofs.orders.Orders.oldest_write.Goals as goal
 
 pub returns-clause-stands : goal.returns-clause-stands
 returns-clause-stands g c =
-    rw (← c.self.view_is, c.copied.ensures, c.peek_front.ensures)
-    (oldest_stands c.self.invariant.0 (values_of c.self.inside.writes.items))
+    rw (← c.self.view_is) (oldest_charged c.self.invariant.0 c.in_ok-id.id c.get.result.now c.get.ensures [])

@@ -1,9 +1,11 @@
-use Rattle.std.proofs.Common.{◌≡◌, ◌∙◌, ◌-◌, ◌+◌, ap, refl, rules, sym}
+use Rattle.std.proofs.Common.{◌≡◌, ◌∙◌, ◌-◌, ◌+◌, ap, nat_eq, refl, rules, sym}
+use Rattle.std.specs.Map.{set_value}
 use Rattle.moka_sync_model.specs.Orders.{recharged}
 use Rattle.moka_queues.specs.declared.orders.Node.{Node}
+use Rattle.moka_queues.specs.Kept.{room_with}
 use Rattle.moka_queues.specs.OrdersState.{orders_of}
 use Rattle.moka_list.proofs.IdLemmas.{some_parts}
-use Rattle.moka_queues.proofs.ChangeLemmas.{seen, recharged_orders}
+use Rattle.moka_queues.proofs.ChangeLemmas.{recharged_orders, seen, set_seen}
 use Rattle.moka_queues.proofs.HighWaterLemmas.{AreCovered-set}
 use Rattle.moka_queues.proofs.KeptLemmas.{IsKept-set, charge_in_total, rest_bound}
 use Rattle.moka_queues.proofs.orders.Orders.recharge.Goals as goal
@@ -30,15 +32,29 @@ invariant_of-self g c =
       AreCovered-set c.self.inside.access.items c.self.inside.high_water c.self.invariant.1 c.args.id n m stood refl,
     )
 
+pub returns-clause-step : goal.returns-clause-step
+returns-clause-step g c =
+    let old = c.self.inside in
+    let first = c.update.ensures.0 in
+    let call = c.update.ensures.3 in
+    let is : c.update.ensures.1 ≡ record first { charge = c.args.weight } = search rules in
+    let room = room_with old.access.ids old.writes.capacity old.access.room in
+    rw (← c.self.view_is, c.update.ensures.4, is)
+    (λ n stood.
+    set_seen c.self.invariant.0 room c.args.id first c.update.ensures.2 (record first { charge = c.args.weight }) refl
+    ∙ ap (λ m. record (seen old.access.items old.writes.ids room) {
+      nodes = set_value (nat_eq c.args.id) old.access.items (record m { charge = c.args.weight });
+    }) (some_parts first n (sym c.update.ensures.2 ∙ stood)))
+
 pub returns-clause-orders : goal.returns-clause-orders
 returns-clause-orders g c =
     let old = c.self.inside in
     let first = c.update.ensures.0 in
     let call = c.update.ensures.3 in
     let is : c.update.ensures.1 ≡ record first { charge = c.args.weight } = search rules in
-    let items = old.access.items in
+    let room = room_with old.access.ids old.writes.capacity old.access.room in
     rw (← c.self.view_is, c.update.ensures.4, is)
     (λ n stood.
-    recharged_orders c.self.invariant.0 c.args.id first c.update.ensures.2 old.access.room old.writes.room c.args.weight
-    ∙ ap (λ m. recharged m.ticket c.args.weight (orders_of (seen items old.writes.items old.access.room old.writes.room)))
+    recharged_orders c.self.invariant.0 room c.args.id first c.update.ensures.2 c.args.weight
+    ∙ ap (λ m. recharged m.ticket c.args.weight (orders_of (seen old.access.items old.writes.ids room)))
     (some_parts first n (sym c.update.ensures.2 ∙ stood)))
