@@ -10,4 +10,3 @@ pub mod Probed
 pub mod Links
 pub mod Chained
 pub mod Listing
-pub mod Link

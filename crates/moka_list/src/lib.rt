@@ -7,5 +7,4 @@ pub mod group;
 pub mod hash_index;
 pub mod indexed_list;
 pub mod indexing;
-pub mod link;
 mod table;
