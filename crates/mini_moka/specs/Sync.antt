@@ -30,7 +30,7 @@ pub use Rattle.moka_locks.specs.Cache
 pub use Rattle.moka_locks.specs.Locked
 pub use Rattle.moka_locks.specs.Snapshot
 pub use Rattle.moka_locks.specs.MaintenanceTurn
-pub use Rattle.moka_guards.specs.LockedTurn
+pub use Rattle.moka_shard.specs.PlannedTurn
 pub use Rattle.moka_sync_model.specs.Steps
 pub use Rattle.moka_core.specs.CoreCaller
 pub use Rattle.moka_core.specs.StepLaws

@@ -1,20 +1,17 @@
 //! The map of the core: its shards, and the settings by whose hash state keys find theirs.
 ghost use Rattle.std.specs.Prelude.{◌≡◌, ◌≢◌, ◌<◌, ◌↔◌, ℕ, Bool, IsTrue, slice_index, false, [], map};
 ghost use Rattle.std.specs.Prelude.{replicate, IfOk, OnOk, IsSome, IsErr, is_some, option_map};
-ghost use Rattle.moka_common.specs.Settings.{Settings as SettingsState};
 ghost use Rattle.moka_common.specs.Keys.{keys_by};
 ghost use Rattle.moka_sync_model.specs.declared.constants.TheConstants.{SHARDS};
 ghost use Rattle.moka_sync_model.specs.Entry.{entry_at, touched};
 ghost use Rattle.moka_sync_model.specs.Turn.Plan.{Becomes, after_change};
 ghost use Rattle.moka_shard.specs.Shard.{entries_in, state_of, unexpired};
-ghost use Rattle.moka_sync_model.specs.Parts.{IsValidShard, NeedsShard, entries_of, need_of};
+ghost use Rattle.moka_sync_model.specs.Parts.{NeedsShard, entries_of, need_of};
 ghost use Rattle.moka_sync_model.specs.Turn.Turn.{turn_at};
 ghost use Rattle.moka_sync_model.specs.declared.operation.Write.TheVariants.{Upsert};
 ghost use Rattle.moka_queues.specs.LoggedReads.{reads_of};
 ghost use Rattle.moka_maintenance.specs.Taken.{IsScan, TakesWrite, having_taken_write};
-ghost use Rattle.moka_core.specs.MapTurn.{touched_by};
-ghost use Rattle.moka_core.specs.MapTurn.{TurnsOnMap};
-ghost use Rattle.moka_shard.specs.ShardTurn.{TurnsOnShard};
+ghost use Rattle.moka_core.specs.MapTurn.{TurnsOnMap, touched_by};
 ghost use Rattle.std.specs.List.{All, fold};
 ghost use Rattle.moka_core.specs.MapState.{IsInserted, IsInvalidated, IsNewMap, pairs_in};
 ghost use Rattle.moka_core.specs.Shards.{AreOwn, IsAsBuilt, started, states_of};
@@ -216,7 +213,7 @@ impl<K: Eq + Hash + Drop, V: Drop, S: BuildHasher + Drop, A: Allocator + Clone +
         ensures { (refused : Bool) × TurnsOnMap self.old self.new valid_after refused maintenance.old maintenance.new }
     {
         let shard = &mut self.shards[(ticket.hash % SHARDS as u64) as usize];
-        turn_with_shard(maintenance, shard, ticket, &self.settings, valid_after);
+        shard.turn(maintenance, ticket, &self.settings, valid_after);
     }
 
     /// A turn of a scan that needs the entry of a ticket.
@@ -230,7 +227,7 @@ impl<K: Eq + Hash + Drop, V: Drop, S: BuildHasher + Drop, A: Allocator + Clone +
             → TurnsOnMap self.old self.new valid_after false maintenance.old maintenance.new }
     {
         let shard = &mut self.shards[(ticket.hash % SHARDS as u64) as usize];
-        scan_with_shard(maintenance, shard, ticket);
+        shard.scan(maintenance, ticket);
     }
 
     /// The entry of a hit, if it stands, was used; it is looked for in a slot first. The answer is where its node may be found.
@@ -271,71 +268,8 @@ impl<K: Eq + Hash + Drop, V: Drop, S: BuildHasher + Drop, A: Allocator + Clone +
             → TurnsOnMap self.old self.new valid_after refused (having_taken_write (Upsert ticket) maintenance.old) maintenance.new) }
     {
         let shard = &mut self.shards[(ticket.hash % SHARDS as u64) as usize];
-        apply_upsert(maintenance, shard, ticket, &self.settings);
+        shard.apply_upsert(maintenance, ticket, &self.settings);
     }
-}
-
-/// A turn of the maintenance that needs the entry of a ticket, with the shard in which that would stand.
-fn turn_with_shard<
-    K: Eq + Hash + Drop,
-    V: Drop,
-    S: BuildHasher + Drop,
-    A: Allocator + Clone + Drop,
->(
-    maintenance: &mut Maintenance<A>,
-    shard: &mut Shard<K, V, S, AnyPair, A>,
-    ticket: Ticket,
-    settings: &Settings<S, A>,
-    valid_after: Instant,
-)
-    requires { need_of (turn_at {K = K} {V = V} settings.now valid_after false maintenance.old.phase maintenance.old) ≡ NeedsShard ticket }
-    ensures turn { (refused : Bool) × TurnsOnShard settings.now valid_after refused ticket maintenance.old maintenance.new
-        (state_of shard.old) (state_of shard.new) }
-    ensures valid { IsValidShard (keys_by K.Hash S.BuildHasher S.Hasher.Hasher) (state_of shard.new) }
-{
-    let slot = shard.find_ticket(ticket);
-    let change = maintenance.turn_at_entry(settings, valid_after, ticket, shard.entry(slot));
-    shard.change(slot, change);
-}
-
-/// A turn of a scan that needs the entry of a ticket, with the shard in which that would stand.
-#[inline(always)]
-fn scan_with_shard<
-    K: Eq + Hash + Drop,
-    V: Drop,
-    S: BuildHasher + Drop,
-    A: Allocator + Clone + Drop,
->(maintenance: &mut Maintenance<A>, shard: &mut Shard<K, V, S, AnyPair, A>, ticket: Ticket)
-    requires scans { IsScan maintenance.old.phase }
-    requires need { (settings : SettingsState S) × (valid_after : ℕ)
-        × (need_of (turn_at {K = K} {V = V} settings valid_after false maintenance.old.phase maintenance.old) ≡ NeedsShard ticket) }
-    ensures turn { (settings : SettingsState S) → (valid_after : ℕ)
-        → need_of (turn_at {K = K} {V = V} settings valid_after false maintenance.old.phase maintenance.old) ≡ NeedsShard ticket
-        → TurnsOnShard settings valid_after false ticket maintenance.old maintenance.new (state_of shard.old) (state_of shard.new) }
-    ensures valid { IsValidShard (keys_by K.Hash S.BuildHasher S.Hasher.Hasher) (state_of shard.new) }
-{
-    let slot = shard.find_ticket(ticket);
-    let change = maintenance.scan::<K, V, S>(shard.weight(slot));
-    shard.change(slot, change);
-}
-
-/// The turn that applies an upsert, with the shard in which the ticket's entry would stand.
-#[inline(always)]
-fn apply_upsert<K: Eq + Hash + Drop, V: Drop, S: BuildHasher + Drop, A: Allocator + Clone + Drop>(
-    maintenance: &mut Maintenance<A>,
-    shard: &mut Shard<K, V, S, AnyPair, A>,
-    ticket: Ticket,
-    settings: &Settings<S, A>,
-)
-    requires { TakesWrite maintenance.old }
-    ensures turn { (refused : Bool) × ((valid_after : ℕ)
-        → TurnsOnShard settings.now valid_after refused ticket (having_taken_write (Upsert ticket) maintenance.old) maintenance.new
-        (state_of shard.old) (state_of shard.new)) }
-    ensures valid { IsValidShard (keys_by K.Hash S.BuildHasher S.Hasher.Hasher) (state_of shard.new) }
-{
-    let slot = shard.find_ticket(ticket);
-    let change = maintenance.turn_with_upsert(settings, ticket, shard.entry(slot));
-    shard.change(slot, change);
 }
 
 /// All shards of a new map, with room for `capacity` entries in each.

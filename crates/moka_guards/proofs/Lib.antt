@@ -1,3 +1,2 @@
 pub mod LogLemmas
-pub mod TurnLemmas
 pub mod PermittedLemmas

@@ -1,4 +1,4 @@
-//! Logs behind locks, the turns of a maintenance on a locked shard, the backoff of a thread that waits for a lock, and counts that are published without one.
+//! Logs behind locks, the backoff of a thread that waits for a lock, and counts that are published without one.
 #![tactic(auto)]
 
 pub mod counts;
@@ -7,5 +7,4 @@ pub mod laws;
 pub mod logs;
 pub mod published_rule;
 pub mod queue;
-pub mod turns;
 pub mod waiting;

@@ -31,7 +31,7 @@ use Rattle.moka_sync_model.specs.Turn.Turn.{after_read_taken, after_write_taken,
 use Rattle.moka_sync_model.proofs.OrdersLemmas.{ChangesNode-recharged, ChangesNode-without, Reorders, Reorders-all_used, Reorders-renewed}
 use Rattle.moka_sync_model.proofs.OrdersLemmas.{Reorders-rewritten, Reorders-used, charge_of-recharged, charge_of-without, is_written-without}
 use Rattle.moka_sync_model.proofs.TicketLemmas.{cases_ticket}
-use Rattle.moka_guards.specs.LockedTurn.{IsPlanned}
+use Rattle.moka_shard.specs.PlannedTurn.{IsPlanned}
 use Rattle.moka_locks.specs.MaintenanceTurn.{AreTurns, IsWorkingTurn, MoreTurns, OneTurn, Working}
 use Rattle.moka_locks.specs.SameTickets.{HasSameTickets, KeepSameTickets}
 

@@ -24,7 +24,7 @@ use Rattle.moka_maintenance.specs.Taken.{having_taken_write, phase_with, phase_w
 use Rattle.moka_sync_model.specs.Steps.{TakesTurns}
 use Rattle.moka_sync_model.specs.Steps as steps
 use Rattle.moka_locks.specs.Locked.{Locked, kept_running, locked_allows, running}
-use Rattle.moka_guards.specs.LockedTurn.{IsPlanned, IsTurn}
+use Rattle.moka_shard.specs.PlannedTurn.{IsPlanned, IsTurn}
 use Rattle.moka_locks.specs.MaintenanceTurn.{AreTurns, IsWorkingTurn, MoreTurns}
 use Rattle.moka_locks.specs.MaintenanceTurn.{OneTurn, TakesFirst, Working, empty_handed}
 use Rattle.moka_locks.proofs.WritesLeftLemmas.{keeps_left}

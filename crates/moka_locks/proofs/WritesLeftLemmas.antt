@@ -22,7 +22,7 @@ use Rattle.moka_sync_model.specs.Turn.Admission.{after_entering, after_removing,
 use Rattle.moka_sync_model.specs.Turn.Admission.{is_admitted, next_seen, removing_or_enter}
 use Rattle.moka_sync_model.specs.Turn.Turn.{turn_at}
 use Rattle.moka_maintenance.specs.Taken.{TakesWrite, having_taken_write, phase_with_write, writes_left}
-use Rattle.moka_guards.specs.LockedTurn.{IsPlanned, IsTurn}
+use Rattle.moka_shard.specs.PlannedTurn.{IsPlanned, IsTurn}
 
 module _ (work : Work) where
   -- these phases leave as many

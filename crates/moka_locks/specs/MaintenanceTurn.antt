@@ -4,7 +4,7 @@ use Rattle.moka_common.specs.Settings.{Settings}
 use Rattle.moka_sync_model.specs.declared.operation.Write.{Write}
 use Rattle.moka_sync_model.specs.CoreState.{Maintenance}
 use Rattle.moka_sync_model.specs.Phase.{is_idle}
-use Rattle.moka_guards.specs.LockedTurn.{IsTurn}
+use Rattle.moka_shard.specs.PlannedTurn.{IsTurn}
 use Rattle.moka_maintenance.specs.Taken.{TakesWrite, having_taken_write, writes_left}
 
 -- a maintenance, and the writes taken from their log that are not applied yet, the next one first

@@ -1,5 +1,5 @@
 -- A turn on the shard that it needs.
-use Rattle.std.proofs.Common.{◌≡◌, ◌∙◌, ℕ, Bool, true, false, Option, refl, sym, ap}
+use Rattle.std.proofs.Common.{◌≡◌, ◌∙◌, ℕ, Bool, true, false, Option, refl, sym, ap, subst}
 use Rattle.moka_common.specs.Settings.{Settings}
 use Rattle.moka_sync_model.specs.declared.entry.EntryChange.{EntryChange}
 use Rattle.moka_sync_model.specs.EntryChange.{change_of}
@@ -10,7 +10,15 @@ use Rattle.moka_sync_model.specs.Parts.{ShardState, NeedsShard, TurnsAtEntry, ne
 use Rattle.moka_sync_model.specs.Turn.Plan.{Outcome, AtEntry, after_change}
 use Rattle.moka_sync_model.specs.Turn.Turn.{turn_at}
 use Rattle.moka_sync_model.proofs.PartsLemmas.{need_unread}
+use Rattle.moka_shard.specs.PlannedTurn.{IsPlanned, IsTurn}
 use Rattle.moka_shard.specs.ShardTurn.{TurnsOnShard}
+
+-- a turn that looks at an entry, as the maintenance has it
+pub at_entry : {K V S : Type 0} (settings : Settings S) (valid_after : ℕ) (refused : Bool) (old new : Maintenance)
+    (found : Option (Entry K V)) (change : EntryChange) → TurnsAtEntry K V settings valid_after refused old new found change
+    → IsTurn K V settings old new
+at_entry settings valid_after refused old new found change turn =
+    (valid_after, refused, subst (λ plan. IsPlanned plan new) (sym turn.is) (found, ap (λ o. o.maintenance) (sym turn.ends)))
 
 module _ {K V S : Type 0} (settings : Settings S) (valid_after : ℕ) (refused : Bool) (old new : Maintenance) (ticket : Ticket)
     (needs : need_of (turn_at {K = K} {V = V} settings valid_after false old.phase old) ≡ NeedsShard ticket) where

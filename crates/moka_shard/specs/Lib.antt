@@ -4,5 +4,6 @@ pub mod Permitted
 pub mod ShardStep
 pub mod ShardTake
 pub mod ShardTurn
+pub mod PlannedTurn
 -- inside
 pub mod Slots

@@ -12,6 +12,7 @@ ghost use Rattle.moka_shard.specs.Shard.{entries_in, entry_found, entry_in, stat
 ghost use Rattle.moka_shard.specs.ShardStep.{pairs_at};
 
 mod changes;
+mod turns;
 
 use crate::rule::PairRule;
 use moka_common::error::OutOfMemory;

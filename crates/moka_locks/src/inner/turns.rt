@@ -1,11 +1,10 @@
 // The turns of a maintenance, each with the lock of what it needs.
 ghost use Rattle.std.specs.Prelude.{◌≡◌, ◌<◌, ◌≤◌, [], drop, length, slice_get, IfSome, IsNone, IsSome};
-ghost use Rattle.moka_guards.specs.LockedTurn.{IsTurn};
+ghost use Rattle.moka_shard.specs.PlannedTurn.{IsTurn};
 ghost use Rattle.moka_locks.specs.MaintenanceTurn.{AreTurns, empty_handed};
 ghost use Rattle.moka_maintenance.specs.Taken.{TakesRead, TakesWrite, writes_left};
 
 use crate::inner::Inner;
-use moka_guards::turns::{apply_upsert, turn_with_shard};
 use moka_guards::waiting::lock;
 use moka_maintenance::maintenance::{Maintenance, Need};
 use moka_queues::logs::{LoggedRead, NO_READ, READS_AT_ONCE};
@@ -73,7 +72,7 @@ impl<
             Need::Entry(ticket) => {
                 let mut shard = lock(rt, self.shard(ticket.hash));
                 let valid_after = self.valid_after_since(valid_after);
-                turn_with_shard(maintenance, &mut shard, ticket, &self.settings, valid_after);
+                shard.turn(maintenance, ticket, &self.settings, valid_after);
             }
         }
     }
@@ -144,7 +143,7 @@ impl<
         match write {
             Write::Upsert { ticket } => {
                 let mut shard = lock(rt, self.shard(ticket.hash));
-                apply_upsert(maintenance, &mut shard, ticket, &self.settings);
+                shard.apply_upsert(maintenance, ticket, &self.settings);
             }
             Write::Remove { ticket } => maintenance.turn_with_removal::<K, V, S>(ticket),
         }

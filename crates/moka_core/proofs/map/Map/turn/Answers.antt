@@ -9,17 +9,17 @@ keys g = keys_by (record { eq = g.K.PartialEq.eq; hash_input = g.K.Hash.hash_inp
 
 pub invariant_of-self : goal.invariant_of-self
 invariant_of-self g c =
-    let (refused, step) = c.turn_with_shard.ensures.turn in
-    still_own (keys g) c.self.inside.settings c.self.inside.shards.items c.self.invariant c.args.ticket _ c.turn_with_shard.new.shard
-    c.index_mut-shard.ensures.value c.turn_with_shard.ensures.valid c.args.valid_after refused c.args.maintenance.now
-    c.turn_with_shard.new.maintenance step
+    let (refused, step) = c.turn.ensures.shard in
+    still_own (keys g) c.self.inside.settings c.self.inside.shards.items c.self.invariant c.args.ticket _ c.turn.new.self
+    c.index_mut-shard.ensures.value c.turn.ensures.valid c.args.valid_after refused c.args.maintenance.now
+    c.turn.new.maintenance step
 
 pub returns : goal.returns
 returns g c =
-    let (refused, step) = c.turn_with_shard.ensures.turn in
+    let (refused, step) = c.turn.ensures.shard in
     rw (← c.self.view_is) (
       refused,
-      turned_at (keys g) c.self.inside.settings c.self.inside.shards.items c.self.invariant c.args.ticket _ c.turn_with_shard.new.shard
-          c.index_mut-shard.ensures.value c.turn_with_shard.ensures.valid c.args.valid_after refused c.args.maintenance.now
-          c.turn_with_shard.new.maintenance step,
+      turned_at (keys g) c.self.inside.settings c.self.inside.shards.items c.self.invariant c.args.ticket _ c.turn.new.self
+          c.index_mut-shard.ensures.value c.turn.ensures.valid c.args.valid_after refused c.args.maintenance.now
+          c.turn.new.maintenance step,
     )

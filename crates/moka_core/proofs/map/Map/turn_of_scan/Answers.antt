@@ -11,16 +11,16 @@ keys g = keys_by (record { eq = g.K.PartialEq.eq; hash_input = g.K.Hash.hash_inp
 pub invariant_of-self : goal.invariant_of-self
 invariant_of-self g c =
     let (valid_after, need) = rw (← c.self.view_is) at c.requires.need in
-    still_own (keys g) c.self.inside.settings c.self.inside.shards.items c.self.invariant c.args.ticket _ c.scan_with_shard.new.shard
-    c.index_mut-shard.ensures.value c.scan_with_shard.ensures.valid valid_after false c.args.maintenance.now
-    c.scan_with_shard.new.maintenance
-    (c.scan_with_shard.ensures.turn c.self.inside.settings valid_after need)
+    still_own (keys g) c.self.inside.settings c.self.inside.shards.items c.self.invariant c.args.ticket _ c.scan.new.self
+    c.index_mut-shard.ensures.value c.scan.ensures.valid valid_after false c.args.maintenance.now
+    c.scan.new.maintenance
+    (c.scan.ensures.shard c.self.inside.settings valid_after need)
 
 pub returns : goal.returns
 returns g c =
     rw (← c.self.view_is)
     (λ valid_after need.
-    turned_at (keys g) c.self.inside.settings c.self.inside.shards.items c.self.invariant c.args.ticket _ c.scan_with_shard.new.shard
-    c.index_mut-shard.ensures.value c.scan_with_shard.ensures.valid valid_after false c.args.maintenance.now
-    c.scan_with_shard.new.maintenance
-    (c.scan_with_shard.ensures.turn c.self.inside.settings valid_after need))
+    turned_at (keys g) c.self.inside.settings c.self.inside.shards.items c.self.invariant c.args.ticket _ c.scan.new.self
+    c.index_mut-shard.ensures.value c.scan.ensures.valid valid_after false c.args.maintenance.now
+    c.scan.new.maintenance
+    (c.scan.ensures.shard c.self.inside.settings valid_after need))

@@ -11,19 +11,19 @@ keys g = keys_by (record { eq = g.K.PartialEq.eq; hash_input = g.K.Hash.hash_inp
 
 pub invariant_of-self : goal.invariant_of-self
 invariant_of-self g c =
-    let (refused, step) = c.apply_upsert.ensures.turn in
+    let (refused, step) = c.apply_upsert.ensures.shard in
     let taken = having_taken_write (Upsert c.args.ticket) c.args.maintenance.now in
-    still_own (keys g) c.self.inside.settings c.self.inside.shards.items c.self.invariant c.args.ticket _ c.apply_upsert.new.shard
+    still_own (keys g) c.self.inside.settings c.self.inside.shards.items c.self.invariant c.args.ticket _ c.apply_upsert.new.self
     c.index_mut-shard.ensures.value c.apply_upsert.ensures.valid 0 refused taken
     c.apply_upsert.new.maintenance (step 0)
 
 pub returns : goal.returns
 returns g c =
-    let (refused, step) = c.apply_upsert.ensures.turn in
+    let (refused, step) = c.apply_upsert.ensures.shard in
     let taken = having_taken_write (Upsert c.args.ticket) c.args.maintenance.now in
     rw (← c.self.view_is) (
       refused,
-      λ valid_after. turned_at (keys g) c.self.inside.settings c.self.inside.shards.items c.self.invariant c.args.ticket _ c.apply_upsert.new.shard
+      λ valid_after. turned_at (keys g) c.self.inside.settings c.self.inside.shards.items c.self.invariant c.args.ticket _ c.apply_upsert.new.self
           c.index_mut-shard.ensures.value c.apply_upsert.ensures.valid valid_after refused taken
           c.apply_upsert.new.maintenance (step valid_after),
     )

@@ -22,4 +22,4 @@ returns-in-Writes g c =
     (c.turn_with_writes.ensures.turn c.self.inside.settings 0))
 
 pub returns-in-Entry : goal.returns-in-Entry
-returns-in-Entry g c = rw (← c.self.view_is) c.turn_with_shard.ensures.turn
+returns-in-Entry g c = rw (← c.self.view_is) c.turn.ensures.turn

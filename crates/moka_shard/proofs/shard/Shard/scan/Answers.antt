@@ -2,11 +2,11 @@ use Rattle.std.proofs.Common.{◌∙◌, ap, false, option_map, refl, sym}
 use Rattle.moka_sync_model.specs.Entry.{entry_of}
 use Rattle.moka_shard.specs.Shard.{state_of}
 use Rattle.moka_shard.proofs.ShardTurnLemmas.{turns_on_shard}
-use Rattle.moka_core.proofs.map.scan_with_shard.Goals as goal
+use Rattle.moka_shard.proofs.shard.Shard.scan.Goals as goal
 
-pub returns-clause-turn : goal.returns-clause-turn
-returns-clause-turn g c =
-    let shard = state_of c.args.shard.now in
+pub returns-clause-shard : goal.returns-clause-shard
+returns-clause-shard g c =
+    let shard = state_of c.args.self.now in
     let found = entry_of c.args.ticket shard.entries in
     let here = c.find_ticket-slot.ensures.value in
     λ settings valid_after need.

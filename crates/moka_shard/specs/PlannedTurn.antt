@@ -1,4 +1,4 @@
--- What a turn of the maintenance does behind its lock, whatever it finds behind another.
+-- What a turn makes of the maintenance, whatever it finds in a log or in a shard.
 use Rattle.std.specs.Prelude.{◌≡◌, ℕ, Bool, List, Option}
 use Rattle.moka_common.specs.Settings.{Settings}
 use Rattle.moka_sync_model.specs.declared.operation.Read.{Read}

@@ -1,8 +1,7 @@
 use Rattle.std.proofs.Common.{◌∙◌}
 use Rattle.moka_shard.specs.Shard.{state_of}
-use Rattle.moka_guards.proofs.TurnLemmas.{at_entry}
-use Rattle.moka_shard.proofs.ShardTurnLemmas.{turns_on_shard}
-use Rattle.moka_guards.proofs.turns.turn_with_shard.Goals as goal
+use Rattle.moka_shard.proofs.ShardTurnLemmas.{at_entry, turns_on_shard}
+use Rattle.moka_shard.proofs.shard.Shard.turn.Goals as goal
 
 pub returns-clause-turn : goal.returns-clause-turn
 returns-clause-turn g c =
@@ -15,6 +14,6 @@ returns-clause-shard g c =
     let here = c.find_ticket-slot.ensures.value in (
       refused,
       turns_on_shard c.args.settings.now c.args.valid_after refused c.args.maintenance.now c.turn_at_entry-change.new.self c.args.ticket
-          c.requires _ c.turn_at_entry-change.result turn (state_of c.args.shard.now) _ (c.entry-found.ensures ∙ here)
+          c.requires _ c.turn_at_entry-change.result turn (state_of c.args.self.now) _ (c.entry.ensures ∙ here)
           (c.change.ensures.step c.args.ticket here),
     )
