@@ -16,7 +16,7 @@ use std::sync::{Mutex, MutexGuard, Wait};
 /// The write log behind its lock. Whoever has taken the lock writes the word beside it, so both lie on one line.
 #[derive(Drop)]
 struct HintedQueue<A: Allocator + Clone + Drop> {
-    /// The published length of the write log, as `published_write_len` has it when the log was left last.
+    /// The published length of the write log, as `publish_write_len` had it when the log was left last.
     len: AtomicUsize,
     queue: Mutex<WriteQueue<A>>,
 }
@@ -26,7 +26,7 @@ struct HintedQueue<A: Allocator + Clone + Drop> {
 #[derive(Drop)]
 pub struct Logs<A: Allocator + Clone + Drop = Global> {
     read_log: CachePadded<Mutex<ReadLog<A>>>,
-    /// The published length of the read log, as `published_read_len` has it when the log was left last. It seldom changes, so it lies apart from the lock, where those
+    /// The published length of the read log, as `publish_read_len` had it when the log was left last. It seldom changes, so it lies apart from the lock, where those
     /// who look at it keep the line.
     reads: CachePadded<AtomicUsize>,
     writes: CachePadded<HintedQueue<A>>,
@@ -69,28 +69,36 @@ impl<A: Allocator + Clone + Drop> Logs<A> {
         lock(rt, &self.writes.queue)
     }
 
-    /// Publishes how many reads there are. It stores only a value that differs, since a store takes the cache line from all who read it.
+    /// Publishes the length of the read log. Callers ask if it is full, or has reached the flush point. A value that is there already isn't stored, since a
+    /// store takes the cache line from all who read it.
     pub fn publish_read_len(&self, len: usize) {
-        let told = published_read_len(len);
-        if self.reads() != told {
+        let told = if len >= READ_LOG_SIZE {
+            READ_LOG_SIZE
+        } else if len >= FLUSH_POINT {
+            FLUSH_POINT
+        } else {
+            0
+        };
+        if self.reads.load(Ordering::Acquire) != told {
             self.reads.store(told, Ordering::Release);
         }
     }
 
-    /// Publishes how many writes are on their way. It stores only a value that differs, since a store is an exchange here.
+    /// Publishes how many writes are on their way, as a multiple of `WRITE_BATCH`. Callers ask if the log is full, has reached the flush point, or has space
+    /// for that many, and all these are multiples of it. A value that is there already isn't stored, since a store is an exchange here.
     pub fn publish_write_len(&self, len: usize) {
-        let told = published_write_len(len);
-        if self.writes() != told {
+        let told = len - len % WRITE_BATCH;
+        if self.writes.len.load(Ordering::Acquire) != told {
             self.writes.len.store(told, Ordering::Release);
         }
     }
 
     /// Puts a read into its log. Answers whether there was room. A log that its word tells full is not looked at.
     pub fn push_read<R: Wait>(&self, rt: &R, logged: LoggedRead) -> bool {
-        if self.reads() >= READ_LOG_SIZE {
+        if self.reads.load(Ordering::Acquire) >= READ_LOG_SIZE {
             return false;
         }
-        let mut log = self.lock_reads(rt);
+        let mut log = lock(rt, &self.read_log);
         let is_pushed = log.push_logged(logged).is_ok();
         self.publish_read_len(log.len());
         is_pushed
@@ -136,21 +144,4 @@ impl<A: Allocator + Clone + Drop> Logs<A> {
         queue.note_applied();
         self.publish_write_len(queue.len());
     }
-}
-
-/// The published length of the read log: callers ask whether it is full, and whether it has reached the flush point.
-fn published_read_len(len: usize) -> usize {
-    if len >= READ_LOG_SIZE {
-        READ_LOG_SIZE
-    } else if len >= FLUSH_POINT {
-        FLUSH_POINT
-    } else {
-        0
-    }
-}
-
-/// Returns the published length of the write log. Callers ask if it is full, has reached the flush point, or has space for `WRITE_BATCH` operations, and all
-/// these are multiples of that.
-fn published_write_len(len: usize) -> usize {
-    len - len % WRITE_BATCH
 }
