@@ -33,7 +33,7 @@ use moka_guards::logs::Logs;
 use moka_guards::waiting::lock;
 use moka_shard::rule::PairRule;
 use moka_shard::shard::Shard;
-use moka_sync_model::constants::{FLUSH_POINT, SHARDS};
+use moka_sync_model::constants::SHARDS;
 use moka_sync_model::published::Published;
 use moka_sync_model::settings::{CoreParts, Settings};
 use moka_sync_model::ticket::Ticket;
@@ -299,12 +299,6 @@ impl<
             Some(counts) => counts.split(pass),
             None => unreachable!(),
         }
-    }
-
-    /// Returns `true` if a maintenance is due in a call that finds `len` operations in its log, and nobody else runs one. Then nobody does until `end` of the
-    /// housekeeper.
-    pub(crate) fn try_start(&self, len: usize, now: Instant) -> bool {
-        self.housekeeper.should_apply(len, FLUSH_POINT, now) && self.housekeeper.try_begin(now)
     }
 
     /// Begins a maintenance, once nobody else runs one.

@@ -12,6 +12,7 @@ use moka_common::shared::Shared;
 use moka_common::time::Instant;
 use moka_queues::logs::LoggedRead;
 use moka_shard::rule::PairRule;
+use moka_sync_model::constants::FLUSH_POINT;
 use moka_sync_model::operation::{Read, Write};
 use moka_sync_model::phase::Phase;
 use moka_sync_model::steps::{ReadPush, Steps, TakingSteps, WhichLog, WritePush};
@@ -247,9 +248,10 @@ impl<
             WhichLog::Reads => inner.logs.reads(),
             WhichLog::Writes => inner.logs.writes(),
         };
-        let runs_maintenance = inner.try_start(len, now);
-        self.runs_maintenance = runs_maintenance;
-        runs_maintenance
+        let housekeeper = &inner.housekeeper;
+        self.runs_maintenance = housekeeper.should_apply(len, FLUSH_POINT, now)
+            && housekeeper.try_begin(now);
+        self.runs_maintenance
     }
 
     fn begin<R: Wait>(&mut self, rt: &R, now: Instant) {
