@@ -50,7 +50,7 @@ pub extern "C" fn mini_moka_count(handle: &mut Handle, count: &mut u64) -> u32
     }
 }
 
-/// Writes what the entries weigh together, as far as 64 bits tell.
+/// Writes the total weight of the entries, at most the largest number of 64 bits.
 #[unsafe(no_mangle)]
 pub extern "C" fn mini_moka_weight(handle: &mut Handle, weight: &mut u64) -> u32
     ensures step { OnOpen handle.old.value result handle.new.value (λ old new.

@@ -66,7 +66,7 @@ pub extern "C" fn mini_moka_insert(
 }
 
 /// Looks the key up: its unexpired entry becomes the most recently used one. The key is counted, found or not. The value is copied to the beginning of the
-/// buffer; if it doesn't fit, the answer is `TOO_SHORT`. Its length is written in both cases.
+/// buffer; if it doesn't fit, it returns `TOO_SHORT`. Its length is written in both cases.
 #[unsafe(no_mangle)]
 pub extern "C" fn mini_moka_get(
     handle: &mut Handle,

@@ -35,7 +35,7 @@ use std::alloc::Global;
 /// A cache for one thread whose keys and values are bytes. It copies in what it is given, and copies out what it finds.
 ///
 /// A look-up of a key of up to `SHORT_KEY` bytes asks for no memory. It copies a longer key into memory that the cache keeps, so it asks for none once that is
-/// long enough; where it is refused, nothing is done.
+/// long enough; if it is refused, nothing is done.
 #[derive(Drop)]
 pub struct ByteCache {
     pub cache: Cache<Key, Value, Seed, ByteWeight>,
@@ -49,7 +49,7 @@ pub struct ByteCache {
 }
 
 impl ByteCache {
-    /// A cache with what is set, whose hash has this key, and which queues what leaves. It is refused as `CacheBuilder::build` is.
+    /// Builds a cache with what is set, whose hash has this key, and which queues what leaves. It is refused as `CacheBuilder::build` is.
     pub fn build(
         alloc: Global,
         builder: CacheBuilder<Key, Value, ByteWeight>,
@@ -311,7 +311,7 @@ impl ByteCache {
     }
 }
 
-/// The entry that a walk comes to next.
+/// Returns the next entry of a walk.
 fn next_of<'a>(
     cache: &'a Cache<Key, Value, Seed, ByteWeight>,
     walk: Walk,

@@ -7,8 +7,8 @@ use crate::constants::{ABSENT, DONE, TOO_SHORT};
 use crate::handle::Handle;
 use crate::removed::{Drained, number_of};
 
-/// Drains the entry that left first. Copies its key and its value to the beginnings of the buffers, and writes the cause. If one doesn't fit, the answer is
-/// `TOO_SHORT`, and the entry stays in front. Their lengths are written in both cases. The answer is `ABSENT` if there is none.
+/// Drains the entry that left first. Copies its key and its value to the beginnings of the buffers, and writes the cause. If one doesn't fit, it returns
+/// `TOO_SHORT`, and the entry stays in front. Their lengths are written in both cases. Returns `ABSENT` if there is none.
 #[unsafe(no_mangle)]
 pub extern "C" fn mini_moka_removed(
     handle: &mut Handle,

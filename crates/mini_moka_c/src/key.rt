@@ -31,7 +31,7 @@ impl Model for Key {
 }
 
 impl Key {
-    /// No bytes. It takes no memory.
+    /// Makes a key of no bytes, which allocates nothing.
     pub fn new(alloc: Global) -> Key
         ensures { result ≡ [] }
     {
@@ -40,7 +40,7 @@ impl Key {
         }
     }
 
-    /// A copy of these bytes.
+    /// Copies these bytes.
     pub fn copy_of(alloc: Global, bytes: &[u8]) -> Result<Key, OutOfMemory>
         ensures ok { IfOk result (λ copy. copy ≡ bytes.now) }
         ensures short { OnErr result (SHORT_KEY < length bytes.now) }

@@ -37,7 +37,7 @@ pub struct NumberCache {
 }
 
 impl NumberCache {
-    /// A cache with what is set, which queues what leaves. It is refused as `CacheBuilder::build` is.
+    /// Builds a cache with what is set, which queues what leaves. It is refused as `CacheBuilder::build` is.
     pub fn build(
         builder: CacheBuilder<u64, u64>,
         removed: RemovedQueue<u64, u64>,
@@ -209,7 +209,7 @@ impl NumberCache {
     }
 }
 
-/// The entry that a walk comes to next.
+/// Returns the next entry of a walk.
 fn next_of(cache: &Cache<u64, u64>, walk: Walk, walk_key: u64, now: Instant) -> Option<(u64, u64)>
     ensures { result ≡ next_pair walk cache.now walk_key now }
 {
@@ -220,7 +220,7 @@ fn next_of(cache: &Cache<u64, u64>, walk: Walk, walk_key: u64, now: Instant) -> 
     }
 }
 
-/// A copy of a key and its value.
+/// Copies a key and its value.
 fn copied(pair: Option<(&u64, &u64)>) -> Option<(u64, u64)>
     ensures { result ≡ option_map deref_pair pair.entry }
 {

@@ -184,7 +184,7 @@ pub extern "C" fn mini_moka_u64_invalidate(handle: &mut Handle, key: u64, now: u
     }
 }
 
-/// Drains the removed entry that left first: writes its key, its value and why it left. The answer is `ABSENT` if there is none.
+/// Drains the removed entry that left first: writes its key, its value and why it left. Returns `ABSENT` if there is none.
 #[unsafe(no_mangle)]
 pub extern "C" fn mini_moka_u64_removed(
     handle: &mut Handle,
@@ -227,7 +227,7 @@ fn tell_removed(
     }
 }
 
-/// Writes the key and the value of the walk's next entry. The answer is `ABSENT` after the last entry, and `CHANGED` if there is no walk any more.
+/// Writes the key and the value of the walk's next entry. Returns `ABSENT` after the last entry, and `CHANGED` if there is no walk any more.
 #[unsafe(no_mangle)]
 pub extern "C" fn mini_moka_u64_next(
     handle: &mut Handle,

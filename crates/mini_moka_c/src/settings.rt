@@ -34,7 +34,7 @@ pub struct NumberSettings {
 #[repr(C)]
 #[derive(Clone, Copy)]
 pub struct ByteSettings {
-    /// The most entries, or where it is weighed the most bytes of keys and values.
+    /// The largest number of entries, or in a weighed cache of bytes of keys and values.
     pub capacity: u64,
     /// As of numbers.
     pub time_to_live: u64,
@@ -48,7 +48,7 @@ pub struct ByteSettings {
     pub removed_room: usize,
 }
 
-/// A new cache of numbers, where memory serves. No duration of 64 bits of nanoseconds is too long.
+/// Builds a cache of numbers, unless memory is refused. No duration of 64 bits of nanoseconds is too long.
 pub(crate) fn build_numbers(alloc: Global, settings: &NumberSettings) -> Option<NumberCache>
     ensures { IfSome result (IsNumbersNew settings.now) }
 {
@@ -65,7 +65,7 @@ pub(crate) fn build_numbers(alloc: Global, settings: &NumberSettings) -> Option<
     NumberCache::build(builder, removed).ok()
 }
 
-/// A new cache of bytes, where memory serves.
+/// Builds a cache of bytes, unless memory is refused.
 pub(crate) fn build_bytes(alloc: Global, settings: &ByteSettings) -> Option<ByteCache>
     ensures { IfSome result (IsBytesNew settings.now) }
 {
@@ -94,7 +94,7 @@ pub(crate) fn build_bytes(alloc: Global, settings: &ByteSettings) -> Option<Byte
     ByteCache::build(alloc, builder, seed, removed).ok()
 }
 
-/// A builder that had no limits, with those that are set.
+/// Gives a builder without limits those that are set.
 fn with_limits<K, V, W: Drop>(
     builder: CacheBuilder<K, V, W>,
     capacity: u64,
@@ -118,7 +118,7 @@ fn with_limits<K, V, W: Drop>(
     builder
 }
 
-/// A capacity or a duration, where it is set.
+/// Returns a capacity or a duration, if it is set.
 fn limit(number: u64) -> Option<u64>
     ensures { result ≡ limit_of number }
 {

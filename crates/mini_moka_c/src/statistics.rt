@@ -27,7 +27,7 @@ pub struct Statistics {
 }
 
 impl Statistics {
-    /// Nothing was counted.
+    /// Makes statistics of which each count is 0.
     pub fn none() -> Statistics
         ensures { result ≡ no_statistics }
     {

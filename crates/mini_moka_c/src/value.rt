@@ -20,7 +20,7 @@ impl Model for Value {
 }
 
 impl Value {
-    /// A copy of these bytes.
+    /// Copies these bytes.
     pub fn copy_of(alloc: Global, bytes: &[u8]) -> Result<Value, OutOfMemory>
         ensures { IfOk result (λ copy. copy ≡ bytes.now) }
     {

@@ -8,8 +8,8 @@ use crate::handle::Handle;
 use crate::steps::Step;
 use moka_common::time::Instant;
 
-/// Copies the key and the value of the walk's next entry to the beginnings of the buffers. If one doesn't fit, the answer is `TOO_SHORT`, and the walk stays
-/// where it is. Their lengths are written in both cases. The answer is `ABSENT` after the last entry, and `CHANGED` if there is no walk any more.
+/// Copies the key and the value of the walk's next entry to the beginnings of the buffers. If one doesn't fit, it returns `TOO_SHORT`, and the walk stays
+/// where it is. Their lengths are written in both cases. Returns `ABSENT` after the last entry, and `CHANGED` if there is no walk any more.
 #[unsafe(no_mangle)]
 pub extern "C" fn mini_moka_next(
     handle: &mut Handle,

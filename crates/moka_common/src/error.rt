@@ -39,7 +39,7 @@ pub enum BuildError {
 impl BuildError {
     ghost use Rattle.moka_common.specs.Error.{build_error_text};
 
-    /// The reason in words, which is what `Display` writes.
+    /// Returns the reason in words, which `Display` writes.
     pub fn text(self) -> &'static str
         ensures { result.now ≡ build_error_text self }
     {

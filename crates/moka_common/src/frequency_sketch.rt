@@ -44,7 +44,7 @@ impl<A: Allocator + Clone + Drop> Model for FrequencySketch<A> {
 }
 
 impl<A: Allocator + Clone + Drop> FrequencySketch<A> {
-    /// A sketch with no table, which keeps the allocator for one. It takes no memory.
+    /// Makes a sketch with no table, which keeps the allocator for one. It allocates nothing.
     pub fn default(alloc: A) -> FrequencySketch<A>
         ensures { result ≡ None }
     {
@@ -109,7 +109,7 @@ impl<A: Allocator + Clone + Drop> FrequencySketch<A> {
         self.table.len() / GROUPS_PER_WORD
     }
 
-    /// The word that has the hash's counter at this depth. `table_len` says whether there is a table.
+    /// Returns the word that has the hash's counter at this depth. There must be a table: `table_len` is the test.
     pub fn index_of(&self, hash: u64, depth: u8) -> usize
         requires table { 0 < table_len self.now }
         requires depth { depth < DEPTHS }
@@ -120,7 +120,7 @@ impl<A: Allocator + Clone + Drop> FrequencySketch<A> {
     }
 }
 
-/// The length of the table for a cache of this capacity, in words.
+/// Returns the length of the table for a cache of this capacity, in words.
 fn wanted_len(cap: u32) -> usize
     ensures { result ≡ table_len_for cap }
 {
@@ -135,7 +135,7 @@ fn wanted_sample_size(cap: u32) -> u32
     (entries * SAMPLE_FACTOR).min(MAX_SAMPLE_SIZE) as u32
 }
 
-/// The capacity to ask of the sketch, for a cache with room for `x` entries.
+/// Returns the capacity to ask of the sketch, for a cache with a limit of `x` entries.
 fn sketch_capacity(x: u64) -> u32
     ensures { result ≡ sketch_capacity x }
 {

@@ -28,7 +28,7 @@ impl Model for Limits {
 }
 
 impl Limits {
-    /// The limits of a policy.
+    /// Works out the limits of a policy.
     pub fn new(policy: Policy) -> Limits
         ensures { result ≡ policy }
     {
@@ -39,7 +39,7 @@ impl Limits {
         }
     }
 
-    /// The policy that these are the limits of.
+    /// Returns the policy that these are the limits of.
     #[inline]
     pub fn policy(&self) -> Policy
         ensures { result ≡ self.now }
@@ -47,7 +47,7 @@ impl Limits {
         self.policy
     }
 
-    /// The most that all entries may weigh together. Without a weigher each weighs 1.
+    /// Returns the largest total weight. Without a weigher each entry weighs 1.
     #[inline]
     pub fn max_capacity(&self) -> Option<u64>
         ensures { result ≡ self.now.max_capacity }

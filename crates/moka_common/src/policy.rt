@@ -23,7 +23,7 @@ impl Model for Policy {
 impl Policy {
     ghost use Rattle.std.specs.Prelude.{◌≡◌, Some};
 
-    /// The policy of these limits.
+    /// Makes the policy of these limits.
     pub fn new(
         max_capacity: Option<u64>,
         time_to_live: Option<Duration>,
@@ -68,21 +68,21 @@ impl Policy {
         }
     }
 
-    /// The most that all entries may weigh together. Without a weigher each weighs 1.
+    /// Returns the largest total weight. Without a weigher each entry weighs 1.
     pub fn max_capacity(&self) -> Option<u64>
         ensures { result ≡ self.now.max_capacity }
     {
         self.max_capacity
     }
 
-    /// How long an entry lives after it was last written.
+    /// Returns how long an entry lives after its last write.
     pub fn time_to_live(&self) -> Option<Duration>
         ensures { result ≡ self.now.time_to_live }
     {
         self.time_to_live
     }
 
-    /// How long an entry lives after it was last read or written.
+    /// Returns how long an entry lives after its last read or write.
     pub fn time_to_idle(&self) -> Option<Duration>
         ensures { result ≡ self.now.time_to_idle }
     {

@@ -7,7 +7,7 @@ use crate::constants::LONGEST_DURATION_SECS;
 use crate::error::BuildError;
 use std::time::Duration;
 
-/// The first fault of a cache's durations. The time to live is tested first.
+/// Returns the first fault of a cache's durations. The time to live is tested first.
 pub fn duration_fault(
     time_to_live: Option<Duration>,
     time_to_idle: Option<Duration>,

@@ -32,7 +32,7 @@ impl<T: Drop, A: Allocator + Drop> Shared<T, A> {
         })
     }
 
-    /// One more owner of the same value. It takes no memory: only where there are too many owners to count is it refused.
+    /// Makes one more owner of the same value. It allocates nothing, and is refused only if there are too many owners to count.
     pub fn try_clone(&self) -> Result<Shared<T, A>, AllocError>
         ensures { IfOk result (λ shared. shared ≡ self.now) }
     {
@@ -41,7 +41,7 @@ impl<T: Drop, A: Allocator + Drop> Shared<T, A> {
         })
     }
 
-    /// The value.
+    /// Returns the value.
     pub fn get(&self) -> &T
         ensures { result.now ≡ self.now }
     {

@@ -9,7 +9,7 @@ use std::time::Duration;
 /// A moment, in nanoseconds from a start of the caller's choice. No call reads a clock: what was first can be handed in last. The last moment is
 /// 2^64 - 1 nanoseconds after the start, more than 584 years.
 ///
-/// Where std's `Instant` is what a clock said, this one is a number, so tests and replays choose their moments:
+/// std's `Instant` is what a clock said. This one is a number, so tests and replays choose their moments:
 ///
 /// ```
 /// let noon = Instant::from_secs(12 * 60 * 60);
@@ -38,14 +38,14 @@ impl Model for Instant {
 }
 
 impl Instant {
-    /// The moment `nanos` nanoseconds after the start.
+    /// Returns the moment `nanos` nanoseconds after the start.
     pub fn from_nanos(nanos: u64) -> Instant
         ensures { result ≡ nanos }
     {
         Instant { nanos }
     }
 
-    /// The moment `secs` seconds after the start, or the last moment where that is later.
+    /// Returns the moment `secs` seconds after the start, or the last moment if that is later.
     pub fn from_secs(secs: u64) -> Instant
         ensures { result ≡ min (secs * 1_000_000_000) (2 ^ 64 - 1) }
     {
@@ -54,7 +54,7 @@ impl Instant {
         }
     }
 
-    /// The moment `millis` milliseconds after the start, or the last moment where that is later.
+    /// Returns the moment `millis` milliseconds after the start, or the last moment if that is later.
     pub fn from_millis(millis: u64) -> Instant
         ensures { result ≡ min (millis * 1_000_000) (2 ^ 64 - 1) }
     {
@@ -63,7 +63,7 @@ impl Instant {
         }
     }
 
-    /// The moment that much later, or the last moment where that is later.
+    /// Returns the moment that much later, or the last moment if that is later.
     pub fn after(self, duration: Duration) -> Instant
         ensures { result ≡ min (self + as_nanos duration) (2 ^ 64 - 1) }
     {

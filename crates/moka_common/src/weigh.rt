@@ -12,7 +12,7 @@ pub trait Weigh<K, V>: Drop {
     // What the weigher answers for a key and a value, and what it is then.
     ghost weighs: { Self → K → V → ℕ → Self → Type 0 };
 
-    /// The weight of an entry. It may be 0.
+    /// Returns the weight of an entry. It may be 0.
     fn weigh(&mut self, key: &K, value: &V) -> u32
         requires { ready self.old }
         ensures weight { weighs self.old key.now value.now result self.new }

@@ -71,7 +71,7 @@ impl<K: Eq + Hash + Drop, V: Drop, S: BuildHasher + Drop, A: Allocator + Clone +
     UnitWeight,
     A,
 > {
-    /// A core without limits, whose keys are hashed by this state.
+    /// Makes a core without limits, whose keys are hashed by this state.
     pub fn new(alloc: A, hash_state: S) -> Result<Self, BuildError>
         ensures ok { IfOk result (λ core. core.state ≡ new_core (unlimited hash_state) 0) }
         ensures err { IfErr result (λ error. error ≡ BuildError.OutOfMemory) }
@@ -94,7 +94,7 @@ impl<
     W: Drop,
     A: Allocator + Clone + Drop,
 > Core<K, V, S, W, A> {
-    /// A core of these parts, with nothing done to it.
+    /// Makes a core of these parts, on which nothing has been done.
     pub fn from_parts(alloc: A, parts: CoreParts<S, W>) -> Result<Self, OutOfMemory>
         ensures state { IfOk result (λ core. core.state ≡ new_core
             (record { hash_state = parts.hash_state; policy = parts.policy; is_weighed = parts.is_weighed }) 0) }
@@ -122,7 +122,7 @@ impl<
         self
     }
 
-    /// The number of the next ticket of the first shard.
+    /// Returns the number of the next ticket of the first shard.
     pub fn first_ticket(&self) -> u64
         ensures { result ≡ slice_index self.now.state.next_numbers 0 }
     {
@@ -147,7 +147,7 @@ impl<
     W: WeighShared<K, V>,
     A: Allocator + Clone + Drop,
 > Core<K, V, S, W, A> {
-    /// Takes the steps in turn, and gives their replies. Where memory for the replies, or for what callers may have pending, is refused, no step
+    /// Takes the steps in turn, and gives their replies. If memory for the replies, or for what callers may have pending, is refused, no step
     /// was taken; later only an `Insert`, a `Get` or a `Copy` can be refused it.
     ///
     /// It takes the time of the steps, and memory for one reply and one pending operation a step.
@@ -186,7 +186,7 @@ impl<
         self.machine.call(call)
     }
 
-    /// The whole call `Get`, as `call` makes it, by a key that need not be shared.
+    /// Makes the whole call `Get`, as `call` does, by a key that need not be shared.
     #[inline(always)]
     pub fn get(&mut self, key: &K, now: Instant) -> Reply<Shared<V, A>, Rows<K, V, A>>
         requires rest { IsAtRest self.old.state }
@@ -198,7 +198,7 @@ impl<
         self.machine.call_get(key, now)
     }
 
-    /// Takes turns until no maintenance is under way. Answers whether one was.
+    /// Takes turns until no maintenance is under way. Returns whether one was.
     ///
     /// It takes the time of what was put off, of the entries that give way, and of at most 1,500 that are expired or too many.
     pub fn finish(&mut self) -> bool

@@ -78,7 +78,7 @@ impl<
     W: Drop,
     A: Allocator + Clone + Drop,
 > Machine<K, V, S, W, A> {
-    /// A machine of these parts, with nothing done to it.
+    /// Makes a machine of these parts, on which nothing has been done.
     pub fn from_parts(alloc: A, parts: CoreParts<S, W>) -> Result<Self, OutOfMemory>
         ensures state { IfOk result (λ machine. machine.state ≡ new_core
             (record { hash_state = parts.hash_state; policy = parts.policy; is_weighed = parts.is_weighed }) 0) }
@@ -107,14 +107,14 @@ impl<
         })
     }
 
-    /// The number of the next ticket of the first shard.
+    /// Returns the number of the next ticket of the first shard.
     pub fn first_ticket(&self) -> u64
         ensures { result ≡ slice_index self.now.state.next_numbers 0 }
     {
         self.map.first_ticket()
     }
 
-    /// The shards give out the numbers from this one on. There must be no entry.
+    /// Sets the number of each shard's next ticket. There must be no entry.
     pub fn start_at(&mut self, first: u64)
         requires { self.old.state.entries ≡ [] }
         ensures { self.new ≡ record self.old { state = record self.old.state { next_numbers = replicate SHARDS first } } }
@@ -153,7 +153,7 @@ impl<
     }
 }
 
-/// A map without entries, with its settings, and with room for `capacity` entries in each shard.
+/// Makes a map without entries, with capacity for `capacity` of them in each shard.
 fn empty_map<K: Eq + Hash + Drop, V: Drop, S: BuildHasher + Drop, A: Allocator + Clone + Drop>(
     alloc: &A,
     hash_state: S,
@@ -172,7 +172,7 @@ fn empty_map<K: Eq + Hash + Drop, V: Drop, S: BuildHasher + Drop, A: Allocator +
     Ok(Map::new(alloc.clone()?, settings, capacity)?)
 }
 
-/// Both logs, with nothing in them.
+/// Makes both logs, empty.
 fn empty_logs<A: Allocator + Clone + Drop>(
     alloc: &A,
 ) -> Result<(ReadLog<A>, WriteLog<A>), OutOfMemory>
@@ -183,7 +183,7 @@ fn empty_logs<A: Allocator + Clone + Drop>(
     Ok((read_log, write_log))
 }
 
-/// No pending operation, with room for that of one caller, and a maintenance that is idle.
+/// Makes pending operations with capacity for one caller's, and an idle maintenance.
 fn nothing_under_way<A: Allocator + Clone + Drop>(
     alloc: &A,
 ) -> Result<(PendingOperations<A>, Maintenance<A>), OutOfMemory>

@@ -67,7 +67,7 @@ impl<K: Eq + Hash + Drop, V: Drop, S: BuildHasher + Drop, A: Allocator + Clone +
     S,
     A,
 > {
-    /// A map with no entries and room for `capacity` of them in each shard.
+    /// Makes a map with no entries and capacity for `capacity` of them in each shard.
     pub fn new(alloc: A, settings: Settings<S, A>, capacity: usize) -> Result<Self, OutOfMemory>
         ensures { IfOk result (λ map. map ≡ record { settings = settings; entries = []; next_numbers = replicate SHARDS 0 }) }
     {
@@ -81,7 +81,7 @@ impl<K: Eq + Hash + Drop, V: Drop, S: BuildHasher + Drop, A: Allocator + Clone +
         &self.settings
     }
 
-    /// The number of the next ticket of the first shard.
+    /// Returns the number of the next ticket of the first shard.
     pub fn first_ticket(&self) -> u64
         ensures { result ≡ slice_index self.now.next_numbers 0 }
     {
@@ -95,7 +95,7 @@ impl<K: Eq + Hash + Drop, V: Drop, S: BuildHasher + Drop, A: Allocator + Clone +
         are_as_built(&self.shards, first)
     }
 
-    /// The shards give out the numbers from this one on. There must be no entry.
+    /// Sets the number of each shard's next ticket. There must be no entry.
     pub fn start_at(&mut self, first: u64)
         requires { self.old.entries ≡ [] }
         ensures { self.new ≡ record self.old { next_numbers = replicate SHARDS first } }
@@ -103,7 +103,7 @@ impl<K: Eq + Hash + Drop, V: Drop, S: BuildHasher + Drop, A: Allocator + Clone +
         start_all_at(&mut self.shards, first);
     }
 
-    /// The hash of a key.
+    /// Returns the hash of a key.
     pub fn hash_of(&self, key: &K) -> u64
         ensures { result ≡ (keys_by K.Hash S.BuildHasher S.Hasher.Hasher).hash_of self.now.settings.hash_state key.now }
     {
@@ -137,7 +137,7 @@ impl<K: Eq + Hash + Drop, V: Drop, S: BuildHasher + Drop, A: Allocator + Clone +
         shard.get(key, hash, &self.settings, valid_after, now)
     }
 
-    /// Puts the value at the key. The answer is the entry's ticket.
+    /// Puts the value at the key. Returns the entry's ticket.
     pub fn insert<W: WeighShared<K, V>>(
         &mut self,
         key: Shared<K, A>,
@@ -155,7 +155,7 @@ impl<K: Eq + Hash + Drop, V: Drop, S: BuildHasher + Drop, A: Allocator + Clone +
         shard.insert(hash, key, value, weigher, now)
     }
 
-    /// The pairs of a shard that count at a moment, shared once more. Only where there are any does it take memory.
+    /// Shares the live pairs of a shard. It allocates only if there are any.
     pub fn copy(
         &self,
         alloc: &A,
@@ -175,7 +175,7 @@ impl<K: Eq + Hash + Drop, V: Drop, S: BuildHasher + Drop, A: Allocator + Clone +
         Ok(Rows::new(pairs))
     }
 
-    /// Takes out the entry of a key. The answer is its ticket.
+    /// Removes the entry of a key. Returns its ticket.
     pub fn invalidate(&mut self, key: &K) -> Option<Ticket>
         ensures step { IsInvalidated self.old (entry_at K.eq key.now self.old.entries) result self.new }
     {
@@ -207,7 +207,7 @@ impl<K: Eq + Hash + Drop, V: Drop, S: BuildHasher + Drop, A: Allocator + Clone +
     S,
     A,
 > {
-    /// A turn of the maintenance that needs the entry of a ticket.
+    /// Takes a turn of the maintenance that needs the entry of a ticket.
     pub fn turn(&mut self, maintenance: &mut Maintenance<A>, ticket: Ticket, valid_after: Instant)
         requires { need_of (turn_at {K = K} {V = V} self.old.settings valid_after false maintenance.old.phase maintenance.old) ≡ NeedsShard ticket }
         ensures { (refused : Bool) × TurnsOnMap self.old self.new valid_after refused maintenance.old maintenance.new }
@@ -216,7 +216,7 @@ impl<K: Eq + Hash + Drop, V: Drop, S: BuildHasher + Drop, A: Allocator + Clone +
         shard.turn(maintenance, ticket, &self.settings, valid_after);
     }
 
-    /// A turn of a scan that needs the entry of a ticket.
+    /// Takes a turn of a scan that needs the entry of a ticket.
     #[inline(always)]
     pub fn turn_of_scan(&mut self, maintenance: &mut Maintenance<A>, ticket: Ticket)
         requires scans { IsScan maintenance.old.phase }
@@ -230,7 +230,7 @@ impl<K: Eq + Hash + Drop, V: Drop, S: BuildHasher + Drop, A: Allocator + Clone +
         shard.scan(maintenance, ticket);
     }
 
-    /// The entry of a hit, if it stands, was used; it is looked for in a slot first. The answer is where its node may be found.
+    /// Touches the entry of a hit, if there is one, looking in a slot first. Returns a hint for its node.
     #[inline(always)]
     fn touch(&mut self, read: Read, slot: usize) -> usize
         ensures { self.new ≡ record self.old { entries = touched_by self.old.entries read } }
@@ -250,7 +250,7 @@ impl<K: Eq + Hash + Drop, V: Drop, S: BuildHasher + Drop, A: Allocator + Clone +
         shard.touch(ticket, slot, moment)
     }
 
-    /// The entries of hits were used, one after another. Their hints tell then where their nodes may be found.
+    /// Touches the entries of hits, one after another. Their hints are those of their nodes then.
     pub fn touch_all(&mut self, reads: &mut [LoggedRead])
         ensures entries { self.new ≡ record self.old { entries = fold touched_by self.old.entries (reads_of reads.old) } }
         ensures reads { reads_of reads.new ≡ reads_of reads.old }
@@ -260,7 +260,7 @@ impl<K: Eq + Hash + Drop, V: Drop, S: BuildHasher + Drop, A: Allocator + Clone +
         }
     }
 
-    /// The turn that applies an upsert, which the maintenance has just taken from its log.
+    /// Applies an upsert that the maintenance has just taken from its log.
     #[inline(always)]
     pub fn turn_with_upsert(&mut self, maintenance: &mut Maintenance<A>, ticket: Ticket)
         requires { TakesWrite maintenance.old }
@@ -272,7 +272,7 @@ impl<K: Eq + Hash + Drop, V: Drop, S: BuildHasher + Drop, A: Allocator + Clone +
     }
 }
 
-/// All shards of a new map, with room for `capacity` entries in each.
+/// Makes all shards of a new map, with capacity for `capacity` entries in each.
 fn shards_as_built<
     K: Eq + Hash + Drop,
     V: Drop,
@@ -296,7 +296,7 @@ fn shards_as_built<
     Ok(shards)
 }
 
-/// Each shard gives out the numbers from this one on.
+/// Sets the number of each shard's next ticket.
 fn start_all_at<K: Eq + Hash + Drop, V: Drop, S: BuildHasher + Drop, A: Allocator + Clone + Drop>(
     shards: &mut Vec<Shard<K, V, S, AnyPair, A>, A>,
     first: u64,

@@ -31,7 +31,7 @@ impl<A: Allocator + Drop> Model for PendingOperations<A> {
 }
 
 impl<A: Allocator + Drop> PendingOperations<A> {
-    /// Nothing is pending, and there is room for the caller of whole calls.
+    /// Makes pending operations with none, and with capacity for that of the caller of whole calls.
     pub fn new(alloc: A) -> Result<PendingOperations<A>, OutOfMemory>
         ensures { IfOk result (λ pending. pending ≡ record { operations = []; room = 1 }) }
     {
@@ -40,7 +40,7 @@ impl<A: Allocator + Drop> PendingOperations<A> {
         })
     }
 
-    /// Makes room for `operations` more of them, beside that for the caller of whole calls.
+    /// Reserves capacity for `operations` more of them, beside that for the caller of whole calls.
     pub fn reserve(&mut self, operations: usize) -> Result<(), OutOfMemory>
         ensures ok { OnOk result (operations < self.new.room) }
         ensures unchanged { self.new.operations ≡ self.old.operations }
@@ -75,8 +75,8 @@ impl<A: Allocator + Drop> PendingOperations<A> {
         self.operations.capacity() - self.operations.len()
     }
 
-    /// The operation of a caller that has none pending is pending now. There must be room for it, beside that for the caller of whole calls:
-    /// `of` and `room` are the tests.
+    /// Adds the operation of a caller that has none pending. There must be capacity for it, beside that for the caller of whole calls: `of` and `room` are
+    /// the tests.
     pub fn put(&mut self, caller: u32, operation: Operation)
         requires free { lookup (nat_eq caller) self.old.operations ≡ None }
         requires room { HasRoomFor caller self.old.room }
@@ -98,7 +98,7 @@ impl<A: Allocator + Drop> PendingOperations<A> {
     }
 }
 
-/// Returns the place of a caller's operation.
+/// Returns the position of a caller's operation.
 fn position_of(operations: &[(u32, Operation)], caller: u32) -> Option<usize>
     ensures found { IfSome result (IsPendingAt caller operations.now) }
     ensures absent { IfNone result (lookup (nat_eq caller) operations.now ≡ None) }

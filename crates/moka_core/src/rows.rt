@@ -21,7 +21,7 @@ impl<K: Drop, V: Drop, A: Allocator + Drop> Model for Rows<K, V, A> {
 ghost use Rattle.std.specs.Prelude.{◌≡◌, []};
 
 impl<K: Drop, V: Drop, A: Allocator + Drop> Rows<K, V, A> {
-    /// No pairs, which takes no memory.
+    /// Makes rows without pairs, which allocates nothing.
     pub(crate) fn none() -> Self
         ensures { result ≡ [] }
     {
@@ -34,7 +34,7 @@ impl<K: Drop, V: Drop, A: Allocator + Drop> Rows<K, V, A> {
         Rows { pairs: Some(pairs) }
     }
 
-    /// The pairs in a slice.
+    /// Returns the pairs as a slice.
     pub fn as_slice(&self) -> &[(Shared<K, A>, Shared<V, A>)]
         ensures { result.now ≡ self.now }
     {

@@ -32,7 +32,7 @@ pub enum CacheRegion {
 }
 
 impl CacheRegion {
-    /// The region with this number.
+    /// Returns the region with this number.
     pub fn from_number(number: usize) -> Option<CacheRegion>
         ensures found { IfSome result (λ region. number_of region ≡ number) }
         ensures absent { IsNone result ↔ (3 < number) }
@@ -83,7 +83,7 @@ impl<T, A: Allocator> Model for Deque<T, A> {
 impl<T, A: Allocator> Deque<T, A> {
     ghost use Rattle.moka_deque.specs.DequeLends.{ends_as, lends_element};
 
-    /// An empty list, which allocates nothing.
+    /// Makes an empty list, which allocates nothing.
     pub fn new(alloc: A, region: CacheRegion) -> Deque<T, A>
         ensures items { result.items ≡ [] }
         ensures cursor { result.cursor ≡ Cursor.Start }
@@ -97,14 +97,14 @@ impl<T, A: Allocator> Deque<T, A> {
         }
     }
 
-    /// The region that the list was made for.
+    /// Returns the region that the list was made for.
     pub fn region(&self) -> CacheRegion
         ensures { result ≡ self.now.region }
     {
         self.region
     }
 
-    /// The number of elements.
+    /// Returns the number of elements.
     pub fn len(&self) -> usize
         ensures len { result ≡ length self.now.items }
 
@@ -162,7 +162,7 @@ impl<T, A: Allocator> Deque<T, A> {
         self.list.capacity()
     }
 
-    /// Puts the element at the back, or hands it back where there is no memory. It allocates only where no room is reserved.
+    /// Puts the element at the back, or hands it back if memory is refused. It allocates only if no capacity is reserved.
     #[inline]
     pub fn push_back(&mut self, element: T) -> Result<NodeId, T>
     where
@@ -171,7 +171,7 @@ impl<T, A: Allocator> Deque<T, A> {
         ensures new_id { IfOk result (λ id. lookup (nat_eq id) self.old.items ≡ None) }
         ensures unchanged { self.new ≡ record self.old { items = self.new.items; room = self.new.room } }
 
-        // It is refused only where there is no room, and then nothing changes but that there may be more.
+        // It is refused only if there is no capacity, and then nothing changes but that there may be more.
         ensures succeeds { 0 < self.old.room → IsOk result }
         ensures err { OnErr result (self.new ≡ record self.old { room = self.new.room }) }
         ensures value_returned { IfErr result (λ back. back ≡ element) }
@@ -207,7 +207,7 @@ impl<T, A: Allocator> Deque<T, A> {
         self.list.contains(id.number())
     }
 
-    /// The element at the front.
+    /// Returns the element at the front.
     pub fn peek_front(&self) -> Option<&T>
         ensures { option_copied result ≡ slice_get (values_of self.now.items) 0 }
     {
@@ -215,7 +215,7 @@ impl<T, A: Allocator> Deque<T, A> {
         Some(self.list.get(id))
     }
 
-    /// The element at the back.
+    /// Returns the element at the back.
     pub fn peek_back(&self) -> Option<&T>
         ensures { option_copied result
             ≡ slice_get (values_of self.now.items) (length self.now.items - 1) }
@@ -224,7 +224,7 @@ impl<T, A: Allocator> Deque<T, A> {
         Some(self.list.get(id))
     }
 
-    /// The node at the front.
+    /// Returns the node at the front.
     pub fn front(&self) -> Option<NodeId>
         ensures { result ≡ first_id self.now.items }
     {
@@ -232,7 +232,7 @@ impl<T, A: Allocator> Deque<T, A> {
         Some(NodeId::from_number(number))
     }
 
-    /// The node after this one. The node must be in the list, which `contains` tells.
+    /// Returns the node after this one, which must be in the list: `contains` is the test.
     pub fn next(&self, id: NodeId) -> Option<NodeId>
         requires { IsIn self.now.items id }
         ensures { result ≡ next_id id self.now.items }
@@ -241,7 +241,7 @@ impl<T, A: Allocator> Deque<T, A> {
         Some(NodeId::from_number(number))
     }
 
-    /// The element of the node, which must be in the list: `contains` tells.
+    /// Returns the element of the node, which must be in the list: `contains` is the test.
     pub fn get(&self, id: NodeId) -> &T
         requires { IsIn self.now.items id }
         ensures { lookup (nat_eq id) self.now.items ≡ Some result.now }
@@ -249,7 +249,7 @@ impl<T, A: Allocator> Deque<T, A> {
         self.list.get(id.number())
     }
 
-    /// The element of the node for writing. The node must be in the list, which `contains` tells.
+    /// Returns the element of the node for writing. The node must be in the list: `contains` is the test.
     pub fn get_mut(&mut self, id: NodeId) -> &mut T
         requires { IsIn self.old.items id }
         ensures* writes_back { sem 𝓛 (lends_element T.row A.row A.Allocator self.entry id result) }
@@ -268,7 +268,7 @@ impl<T, A: Allocator> Deque<T, A> {
         Some(self.list.unlink(first))
     }
 
-    /// Moves the node to the back, where a cursor at it doesn't follow. The node must be in the list, which `contains` tells.
+    /// Moves the node to the back. A cursor at it doesn't follow. The node must be in the list: `contains` is the test.
     pub fn move_to_back(&mut self, id: NodeId)
         requires { IsIn self.old.items id }
         ensures { self.new ≡ after_move_to_back id self.old }
@@ -301,7 +301,7 @@ impl<T, A: Allocator> Deque<T, A> {
         self.list.unlink(number)
     }
 
-    /// `unlink` for a caller that doesn't want the element.
+    /// Unlinks a node and drops its element.
     pub fn unlink_and_drop(&mut self, id: NodeId)
     where
         T: Drop,
@@ -332,7 +332,7 @@ impl<T, A: Allocator> Deque<T, A> {
         self.cursor = Cursor::Start;
     }
 
-    /// An iterator over the elements from front to back. It leaves the cursor as it is.
+    /// Returns an iterator over the elements from front to back. It leaves the cursor as it is.
     pub fn iter(&self) -> Iter<'_, T, A>
         ensures { result ≡ values_of self.now.items }
     {

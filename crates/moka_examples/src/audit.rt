@@ -11,14 +11,14 @@ use std::alloc::Global;
 use std::sync::{Arc, Wait};
 use std::thread::{Builder, Threads};
 
-/// A core without a limit, with which nothing has been done.
+/// Makes a core without a limit, on which nothing has been done.
 pub fn new_core(alloc: Global) -> Result<Core<u64, u64>, Error>
     ensures { IfOk result (λ core. IsNew core.state) }
 {
     Ok(Core::new(alloc, FixedState::new())?)
 }
 
-/// A call of a caller: one in three inserts the caller's number, the others get.
+/// Returns a call of a caller: one in three inserts the caller's number, the others get.
 fn call_of(alloc: Global, caller: u64, number: u64) -> Result<SharedCall<u64, u64>, Error> {
     let key = Shared::new(alloc, number % 10)?;
     let now = Instant::from_nanos(number);
@@ -43,7 +43,7 @@ fn make_calls<R: Wait>(
     Ok(pass)
 }
 
-/// The record of what these threads have done to one cache, each a hundred calls.
+/// Returns the record of a cache to which each of these threads makes a hundred calls.
 pub fn record_of_threads<R: Wait + Threads + Copy + Send + 'static>(
     rt: R,
     alloc: Global,

@@ -73,7 +73,7 @@ pub fn take_out<K: Eq + Hash + Drop, V: Drop, S: BuildHasher + Drop, W: Drop>(
     was_there
 }
 
-/// A cache whose entries live for a minute.
+/// Makes a cache whose entries live for a minute.
 pub fn minute_cache(alloc: Global, entries: u64) -> Result<Cache<u64, u32>, BuildError>
     ensures { IfOk result (λ cache. cache.settings.policy.max_capacity ≡ Some entries) }
 {
@@ -83,14 +83,14 @@ pub fn minute_cache(alloc: Global, entries: u64) -> Result<Cache<u64, u32>, Buil
         .build()
 }
 
-/// The limit of a cache, by its policy.
+/// Returns the limit of a cache, by its policy.
 pub fn limit_of(policy: &Policy) -> Option<u64>
     ensures { result ≡ policy.now.max_capacity }
 {
     policy.max_capacity()
 }
 
-/// The moment some nanoseconds later, if there is one.
+/// Returns the moment some nanoseconds later, if there is one.
 pub fn later(now: Instant, nanos: u64) -> Option<Instant>
     ensures { IfSome result (λ moment. moment ≡ now + nanos) }
 {
@@ -98,7 +98,7 @@ pub fn later(now: Instant, nanos: u64) -> Option<Instant>
     Some(Instant::from_nanos(nanos))
 }
 
-/// A listener that adds up the values that leave, as far as 64 bits go.
+/// A listener that adds up the values that leave, up to the largest number of 64 bits.
 #[derive(Drop)]
 pub struct Sum {
     pub total: u64,
@@ -139,7 +139,7 @@ pub fn forget<
     session.invalidate(rt, key, now);
 }
 
-/// The least recently used unexpired pair, copied.
+/// Copies the least recently used unexpired pair.
 pub fn first_pair(cache: &Cache<u64, u32>, now: Instant) -> Option<(u64, u32)>
     ensures { result ≡ slice_get (pairs_at cache.now now) 0 }
 {
@@ -182,7 +182,7 @@ pub fn count_use(sketch: &mut FrequencySketch, hash: u64) -> u8
     sketch.frequency(hash)
 }
 
-/// Takes the first element off a list, and puts another at its end, where memory serves.
+/// Takes the first element off a list, and puts another at its end, unless memory is refused.
 pub fn replace_first<T: Drop>(deque: &mut Deque<T>, element: T) -> Result<Option<T>, T>
     ensures { IfOk result (λ first. first ≡ slice_get (values_of deque.old.items) 0) }
 {
@@ -193,7 +193,7 @@ pub fn replace_first<T: Drop>(deque: &mut Deque<T>, element: T) -> Result<Option
     }
 }
 
-/// A value with two owners.
+/// Makes a value with two owners.
 pub fn two_owners<T: Drop>(alloc: Global, value: T) -> Result<(Shared<T>, Shared<T>), OutOfMemory>
     ensures { IfOk result (λ pair. (pair.0 ≡ value) × (pair.1 ≡ value)) }
 {
@@ -273,7 +273,7 @@ pub fn late_upserts_are_dropped<K: Eq + Hash, V, S: BuildHasher>()
     upserts_of_left_entries_are_dropped::<K, V, S>();
 }
 
-/// Empties a log of this length, if it has ten operations or half a second has passed since the last time, unless another caller does. The answer is whether it
+/// Empties a log of this length, if it has ten operations or half a second has passed since the last time, unless another caller does. Returns whether it
 /// was run.
 pub fn empty_if_due<F: FnOnce()>(keeper: &Housekeeper, len: usize, now: Instant, empty: F) -> bool
     requires { F.pre empty }
@@ -302,7 +302,7 @@ pub fn script_of(alloc: Global, bytes: &[u8]) -> Option<Script>
     script::parse(alloc, bytes).ok()
 }
 
-/// A text, where the bytes can stand as one and memory serves.
+/// Makes a text of bytes, if they are one and memory isn't refused.
 pub fn text_of(alloc: Global, bytes: &[u8]) -> Option<Text>
     ensures { IfSome result (λ text. text ≡ bytes.now) }
 {

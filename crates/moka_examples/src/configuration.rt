@@ -75,7 +75,7 @@ pub fn read_told<
     }
 }
 
-/// A thread and its caller read a setting that a writer has told them of. Returns the sum of what they find.
+/// Reads a setting, in a thread and its caller, that a writer has told them of. Returns the sum of what they find.
 pub fn configured_by_threads<R: Wait + Threads + Copy + Send + 'static>(
     rt: R,
     alloc: Global,

@@ -22,7 +22,7 @@ fn squared<R: Wait>(rt: &R, cache: &Cache<u64, u64>, key: u64) -> Result<Option<
     Ok(cache.get(rt, &key, now)?)
 }
 
-/// The sum of the squares that sixteen threads read back from the cache that they share, and how many entries it has in the end.
+/// Returns the sum of the squares that sixteen threads read back from their shared cache, and its number of entries in the end.
 pub fn square_by_threads<R: Wait + Threads + Copy + Send + 'static>(
     rt: R,
     alloc: Global,
@@ -103,7 +103,7 @@ impl PairRule<u32, u64> for IsSquare {
     ghost agrees = { λ key other value same is. subst (λ k. value ≡ k * k) (eqb-true key other same) is };
 }
 
-/// The square of a number by a cache of squares: what is found is the square, whoever has inserted it.
+/// Returns the square of a number by a cache of squares: what is found is the square, whoever has inserted it.
 pub fn square<R: Wait>(
     rt: &R,
     squares: &Cache<u32, u64, FixedState, IsSquare>,
@@ -120,7 +120,7 @@ pub fn square<R: Wait>(
     Ok(square)
 }
 
-/// A pair of a cache of squares, if it has one.
+/// Returns a pair of a cache of squares, if it has one.
 pub fn some_square<R: Wait>(
     rt: &R,
     squares: &Cache<u32, u64, FixedState, IsSquare>,
@@ -135,7 +135,7 @@ pub fn some_square<R: Wait>(
     Ok(Some(pair_of(&entry)))
 }
 
-/// The pair of an entry, copied.
+/// Copies the pair of an entry.
 pub fn pair_of(entry: &EntryRef<u32, u64>) -> (u32, u64)
     ensures { result ≡ entry.now }
 {
@@ -143,7 +143,7 @@ pub fn pair_of(entry: &EntryRef<u32, u64>) -> (u32, u64)
     (*key, *value)
 }
 
-/// The key of an entry, and how many bytes its text has, as which it reads.
+/// Returns the key of an entry, and how many bytes its text has, as which it reads.
 pub fn key_and_length(entry: &EntryRef<u64, String>) -> (u64, usize)
     ensures key { result.0 ≡ entry.now.0 }
     ensures length { result.1 ≡ string_len entry.now.1 }
@@ -151,7 +151,7 @@ pub fn key_and_length(entry: &EntryRef<u64, String>) -> (u64, usize)
     (*entry.key(), entry.len())
 }
 
-/// The pairs of a cache of squares, copied: each number comes once, with its square.
+/// Copies the pairs of a cache of squares: each number comes once, with its square.
 pub fn pairs_in<R: Wait>(
     rt: &R,
     alloc: Global,
@@ -168,7 +168,7 @@ pub fn pairs_in<R: Wait>(
     Ok(pairs)
 }
 
-/// The pairs of a cache of squares that is asked for the numbers below this one.
+/// Returns the pairs of a cache of squares that is asked for the numbers below this one.
 pub fn squares_below<R: Wait>(rt: &R, alloc: Global, end: u32) -> Result<Vec<(u32, u64)>, Error>
     ensures { IfOk result (λ pairs. All (λ pair. pair.1 ≡ pair.0 * pair.0) pairs.items) }
 {

@@ -73,7 +73,7 @@ pub fn left_of_64(alloc: Global) -> Result<(bool, bool, usize), Error> {
     Ok((found, gone, left))
 }
 
-/// The key of the least recently used one of three entries, of which the first is looked up.
+/// Returns the key of the least recently used one of three entries, of which the first is looked up.
 pub fn least_recently_used(alloc: Global) -> Result<Option<u64>, Error> {
     let now = Instant::from_secs(0);
     let mut cache: Cache<u64, u32> = Cache::new(alloc, 100)?;
@@ -86,7 +86,7 @@ pub fn least_recently_used(alloc: Global) -> Result<Option<u64>, Error> {
     Ok(first)
 }
 
-/// The square of 7, which is made as it isn't there, and what a peek finds then.
+/// Returns the square of 7, which is made as it isn't there, and what a peek finds then.
 pub fn square_of_seven(alloc: Global) -> Result<[u64; 2], Error> {
     let now = Instant::from_secs(0);
     let mut cache: Cache<u64, u64> = Cache::new(alloc, 100)?;

@@ -99,7 +99,7 @@ pub struct CacheOptions {
 /// A request to a cache. `T` is how texts are held, so that a contract sees a request without an allocator.
 #[derive(Drop)]
 pub enum Request<T = Text> {
-    /// Stores the text. The weight is there exactly where the script is weighed.
+    /// Stores the text. The weight is there exactly if the script is weighed.
     Insert {
         key: u64,
         text: T,
@@ -147,7 +147,7 @@ pub struct Line<T = Text> {
 /// A request to a core: mostly one atomic step, of a caller or of the maintenance. `T` is how texts are held, as in `Request`.
 #[derive(Drop)]
 pub enum CoreRequest<T = Text> {
-    /// Puts the text into the map. The weight is there exactly where the script is weighed.
+    /// Puts the text into the map. The weight is there exactly if the script is weighed.
     Insert {
         caller: u32,
         key: u64,

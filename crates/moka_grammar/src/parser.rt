@@ -45,7 +45,7 @@ impl<T: Drop> From<AllocFailed<T>> for ParseError {
     }
 }
 
-/// The script that the bytes spell. The time is linear in their number.
+/// Parses the script of these bytes. The time is linear in their number.
 pub fn parse<A: Allocator + Clone + Drop>(alloc: A, bytes: &[u8]) -> Result<Script<A>, ParseError>
     ensures found { IfOk result (λ script. IsScript bytes.now (script_of script)) }
     ensures bad { (n : ℕ) → result ≡ Err (ParseError.BadLine n) → IsBadAt bytes.now n }
@@ -71,7 +71,7 @@ pub fn parse<A: Allocator + Clone + Drop>(alloc: A, bytes: &[u8]) -> Result<Scri
     }
 }
 
-/// The lines of one kind that the bytes spell.
+/// Parses the lines of one kind.
 fn lines_of<A: Allocator + Clone + Drop, C: Copy, L: FromWords<A, C>>(
     alloc: A,
     context: C,
@@ -97,7 +97,7 @@ fn lines_of<A: Allocator + Clone + Drop, C: Copy, L: FromWords<A, C>>(
     Ok(lines)
 }
 
-/// The first line of the bytes, and what is behind it.
+/// Returns the first line of the bytes, and what is behind it.
 #[tactic(auto, unfolding(crate::specs::Reading::line_at))]
 fn line_at<A: Allocator + Clone + Drop, C: Copy, L: FromWords<A, C>>(
     alloc: A,

@@ -77,7 +77,7 @@ pub trait Sink {
         ensures some { IfOk result (λ count. 0 < length bytes.now → 0 < count) };
 }
 
-/// All that the source has left, however it comes in pieces. What was read before an error is lost.
+/// Reads all that the source has left, however it comes in pieces. What was read before an error is lost.
 pub fn read_all<A: Allocator + Clone + Drop, S: Source>(
     alloc: A,
     source: &mut S,

@@ -30,7 +30,7 @@ impl<A: Allocator + Clone + Drop> Model for Text<A> {
 impl<A: Allocator + Clone + Drop> Clone for Text<A> {
     ghost is_clone = { λ text copy. copy ≡ text };
 
-    /// A copy, in memory of its own.
+    /// Copies the text, into memory of its own.
     fn clone(&self) -> Result<Self, AllocError> {
         Text::new(self.bytes.allocator().clone()?, &self.bytes)
     }
@@ -59,7 +59,7 @@ pub fn is_text(bytes: &[u8]) -> bool
 }
 
 impl<A: Allocator + Clone + Drop> Text<A> {
-    /// A copy of the bytes. `is_text` is the test.
+    /// Copies the bytes. `is_text` is the test.
     pub fn new(alloc: A, bytes: &[u8]) -> Result<Text<A>, AllocError>
         requires { IsText bytes.now }
         ensures { IfOk result (λ text. text ≡ bytes.now) }
@@ -69,7 +69,7 @@ impl<A: Allocator + Clone + Drop> Text<A> {
         })
     }
 
-    /// The bytes.
+    /// Returns the bytes.
     pub fn as_bytes(&self) -> &[u8]
         ensures value { result.now ≡ self.now }
         ensures text { IsText result.now }

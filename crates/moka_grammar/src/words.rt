@@ -26,7 +26,7 @@ impl From<AllocError> for LineError {
     }
 }
 
-/// The words of a line, between its spaces.
+/// Returns the words of a line, between its spaces.
 pub fn words_of<A: Allocator + Clone + Drop>(
     alloc: A,
     line: &[u8],
@@ -49,7 +49,7 @@ fn is_digits(word: &[u8]) -> bool
     word.iter().all(|byte| byte.is_ascii_digit())
 }
 
-/// The number that a word spells. What `parse` lets through besides, a sign or a leading zero, is bad here.
+/// Returns the number that a word spells. A sign or a leading zero, which `parse` accepts, is refused here.
 #[tactic(auto, unfolding(crate::specs::Reading::number_of))]
 pub fn number_of(word: &[u8]) -> Result<u64, LineError>
     ensures { Gives result (number_of word.now) }
@@ -69,7 +69,7 @@ pub fn number_of(word: &[u8]) -> Result<u64, LineError>
     }
 }
 
-/// The text that a word spells.
+/// Returns the text that a word spells.
 pub fn text_of<A: Allocator + Clone + Drop>(alloc: A, word: &[u8]) -> Result<Text<A>, LineError>
     ensures { Gives result (text_of word.now) }
 {
@@ -79,7 +79,7 @@ pub fn text_of<A: Allocator + Clone + Drop>(alloc: A, word: &[u8]) -> Result<Tex
     Ok(Text::new(alloc, word)?)
 }
 
-/// The number that a word spells, as one of 32 bits.
+/// Returns the number of 32 bits that a word spells.
 #[tactic(auto, unfolding(crate::specs::Reading::number_below))]
 pub fn small_number_of(word: &[u8]) -> Result<u32, LineError>
     ensures { Gives result (number_below (2 ^ 32) word.now) }
@@ -91,7 +91,7 @@ pub fn small_number_of(word: &[u8]) -> Result<u32, LineError>
     Ok(number)
 }
 
-/// The number that a word spells, as how many times a hash is counted.
+/// Returns the number that a word spells, as how many times a hash is counted.
 #[tactic(auto, unfolding(crate::specs::Reading::number_below))]
 pub fn times_of(word: &[u8]) -> Result<u16, LineError>
     ensures { Gives result (number_below (2 ^ 16) word.now) }
@@ -103,7 +103,7 @@ pub fn times_of(word: &[u8]) -> Result<u16, LineError>
     Ok(times)
 }
 
-/// The number that a word spells, as a depth of the sketch.
+/// Returns the number that a word spells, as a depth of the sketch.
 #[tactic(auto, unfolding(crate::specs::Reading::number_below))]
 pub fn depth_of(word: &[u8]) -> Result<u8, LineError>
     ensures { Gives result (number_below DEPTHS word.now) }
@@ -115,7 +115,7 @@ pub fn depth_of(word: &[u8]) -> Result<u8, LineError>
     Err(LineError::Bad)
 }
 
-/// That a call is given nothing.
+/// Refuses a call that is given an argument.
 #[tactic(auto, unfolding(crate::specs::Reading::no_argument))]
 pub fn no_argument(arguments: &[&[u8]]) -> Result<(), LineError>
     ensures { Gives result (no_argument (map (λ word. word.now) arguments.now)) }
@@ -126,7 +126,7 @@ pub fn no_argument(arguments: &[&[u8]]) -> Result<(), LineError>
     Err(LineError::Bad)
 }
 
-/// The only argument, a number of 64 bits.
+/// Returns the only argument, a number of 64 bits.
 #[tactic(auto, unfolding(crate::specs::Reading::u64_of))]
 pub fn u64_of(arguments: &[&[u8]]) -> Result<u64, LineError>
     ensures { Gives result (u64_of (map (λ word. word.now) arguments.now)) }
@@ -137,7 +137,7 @@ pub fn u64_of(arguments: &[&[u8]]) -> Result<u64, LineError>
     number_of(word)
 }
 
-/// The only argument, a number of 32 bits.
+/// Returns the only argument, a number of 32 bits.
 #[tactic(auto, unfolding(crate::specs::Reading::u32_of))]
 pub fn u32_of(arguments: &[&[u8]]) -> Result<u32, LineError>
     ensures { Gives result (u32_of (map (λ word. word.now) arguments.now)) }

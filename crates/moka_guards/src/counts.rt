@@ -88,7 +88,7 @@ impl<A: Allocator + Drop> Model for Publisher<A> {
 }
 
 impl<A: Allocator + Clone + Drop> Publisher<A> {
-    /// Counts with nothing published: the opening ones stand in their place.
+    /// Makes counts with nothing published but the opening ones.
     pub fn new(alloc: &A) -> Result<Self, AllocError>
         ensures { IfOk result (λ publisher. publisher.published ≡ opening ∷ []) }
     {
@@ -102,7 +102,7 @@ impl<A: Allocator + Clone + Drop> Publisher<A> {
 }
 
 impl<A: Allocator + Drop> Publisher<A> {
-    /// The counts, for others to load.
+    /// Returns the counts, for others to load.
     pub fn counts(&self) -> Result<Counts<A>, AllocError>
         ensures { IfOk result (λ counts. counts ≡ self.now.counts) }
     {
@@ -112,7 +112,7 @@ impl<A: Allocator + Drop> Publisher<A> {
         })
     }
 
-    /// A pass that has seen all that was published.
+    /// Returns a pass that has seen all that was published.
     pub fn pass(&mut self) -> CountPass
         ensures publisher { self.new ≡ self.old }
         ensures pass { result ≡ record { counts = self.old.counts; seen = self.old.published } }
@@ -134,7 +134,7 @@ impl<A: Allocator + Drop> Publisher<A> {
 }
 
 impl<A: Allocator + Drop> Counts<A> {
-    /// The newest counts, which the pass has seen then: none older than what it had seen.
+    /// Loads the newest counts, which the pass has seen then. They are no older than what it had seen.
     pub fn load<R: Wait>(&self, rt: &R, pass: &mut CountPass) -> Published
         requires { pass.old.counts ≡ self.now }
         ensures counts { pass.new.counts ≡ pass.old.counts }
@@ -148,7 +148,7 @@ impl<A: Allocator + Drop> Counts<A> {
         self.cell.load_as::<Sees, R>(rt, &mut pass.pass)
     }
 
-    /// One more pass, which has seen what this one has.
+    /// Returns one more pass, which has seen what this one has.
     pub fn split(&self, pass: &mut CountPass) -> CountPass
         requires { pass.old.counts ≡ self.now }
         ensures { (pass.new ≡ pass.old) × (result ≡ pass.old) }

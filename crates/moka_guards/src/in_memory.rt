@@ -1,4 +1,4 @@
-//! That the values of a type fit in memory, where the proof of a call asks for it.
+//! A proof that the values of a type fit in memory, for calls that ask for it.
 ghost use Rattle.std.specs.Prelude.{◌≡◌, IfOk};
 ghost use Rattle.std.specs.Mem.{FitsInMemory};
 
@@ -16,7 +16,7 @@ impl<T> Named for PhantomData<T> {
     ghost fits = { FitsInMemory T.row };
 }
 
-/// That the values of a type fit in memory, which a proof knows where it has one of these. It has no bytes.
+/// A value without bytes. A proof that has one knows that the values of the type fit in memory.
 #[derive(Drop)]
 pub(crate) struct InMemory<T>
 where
@@ -39,7 +39,7 @@ where
 }
 
 impl<T> InMemory<T> {
-    /// It is never refused, which is known when it is compiled.
+    /// Makes one. It is never refused, which is known when it is compiled.
     pub(crate) fn new() -> Result<Self, AllocError>
         ensures { IfOk result (λ _. FitsInMemory T.row) }
     {
@@ -56,7 +56,7 @@ impl<T> InMemory<T> {
         InMemory { of: self.of }
     }
 
-    /// It does nothing, and tells a proof what is known.
+    /// Does nothing, and tells a proof what is known.
     pub(crate) fn tell(&self)
         ensures { FitsInMemory T.row }
     {

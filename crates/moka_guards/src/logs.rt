@@ -1,4 +1,4 @@
-//! The two logs of a cache, each behind a lock of its own, with a word beside it that tells what callers ask before they take the lock.
+//! The two logs of a cache, each behind a lock of its own, with its published length in a word beside it, which callers read before they lock.
 ghost use Rattle.std.specs.Prelude.{◌≡◌, ◌≤◌, [], length};
 
 use crate::queue::WriteQueue;
@@ -13,27 +13,27 @@ use std::alloc::{Allocator, Global};
 use std::sync::atomic::{AtomicUsize, Ordering};
 use std::sync::{Mutex, MutexGuard, Wait};
 
-/// The write log behind its lock. Whoever has taken the lock writes the word beside it, so both lie on one line.
+/// The write log behind its lock. The holder of the lock writes the word beside it, so both lie on one cache line.
 #[derive(Drop)]
 struct HintedQueue<A: Allocator + Clone + Drop> {
-    /// The published length of the write log, as `publish_write_len` had it when the log was left last.
+    /// The published length of the write log, as `publish_write_len` had it last.
     len: AtomicUsize,
     queue: Mutex<WriteQueue<A>>,
 }
 
-/// The logs. What threads write to lies on lines of its own. No contract speaks of what lies behind a lock that nobody has taken, nor of the words beside
+/// The logs. What threads write to lies on cache lines of its own. No contract speaks of what lies behind an unlocked lock, nor of the words beside
 /// the logs.
 #[derive(Drop)]
 pub struct Logs<A: Allocator + Clone + Drop = Global> {
     read_log: CachePadded<Mutex<ReadLog<A>>>,
-    /// The published length of the read log, as `publish_read_len` had it when the log was left last. It seldom changes, so it lies apart from the lock, where those
-    /// who look at it keep the line.
+    /// The published length of the read log, as `publish_read_len` had it last. It seldom changes, so it lies apart from the lock, and its readers keep the
+    /// cache line.
     reads: CachePadded<AtomicUsize>,
     writes: CachePadded<HintedQueue<A>>,
 }
 
 impl<A: Allocator + Clone + Drop> Logs<A> {
-    /// Empty logs, with room for all that they will hold.
+    /// Makes empty logs, with capacity for all that they will hold.
     pub fn new(alloc: &A) -> Result<Self, OutOfMemory> {
         let read_log = ReadLog::new(alloc.clone()?)?;
         let writes = HintedQueue {
@@ -57,43 +57,43 @@ impl<A: Allocator + Clone + Drop> Logs<A> {
         self.writes.len.load(Ordering::Acquire)
     }
 
-    /// The read log, locked. Before it is left, `publish_read_len` is to have its length.
+    /// Locks the read log. Before it is unlocked, `publish_read_len` must get its length.
     #[inline]
     pub fn lock_reads<R: Wait>(&self, rt: &R) -> MutexGuard<'_, ReadLog<A>> {
         lock(rt, &self.read_log)
     }
 
-    /// The write log, locked. Before it is left, `publish_write_len` is to have its length.
+    /// Locks the write log. Before it is unlocked, `publish_write_len` must get its length.
     #[inline]
     pub fn lock_writes<R: Wait>(&self, rt: &R) -> MutexGuard<'_, WriteQueue<A>> {
         lock(rt, &self.writes.queue)
     }
 
-    /// Publishes the length of the read log. Callers ask if it is full, or has reached the flush point. A value that is there already isn't stored, since a
-    /// store takes the cache line from all who read it.
+    /// Publishes the length of the read log: its capacity, the flush point or 0, since callers ask no more. It stores only a value that differs: a store takes
+    /// the cache line from all who read it.
     pub fn publish_read_len(&self, len: usize) {
-        let told = if len >= READ_LOG_SIZE {
+        let published = if len >= READ_LOG_SIZE {
             READ_LOG_SIZE
         } else if len >= FLUSH_POINT {
             FLUSH_POINT
         } else {
             0
         };
-        if self.reads.load(Ordering::Acquire) != told {
-            self.reads.store(told, Ordering::Release);
+        if self.reads.load(Ordering::Acquire) != published {
+            self.reads.store(published, Ordering::Release);
         }
     }
 
-    /// Publishes how many writes are on their way, as a multiple of `WRITE_BATCH`. Callers ask if the log is full, has reached the flush point, or has space
-    /// for that many, and all these are multiples of it. A value that is there already isn't stored, since a store is an exchange here.
+    /// Publishes how many writes are on their way, as a multiple of `WRITE_BATCH`: callers ask if the log is full, has reached the flush point, or has space
+    /// for so many. It stores only a value that differs, since a store is an exchange here.
     pub fn publish_write_len(&self, len: usize) {
-        let told = len - len % WRITE_BATCH;
-        if self.writes.len.load(Ordering::Acquire) != told {
-            self.writes.len.store(told, Ordering::Release);
+        let published = len - len % WRITE_BATCH;
+        if self.writes.len.load(Ordering::Acquire) != published {
+            self.writes.len.store(published, Ordering::Release);
         }
     }
 
-    /// Puts a read into its log. Answers whether there was room. A log that its word tells full is not looked at.
+    /// Pushes a read to its log, and returns whether there was space. A log that is full by its published length isn't locked.
     pub fn push_read<R: Wait>(&self, rt: &R, logged: LoggedRead) -> bool {
         if self.reads.load(Ordering::Acquire) >= READ_LOG_SIZE {
             return false;
@@ -104,8 +104,8 @@ impl<A: Allocator + Clone + Drop> Logs<A> {
         is_pushed
     }
 
-    /// Takes the first reads, and puts them to the front of a slice: as many as there are, as it holds, and as are wanted. Answers how many. Whoever puts
-    /// reads into the log goes first.
+    /// Takes the first reads into a slice: as many as there are, as it holds, and as are wanted. Returns their number. Callers that push reads have the lock
+    /// first.
     pub fn take_reads<R: Wait>(&self, rt: &R, wanted: usize, reads: &mut [LoggedRead]) -> usize
         ensures wanted { result ≤ wanted }
         ensures held { result ≤ length reads.old }
@@ -117,7 +117,7 @@ impl<A: Allocator + Clone + Drop> Logs<A> {
         count
     }
 
-    /// Puts a write into its log. Answers whether there was room. While its word tells it full it is not looked at: the writer waits on the word.
+    /// Pushes a write to its log, and returns whether there was space. While the log is full by its published length, the writer waits without the lock.
     pub fn push_write<R: Wait>(&self, rt: &R, write: Write) -> bool {
         if !has_room(&self.writes.len, WRITE_LOG_SIZE) {
             return false;
@@ -128,7 +128,7 @@ impl<A: Allocator + Clone + Drop> Logs<A> {
         is_pushed
     }
 
-    /// Takes the first writes, when those that were taken before are applied: as many as are there, wanted, and can be taken at once.
+    /// Takes the first writes once those taken before are applied: as many as there are, as are wanted, and as can be taken at once.
     pub fn take_writes<R: Wait>(&self, rt: &R, wanted: usize, taken: &mut TakenWrites)
         requires { taken.old ≡ [] }
         ensures { length taken.new ≤ wanted }
@@ -138,7 +138,7 @@ impl<A: Allocator + Clone + Drop> Logs<A> {
         self.publish_write_len(queue.len());
     }
 
-    /// The writes that were taken are applied, and take no room any more.
+    /// Notes that the writes that were taken are applied. They count against the capacity no more.
     pub fn note_applied<R: Wait>(&self, rt: &R) {
         let mut queue = self.lock_writes(rt);
         queue.note_applied();

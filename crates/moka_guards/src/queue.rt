@@ -36,7 +36,7 @@ impl<A: Allocator + Clone + Drop> Model for WriteQueue<A> {
 }
 
 impl<A: Allocator + Clone + Drop> WriteQueue<A> {
-    /// An empty one, with room for all that it will hold.
+    /// Makes an empty queue, with capacity for all that it will hold.
     pub(crate) fn new(alloc: A) -> Result<Self, OutOfMemory>
         ensures { IfOk result (λ queue. queue ≡ record { log = []; taken = 0 }) }
     {
@@ -53,7 +53,7 @@ impl<A: Allocator + Clone + Drop> WriteQueue<A> {
         self.log.len() + self.taken
     }
 
-    /// Puts a write behind the others. Answers whether there was room.
+    /// Pushes a write. Returns whether there was space.
     pub(crate) fn push(&mut self, write: Write) -> bool
         ensures variant { IsTrue result ↔ (on_their_way self.old < WRITE_LOG_SIZE) }
         ensures pushed { IsTrue result → self.new ≡ record self.old { log = self.old.log ++ write ∷ [] } }
@@ -77,14 +77,14 @@ impl<A: Allocator + Clone + Drop> WriteQueue<A> {
         self.taken = before - self.log.len();
     }
 
-    /// Those that were taken are applied.
+    /// Notes that the writes that were taken are applied.
     pub(crate) fn note_applied(&mut self)
         ensures { self.new ≡ record self.old { taken = 0 } }
     {
         self.taken = 0;
     }
 
-    /// A turn of the maintenance that looks at the log, where it has applied all that it has taken.
+    /// Takes a turn of the maintenance that looks at the log, once it has applied all that it has taken.
     pub fn turn_with_writes<K: Drop, V: Drop, S: Drop>(&mut self, maintenance: &mut Maintenance<A>)
         requires { (settings : SettingsState S) × (valid_after : ℕ)
             × (need_of (turn_at {K = K} {V = V} settings valid_after false maintenance.old.phase maintenance.old) ≡ NeedsWrites) }

@@ -6,25 +6,25 @@ use std::sync::{Mutex, MutexGuard, Wait};
 
 /// Pauses, each twice as long as the one before, that a thread makes at once when it finds a lock held. Together they take about as long as a part of a cache
 /// is held.
-const FIRST_PAUSES: usize = 4;
+const INITIAL_BACKOFF: usize = 4;
 
-/// How often a thread looks at a lock then, each time after a longer pause, before it sleeps in wait for it.
+/// Number of looks at a lock after that, each after a longer pause, before the thread sleeps until it is unlocked.
 const LOCK_ATTEMPTS: usize = 64;
 
-/// Hints to the processor that a thread makes which gives way to others, before it looks at a lock again: about 30 microseconds.
-const GIVING_WAY: usize = 600;
+/// Spin hints between two looks of a yielding lock, about 30 microseconds.
+const YIELDING_SPINS: usize = 600;
 
-/// How often it does so. Then it waits as others do, and so lets a thread run that has the lock and no processor.
-const TIMES_GIVING_WAY: usize = 8;
+/// Number of such looks. After them the thread waits as others do, and so lets a thread run that has the lock and no processor.
+const YIELDING_ATTEMPTS: usize = 8;
 
-/// How often a writer looks whether a full log has got room, before it asks again whether a maintenance is due.
-const ROOM_LOOKS: usize = 16;
+/// Number of looks of a writer at a full log, before it asks again whether a maintenance is due.
+const SPACE_ATTEMPTS: usize = 16;
 
-/// The room, in operations, that a writer waits for. Where several wait, they push in turns of this many, and don't all ask for the lock at
+/// The space, in operations, that a writer waits for. If several wait, they push in turns of this many, and don't all ask for the lock at
 /// each operation that leaves the log.
 pub(crate) const WRITE_BATCH: usize = 16;
 
-/// Never returns. It stands where a case can't come and no type says so: any answer would be a wrong one.
+/// Never returns. It is called in cases that can't occur but that no type excludes: any result would be wrong.
 #[cold]
 #[inline(never)]
 pub fn wait_forever<R: Wait>(rt: &R) -> ! {
@@ -32,7 +32,7 @@ pub fn wait_forever<R: Wait>(rt: &R) -> ! {
     unreachable!()
 }
 
-/// Takes a lock.
+/// Locks.
 #[inline]
 pub fn lock<'a, T, R: Wait>(rt: &R, part: &'a Mutex<T>) -> MutexGuard<'a, T> {
     match part.try_lock() {
@@ -41,9 +41,8 @@ pub fn lock<'a, T, R: Wait>(rt: &R, part: &'a Mutex<T>) -> MutexGuard<'a, T> {
     }
 }
 
-/// Takes a lock that was found held. A part of a cache is held for some hundred instructions, so a thread looks again for a while, ever more
-/// seldom, before it sleeps: to put a thread to sleep and to wake it takes longer than that. Each look takes the line of the lock from whoever
-/// holds it.
+/// Locks what was found locked. A part of a cache is held for some hundred instructions, so a thread looks again for a while, ever more seldom, before it
+/// sleeps. To put a thread to sleep and to wake it takes longer than that. Each look takes the cache line of the lock from its holder.
 #[cold]
 #[inline(never)]
 fn wait_for<'a, T, R: Wait>(rt: &R, part: &'a Mutex<T>) -> MutexGuard<'a, T> {
@@ -57,19 +56,19 @@ fn wait_for<'a, T, R: Wait>(rt: &R, part: &'a Mutex<T>) -> MutexGuard<'a, T> {
     part.lock(rt)
 }
 
-/// Takes a lock that others are to have first: where it is found held, a thread waits longer before it looks again than they do. Who takes reads out of
-/// their log does so: each look takes the line of the lock from those who put them in, and a read that finds the log full costs nobody anything more.
+/// Locks with low priority: on contention it backs off longer than `lock`. The maintenance takes reads out of their log so, since each look takes the cache
+/// line of the lock from callers that push. A read that finds the log full costs nobody more.
 pub(crate) fn lock_yielding<'a, T, R: Wait>(rt: &R, part: &'a Mutex<T>) -> MutexGuard<'a, T> {
-    for _ in 0..TIMES_GIVING_WAY {
+    for _ in 0..YIELDING_ATTEMPTS {
         if let Some(guard) = part.try_lock() {
             return guard;
         }
-        spin(GIVING_WAY);
+        spin(YIELDING_SPINS);
     }
     lock(rt, part)
 }
 
-/// So many hints to the processor that this thread waits for another.
+/// Gives the processor `count` hints that this thread waits for another.
 fn spin(count: usize) {
     for _ in 0..count {
         hint::spin_loop();
@@ -86,7 +85,7 @@ pub(crate) fn has_room(len: &AtomicUsize, size: usize) -> bool {
 #[inline(never)]
 fn gets_room(len: &AtomicUsize, size: usize) -> bool {
     let backoff = pause();
-    for _ in 0..ROOM_LOOKS {
+    for _ in 0..SPACE_ATTEMPTS {
         if len.load(Ordering::Acquire) < size.saturating_sub(WRITE_BATCH) {
             return true;
         }
@@ -95,10 +94,10 @@ fn gets_room(len: &AtomicUsize, size: usize) -> bool {
     len.load(Ordering::Acquire) < size
 }
 
-/// The first pauses of a wait.
+/// Makes the first pauses of a wait.
 fn pause() -> Backoff {
     let backoff = Backoff::new();
-    for _ in 0..FIRST_PAUSES {
+    for _ in 0..INITIAL_BACKOFF {
         backoff.snooze();
     }
     backoff

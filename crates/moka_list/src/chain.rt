@@ -36,14 +36,14 @@ impl Model for NodeId {
 }
 
 impl NodeId {
-    /// The number of the node, for an owner that keeps its ids as numbers.
+    /// Returns the number of the node, for an owner that keeps its ids as numbers.
     pub fn number(self) -> usize
         ensures { result ≡ self }
     {
         self.number
     }
 
-    /// The id with this number.
+    /// Returns the id with this number.
     pub fn from_number(number: usize) -> NodeId
         ensures { result ≡ number }
     {
@@ -81,7 +81,7 @@ impl<T, A: Allocator> Model for Chain<T, A> {
 impl<T, A: Allocator> Chain<T, A> {
     ghost use Rattle.moka_list.specs.ChainLends.{lends_element};
 
-    /// An empty chain, which allocates nothing. It is handed an allocator for its elements and one for their links.
+    /// Makes an empty chain, which allocates nothing. It takes an allocator for its elements and one for their links.
     pub fn new(elements: A, links: A) -> Self
         ensures items { result.items ≡ [] }
         ensures room { result.room ≡ 0 }
@@ -94,7 +94,7 @@ impl<T, A: Allocator> Chain<T, A> {
         }
     }
 
-    /// The number of elements.
+    /// Returns the number of elements.
     pub fn len(&self) -> usize
         ensures len { result ≡ length self.now.items }
 
@@ -105,7 +105,7 @@ impl<T, A: Allocator> Chain<T, A> {
         self.slots.len()
     }
 
-    /// Reserves capacity for `additional` more elements when there is none. Where it is refused, there may be less room than before.
+    /// Reserves capacity for `additional` more elements when there is none. If that is refused, there may be less capacity than before.
     pub fn reserve_exact(&mut self, additional: usize) -> Result<(), OutOfMemory>
         ensures ok { OnOk result (additional ≤ self.new.room) }
         ensures holds_all { OnOk result (length self.new.items + additional ≤ self.new.capacity) }
@@ -147,7 +147,7 @@ impl<T, A: Allocator> Chain<T, A> {
         additional <= capacity - len
     }
 
-    /// A number that all ids are below: how many elements fit with no allocation, with those that are there.
+    /// Returns the number of elements that fit with no allocation, those that are there included. All ids are below it.
     pub fn capacity(&self) -> usize
         ensures value { result ≡ self.now.ids }
         ensures holds_all { self.now.capacity ≤ result }
@@ -177,7 +177,7 @@ impl<T, A: Allocator> Chain<T, A> {
         self.slots.contains(id.number)
     }
 
-    /// The element of the node, which must be in the chain: `contains` tells.
+    /// Returns the element of the node, which must be in the chain: `contains` is the test.
     pub fn get(&self, id: NodeId) -> &T
         requires { IsIn self.now.items id }
         ensures { lookup (nat_eq id) self.now.items ≡ Some result.now }
@@ -185,7 +185,7 @@ impl<T, A: Allocator> Chain<T, A> {
         &self.slots[id.number]
     }
 
-    /// The element of the node for writing. The node must be in the chain, which `contains` tells.
+    /// Returns the element of the node for writing. The node must be in the chain: `contains` is the test.
     pub fn get_mut(&mut self, id: NodeId) -> &mut T
         requires { IsIn self.old.items id }
         ensures* writes_back { sem 𝓛 (lends_element T.row A.row A.Allocator self.entry id result) }
@@ -194,7 +194,7 @@ impl<T, A: Allocator> Chain<T, A> {
         &mut self.slots[id.number]
     }
 
-    /// The node at the front.
+    /// Returns the node at the front.
     pub fn front(&self) -> Option<NodeId>
         ensures { result ≡ first_id self.now.items }
     {
@@ -207,7 +207,7 @@ impl<T, A: Allocator> Chain<T, A> {
         })
     }
 
-    /// The node after this one. The node must be in the chain, which `contains` tells.
+    /// Returns the node after this one, which must be in the chain: `contains` is the test.
     pub fn next(&self, id: NodeId) -> Option<NodeId>
         requires { IsIn self.now.items id }
         ensures { result ≡ next_id id self.now.items }
@@ -279,7 +279,7 @@ impl<T, A: Allocator> Chain<T, A> {
         self.links.link_before(id.number, next.number);
     }
 
-    /// An iterator over the elements from front to back.
+    /// Returns an iterator over the elements from front to back.
     pub fn iter(&self) -> Iter<'_, T, A>
         ensures { result ≡ values_of self.now.items }
     {

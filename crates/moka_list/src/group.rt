@@ -18,7 +18,7 @@ pub struct Group {
 }
 
 impl Group {
-    /// A group without ids.
+    /// Makes a group without ids.
     pub(crate) fn free() -> Self
         ensures { result ≡ FREE }
     {
@@ -29,7 +29,7 @@ impl Group {
         }
     }
 
-    /// The free slots, as bits.
+    /// Returns the free slots, as bits.
     pub(crate) fn free_slots(&self) -> u64
         ensures slots { result ≡ slots_with self.now 0 }
         ensures bound { result < 1024 }
@@ -40,7 +40,7 @@ impl Group {
             % 1024
     }
 
-    /// The slots with `tag` and `distance`, as bits.
+    /// Returns the slots with `tag` and `distance`, as bits.
     #[inline(always)]
     pub(crate) fn slots_of(&self, tag: u8, distance: usize) -> u64
         ensures slots { result ≡ slots_of self.now tag (min distance FAR) }
@@ -52,7 +52,7 @@ impl Group {
         tagged.to_bitmask() % 1024 & distant.to_bitmask() >> 6
     }
 
-    /// The slot of `id`, if it stands here with `tag` and `distance`.
+    /// Returns the slot of `id`, if it is here with `tag` and `distance`.
     pub(crate) fn slot_of(&self, tag: u8, distance: usize, id: u32) -> Option<usize>
         ensures some { IfSome result (HasAt self.now tag (min distance FAR) id) }
         ensures none { IfNone result (is_among id (slots_of self.now tag (min distance FAR)) self.now.ids ≡ false) }
@@ -87,7 +87,7 @@ impl Group {
     }
 }
 
-/// The number of groups of a table with room for `ids` ids.
+/// Returns the number of groups of a table for `ids` ids.
 #[inline]
 pub(crate) fn groups_of(ids: usize) -> usize
     requires { ids ≤ MAX_IDS }
@@ -96,7 +96,7 @@ pub(crate) fn groups_of(ids: usize) -> usize
     ids / SHARE + 1
 }
 
-/// The group at which a search for `hash` starts, and the tag of `hash`, which is never 0.
+/// Returns the group at which a search for `hash` starts, and the tag of `hash`, which is never 0.
 #[inline(always)]
 pub(crate) fn probe_of(groups: usize, hash: u64) -> (usize, u8)
     ensures home { result.0 ≡ home_group groups hash }
@@ -106,7 +106,7 @@ pub(crate) fn probe_of(groups: usize, hash: u64) -> (usize, u8)
     ((spread >> 64) as usize, ((spread >> 56) % 256).max(1) as u8)
 }
 
-/// The group after `at`, round and round.
+/// Returns the group after `at`, round and round.
 #[inline]
 pub(crate) fn after(groups: usize, at: usize) -> usize
     requires { at < groups }

@@ -36,7 +36,7 @@ impl<A: Allocator> Model for HashIndex<A> {
 }
 
 impl<A: Allocator> HashIndex<A> {
-    /// An index with no room, which allocates nothing.
+    /// Makes an index without capacity, which allocates nothing.
     pub fn new(alloc: A) -> Self
         ensures empty { (hash : ℕ) → candidates result hash ≡ [] }
         ensures ids { result.ids ≡ 0 }
@@ -48,7 +48,7 @@ impl<A: Allocator> HashIndex<A> {
         }
     }
 
-    /// The ids below this number can be added.
+    /// Returns the number that ids must be below to be added.
     pub fn ids(&self) -> usize
         ensures { result ≡ self.now.ids }
     {

@@ -17,7 +17,7 @@ pub(crate) fn fill_free<A: Allocator>(groups: &mut Vec<Group, A>, len: usize)
     groups.resize(len, Group::free()).unwrap();
 }
 
-/// The first free slot, from the group `home` on, round and round: its group, the group's distance, and the slot there.
+/// Returns the first free slot from the group `home` on, round and round: its group, the group's distance, and the slot there.
 pub(crate) fn first_free(groups: &[Group], home: usize) -> (usize, usize, usize)
     requires inside { home < length groups.now }
     requires small { length groups.now < 2 ^ 32 }
@@ -39,7 +39,7 @@ pub(crate) fn first_free(groups: &[Group], home: usize) -> (usize, usize, usize)
     }
 }
 
-/// The home of `hash`, and where its `id` stands: the group, the group's distance, and the slot there.
+/// Returns the home of `hash`, and the slot of its `id`: the group, the group's distance, and the slot there.
 pub(crate) fn slot_of(groups: &[Group], hash: u64, id: u32) -> (usize, usize, usize, usize)
     requires small { length groups.now < 2 ^ 32 }
     requires shaped { AreShaped groups.now }

@@ -13,7 +13,7 @@ use std::sync::atomic::{AtomicBool, AtomicU64, Ordering};
 ///
 /// It is mini-moka's `Housekeeper`, whose `try_sync` takes a closure here. There is no due moment before the first maintenance.
 ///
-/// A program may have one for a log of its own, with a closure that empties it. That is called where the log has ten operations, or half a second has passed
+/// A program may have one for a log of its own, with a closure that empties it. That is called if the log has ten operations, or half a second has passed
 /// since it was called last:
 ///
 /// ```
@@ -60,7 +60,7 @@ impl Housekeeper {
         is_due(len, flush_point, self.sync_after(), now)
     }
 
-    /// Calls the closure and answers true, unless another caller's closure is running: then it answers false, and drops the closure. The next
+    /// Calls the closure and returns `true`, unless another caller's closure is running: then it returns `false`, and drops the closure. The next
     /// maintenance is due half a second after `now`, from before the closure is called.
     pub fn try_sync<F: FnOnce()>(&self, now: Instant, run: F) -> bool
         requires { F.pre run }
@@ -97,7 +97,7 @@ impl Housekeeper {
         self.is_running.store(false, Ordering::Release);
     }
 
-    /// The moment from which on a maintenance is due by time, if there is one.
+    /// Returns the moment from which a maintenance is due by time, if there is one.
     fn sync_after(&self) -> Option<Instant> {
         if !self.is_scheduled.load(Ordering::Acquire) {
             return None;

@@ -101,7 +101,7 @@ impl<
     W: Drop,
     A: Allocator + Clone + Drop,
 > Inner<K, V, S, P, W, A> {
-    /// A cache of these parts, with nothing done to it, and its publisher, if there is one.
+    /// Makes a cache of these parts, on which nothing has been done, with its publisher, if there is one.
     pub fn new(
         alloc: A,
         parts: CoreParts<S, W>,
@@ -153,20 +153,20 @@ impl<
         &self.alloc
     }
 
-    /// The hash of a key.
+    /// Returns the hash of a key.
     pub(crate) fn hash_of(&self, key: &K) -> u64
         ensures { result ≡ (keys_by K.Hash S.BuildHasher S.Hasher.Hasher).hash_of self.now.settings.hash_state key.now }
     {
         self.settings.hash_state().get().hash_one(key)
     }
 
-    /// The lock of the shard that a hash belongs to.
+    /// Returns the lock of the shard that a hash belongs to.
     fn shard(&self, hash: u64) -> &Mutex<Shard<K, V, S, P, A>> {
         &self.shards[(hash % SHARDS as u64) as usize]
     }
 
-    /// The moment from which on entries count. Who tests an entry asks while the lock of its shard is held: so each invalidation of all that had ended
-    /// when the entry was written is seen with it.
+    /// Returns the moment of the last invalidation of all; older entries are hidden. It must be called while the lock of the tested entry's shard is held:
+    /// then it sees each invalidation that had ended when the entry was written.
     fn valid_after(&self) -> Instant {
         Instant::from_nanos(self.valid_after.load(Ordering::Acquire))
     }
@@ -203,7 +203,7 @@ impl<
         shard.contains_key(key, hash, &self.settings, self.valid_after(), now)
     }
 
-    /// The pairs of a shard that count at a moment, shared once more.
+    /// Shares the live pairs of a shard.
     fn pairs<R: Wait>(
         &self,
         rt: &R,
@@ -221,7 +221,7 @@ impl<
         shard.pairs(alloc, &self.settings, self.valid_after(), now)
     }
 
-    /// Adds those of the pairs whose keys are of this shard.
+    /// Adds those of the pairs whose keys belong to this shard.
     fn add_own(
         &self,
         number: usize,
@@ -239,7 +239,7 @@ impl<
         Ok(())
     }
 
-    /// Adds the pairs of a shard that count at a moment, shared once more, to those of the shards before it.
+    /// Shares the live pairs of a shard, and adds them to those of the shards before it.
     pub fn copy<R: Wait>(
         &self,
         rt: &R,
@@ -276,7 +276,7 @@ impl<
         self.weighted_size.load(Ordering::Acquire)
     }
 
-    /// The counts that were published last, which the pass has seen then.
+    /// Returns the counts that were published last, which the pass has seen then.
     pub fn published<R: Wait>(&self, rt: &R, pass: &mut CountPass) -> Published
         requires { self.now.counted ≡ Some pass.old.counts }
         ensures counts { pass.new.counts ≡ pass.old.counts }
@@ -290,7 +290,7 @@ impl<
         }
     }
 
-    /// One more pass, which has seen what this one has.
+    /// Returns one more pass, which has seen what this one has.
     pub fn split(&self, pass: &mut CountPass) -> CountPass
         requires { self.now.counted ≡ Some pass.old.counts }
         ensures { (pass.new ≡ pass.old) × (result ≡ pass.old) }

@@ -96,15 +96,14 @@ impl<'a, A: Allocator + Clone + Drop> RunningMaintenance<'a, A> {
         }
     }
 
-    /// The counts that it has published.
+    /// Returns the counts that it has published.
     pub(crate) fn published(&self) -> Published
         ensures { result ≡ self.now.working.maintenance.published }
     {
         self.maintenance.published()
     }
 
-    /// One turn, with the lock of what it needs, or several, where operations leave their log and are applied at once. The answer is where the maintenance is
-    /// then.
+    /// Takes one turn, with the lock of what it needs, or several if operations leave their log together. Returns the phase after it.
     pub(crate) fn turn<
         R: Wait,
         K: Eq + Hash + Drop,

@@ -43,7 +43,7 @@ use moka_sync_model::ticket::Ticket;
 use std::alloc::{AllocError, Allocator, Global};
 use std::marker::Model;
 
-/// The need of a turn besides the maintenance.
+/// The log or the entry that a turn needs beside the maintenance.
 #[derive(Clone, Copy, Debug)]
 pub enum Need {
     Nothing,
@@ -71,7 +71,7 @@ impl<A: Allocator + Clone + Drop> Model for Maintenance<A> {
 }
 
 impl<A: Allocator + Clone + Drop> Maintenance<A> {
-    /// A maintenance as it is built: nothing is charged, and none is under way.
+    /// Makes an idle maintenance with nothing charged.
     pub fn new(alloc: A) -> Result<Self, AllocError>
         ensures { IfOk result (λ m. m ≡ new_maintenance) }
     {
@@ -156,7 +156,7 @@ impl<A: Allocator + Clone + Drop> Maintenance<A> {
         }
     }
 
-    /// A maintenance begins, where none is under way: `phase` tells.
+    /// Begins a maintenance, if none is under way: `phase` is the test.
     pub fn begin(&mut self, now: Instant)
         requires { self.old.phase ≡ Idle }
         ensures { self.new ≡ record self.old { phase = ReadCount 1; moment = now } }
@@ -165,7 +165,7 @@ impl<A: Allocator + Clone + Drop> Maintenance<A> {
         self.state.phase = PhaseState::ReadCount { round: 1 };
     }
 
-    /// A turn that needs the read log.
+    /// Takes a turn that needs the read log.
     pub fn turn_with_reads<K: Drop, V: Drop, S: Drop>(&mut self, log: &mut ReadLog<A>)
         requires { (settings : SettingsState S) × (valid_after : ℕ)
             × (need_of (turn_at {K = K} {V = V} settings valid_after false self.old.phase self.old) ≡ NeedsReads) }
@@ -197,7 +197,7 @@ impl<A: Allocator + Clone + Drop> Maintenance<A> {
         }
     }
 
-    /// The turns that take the next reads and apply them, one after another. The caller pops the log and touches the entries.
+    /// Takes the next reads and applies them, one after another. The caller pops the log and touches the entries.
     pub fn apply_reads(&mut self, reads: &[LoggedRead])
         requires some { 0 < length reads.now }
         requires left { length reads.now ≤ reads_left self.old.phase }
@@ -226,7 +226,7 @@ impl<A: Allocator + Clone + Drop> Maintenance<A> {
         }
     }
 
-    /// The first write of the log, where the next turn is to take one. The turn after that is to follow at once: `turn_with_upsert`, or
+    /// Pops the first write of the log, if the next turn is to take one. The turn that applies it must follow at once: `turn_with_upsert` or
     /// `turn_with_removal`.
     pub fn take_write(&self, log: &mut WriteLog<A>) -> Option<Write>
         ensures { IsTaken (TakesWrite self.now) result log.old log.new }
@@ -237,8 +237,7 @@ impl<A: Allocator + Clone + Drop> Maintenance<A> {
         log.pop()
     }
 
-    /// The turn that applies an upsert, which `take_write` has taken, at the entry of its ticket, which is given where it stands. What becomes of the
-    /// entry is for its owner to do.
+    /// Applies an upsert that `take_write` has taken, to the entry of its ticket, if there is one. The entry's owner makes the change that it returns.
     pub fn turn_with_upsert<K: Drop, V: Drop, S: Drop>(
         &mut self,
         settings: &Settings<S, A>,
@@ -259,7 +258,7 @@ impl<A: Allocator + Clone + Drop> Maintenance<A> {
         }
     }
 
-    /// The turn that applies a removal, which `take_write` has taken.
+    /// Applies a removal that `take_write` has taken.
     pub fn turn_with_removal<K: Drop, V: Drop, S: Drop>(&mut self, ticket: Ticket)
         requires { TakesWrite self.old }
         ensures { (settings : SettingsState S) → (valid_after : ℕ)
@@ -270,7 +269,7 @@ impl<A: Allocator + Clone + Drop> Maintenance<A> {
         }
     }
 
-    /// A turn that needs the write log.
+    /// Takes a turn that needs the write log.
     pub fn turn_with_writes<K: Drop, V: Drop, S: Drop>(&mut self, log: &mut WriteLog<A>)
         requires { (settings : SettingsState S) × (valid_after : ℕ)
             × (need_of (turn_at {K = K} {V = V} settings valid_after false self.old.phase self.old) ≡ NeedsWrites) }
@@ -285,7 +284,7 @@ impl<A: Allocator + Clone + Drop> Maintenance<A> {
         }
     }
 
-    /// A turn that needs nothing besides.
+    /// Takes a turn that needs nothing.
     pub fn turn_alone<K: Drop, V: Drop, S: Drop>(&mut self, settings: &Settings<S, A>)
         requires { (valid_after : ℕ)
             × (need_of (turn_at {K = K} {V = V} settings.now valid_after false self.old.phase self.old) ≡ NeedsNothing) }
@@ -317,7 +316,7 @@ impl<A: Allocator + Clone + Drop> Maintenance<A> {
         }
     }
 
-    /// The ticket whose entry the next turn needs, where it is a turn of a scan and needs one: `scan`.
+    /// Returns the ticket whose entry the next turn needs, if it is a turn of a scan, which `scan` takes.
     #[inline(always)]
     pub fn need_to_scan<K: Drop, V: Drop, S: Drop>(&self) -> Option<Ticket>
         ensures scans { IfSome result (λ t. IsScan self.now.phase) }
@@ -333,8 +332,7 @@ impl<A: Allocator + Clone + Drop> Maintenance<A> {
         }
     }
 
-    /// The turn of a scan that needs an entry, of which it sees no more than what it weighs, where it stands. What becomes of the entry is for its owner
-    /// to do.
+    /// Takes a turn of a scan that needs an entry. It sees only the entry's weight, if there is an entry, whose owner makes the change that it returns.
     #[inline(always)]
     pub fn scan<K: Drop, V: Drop, S: Drop>(&mut self, weight: Option<u32>) -> EntryChange
         requires scans { IsScan self.old.phase }
@@ -349,7 +347,8 @@ impl<A: Allocator + Clone + Drop> Maintenance<A> {
         }
     }
 
-    /// A turn that needs the entry of this ticket, as `need` says. The entry is given if it stands. What becomes of it is for its owner to do.
+    /// Takes a turn that needs the entry of this ticket, as `need` says. `found` is the entry, if there is one. Its owner makes the change that the turn
+    /// returns.
     pub fn turn_at_entry<K: Drop, V: Drop, S: Drop>(
         &mut self,
         settings: &Settings<S, A>,

@@ -26,7 +26,7 @@ impl HighWater {
         self.marks[(ticket.hash % SHARDS as u64) as usize] < ticket.number
     }
 
-    /// The ticket is charged.
+    /// Notes that the ticket is charged.
     pub(crate) fn rise_to(&mut self, ticket: Ticket)
         ensures covers { IsCovered self.new ticket }
         ensures kept { (t : TicketValue) → IsCovered self.old t → IsCovered self.new t }

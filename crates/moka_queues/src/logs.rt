@@ -19,7 +19,7 @@ pub struct LoggedRead {
     pub hint: usize,
 }
 
-/// The read in a place to which none was copied yet.
+/// Fills slots to which no read was copied yet.
 pub const NO_READ: LoggedRead = LoggedRead {
     read: Read::Miss { hash: 0 },
     hint: 0,
@@ -44,7 +44,7 @@ impl<A: Allocator + Drop> Model for ReadLog<A> {
 }
 
 impl<A: Allocator + Drop> ReadLog<A> {
-    /// An empty log, with room for all that it will hold.
+    /// Makes an empty log, with capacity for all that it will hold.
     pub fn new(alloc: A) -> Result<ReadLog<A>, OutOfMemory>
         ensures { IfOk result (λ log. log ≡ []) }
     {
@@ -61,7 +61,7 @@ impl<A: Allocator + Drop> ReadLog<A> {
         self.reads.len()
     }
 
-    /// Puts a read behind the others. A full log hands it back.
+    /// Pushes a read. A full log hands it back.
     pub fn push(&mut self, read: Read) -> Result<(), Read>
         ensures variant { IsOk result ↔ (length self.old < READ_LOG_SIZE) }
         ensures ok { OnOk result (self.new ≡ self.old ++ read ∷ []) }
@@ -93,7 +93,7 @@ impl<A: Allocator + Drop> ReadLog<A> {
         Some(logged.read)
     }
 
-    /// Takes the first reads, and puts them to the front of a slice: as many as there are, as it holds, and as are wanted. Answers how many.
+    /// Takes the first reads into a slice: as many as there are, as it holds, and as are wanted. Returns their number.
     pub fn take_first(&mut self, wanted: usize, reads: &mut [LoggedRead]) -> usize
         ensures count { result ≡ min (min wanted (length reads.old)) (length self.old) }
         ensures reads { map (λ l. l.read) (take result reads.new) ≡ take result self.old }
@@ -124,7 +124,7 @@ impl<A: Allocator + Drop> Model for WriteLog<A> {
 }
 
 impl<A: Allocator + Drop> WriteLog<A> {
-    /// An empty log, with room for all that it will hold.
+    /// Makes an empty log, with capacity for all that it will hold.
     pub fn new(alloc: A) -> Result<WriteLog<A>, OutOfMemory>
         ensures { IfOk result (λ log. log ≡ []) }
     {
@@ -141,7 +141,7 @@ impl<A: Allocator + Drop> WriteLog<A> {
         self.writes.len()
     }
 
-    /// Puts a write behind the others. A full log hands it back.
+    /// Pushes a write. A full log hands it back.
     pub fn push(&mut self, write: Write) -> Result<(), Write>
         ensures variant { IsOk result ↔ (length self.old < WRITE_LOG_SIZE) }
         ensures ok { OnOk result (self.new ≡ self.old ++ write ∷ []) }
@@ -151,7 +151,7 @@ impl<A: Allocator + Drop> WriteLog<A> {
         self.writes.try_push_back(write)
     }
 
-    /// Takes the first writes, and puts them to the front of a slice: as many as there are, as it holds, and as are wanted. Answers how many.
+    /// Takes the first writes into a slice: as many as there are, as it holds, and as are wanted. Returns their number.
     pub fn take_first(&mut self, wanted: usize, writes: &mut [Write]) -> usize
         ensures count { result ≡ min (min wanted (length writes.old)) (length self.old) }
         ensures writes { take result writes.new ≡ take result self.old }

@@ -79,7 +79,7 @@ impl<A: Allocator + Clone + Drop> Orders<A> {
         })
     }
 
-    /// Makes room for one more node. Where there is none, there is room for twice as many nodes as before then, or for as many as the limit lets in and
+    /// Reserves capacity for one more node. If there is none, it doubles the capacity, but not past the number of nodes that the limit lets in and
     /// one more, if that is less. The order of writing gets links for as many, also without a time to live: `enter` may be handed other limits.
     pub fn reserve(&mut self, limits: &Limits) -> Result<(), OutOfMemory>
         ensures ok { OnOk result (0 < self.new.room) }
@@ -272,7 +272,7 @@ impl<A: Allocator + Clone + Drop> Orders<A> {
     }
 }
 
-/// A sum with one more charge. Fewer than 2^64 charges, of 32 bits each, come to less than 2^96.
+/// Returns a sum with one more charge. Fewer than 2^64 charges, of 32 bits each, come to less than 2^96.
 fn with_charge<A: Allocator>(access: &IndexedList<Node, A>, total: u128, charge: u32) -> u128
     requires { total ≤ length access.now.items * (2 ^ 32 - 1) }
     ensures value { result ≡ total + charge }

@@ -10,7 +10,7 @@ use std::marker::Model;
 /// Writes that a maintenance takes at once, at most. To take the lock of their log costs about as much as to apply one, while other threads push.
 const WRITES_AT_ONCE: usize = 16;
 
-/// The write in a place to which none was copied yet.
+/// Fills slots to which no write was copied yet.
 const NO_WRITE: Write = Write::Remove {
     ticket: Ticket { hash: 0, number: 0 },
 };
@@ -19,9 +19,9 @@ const NO_WRITE: Write = Write::Remove {
 #[derive(Drop)]
 pub struct TakenWrites {
     writes: [Write; WRITES_AT_ONCE],
-    /// The place of the first one.
+    /// Index of the first write.
     next: usize,
-    /// The place behind the last one.
+    /// Index after the last one.
     end: usize,
 }
 
@@ -37,7 +37,7 @@ impl Model for TakenWrites {
 }
 
 impl TakenWrites {
-    /// None so far.
+    /// Makes a batch of no writes.
     pub fn new() -> TakenWrites
         ensures { result ≡ [] }
     {
@@ -66,7 +66,7 @@ impl TakenWrites {
         self.next = 0;
     }
 
-    /// The first one, which is to be applied now.
+    /// Takes the first write out of the batch, to be applied now.
     pub fn pop(&mut self) -> Option<Write>
         ensures value { result ≡ slice_get self.old 0 }
         ensures rest { self.new ≡ drop 1 self.old }

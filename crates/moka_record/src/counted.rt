@@ -61,7 +61,7 @@ impl<
     Q: WeightRule<K, V>,
     A: Allocator + Clone + Drop,
 > Counted<K, V, S, W, Q, A> {
-    /// A record without calls, and for each pass a count of those that it has made, which is none.
+    /// Makes a record without calls, with a count of 0 for each pass.
     pub(crate) fn new(alloc: A, core: Core<K, V, S, W, A>, made: Vec<u64, A>) -> Self
         requires new { IsNew core.state }
         requires none { sum_by (λ made. made) made.items ≡ 0 }
@@ -106,7 +106,7 @@ impl<
     Q: WeightRule<K, V>,
     A: Allocator + Clone + Drop,
 > Counted<K, V, S, W, Q, A> {
-    /// The record, if each pass is there once and has made the number of calls that it says.
+    /// Returns the record, if each pass is there once and has made the number of calls that it says.
     pub(crate) fn close(self, passes: &[CallPass]) -> Result<Record<K, V, S, W, A>, CloseError>
         ensures replays { IfOk result (λ kept. Replays (keys_by K.Hash S.BuildHasher S.Hasher.Hasher) Q.weighs kept.state) }
         ensures made { IfOk result (λ kept. length kept.state.calls ≡ made_by passes.now) }
@@ -117,7 +117,7 @@ impl<
         }
     }
 
-    /// Why the record isn't given out for these passes, if there is a reason.
+    /// Returns the reason not to give the record out for these passes, if there is one.
     fn fault(&self, passes: &[CallPass]) -> Option<CloseError>
         ensures { IfNone result (length self.now.kept.state.calls ≡ made_by passes.now) }
     {
@@ -158,7 +158,7 @@ impl<
     }
 }
 
-/// So many counts of no calls.
+/// Makes counts of 0, one for each pass.
 pub(crate) fn none_made<A: Allocator>(alloc: A, places: usize) -> Result<Vec<u64, A>, OutOfMemory>
     ensures { IfOk result (λ made. sum_by (λ m. m) made.items ≡ 0) }
 {

@@ -33,7 +33,7 @@ pub enum CloseError {
     StrangePass,
 }
 
-/// So many passes, of the places from 0 on, which have made no call.
+/// Makes passes of the places from 0 on, which have made no call.
 pub(crate) fn new_passes<A: Allocator>(
     alloc: A,
     places: usize,

@@ -90,7 +90,7 @@ impl<
     ghost use Rattle.moka_record.specs.Record.{new_record, Memory, IsApplied};
     ghost use Rattle.moka_record.specs.Replay.{Replays};
 
-    /// A record without calls, of a cache with which nothing has been done yet: `Core::is_new` is the test.
+    /// Makes a record without calls, of a cache on which nothing has been done: `Core::is_new` is the test.
     pub fn new(alloc: A, core: Core<K, V, S, W, A>) -> Self
         requires new { IsNew core.state }
         ensures state { result.state ≡ new_record core.state }
@@ -138,7 +138,7 @@ impl<
     W: Drop,
     A: Allocator + Clone + Drop,
 > Record<K, V, S, W, A> {
-    /// The cache as it is now.
+    /// Returns the cache as it is now.
     pub fn core(&self) -> &Core<K, V, S, W, A>
         ensures state { result.now.state ≡ self.now.state.core }
         ensures weigher { result.now.weigher ≡ self.now.weigher }
@@ -146,14 +146,14 @@ impl<
         &self.core
     }
 
-    /// The calls with their replies, first to last.
+    /// Returns the calls with their replies, first to last.
     pub fn calls(&self) -> &[Made<K, V, A>]
         ensures { result.now ≡ self.now.state.calls }
     {
         &self.calls
     }
 
-    /// The ticket number that the cache's first new entry of each shard was to get.
+    /// Returns the ticket number that the first new entry of each shard was to get.
     pub fn first_ticket(&self) -> u64
         ensures { result ≡ self.now.state.first_ticket }
     {
@@ -161,7 +161,7 @@ impl<
     }
 }
 
-/// The reply once more, to be answered while the record keeps the first.
+/// Returns the reply once more, to be answered while the record keeps the first.
 fn answer_of<K: Drop, V: Drop, A: Allocator + Drop>(reply: &Answer<K, V, A>) -> Answer<K, V, A>
     requires { IsAnswer reply.now }
     ensures value { (refused : Bool) × (result ≡ answer_of reply.now refused) }

@@ -58,7 +58,7 @@ impl<
     Q: WeightRule<K, V>,
     A: Allocator + Clone + Drop,
 > Recorded<K, V, S, W, Q, A> {
-    /// A recording cache of a core with which nothing has been done yet, and a pass for each caller.
+    /// Makes a recording cache of a core on which nothing has been done, and a pass for each caller.
     pub fn open(
         alloc: A,
         core: Core<K, V, S, W, A>,
@@ -100,7 +100,8 @@ impl<
     Q: WeightRule<K, V>,
     A: Allocator + Clone + Drop,
 > Recorded<K, V, S, W, Q, A> {
-    /// The record, whose length is the number of calls that the passes have made. It is refused, and dropped, unless each pass that was given is there once.
+    /// Returns the record, whose length is the number of calls that the passes have made. It is refused, and dropped, unless each pass that was given is
+    /// there once.
     pub fn close(self, passes: Vec<CallPass, A>) -> Result<Record<K, V, S, W, A>, CloseError>
         ensures replays { IfOk result (λ kept. Replays (keys_by K.Hash S.BuildHasher S.Hasher.Hasher) Q.weighs kept.state) }
         ensures made { IfOk result (λ kept. length kept.state.calls ≡ made_by passes.items) }
@@ -110,7 +111,7 @@ impl<
     }
 }
 
-/// A pass for each caller, and for each a count of the calls that it has made.
+/// Makes a pass for each caller, and for each a count of the calls that it has made.
 fn passes_of<A: Allocator + Clone + Drop>(
     alloc: &A,
     callers: usize,

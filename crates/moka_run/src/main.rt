@@ -1,6 +1,6 @@
 //! Runs the script on standard input, and writes the replies to standard output.
 //!
-//! The status is 0 where the replies were written, 2 where the input is no script, and 1 where a stream or memory failed.
+//! The status is 0 if the replies were written, 2 if the input is no script, and 1 if a stream or memory failed.
 #![tactic(auto)]
 
 use mini_moka::script::{End, FromRead, FromWrite, run, run_locked, status_of};

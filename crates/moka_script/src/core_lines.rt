@@ -47,7 +47,7 @@ enum Action<E: Drop> {
     Weigh,
 }
 
-/// Builds a core with the settings, takes the steps of the lines in turn on it, and writes the replies. Where the settings are
+/// Builds a core with the settings, takes the steps of the lines in turn on it, and writes the replies. If the settings are
 /// refused, that is all that is written.
 pub fn core_replies<A: Allocator + Clone + Drop>(
     alloc: A,
@@ -195,7 +195,7 @@ fn step<A: Allocator + Clone + Drop, W: WeighShared<u64, Stored<Text<A>>>>(
     }
 }
 
-/// Begins a maintenance and brings it to its end. Answers whether it could begin.
+/// Runs a whole maintenance. Returns whether it could begin.
 fn sync<A: Allocator + Clone + Drop, W: WeighShared<u64, Stored<Text<A>>>>(
     alloc: A,
     core: &mut ScriptCore<W, A>,
@@ -212,7 +212,7 @@ fn sync<A: Allocator + Clone + Drop, W: WeighShared<u64, Stored<Text<A>>>>(
     Ok(core.finish())
 }
 
-/// The charged count and the charged weight.
+/// Returns the charged count and the charged weight.
 fn charged<A: Allocator + Clone + Drop, W: WeighShared<u64, Stored<Text<A>>>>(
     alloc: A,
     core: &mut ScriptCore<W, A>,
@@ -253,7 +253,7 @@ fn list<A: Allocator + Clone + Drop, W: WeighShared<u64, Stored<Text<A>>>>(
     Ok(())
 }
 
-/// The steps that copy all shards.
+/// Returns the steps that copy all shards.
 fn copies<A: Allocator + Clone + Drop>(
     alloc: A,
     now: Instant,
@@ -274,7 +274,7 @@ fn are_refused<A: Allocator + Clone + Drop>(replies: &[ScriptReply<A>]) -> bool
     replies.iter().any(|reply| !matches!(reply, Reply::Rows(_)))
 }
 
-/// The keys of all copies with their texts.
+/// Returns the keys of all copies with their texts.
 fn pairs_of<'a, A: Allocator + Clone + Drop>(
     alloc: A,
     replies: &'a [ScriptReply<A>],
@@ -290,7 +290,7 @@ fn pairs_of<'a, A: Allocator + Clone + Drop>(
     Ok(pairs)
 }
 
-/// The pairs of a copy.
+/// Returns the pairs of a copy.
 fn rows_of<A: Allocator + Clone + Drop>(
     reply: &ScriptReply<A>,
 ) -> &[(Shared<u64, A>, Shared<Stored<Text<A>>, A>)]
@@ -319,7 +319,7 @@ fn told<A: Allocator + Clone + Drop>(reply: &ScriptReply<A>) -> ReplyValue<'_>
     }
 }
 
-/// The weight that is written: beyond 64 bits, their largest number.
+/// Returns the weight that is written: at most the largest number of 64 bits.
 fn told_weight(weight: u128) -> u128
     ensures { result ≡ min weight (2 ^ 64 - 1) }
 {

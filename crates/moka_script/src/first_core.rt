@@ -21,7 +21,7 @@ use std::time::Duration;
 /// A core that a script's steps or calls are made on.
 pub(crate) type ScriptCore<W, A> = Core<u64, Stored<Text<A>>, KeyState, W, A>;
 
-/// A new core with the settings, and with this weigher, whose shards give out the ticket numbers from the given one on, or from 0.
+/// Makes a new core with the settings and this weigher, whose shards give out the ticket numbers from the given one on, or from 0.
 pub(crate) fn first_core<A: Allocator + Clone + Drop, W: Drop>(
     alloc: A,
     options: CacheOptions,
@@ -47,7 +47,7 @@ pub(crate) fn first_core<A: Allocator + Clone + Drop, W: Drop>(
     Ok(core.with_first_ticket(options.tickets.unwrap_or(0)))
 }
 
-/// The limits of the settings.
+/// Returns the limits of the settings.
 fn policy_of(options: CacheOptions) -> Policy
     ensures { HasLimits result options }
 {

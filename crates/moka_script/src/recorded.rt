@@ -40,7 +40,7 @@ enum Asked {
     Weight,
 }
 
-/// Builds a cache with the settings, makes the calls of the lines in turn on it, and writes the replies. Where the settings are
+/// Builds a cache with the settings, makes the calls of the lines in turn on it, and writes the replies. If the settings are
 /// refused, that is all that is written.
 pub fn recorded_replies<A: Allocator + Clone + Drop>(
     alloc: A,
@@ -121,7 +121,7 @@ fn reply_to<A: Allocator + Clone + Drop, W: WeighShared<u64, Stored<Text<A>>>>(
     Ok(())
 }
 
-/// Which number a line asks for, if it asks for one.
+/// Returns the number that a line asks for, if it asks for one.
 fn asked_of<T>(request: &Request<T>) -> Asked
     ensures { result ≡ asked_of request.now }
 {
@@ -154,7 +154,7 @@ fn told<A: Allocator + Clone + Drop>(
     }
 }
 
-/// The call that a line asks for.
+/// Returns the call that a line asks for.
 fn call_at<A: Allocator + Clone + Drop>(
     alloc: A,
     line: Line<Text<A>>,

@@ -48,7 +48,7 @@ pub(crate) fn found<A: Allocator + Clone + Drop>(stored: Option<&Stored<Text<A>>
     }
 }
 
-/// The line that says why there is no cache. Without memory for the cache there is none for the run.
+/// Returns the line that says why there is no cache. Without memory for the cache there is none for the run.
 pub fn refusal<A: Allocator + Clone + Drop>(
     alloc: A,
     error: BuildError,
@@ -122,7 +122,7 @@ fn push_phase<A: Allocator + Clone + Drop>(
     text.extend_from_slice(b"\n")
 }
 
-/// The name of a phase.
+/// Returns the name of a phase.
 fn phase_word(phase: Phase) -> &'static str
     ensures { result.now ≡ phase_word phase }
 {

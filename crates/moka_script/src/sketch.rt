@@ -34,7 +34,7 @@ pub fn sketch_replies<A: Allocator + Clone + Drop>(
     Ok(text)
 }
 
-/// Makes the call of a line. There is a table before it and behind it.
+/// Makes the call of a line. There is a table before it and after it.
 fn reply_to<A: Allocator + Clone + Drop>(
     sketch: &mut FrequencySketch<A>,
     line: SketchLine,

@@ -28,7 +28,7 @@ type ScriptBuilder<A> = CacheBuilder<u64, Stored<Text<A>>, UnitWeight, A>;
 /// A cache that a script's calls are made on.
 type ScriptCache<W, A> = Cache<u64, Stored<Text<A>>, KeyState, W, A>;
 
-/// Builds a cache with the settings, makes the calls of the lines in turn on it, and writes the replies. Where the settings are
+/// Builds a cache with the settings, makes the calls of the lines in turn on it, and writes the replies. If the settings are
 /// refused, that is all that is written.
 pub fn unsync_replies<A: Allocator + Clone + Drop>(
     alloc: A,
@@ -52,7 +52,7 @@ pub fn unsync_replies<A: Allocator + Clone + Drop>(
     }
 }
 
-/// A builder with the limits of the settings.
+/// Makes a builder with the limits of the settings.
 fn builder_of<A: Allocator + Clone + Drop>(alloc: A, options: CacheOptions) -> ScriptBuilder<A>
     ensures limits { HasLimits result.policy options }
     ensures weighed { result.is_weighed ≡ false }
@@ -155,7 +155,7 @@ fn reply_to<A: Allocator + Clone + Drop, W: Weigh<u64, Stored<Text<A>>>>(
     }
 }
 
-/// The pairs that an iterator gives, each a key and its text.
+/// Returns the pairs of an iterator, each a key and its text.
 fn pairs_of<'a, A: Allocator + Clone + Drop>(
     alloc: A,
     entries: Iter<'a, u64, Stored<Text<A>>, A>,

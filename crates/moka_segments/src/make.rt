@@ -1,4 +1,4 @@
-//! A get, and an insert where it finds nothing, in one visit.
+//! A get, and an insert if it finds nothing, in one visit.
 ghost use Rattle.std.specs.Prelude.{◌≡◌, option_map};
 ghost use Rattle.moka_common.specs.Keys.{keys_by};
 ghost use Rattle.moka_unsync_model.specs.History.{Leads};

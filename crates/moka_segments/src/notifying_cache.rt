@@ -87,7 +87,7 @@ impl<
     W: Weighing<K, V>,
     P: Rule<K, V>,
 > NotifyingCache<K, V, L, S, W, P> {
-    /// A cache with a listener.
+    /// Makes a cache with a listener.
     pub(crate) fn new(cache: SegmentedCache<K, V, S, W, P>, listener: L) -> Self
         ensures { result ≡ record { cache = cache; listener = listener } }
     {

@@ -74,7 +74,7 @@ impl<
     W: Weighing<K, V>,
     P: Rule<K, V>,
 > NotifyingSession<K, V, L, S, W, P> {
-    /// A session with a listener.
+    /// Makes a session with a listener.
     pub(crate) fn new(session: Session<K, V, S, W, P>, listener: L) -> Self
         ensures { result ≡ record { session = session; listener = listener } }
     {

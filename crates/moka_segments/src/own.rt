@@ -98,8 +98,8 @@ pub fn learn_and_read<
     Some(found)
 }
 
-/// Two threads share a cache, and each writes a key by its session and reads it. Whatever the schedule, each finds what it wrote, unless a visit between its two
-/// calls touched its key.
+/// Shares a cache between two threads, each of which writes a key by its session and reads it. Whatever the schedule, each finds what it wrote, unless a
+/// visit between its two calls touched its key.
 pub fn both<
     K: Eq + Hash + Copy + Send + Sync,
     V: Copy + Send + Sync,

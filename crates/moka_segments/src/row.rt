@@ -19,7 +19,7 @@ pub const STRIDE: usize = 16;
 pub const QUIET: usize = 8;
 
 /// Number of pauses, each longer than the one before, that a thread makes at once when it finds a lock held.
-const FIRST_PAUSES: usize = 4;
+const INITIAL_BACKOFF: usize = 4;
 
 /// Number of looks at a lock after those, before a thread sleeps until the lock is given back.
 const LOOKS: usize = 64;
@@ -159,7 +159,7 @@ pub fn lock<T, E, K, P: Account<T, E, K>, R: Wait>(
     }
 }
 
-/// Waits for a lock that another has. Each look is after a longer pause, which soon yields the processor to whoever has the lock, and a thread that still
+/// Waits for a lock that another has. Each look is after a longer pause, which soon yields the processor to the holder of the lock, and a thread that still
 /// finds it held sleeps: so more threads than processors make progress, and none burns its time slice.
 #[cold]
 #[inline(never)]
@@ -193,7 +193,7 @@ fn wait_for<T, E, K, P: Account<T, E, K>, R: Wait>(
 /// Makes the first pauses of a wait.
 fn pause() -> Backoff {
     let backoff = Backoff::new();
-    for _ in 0..FIRST_PAUSES {
+    for _ in 0..INITIAL_BACKOFF {
         backoff.snooze();
     }
     backoff

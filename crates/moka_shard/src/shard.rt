@@ -79,7 +79,7 @@ impl<
     P: PairRule<K, V>,
     A: Allocator + Clone + Drop,
 > Shard<K, V, S, P, A> {
-    /// A shard with no entries and room for `capacity` of them, which gives out the numbers from `next_number` on.
+    /// Makes a shard with no entries and capacity for `capacity` of them, which gives out the ticket numbers from `next_number` on.
     pub fn new(
         alloc: A,
         number: usize,
@@ -114,14 +114,14 @@ impl<
         self.slots.len()
     }
 
-    /// The number that the next new entry's ticket has.
+    /// Returns the number of the next new entry's ticket.
     pub fn next_number(&self) -> u64
         ensures { result ≡ self.now.next_number }
     {
         self.next_number
     }
 
-    /// The shard gives out the numbers from this one on. It must have no entries.
+    /// Sets the number of the next ticket. There must be no entry.
     pub fn start_at(&mut self, next_number: u64)
         requires { entries_in self.old.slots ≡ [] }
         ensures { self.new ≡ record self.old { next_number = next_number } }
@@ -129,7 +129,7 @@ impl<
         self.next_number = next_number;
     }
 
-    /// The hash of a key.
+    /// Returns the hash of a key.
     pub fn hash_of(&self, key: &K) -> u64
         ensures { result ≡ (keys_by K.Hash S.BuildHasher S.Hasher.Hasher).hash_of self.now.hash_state key.now }
     {
@@ -143,7 +143,7 @@ impl<
         (hash % SHARDS as u64) as usize == self.number
     }
 
-    /// The slot of the entry of a key, by its hash. By another hash the entry may not be found; what is found is the key's.
+    /// Returns the slot of the entry of a key, by its hash. A wrong `hash` may miss, but never finds another key.
     pub fn find(&self, key: &K, hash: u64) -> Option<usize>
         ensures value { hash ≡ (keys_by K.Hash S.BuildHasher S.Hasher.Hasher).hash_of self.now.hash_state key.now
             → entry_found self.now.slots result ≡ entry_at K.eq key.now (entries_in self.now.slots) }
@@ -163,7 +163,7 @@ impl<
         self.index.find(hash, is_sought)
     }
 
-    /// The slot of the entry of a ticket.
+    /// Returns the slot of the entry of a ticket.
     pub fn find_ticket(&self, ticket: Ticket) -> Option<usize>
         ensures value { entry_found self.now.slots result ≡ entry_of ticket (entries_in self.now.slots) }
         ensures found { IfSome result (λ slot. IsSome (entry_in self.now.slots slot)) }
@@ -177,7 +177,7 @@ impl<
         self.index.find(ticket.hash, is_sought)
     }
 
-    /// Returns the slot of the entry of a ticket. It looks in a slot first: that in which the entry was found before, as far as the caller knows. It spares the
+    /// Returns the slot of the entry of a ticket, looking first at `slot`, in which the caller has found it before. A right one spares the
     /// look-up in the index.
     fn find_ticket_at(&self, ticket: Ticket, slot: usize) -> Option<usize>
         ensures value { entry_found self.now.slots result ≡ entry_of ticket (entries_in self.now.slots) }
@@ -319,7 +319,7 @@ impl<
         false
     }
 
-    /// The pairs that count at a moment, shared once more.
+    /// Shares the live pairs.
     pub fn pairs(
         &self,
         alloc: A,

@@ -36,7 +36,7 @@ pub(crate) struct Marks {
 }
 
 impl Marks {
-    /// The marks of an empty list.
+    /// Makes the marks of an empty list.
     pub(crate) fn none() -> Self
         ensures { result ≡ record { late = None; window = None } }
     {
@@ -130,7 +130,7 @@ pub(crate) struct Weights {
 }
 
 impl Weights {
-    /// The weights of an empty store.
+    /// Makes the weights of an empty store.
     pub(crate) fn none() -> Self
         ensures { result ≡ record { all = 0; protected = 0; window = 0 } }
     {

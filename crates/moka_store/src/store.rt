@@ -30,7 +30,7 @@ use std::mem::replace;
 /// The entries of a cache. A look-up, an insert, a use and a removal take constant time on average.
 #[derive(Drop)]
 pub struct Store<K: Eq + Drop, V: Drop, A: Allocator + Clone + Drop = Global> {
-    // Probation, protected and the window, one behind another, each in order of use.
+    // Probation, protected and the window, one after another, each in order of use.
     entries: Chain<Entry<K, V>, A>,
     marks: Marks,
     weights: Weights,
@@ -61,7 +61,7 @@ impl<K: Eq + Drop, V: Drop, A: Allocator + Clone + Drop> Model for Store<K, V, A
 }
 
 impl<K: Eq + Drop, V: Drop, A: Allocator + Clone + Drop> Store<K, V, A> {
-    /// An empty store, which allocates nothing. It keeps the order of writing if the policy has a time to live.
+    /// Makes an empty store, which allocates nothing. It keeps the order of writing if the policy has a time to live.
     pub fn new(alloc: A, policy: Policy) -> Result<Self, AllocError>
         ensures { IfOk result (λ store. store ≡ record { nodes = []; written = []; keeps_writes = keeps_writes policy; capacity = 0 }) }
     {
@@ -115,14 +115,14 @@ impl<K: Eq + Drop, V: Drop, A: Allocator + Clone + Drop> Store<K, V, A> {
         Ok(())
     }
 
-    /// The number of entries.
+    /// Returns the number of entries.
     pub fn len(&self) -> usize
         ensures { result ≡ length self.now.nodes }
     {
         self.entries.len()
     }
 
-    /// Total weight of all entries.
+    /// Returns the total weight of all entries.
     pub fn weight(&self) -> u64
         ensures value { result ≡ total_weight (entries_of self.now) }
         ensures small { result + (2 ^ 32 - 1) < 2 ^ 64 }
@@ -130,7 +130,7 @@ impl<K: Eq + Drop, V: Drop, A: Allocator + Clone + Drop> Store<K, V, A> {
         self.weights.all
     }
 
-    /// Total weight of the window's entries.
+    /// Returns the total weight of the window's entries.
     pub fn window_weight(&self) -> u64
         ensures value { result ≡ total_weight (window_of (entries_of self.now)) }
         ensures part { result ≤ total_weight (entries_of self.now) }
@@ -220,7 +220,7 @@ impl<K: Eq + Drop, V: Drop, A: Allocator + Clone + Drop> Store<K, V, A> {
         }
     }
 
-    /// The first node of a part, or a node of another part or none if it is empty.
+    /// Returns the first node of a part, or a node of another part or none if it is empty.
     fn start_of(&self, part: Part) -> Option<NodeId>
         ensures { result ≡ start_of part self.now.nodes }
     {
@@ -353,7 +353,7 @@ impl<K: Eq + Drop, V: Drop, A: Allocator + Clone + Drop> Store<K, V, A> {
     }
 }
 
-/// The part of an entry after it was used.
+/// Returns the part of an entry after it was used.
 #[inline(always)]
 fn used_part(room: u64, part: Part, weight: u32) -> Part
     ensures { result ≡ used_part room part weight }

@@ -78,14 +78,14 @@ impl<K, V, W: Drop, A: Allocator + Clone + Drop, P> Model for CacheBuilder<K, V,
 }
 
 impl<K, V, A: Allocator + Clone + Drop> CacheBuilder<K, V, UnitWeight, A> {
-    /// A builder of caches with a limit: that many entries, or as much weight where a weigher is given.
+    /// Makes a builder of caches with a limit: that many entries, or that much weight with a weigher.
     pub fn new(alloc: A, max_capacity: u64) -> Self
         ensures { result ≡ new_builder (Some max_capacity) result.weigher }
     {
         CacheBuilder::default(alloc).max_capacity(max_capacity)
     }
 
-    /// A builder of caches without limits.
+    /// Makes a builder of caches without limits.
     pub fn default(alloc: A) -> Self
         ensures { result ≡ new_builder None result.weigher }
     {
@@ -101,7 +101,7 @@ impl<K, V, A: Allocator + Clone + Drop> CacheBuilder<K, V, UnitWeight, A> {
 }
 
 impl<K, V, W: Drop, A: Allocator + Clone + Drop, P> CacheBuilder<K, V, W, A, P> {
-    /// The most entries, or with a weigher the most weight.
+    /// Sets the largest number of entries, or with a weigher the largest weight.
     pub fn max_capacity(self, max_capacity: u64) -> Self
         ensures { result ≡ record self { policy = record self.policy { max_capacity = Some max_capacity } } }
     {
@@ -122,7 +122,7 @@ impl<K, V, W: Drop, A: Allocator + Clone + Drop, P> CacheBuilder<K, V, W, A, P> 
         }
     }
 
-    /// How long an entry lives after it was last written.
+    /// Sets how long an entry lives after its last write.
     pub fn time_to_live(self, time_to_live: Duration) -> Self
         ensures { result ≡ record self { policy = record self.policy { time_to_live = Some time_to_live } } }
     {
@@ -132,7 +132,7 @@ impl<K, V, W: Drop, A: Allocator + Clone + Drop, P> CacheBuilder<K, V, W, A, P> 
         }
     }
 
-    /// How long an entry lives after it was last read or written.
+    /// Sets how long an entry lives after its last read or write.
     pub fn time_to_idle(self, time_to_idle: Duration) -> Self
         ensures { result ≡ record self { policy = record self.policy { time_to_idle = Some time_to_idle } } }
     {
@@ -142,7 +142,7 @@ impl<K, V, W: Drop, A: Allocator + Clone + Drop, P> CacheBuilder<K, V, W, A, P> 
         }
     }
 
-    /// Sets the weigher: a closure, or a type with an impl of `WeighShared`. It is asked behind the lock of the key's shard.
+    /// Sets the weigher: a closure, or a type with an impl of `WeighShared`. It is called under the lock of the key's shard.
     pub fn weigher<N: WeighShared<K, V>>(self, weigher: N) -> CacheBuilder<K, V, N, A, P>
         ensures { result ≡ record {
           policy = self.policy;
@@ -163,7 +163,7 @@ impl<K, V, W: Drop, A: Allocator + Clone + Drop, P> CacheBuilder<K, V, W, A, P> 
 }
 
 impl<K: Eq, V, W: Drop, A: Allocator + Clone + Drop, P> CacheBuilder<K, V, W, A, P> {
-    /// A builder, with all that is set, of caches whose pairs meet this rule.
+    /// Makes a builder, with all that is set, of caches whose pairs meet this rule.
     pub fn pair_rule<Q: PairRule<K, V>>(self) -> CacheBuilder<K, V, W, A, Q>
         ensures { result ≡ self }
     {
@@ -187,7 +187,7 @@ impl<K: Eq, V, W: Drop, A: Allocator + Clone + Drop, P> CacheBuilder<K, V, W, A,
 }
 
 impl<K, V, W: Drop, A: Allocator + Clone + Drop, P> CacheBuilder<K, V, W, A, P> {
-    /// The parts of a cache, with the allocator, where what is set is legal.
+    /// Returns the parts of a cache, with the allocator, if what is set is legal.
     fn parts<S: Drop>(self, hash_state: S) -> Result<(A, CoreParts<S, W>), BuildError>
         ensures legal { IfOk result (λ built. IsLegal self) }
         ensures parts { IfOk result (λ built. ArePartsOf self hash_state built.1) }
@@ -218,8 +218,7 @@ impl<K: Eq + Hash + Drop, V: Drop, W: Drop, A: Allocator + Clone + Drop, P> Cach
     A,
     P,
 > {
-    /// The core, with this hash state. It is refused where a duration is longer than 1000 years, where `initial_capacity` is too large, or for want
-    /// of memory.
+    /// Builds the core, with this hash state. It is refused if a duration is above 1000 years, if `initial_capacity` is too large, or if memory is refused.
     pub fn build_core<S: BuildHasher + Drop>(
         self,
         hash_state: S,
@@ -239,7 +238,7 @@ impl<
     A: Allocator + Clone + Drop,
     P: PairRule<K, V>,
 > CacheBuilder<K, V, W, A, P> {
-    /// The cache, with the default hash state. It is refused as with one of the caller's.
+    /// Builds the cache with the default hash state. It is refused as `build_with_hasher` is.
     pub fn build(self) -> Result<Cache<K, V, FixedState, P, W, A>, BuildError>
         ensures legal { IfOk result (λ cache. IsLegal self) }
         ensures policy { IfOk result (λ cache. cache.settings.policy ≡ self.policy) }
@@ -249,8 +248,7 @@ impl<
         self.build_with_hasher(FixedState::new())
     }
 
-    /// The cache, with this hash state. It is refused where a duration is longer than 1000 years, where `initial_capacity` is too large, or for want
-    /// of memory.
+    /// Builds the cache with this hash state. It is refused if a duration is above 1000 years, if `initial_capacity` is too large, or if memory is refused.
     pub fn build_with_hasher<S: BuildHasher + Drop>(
         self,
         hash_state: S,
@@ -264,7 +262,7 @@ impl<
         Ok(Cache::from_parts(alloc, parts, None)?)
     }
 
-    /// The cache, with this hash state, and a pass for its published counts. It is refused as `build_with_hasher` is.
+    /// Builds the cache with this hash state, and a pass for its published counts. It is refused as `build_with_hasher` is.
     pub fn build_counted<S: BuildHasher + Drop>(
         self,
         hash_state: S,

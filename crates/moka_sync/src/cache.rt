@@ -51,7 +51,7 @@ use std::sync::Wait;
 /// # Locks
 ///
 /// The map has 16 shards, each behind a lock of its own. A call takes the lock of its key's shard, frees it, and then puts what it has done into a log
-/// behind another lock: a read into one, which drops it where it is full, and a write into the other, where it waits for room. No call takes two locks
+/// behind another lock: a read into one, which drops it if it is full, and a write into the other, if need be after a wait for space. No call takes two locks
 /// at a time but a maintenance, which has its own and one other. A value is cloned when no lock is held, but for `remove`, which clones it behind the
 /// shard's; the weigher is asked behind the shard's too.
 /// `policy`, `entry_count`, `weighted_size`, `invalidate_all` and `clone` take no lock. No clause says that a call which waits returns.
@@ -70,7 +70,7 @@ use std::sync::Wait;
 /// # Size, expiry, hashing
 ///
 /// These are as at `unsync::Cache`, but that limits hold after a maintenance. A call hashes its key once, before it takes a lock; the insert of a key that
-/// isn't there hashes it once more behind the lock.
+/// isn't there hashes it once more under the lock.
 ///
 /// # Cost
 ///
@@ -147,7 +147,7 @@ impl<K: Eq + Hash + Drop, V: Drop, A: Allocator + Clone + Drop> Cache<
     UnitWeight,
     A,
 > {
-    /// A cache with a limit: that many entries.
+    /// Makes a cache with a limit on its number of entries.
     pub fn new(alloc: A, max_capacity: u64) -> Result<Self, BuildError>
         ensures ok { IfOk result (λ cache. cache.settings.policy ≡ (new_builder (Some max_capacity) cache.weigher).policy) }
         ensures err { IfErr result (λ error. error ≡ BuildError.OutOfMemory) }
@@ -155,7 +155,7 @@ impl<K: Eq + Hash + Drop, V: Drop, A: Allocator + Clone + Drop> Cache<
         CacheBuilder::new(alloc, max_capacity).build()
     }
 
-    /// A builder of caches without limits.
+    /// Makes a builder of caches without limits.
     pub fn builder(alloc: A) -> CacheBuilder<K, V, UnitWeight, A>
         ensures { result ≡ new_builder None result.weigher }
     {
@@ -171,7 +171,7 @@ impl<
     W: Drop,
     A: Allocator + Clone + Drop,
 > Cache<K, V, S, P, W, A> {
-    /// A cache of these parts, with nothing done to it, and its publisher, if there is one.
+    /// Makes a cache of these parts, on which nothing has been done, with its publisher, if there is one.
     pub(crate) fn from_parts(
         alloc: A,
         parts: CoreParts<S, W>,
@@ -220,7 +220,7 @@ impl<
         self.inner.get().published(rt, pass)
     }
 
-    /// One more pass, which has seen what this one has. It takes no memory.
+    /// Returns one more pass, which has seen what this one has. It allocates nothing.
     pub fn split_pass(&self, pass: &mut CountPass) -> CountPass
         requires { self.now.counted ≡ Some pass.old.counts }
         ensures { (pass.new ≡ pass.old) × (result ≡ pass.old) }
@@ -259,7 +259,7 @@ impl<
         steps::contains_key(rt, &Session::new(self.inner.get()), key, now)
     }
 
-    /// Puts a value at a key, in place of the one that is there. The pair has to meet the rule. It is refused for want of memory, or where the key's
+    /// Puts a value at a key, in place of the one that is there. The pair has to meet the rule. It is refused for want of memory, or if the key's
     /// shard has no ticket left, and then the cache is as it was.
     pub fn insert<R: Wait>(&self, rt: &R, key: K, value: V, now: Instant) -> Result<(), InsertError>
         requires ruled { P.holds key value }
@@ -299,7 +299,7 @@ impl<
     W: WeighShared<K, V>,
     A: Allocator + Clone + Drop,
 > Cache<K, V, S, P, W, A> {
-    /// A clone of the unexpired value of a key, made when no lock is held.
+    /// Returns a clone of a key's unexpired value, made while no lock is held.
     pub fn get<R: Wait>(&self, rt: &R, key: &K, now: Instant) -> Result<Option<V>, OutOfMemory>
         ensures call { (new : LockedValue S W) × AnswersGet (locked_allows (keys_by K.Hash S.BuildHasher S.Hasher.Hasher) P.holds W.weighs) locked_decides
             locked_caller V.is_clone V.is_infallible key.now now result (resting_at self.now) new }
@@ -325,7 +325,7 @@ impl<
     }
 
     /// Takes the entry of a key out, and hands back a clone of its value where that is unexpired. The clone is made while the lock of the key's shard is
-    /// held, before the entry leaves: where it is refused, the cache is as it was. It counts as no read.
+    /// held, before the entry leaves: if it is refused, the cache is as it was. It counts as no read.
     pub fn remove<R: Wait>(&self, rt: &R, key: &K, now: Instant) -> Result<Option<V>, OutOfMemory>
         ensures call { (new : LockedValue S W) × AnswersRemove (locked_allows (keys_by K.Hash S.BuildHasher S.Hasher.Hasher) P.holds W.weighs)
             locked_decides locked_caller V.is_clone V.is_infallible key.now now result (resting_at self.now) new }
@@ -337,7 +337,7 @@ impl<
     }
 }
 
-/// A key and a value as they are stored, unless memory is refused.
+/// Makes a key and a value as they are stored, unless memory is refused.
 fn shared<K: Drop, V: Drop, A: Allocator + Clone + Drop>(
     alloc: &A,
     key: K,

@@ -35,7 +35,7 @@ impl<K: Drop, V: Drop, A: Allocator + Drop> Model for Iter<K, V, A> {
 }
 
 impl<K: Drop, V: Drop, A: Allocator + Drop> Iter<K, V, A> {
-    /// The pairs in a vector.
+    /// Makes an iterator over the pairs of a vector.
     pub(crate) fn new(pairs: Vec<(Shared<K, A>, Shared<V, A>), A>) -> Self
         ensures { result ≡ pairs.items }
     {

@@ -6,7 +6,7 @@ use std::alloc::{Allocator, Global};
 use std::marker::Model;
 use std::ops::Deref;
 
-/// A key and its value, shared with the cache. It is the value where a value is asked for.
+/// A key and its value, shared with the cache. It dereferences to the value.
 ///
 /// ```
 /// /// The pair of an entry, copied.

@@ -10,7 +10,7 @@ pub enum Call<K: Drop, V: Drop> {
     Get { key: K, now: Instant },
     Contains { key: K, now: Instant },
     Invalidate { key: K, now: Instant },
-    /// Takes the entry of a key out, and answers its value where it is unexpired.
+    /// Removes the entry of a key, and answers its value if it is unexpired.
     Remove { key: K, now: Instant },
     InvalidateAll { now: Instant },
     /// Runs a maintenance to its end.

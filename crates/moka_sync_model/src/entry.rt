@@ -18,7 +18,7 @@ pub struct Entry<K: Drop, V: Drop, A: Allocator + Drop = Global> {
     key: Shared<K, A>,
     value: Shared<V, A>,
     weight: u32,
-    /// The number of its node in the maintenance, as far as is known, or `NO_HINT`.
+    /// The likely number of its node in the maintenance, or `NO_HINT`.
     node_hint: Cell<u32>,
     accessed: Instant,
     modified: Instant,
@@ -55,7 +55,7 @@ pub enum EntryChange {
 }
 
 impl<K: Drop, V: Drop, A: Allocator + Drop> Entry<K, V, A> {
-    /// The entry of a key that wasn't there. Its upsert is outstanding.
+    /// Makes the entry of a key that wasn't there. Its upsert is outstanding.
     pub fn new(
         key: Shared<K, A>,
         value: Shared<V, A>,
@@ -85,21 +85,21 @@ impl<K: Drop, V: Drop, A: Allocator + Drop> Entry<K, V, A> {
         }
     }
 
-    /// The stored key, which may be shared further.
+    /// Returns the stored key, which may be shared further.
     pub fn key(&self) -> &Shared<K, A>
         ensures { result.now ≡ self.now.key }
     {
         &self.key
     }
 
-    /// The stored value, which may be shared further.
+    /// Returns the stored value, which may be shared further.
     pub fn value(&self) -> &Shared<V, A>
         ensures { result.now ≡ self.now.value }
     {
         &self.value
     }
 
-    /// The stored value, as the entry ends.
+    /// Ends the entry, and returns its value.
     pub fn into_value(self) -> Shared<V, A>
         ensures { result ≡ self.value }
     {
@@ -114,7 +114,7 @@ impl<K: Drop, V: Drop, A: Allocator + Drop> Entry<K, V, A> {
         self.weight
     }
 
-    /// The moment of the last read or write that is known.
+    /// Returns the moment of the last read or write that is known.
     #[inline]
     pub fn accessed(&self) -> Instant
         ensures { result ≡ self.now.accessed }
@@ -122,7 +122,7 @@ impl<K: Drop, V: Drop, A: Allocator + Drop> Entry<K, V, A> {
         self.accessed
     }
 
-    /// The moment of the last write.
+    /// Returns the moment of the last write.
     #[inline]
     pub fn modified(&self) -> Instant
         ensures { result ≡ self.now.modified }
@@ -186,7 +186,7 @@ impl<K: Drop, V: Drop, A: Allocator + Drop> Entry<K, V, A> {
         self.outstanding += 1;
     }
 
-    /// It was accessed at this moment, or later. A moment that goes back changes nothing.
+    /// Sets the moment of the last access, unless that is later already.
     pub fn touch(&mut self, moment: Instant)
         ensures { self.new ≡ touched moment self.old }
     {
@@ -195,7 +195,7 @@ impl<K: Drop, V: Drop, A: Allocator + Drop> Entry<K, V, A> {
         }
     }
 
-    /// One upsert of it fewer is outstanding.
+    /// Counts one outstanding upsert fewer.
     pub fn finish_upsert(&mut self)
         ensures { self.new ≡ with_upsert_done self.old }
     {

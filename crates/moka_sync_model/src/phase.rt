@@ -1,4 +1,4 @@
-//! Where a maintenance is.
+//! The phases of a maintenance.
 
 /// The phases of a maintenance, by their names. A round goes from `ReadCount` to `MoreWrites`; after the last round come two expiries, the
 /// eviction, and the counts are published.

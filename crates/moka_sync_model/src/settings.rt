@@ -41,7 +41,7 @@ impl<S: Drop, A: Allocator + Drop> Settings<S, A> {
         &self.hash_state
     }
 
-    /// The limits of its policy.
+    /// Returns the limits of its policy.
     #[inline]
     pub fn limits(&self) -> &Limits
         ensures { result.now ≡ self.now.policy }

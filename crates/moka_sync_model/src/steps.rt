@@ -161,7 +161,7 @@ pub trait TakingSteps<K: Drop, V: Drop, A: Allocator + Drop>: Steps<K, V, A> {
     ghost is_sure: { V → Type 0 };
 
     /// Takes the entry of a key out of the map. It hands the value back where that is unexpired, and says whether there was an entry: a write is pending
-    /// then. Where it is refused, the entry stays.
+    /// then. If it is refused, the entry stays.
     fn take<R: Wait>(
         &mut self,
         rt: &R,
@@ -173,7 +173,7 @@ pub trait TakingSteps<K: Drop, V: Drop, A: Allocator + Drop>: Steps<K, V, A> {
         ensures caller { Self.caller self.new ≡ pends (left_by_take result) };
 }
 
-/// Puts a pair into the cache; a pair of an equal key gives way. It is refused for want of memory, or where the key's shard has given out all its
+/// Puts a pair into the cache; a pair of an equal key gives way. It is refused for want of memory, or if the key's shard has given out all its
 /// tickets, and then the cache takes no other step.
 pub fn insert<K: Drop, V: Drop, A: Allocator + Drop, T: Steps<K, V, A>, R: Wait>(
     rt: &R,
@@ -192,8 +192,8 @@ pub fn insert<K: Drop, V: Drop, A: Allocator + Drop, T: Steps<K, V, A>, R: Wait>
     Ok(())
 }
 
-/// A clone of the unexpired value of a key, which is made when no lock is held. Where memory for the look-up is refused nothing follows; where it
-/// is for the clone, the cache forgets that it was asked.
+/// Returns a clone of a key's unexpired value, made while no lock is held. If memory for the look-up is refused, nothing follows. If it is refused for the
+/// clone, the cache forgets the get.
 pub fn get<K: Drop, V: Clone, A: Allocator + Drop, T: Steps<K, V, A>, R: Wait>(
     rt: &R,
     steps: &mut T,
@@ -247,7 +247,7 @@ pub fn invalidate<K: Drop, V: Drop, A: Allocator + Drop, T: Steps<K, V, A>, R: W
     }
 }
 
-/// Takes the pair of a key out of the cache, and hands its value back where that is unexpired. Where memory for that is refused, the cache takes no
+/// Takes the pair of a key out of the cache, and hands its value back if that is unexpired. If memory for that is refused, the cache takes no
 /// other step.
 pub fn remove<K: Drop, V: Drop, A: Allocator + Drop, T: TakingSteps<K, V, A>, R: Wait>(
     rt: &R,
@@ -277,7 +277,7 @@ pub fn invalidate_all<K: Drop, V: Drop, A: Allocator + Drop, T: Steps<K, V, A>>(
     steps.invalidate_all(now);
 }
 
-/// A whole maintenance, whether or not one is due.
+/// Runs a whole maintenance, whether or not one is due.
 pub fn sync<K: Drop, V: Drop, A: Allocator + Drop, T: Steps<K, V, A>, R: Wait>(
     rt: &R,
     steps: &mut T,
@@ -290,7 +290,7 @@ pub fn sync<K: Drop, V: Drop, A: Allocator + Drop, T: Steps<K, V, A>, R: Wait>(
     maintain(rt, steps, now);
 }
 
-/// The pending read goes to its log, after a maintenance where one is due.
+/// Runs a maintenance if one is due, and then pushes the pending read to its log.
 #[inline(always)]
 fn push_read<K: Drop, V: Drop, A: Allocator + Drop, T: Steps<K, V, A>, R: Wait>(
     rt: &R,
@@ -305,7 +305,7 @@ fn push_read<K: Drop, V: Drop, A: Allocator + Drop, T: Steps<K, V, A>, R: Wait>(
     let _ = steps.push_read(rt);
 }
 
-/// The pending write goes to its log, after a maintenance where one is due, and again until there is room.
+/// Runs a maintenance if one is due, and then pushes the pending write to its log, and does both again while the log is full.
 fn push_write<K: Drop, V: Drop, A: Allocator + Drop, T: Steps<K, V, A>, R: Wait>(
     rt: &R,
     steps: &mut T,
@@ -324,7 +324,7 @@ fn push_write<K: Drop, V: Drop, A: Allocator + Drop, T: Steps<K, V, A>, R: Wait>
     unreachable!()
 }
 
-/// A whole maintenance, where the cache decides that the caller is to run one.
+/// Runs a whole maintenance if the cache decides that the caller is to run one.
 #[inline(always)]
 fn maintain_if_due<K: Drop, V: Drop, A: Allocator + Drop, T: Steps<K, V, A>, R: Wait>(
     rt: &R,
@@ -341,7 +341,7 @@ fn maintain_if_due<K: Drop, V: Drop, A: Allocator + Drop, T: Steps<K, V, A>, R: 
     }
 }
 
-/// A whole maintenance.
+/// Runs a whole maintenance.
 #[cold]
 #[inline(never)]
 fn maintain<K: Drop, V: Drop, A: Allocator + Drop, T: Steps<K, V, A>, R: Wait>(

@@ -14,7 +14,7 @@ pub trait WeighShared<K, V>: Drop {
     // What the weigher may answer for a key and a value.
     ghost weighs: { Self → K → V → ℕ → Type 0 };
 
-    /// The weight of an entry. It may be 0.
+    /// Returns the weight of an entry. It may be 0.
     fn weigh(&self, key: &K, value: &V) -> u32
         requires { ready self.now }
         ensures weight { weighs self.now key.now value.now result };

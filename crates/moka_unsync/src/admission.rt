@@ -52,7 +52,7 @@ pub(crate) fn admit<K: Eq + Drop, V: Drop, A: Allocator + Clone + Drop, L: Liste
     true
 }
 
-/// Number of LRU entries of main to evict for `new`, or `None` if it is rejected.
+/// Returns the number of LRU entries of main to evict for `new`, or `None` if it is rejected.
 #[inline]
 fn victim_count<K: Eq + Drop, V: Drop, A: Allocator + Clone + Drop>(
     store: &Store<K, V, A>,
@@ -75,7 +75,7 @@ fn victim_count<K: Eq + Drop, V: Drop, A: Allocator + Clone + Drop>(
     victims_outweighed_by(store, sketch, new)
 }
 
-/// Total weight of main's entries.
+/// Returns the total weight of main's entries.
 #[inline(always)]
 fn main_weight<K: Eq + Drop, V: Drop, A: Allocator + Clone + Drop>(store: &Store<K, V, A>) -> u64
     ensures value { result ≡ total_weight (main_of (entries_of store.now)) }
@@ -242,7 +242,7 @@ fn insert_and_drain<K: Eq + Drop, V: Drop, A: Allocator + Clone + Drop, L: Liste
     true
 }
 
-/// The weight limit of main.
+/// Returns the weight limit of main.
 #[inline(always)]
 fn main_limit(limits: &PartLimits) -> u64
     ensures { result ≡ main_limit limits.now }
@@ -250,7 +250,7 @@ fn main_limit(limits: &PartLimits) -> u64
     limits.all.saturating_sub(limits.window)
 }
 
-/// The weight that has to leave the window once an entry of this weight is in it.
+/// Returns the weight that has to leave the window once an entry of this weight is in it.
 #[inline(always)]
 fn excess<K: Eq + Drop, V: Drop, A: Allocator + Clone + Drop>(
     store: &Store<K, V, A>,

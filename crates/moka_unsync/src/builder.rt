@@ -65,14 +65,14 @@ impl<K, V, W: Drop, A: Allocator + Clone + Drop> Model for CacheBuilder<K, V, W,
 }
 
 impl<K, V, A: Allocator + Clone + Drop> CacheBuilder<K, V, UnitWeight, A> {
-    /// A builder of caches with a limit: that many entries, or as much weight where a weigher is given.
+    /// Makes a builder of caches with a limit: that many entries, or that much weight with a weigher.
     pub fn new(alloc: A, max_capacity: u64) -> Self
         ensures { result ≡ new_builder (Some max_capacity) result.weigher }
     {
         CacheBuilder::default(alloc).max_capacity(max_capacity)
     }
 
-    /// A builder of caches without limits.
+    /// Makes a builder of caches without limits.
     pub fn default(alloc: A) -> Self
         ensures { result ≡ new_builder None result.weigher }
     {
@@ -89,7 +89,7 @@ impl<K, V, A: Allocator + Clone + Drop> CacheBuilder<K, V, UnitWeight, A> {
 }
 
 impl<K, V, W: Drop, A: Allocator + Clone + Drop> CacheBuilder<K, V, W, A> {
-    /// The most entries, or with a weigher the most weight.
+    /// Sets the largest number of entries, or with a weigher the largest weight.
     pub fn max_capacity(self, max_capacity: u64) -> Self
         ensures { result ≡ record self { policy = record self.policy { max_capacity = Some max_capacity } } }
     {
@@ -110,7 +110,7 @@ impl<K, V, W: Drop, A: Allocator + Clone + Drop> CacheBuilder<K, V, W, A> {
         }
     }
 
-    /// How long an entry lives after it was last written.
+    /// Sets how long an entry lives after its last write.
     pub fn time_to_live(self, time_to_live: Duration) -> Self
         ensures { result ≡ record self { policy = record self.policy { time_to_live = Some time_to_live } } }
     {
@@ -120,7 +120,7 @@ impl<K, V, W: Drop, A: Allocator + Clone + Drop> CacheBuilder<K, V, W, A> {
         }
     }
 
-    /// How long an entry lives after it was last read or written.
+    /// Sets how long an entry lives after its last read or write.
     pub fn time_to_idle(self, time_to_idle: Duration) -> Self
         ensures { result ≡ record self { policy = record self.policy { time_to_idle = Some time_to_idle } } }
     {
@@ -186,8 +186,8 @@ impl<K, V, W: Drop, A: Allocator + Clone + Drop> CacheBuilder<K, V, W, A> {
         NotifyingBuilder::new(self, listener)
     }
 
-    /// A weigher for a program that learns only when it runs whether the capacity is a weight or a number of entries. Where `is_weighed` is false it is the
-    /// latter, as with no weigher, and the weigher has to weigh each entry 1.
+    /// Sets a weigher for a program that learns at run time whether the capacity is a weight or a number of entries. If `is_weighed` is false it is a number,
+    /// as without a weigher, and the weigher must weigh each entry 1.
     pub fn weigher_where<N: Weigh<K, V> + Drop>(
         self,
         is_weighed: bool,
@@ -223,7 +223,7 @@ impl<K: Eq + Hash + Drop, V: Drop, W: Drop, A: Allocator + Clone + Drop> CacheBu
         self.build_with_hasher(FixedState::default())
     }
 
-    /// The cache, with a hash state of one's own. It is refused as `build` is.
+    /// Builds the cache with a hash state of the caller's. It is refused as `build` is.
     pub fn build_with_hasher<S: BuildHasher + Drop>(
         self,
         hash_state: S,

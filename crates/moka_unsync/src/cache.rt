@@ -100,7 +100,7 @@ pub(crate) struct Parts<S: Drop, W: Drop> {
 ///
 /// # Hashing
 ///
-/// The default hash state is std's with a fixed key, so that runs can be repeated. Where strangers choose the keys, hand in a `RandomState` by
+/// The default hash state is std's with a fixed key, so that runs can be repeated. If strangers choose the keys, hand in a `RandomState` by
 /// `CacheBuilder::build_with_hasher`; any other state that is made for a kind of keys does as well. A call hashes its key once.
 ///
 /// # Cost
@@ -194,7 +194,7 @@ impl<K: Eq + Hash + Drop, V: Drop, A: Allocator + Clone + Drop> Cache<
     UnitWeight,
     A,
 > {
-    /// A cache with a limit of `max_capacity` entries, and std's default hash state, whose key is fixed. It is refused only for want of memory.
+    /// Makes a cache with a limit of `max_capacity` entries, and std's default hash state, whose key is fixed. It is refused only for want of memory.
     pub fn new(alloc: A, max_capacity: u64) -> Result<Self, BuildError>
         ensures ok { IfOk result (λ cache. cache ≡ new_cache (record {
           hash_state = cache.settings.hash_state;
@@ -206,7 +206,7 @@ impl<K: Eq + Hash + Drop, V: Drop, A: Allocator + Clone + Drop> Cache<
         CacheBuilder::new(alloc, max_capacity).build()
     }
 
-    /// A builder of caches.
+    /// Makes a builder of caches.
     pub fn builder(alloc: A) -> CacheBuilder<K, V, UnitWeight, A>
         ensures { result ≡ new_builder None result.weigher }
     {
@@ -223,7 +223,7 @@ impl<
 > Cache<K, V, S, W, A> {
     ghost use Rattle.moka_unsync.specs.CacheLends.{ends_as};
 
-    /// A cache of these parts, with no entries.
+    /// Makes a cache of these parts, with no entries.
     pub(crate) fn from_parts(alloc: A, parts: Parts<S, W>) -> Result<Self, OutOfMemory>
         requires window { parts.shares.window ≤ 100 }
         requires protected { parts.shares.protected ≤ 100 }
@@ -261,14 +261,14 @@ impl<
         NotifyingCache::new(self, listener)
     }
 
-    /// The limits of the cache.
+    /// Returns the limits of the cache.
     pub fn policy(&self) -> Policy
         ensures { result ≡ self.now.settings.policy }
     {
         self.bounds.policy()
     }
 
-    /// The shares of the window and of protected entries, in percent.
+    /// Returns the shares of the window and of protected entries, in percent.
     pub fn shares(&self) -> Shares
         ensures { result ≡ self.now.shares }
     {
@@ -366,7 +366,7 @@ impl<
     }
 }
 
-/// The largest useful capacity of a store: the limit plus one candidate, or any number if entries have weights.
+/// Returns the largest useful capacity of a store: the limit plus one candidate, or any number if entries have weights.
 fn max_entries(policy: Policy, is_weighed: bool) -> usize {
     if is_weighed {
         return usize::MAX;
@@ -377,7 +377,7 @@ fn max_entries(policy: Policy, is_weighed: bool) -> usize {
         .saturating_add(1)
 }
 
-/// A store without entries, with this room.
+/// Makes a store without entries, with this capacity.
 fn empty_store<K: Eq + Drop, V: Drop, A: Allocator + Clone + Drop>(
     alloc: &A,
     policy: Policy,

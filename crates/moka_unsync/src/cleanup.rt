@@ -40,7 +40,7 @@ impl Model for Bounds {
 }
 
 impl Bounds {
-    /// The bounds of a policy.
+    /// Works out the bounds of a policy.
     pub(crate) fn new(policy: Policy) -> Bounds
         ensures { result ≡ policy }
     {

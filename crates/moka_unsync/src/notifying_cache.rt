@@ -71,7 +71,7 @@ impl<
 > NotifyingCache<K, V, L, S, W, A> {
     ghost use Rattle.moka_unsync.specs.CacheLends.{lends_listener};
 
-    /// A cache with a listener.
+    /// Makes a cache with a listener.
     pub(crate) fn new(cache: Cache<K, V, S, W, A>, listener: L) -> Self
         ensures { result ≡ record { cache = cache; listener = listener } }
     {

@@ -7,7 +7,7 @@ use moka_common::error::BuildError;
 use moka_unsync_model::constants::{PROTECTED_SHARE, WINDOW_SHARE};
 use moka_unsync_model::shares::{PartLimits, Shares};
 
-/// The default shares.
+/// Returns the default shares.
 pub(crate) fn default_shares() -> Shares
     ensures { result ≡ default_shares }
 {
@@ -17,7 +17,7 @@ pub(crate) fn default_shares() -> Shares
     }
 }
 
-/// The reason to refuse these shares, if there is one. The window's share is tested first.
+/// Returns the reason to refuse these shares, if there is one. The window's share is tested first.
 pub(crate) fn share_fault(shares: Shares) -> Option<BuildError>
     ensures { result ≡ share_fault shares }
 {
@@ -30,7 +30,7 @@ pub(crate) fn share_fault(shares: Shares) -> Option<BuildError>
     None
 }
 
-/// A share of a weight in hundredths, rounded down. The product doesn't overflow.
+/// Returns a share of a weight in hundredths, rounded down. The product doesn't overflow.
 fn hundredths(share: u8, weight: u64) -> u64
     requires { share ≤ 100 }
     ensures value { result ≡ hundredths share weight }
@@ -40,7 +40,7 @@ fn hundredths(share: u8, weight: u64) -> u64
     weight / 100 * share + weight % 100 * share / 100
 }
 
-/// The limits of the parts for a limit of the whole.
+/// Returns the limits of the parts for a limit of the whole.
 fn limits_of(shares: Shares, limit: u64) -> PartLimits
     requires window { shares.window ≤ 100 }
     requires protected { shares.protected ≤ 100 }
@@ -54,7 +54,7 @@ fn limits_of(shares: Shares, limit: u64) -> PartLimits
     }
 }
 
-/// The limits of the parts if there is a window, which is one that can hold an entry.
+/// Returns the limits of the parts, if the window can hold an entry.
 pub(crate) fn windowed_limits(shares: Shares, limit: Option<u64>) -> Option<PartLimits>
     requires window { shares.window ≤ 100 }
     requires protected { shares.protected ≤ 100 }
@@ -68,7 +68,7 @@ pub(crate) fn windowed_limits(shares: Shares, limit: Option<u64>) -> Option<Part
     }
 }
 
-/// The weight limit of the protected entries, which is 0 in a cache without a limit.
+/// Returns the weight limit of the protected entries, which is 0 in a cache without a limit.
 pub(crate) fn protected_room(shares: Shares, limit: Option<u64>) -> u64
     requires window { shares.window ≤ 100 }
     requires protected { shares.protected ≤ 100 }

@@ -32,7 +32,7 @@ pub enum Call<K: Drop, V: Drop, A: Allocator + Drop = Global> {
         value: Rc<V, A>,
         now: Instant,
     },
-    /// As `get_or_insert_with`: the value is what is inserted where the key has none.
+    /// As `get_or_insert_with`: the value is what is inserted if the key has none.
     GetOrInsert {
         key: K,
         value: Rc<V, A>,
@@ -64,7 +64,7 @@ pub enum Reply<V: Drop, A: Allocator + Drop = Global> {
     OutOfMemory,
 }
 
-/// Makes the calls in turn, and gives their replies. Where memory for the replies is refused, no call was made.
+/// Makes the calls in turn, and gives their replies. If memory for the replies is refused, no call was made.
 ///
 /// It takes the time of the calls, and memory for one reply a call.
 ///
@@ -145,7 +145,7 @@ fn reply_to<
     }
 }
 
-/// One more owner of what was found.
+/// Makes one more owner of what was found.
 fn try_clone<V: Drop, A: Allocator + Drop>(found: Option<&Rc<V, A>>) -> Reply<V, A>
     ensures { TellsFound (option_copied found.entry) result }
 {

@@ -7,5 +7,5 @@ pub const EVICTION_BATCH_SIZE: usize = 100;
 /// are used again. A limit of which that is nothing has no window.
 pub const WINDOW_SHARE: u8 = 1;
 
-/// Protected's part of main in hundredths where nothing else is set: main is one list then, as without it. Caffeine has 80.
+/// Protected's part of main in hundredths if nothing else is set: main is one list then, as without it. Caffeine has 80.
 pub const PROTECTED_SHARE: u8 = 0;

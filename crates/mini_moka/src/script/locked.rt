@@ -43,7 +43,7 @@ impl<A: Allocator + Clone + Drop> Model for LockedScript<A> {
 }
 
 impl<A: Allocator + Clone + Drop> LockedScript<A> {
-    /// The script with this header and these lines.
+    /// Makes the script of this header and these lines.
     pub(super) fn new(header: CacheHeader, lines: Vec<Line<Text<A>>, A>) -> LockedScript<A>
         requires mode { header.mode ≡ Mode.Sync }
         requires lines { AllByRecursion (LineFits header) lines.items }
@@ -63,7 +63,7 @@ type ScriptBuilder<A> = CacheBuilder<u64, Stored<Text<A>>, UnitWeight, A>;
 /// A cache that a script's calls are made on.
 type ScriptCache<W, A> = Cache<u64, Stored<Text<A>>, KeyState, AnyPair, W, A>;
 
-/// Builds a cache with the settings, makes the calls of the lines in turn on it, and writes the replies. Where the settings are
+/// Builds a cache with the settings, makes the calls of the lines in turn on it, and writes the replies. If the settings are
 /// refused, that is all that is written.
 pub(super) fn locked_replies<A: Allocator + Clone + Drop, R: Wait>(
     alloc: A,
@@ -83,7 +83,7 @@ pub(super) fn locked_replies<A: Allocator + Clone + Drop, R: Wait>(
     }
 }
 
-/// A builder with the limits of the settings.
+/// Makes a builder with the limits of the settings.
 fn builder_of<A: Allocator + Clone + Drop>(alloc: A, options: CacheOptions) -> ScriptBuilder<A> {
     let mut builder = CacheBuilder::default(alloc);
     if let Some(max) = options.max {
@@ -192,7 +192,7 @@ fn list<A: Allocator + Clone + Drop>(
     push_reply(text, ReplyValue::Pairs(&pairs))
 }
 
-/// The keys of the entries with the texts of their values.
+/// Returns the keys of the entries with the texts of their values.
 fn pairs_of<'a, A: Allocator + Clone + Drop>(
     alloc: A,
     entries: &'a [EntryRef<u64, Stored<Text<A>>, A>],
@@ -204,7 +204,7 @@ fn pairs_of<'a, A: Allocator + Clone + Drop>(
     Ok(pairs)
 }
 
-/// How an insert is answered.
+/// Returns the reply to an insert.
 fn told(inserted: Result<(), InsertError>) -> ReplyValue<'static> {
     match inserted {
         Ok(()) => ReplyValue::Done,

@@ -21,7 +21,7 @@ use std::alloc::{AllocError, Allocator, Global};
 use std::fmt;
 use std::sync::Wait;
 
-/// How a run of a script ends where its streams and memory serve.
+/// The end of a run of a script whose streams and memory serve.
 #[derive(Drop)]
 pub enum End<A: Allocator + Clone + Drop = Global> {
     /// The replies were written, a line for each line of the script, or that its cache is refused.
@@ -46,7 +46,7 @@ pub enum ScriptError {
 impl ScriptError {
     ghost use Rattle.mini_moka.specs.ScriptRun.{script_error_text};
 
-    /// The reason in words, which is what `Display` writes, and the program to standard error.
+    /// Returns the reason in words, which `Display` writes, and the program to standard error.
     pub fn text(self) -> &'static str
         ensures { result.now ≡ script_error_text self }
     {
@@ -121,12 +121,12 @@ impl From<AllocError> for ScriptError {
 
 /// Reads a whole script, makes its calls in turn on a cache, a core or a sketch of its own, and writes the replies.
 ///
-/// The first line is answered by `ready`. Where it asks for a cache with a duration that is too long, `refused` and the reason are
+/// The first line is answered by `ready`. If it asks for a cache with a duration that is too long, `refused` and the reason are
 /// all that is written, and no call is made. In a script of a cache an accepted insert is answered by `ok`, a get by `some` and
 /// the value or by `none`, a `has` by `true` or `false`, `count` and `weight` by a number, and `policy` by the limits, each with
 /// its name; in a sketch script `inc` and `ensure` by `ok`, and the others by a number. In a script of a core a turn is answered
 /// by `at` and the place after it, a push by `ok` or `discarded`, and a step that can't happen by `not possible`. A call that was
-/// refused is answered by `refused memory` or `refused tickets`. Where a line is bad, `bad line` and its number are all that is
+/// refused is answered by `refused memory` or `refused tickets`. If a line is bad, `bad line` and its number are all that is
 /// written. A script of the cache with locks is handed back, and nothing is written. The time is linear in the bytes, but for what the
 /// calls of a cache or a core take and the counts of an `inc`.
 pub fn run<A: Allocator + Clone + Drop, I: Source, O: Sink>(
@@ -167,7 +167,7 @@ pub fn run_locked<A: Allocator + Clone + Drop, R: Wait, O: Sink>(
     Ok(End::Done)
 }
 
-/// How a run of the bytes ends, and the text that it writes.
+/// Returns how a run of the bytes ends, and the text that it writes.
 fn output_of<A: Allocator + Clone + Drop>(
     alloc: A,
     bytes: &[u8],
@@ -192,7 +192,7 @@ fn output_of<A: Allocator + Clone + Drop>(
     }
 }
 
-/// How a run of the calls to a cache ends, by their mode, and the text that it writes.
+/// Returns how a run of the calls to a cache ends, by their mode, and the text that it writes.
 fn cache_output<A: Allocator + Clone + Drop>(
     alloc: A,
     header: CacheHeader,

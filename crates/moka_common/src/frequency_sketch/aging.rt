@@ -71,7 +71,7 @@ fn age_block(groups: &mut [u16]) -> u64
     sum_of_counters(odd) + age_plain(&mut groups[LANES * chunks..])
 }
 
-/// The sum of all counters of a vector.
+/// Returns the sum of all counters of a vector.
 fn sum_of_counters(groups: u16x32) -> u64
     ensures { result ≡ sum (counters_of groups) }
 {
@@ -99,7 +99,7 @@ pub fn age_plain(groups: &mut [u16]) -> u64
     odd
 }
 
-/// The size once the counters are halved. Four counters make a count, so a fourth of what rounding took away is taken from it too.
+/// Returns the size once the counters are halved. Four counters make a count, so a fourth of what rounding took away is subtracted too.
 pub fn aged_size(size: u32, odd: u64) -> u32
     ensures { result ≡ size / 2 - odd / 4 }
 {

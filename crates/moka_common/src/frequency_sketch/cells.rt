@@ -18,7 +18,7 @@ const SEEDS: [u64; DEPTHS] = [
     0xcbf29ce484222325,
 ];
 
-/// The place of a hash at a depth, in a table of `len` words. It multiplies once.
+/// Returns the index of a hash's word at a depth, in a table of `len` words. It multiplies once.
 pub fn index_of(len: usize, hash: u64, depth: usize) -> usize
     requires len { IsPowerOfTwo len }
     requires depth { depth < DEPTHS }
@@ -33,7 +33,7 @@ pub fn index_of(len: usize, hash: u64, depth: usize) -> usize
     (spread & (len as u64 - 1)) as usize
 }
 
-/// The least of the hash's counters.
+/// Returns the least of the hash's counters.
 pub fn frequency(groups: &[u16], hash: u64) -> u8
     requires { IsPowerOfTwo (slot_count groups.now) }
     ensures { result ≡ estimate_in (slot_count groups.now) (counters_of groups.now) hash }
@@ -59,7 +59,7 @@ pub fn increment(groups: &mut [u16], hash: u64) -> bool
     grew
 }
 
-/// The hash's counter at a depth.
+/// Returns the hash's counter at a depth.
 fn counter_at(groups: &[u16], hash: u64, depth: usize) -> u16
     requires groups { IsPowerOfTwo (slot_count groups.now) }
     requires depth { depth < DEPTHS }

@@ -29,7 +29,7 @@ impl<A: Allocator + Clone + Drop> FrequencySketch<A> {
     }
 }
 
-/// Returns the number of entries that fit at the present mean weight, as far as 64 bits tell.
+/// Returns the number of entries that fit at the present mean weight, at most the largest number of 64 bits.
 fn expected_entries(limit: u64, load: Load) -> u64
     ensures { result ≡ min (2 ^ 64 - 1) (expected_entries load.is_weighed limit load.entries load.weight) }
 {

@@ -33,7 +33,7 @@ impl<
     W: WeighShared<K, V>,
     A: Allocator + Clone + Drop,
 > Machine<K, V, S, W, A> {
-    /// One whole call, from rest to rest.
+    /// Makes one whole call, from rest to rest.
     pub fn call(
         &mut self,
         call: Call<Shared<K, A>, Shared<V, A>>,
@@ -82,7 +82,7 @@ impl<
         }
     }
 
-    /// The whole call `Get`.
+    /// Makes the whole call `Get`.
     #[inline(always)]
     pub fn call_get(&mut self, key: &K, now: Instant) -> Reply<Shared<V, A>, Rows<K, V, A>>
         requires good { IsConsistent (keys_by K.Hash S.BuildHasher S.Hasher.Hasher) self.old.state }
@@ -139,7 +139,7 @@ impl<
         }
     }
 
-    /// A read goes to its log: at once where no maintenance is due, and else it is pending while one is run.
+    /// Pushes a read to its log. If a maintenance is due, the read is pending while that runs.
     fn log_read(&mut self, logged: LoggedRead, now: Instant)
         requires rest { IsAtRest self.old.state }
         requires pends { PendsRead (keys_by K.Hash S.BuildHasher S.Hasher.Hasher) (having (Reading logged.read) self.old.state) }
@@ -155,7 +155,7 @@ impl<
         let _ = self.read_log.push_logged(logged);
     }
 
-    /// A write goes to its log: at once where no maintenance is due, and else it is pending while one is run.
+    /// Pushes a write to its log. If a maintenance is due, the write is pending while that runs.
     fn log_write(&mut self, write: Write, now: Instant)
         requires rest { IsAtRest self.old.state }
         requires pends { PendsWrite (keys_by K.Hash S.BuildHasher S.Hasher.Hasher) (having (Writing write) self.old.state) }
@@ -171,7 +171,7 @@ impl<
         let _ = self.write_log.push(write);
     }
 
-    /// The pending read goes to its log, once a maintenance was run where one is due.
+    /// Runs a maintenance if one is due, and then pushes the pending read to its log.
     #[cold]
     #[inline(never)]
     fn push_read(&mut self, now: Instant)
@@ -185,7 +185,7 @@ impl<
         let _ = self.push(CALLER);
     }
 
-    /// The pending write goes to its log, in which a maintenance has made room.
+    /// Runs a maintenance if one is due, and then pushes the pending write to its log, which has space then.
     #[cold]
     #[inline(never)]
     fn push_write(&mut self, now: Instant)
@@ -199,7 +199,7 @@ impl<
         let _ = self.push(CALLER);
     }
 
-    /// A whole maintenance, where the length of a log or the time makes it due.
+    /// Runs a whole maintenance if the length of a log or the time makes it due.
     fn maintain_if_due(&mut self, len: usize, now: Instant)
         requires pends { Pends (keys_by K.Hash S.BuildHasher S.Hasher.Hasher) self.old.state }
         ensures step { MaintainsAsDue (keys_by K.Hash S.BuildHasher S.Hasher.Hasher) (W.weighs self.old.weigher)
@@ -212,7 +212,7 @@ impl<
         }
     }
 
-    /// The next maintenance is due by time a while after this moment.
+    /// Schedules the next maintenance half a second after `now`.
     pub(super) fn schedule(&mut self, now: Instant)
         ensures state { self.new.state ≡ scheduled true now self.old.state }
         ensures weigher { self.new.weigher ≡ self.old.weigher }
@@ -220,7 +220,7 @@ impl<
         self.sync_after = Some(due_after(now));
     }
 
-    /// A whole maintenance.
+    /// Runs a whole maintenance.
     fn maintain(&mut self, now: Instant)
         requires good { IsConsistent (keys_by K.Hash S.BuildHasher S.Hasher.Hasher) self.old.state }
         requires idle { self.old.state.maintenance.phase ≡ Idle }
@@ -232,7 +232,7 @@ impl<
         self.finish();
     }
 
-    /// Ends the maintenance that is under way. Answers whether one was.
+    /// Takes turns until the maintenance ends, if one is under way. Returns whether one was.
     pub fn end_maintenance(&mut self) -> bool
         requires good { IsConsistent (keys_by K.Hash S.BuildHasher S.Hasher.Hasher) self.old.state }
         ensures step { Finishes (keys_by K.Hash S.BuildHasher S.Hasher.Hasher) (W.weighs self.old.weigher)
@@ -246,7 +246,7 @@ impl<
         true
     }
 
-    /// Turns until no maintenance is under way.
+    /// Takes turns until no maintenance is under way.
     fn finish(&mut self)
         requires good { IsConsistent (keys_by K.Hash S.BuildHasher S.Hasher.Hasher) self.old.state }
         requires busy { self.old.state.maintenance.phase ≢ Idle }
@@ -265,8 +265,7 @@ impl<
         }
     }
 
-    /// The turns that take the next operations of a log and apply them, where the next turn is to take one and there is one. Answers whether that was
-    /// so.
+    /// Takes the next operations out of a log and applies them, if the next turn is to take one and there is one. Returns whether it did.
     fn apply_next(&mut self) -> bool
         ensures turns { AppliesNext self.old.state result self.new.state }
         ensures weigher { self.new.weigher ≡ self.old.weigher }
@@ -274,8 +273,7 @@ impl<
         self.apply_next_reads() || self.apply_next_write()
     }
 
-    /// The turns of the next reads, which are applied together: their entries are touched, their hashes counted, and then their nodes move. So they wait
-    /// for memory together, and not one after the other.
+    /// Applies the next reads together: it touches their entries, counts their hashes, and then moves their nodes. So they wait for memory at the same time.
     fn apply_next_reads(&mut self) -> bool
         ensures turns { AppliesNextReads self.old.state result self.new.state }
         ensures kept { KeepsRoom self.old self.new }
@@ -295,7 +293,7 @@ impl<
         true
     }
 
-    /// The two turns of the next write.
+    /// Takes the two turns of the next write.
     fn apply_next_write(&mut self) -> bool
         ensures turns { AppliesNextWrite self.old.state result self.new.state }
         ensures kept { KeepsRoom self.old self.new }

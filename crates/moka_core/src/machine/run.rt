@@ -20,7 +20,7 @@ impl<
     W: WeighShared<K, V>,
     A: Allocator + Clone + Drop,
 > Machine<K, V, S, W, A> {
-    /// One atomic step.
+    /// Takes one atomic step.
     fn step(
         &mut self,
         event: Event<Shared<K, A>, Shared<V, A>>,

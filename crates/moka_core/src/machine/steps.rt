@@ -33,7 +33,7 @@ impl<
     W: WeighShared<K, V>,
     A: Allocator + Clone + Drop,
 > Machine<K, V, S, W, A> {
-    /// An insert by a caller.
+    /// Inserts for a caller.
     pub fn insert(
         &mut self,
         caller: u32,
@@ -77,7 +77,7 @@ impl<
         Ok(Write::Upsert { ticket })
     }
 
-    /// A get by a caller.
+    /// Looks a key up for a caller.
     pub fn get(&mut self, caller: u32, key: &K, now: Instant) -> Reply<Shared<V, A>, Rows<K, V, A>>
         requires room { HasRoomFor caller self.old.room }
         ensures step { Happens (keys_by K.Hash S.BuildHasher S.Hasher.Hasher) (W.weighs self.old.weigher)
@@ -131,7 +131,7 @@ impl<
         Reply::Bool(self.map.contains_key(key, self.valid_after, now))
     }
 
-    /// An invalidation by a caller.
+    /// Invalidates a key for a caller.
     pub fn invalidate(
         &mut self,
         caller: u32,
@@ -163,7 +163,7 @@ impl<
         Some(Write::Remove { ticket })
     }
 
-    /// A removal by a caller, which answers the value.
+    /// Removes a key for a caller, and replies with its value.
     pub fn take(&mut self, caller: u32, key: &K, now: Instant) -> Reply<Shared<V, A>, Rows<K, V, A>>
         requires room { HasRoomFor caller self.old.room }
         ensures step { Happens (keys_by K.Hash S.BuildHasher S.Hasher.Hasher) (W.weighs self.old.weigher)
@@ -248,7 +248,7 @@ impl<
         Reply::Done
     }
 
-    /// Copies the pairs of a shard that count.
+    /// Copies the live pairs of a shard.
     pub(super) fn copy(&self, shard: usize, now: Instant) -> Reply<Shared<V, A>, Rows<K, V, A>>
         ensures step { Happens (keys_by K.Hash S.BuildHasher S.Hasher.Hasher) (W.weighs self.now.weigher)
             self.now.state (Event.Copy shard now) result self.now.state }
@@ -262,7 +262,7 @@ impl<
         }
     }
 
-    /// A maintenance begins, where none is under way.
+    /// Begins a maintenance, unless one is under way.
     pub fn begin(&mut self, now: Instant) -> Reply<Shared<V, A>, Rows<K, V, A>>
         ensures step { Happens (keys_by K.Hash S.BuildHasher S.Hasher.Hasher) (W.weighs self.old.weigher)
             self.old.state (Event.Begin now) result self.new.state }
@@ -275,7 +275,7 @@ impl<
         Reply::Done
     }
 
-    /// It takes a turn, where one is under way.
+    /// Takes a turn of the maintenance, if one is under way.
     pub fn turn(&mut self) -> Reply<Shared<V, A>, Rows<K, V, A>>
         ensures step { Happens (keys_by K.Hash S.BuildHasher S.Hasher.Hasher) (W.weighs self.old.weigher)
             self.old.state Event.Turn result self.new.state }
@@ -288,7 +288,7 @@ impl<
         Reply::At(self.maintenance.phase())
     }
 
-    /// One turn of the maintenance, with what it needs.
+    /// Takes one turn of the maintenance, with what it needs.
     pub(super) fn take_turn(&mut self)
         ensures turn { (refused : Bool) × (self.new.state ≡ after_turn refused self.old.state) }
         ensures kept { KeepsRoom self.old self.new }
@@ -354,7 +354,7 @@ impl<
     }
 }
 
-/// The reply to an insert that was refused.
+/// Returns the reply to an insert that was refused.
 pub(super) fn refusal<K: Drop, V: Drop, A: Allocator + Drop>(
     error: InsertError,
 ) -> Reply<Shared<V, A>, Rows<K, V, A>>

@@ -13,7 +13,7 @@ pub enum Cursor {
     Done,
 }
 
-// The cursor at this node, or past the last where there is none.
+// The cursor at this node, or past the last if there is none.
 pub(crate) fn cursor_at(node: Option<usize>) -> Cursor
     ensures { result ≡ cursor_at node }
 {

@@ -324,7 +324,7 @@ impl<T, A: Allocator> Nodes<T, A> {
         additional.saturating_sub(self.slots.len() - self.len)
     }
 
-    // Makes `count` spare nodes. Where one is refused, those before it stay.
+    // Makes `count` spare nodes. If one is refused, those before it stay.
     fn make_spares(&mut self, count: usize) -> Result<(), AllocError>
         requires tied { IsTied self.old }
         requires slots { HasRoomFor self.old.slots count }

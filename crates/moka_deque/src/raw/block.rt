@@ -69,7 +69,7 @@ impl<K, V, A: Allocator> Model for Detached<K, V, A> {
     ghost also_owns = { λ d. detached_owns K.row V.row (A.dealloc_token d.alloc) d.ptr d.id d.element };
 }
 
-/// A new block.
+/// Allocates a block.
 pub(crate) fn allocate<K, V, A: Allocator>(alloc: &A) -> Result<Blank<K, V, A>, AllocError>
     ensures { IfOk result (λ r. r.alloc ≡ alloc.now) }
 {
@@ -121,7 +121,7 @@ impl<K, V, A: Allocator> Blank<K, V, A> {
         SpareNode { ptr }
     }
 
-    /// The block with where it lies.
+    /// Returns the block with its address.
     pub(crate) fn placed(self) -> (Blank<K, V, A>, NodePtr<K, V, A>)
         ensures { (result.0 ≡ self) × (result.1.ptr ≡ self.ptr) }
     {

@@ -29,7 +29,7 @@ unsafe impl<K: Send, V: Send, A: Allocator + Send> Send for Spare<K, V, A> {}
 unsafe impl<K, V, A: Allocator> Sync for Spare<K, V, A> {}
 
 impl<K, V, A: Allocator> Spare<K, V, A> {
-    /// None. They go back to this allocator.
+    /// Makes a list of no spare nodes, which go back to this allocator.
     pub(crate) fn new(_alloc: &A) -> Spare<K, V, A>
         ensures { (result.rest ≡ []) × (result.alloc ≡ _alloc.now) }
     {

@@ -67,7 +67,7 @@ fn request_of<A: Allocator + Clone + Drop>(
     bare_of(call, arguments)
 }
 
-/// The request of this name, which is given nothing.
+/// Returns the request of this name, which takes no argument.
 #[tactic(auto, unfolding(crate::specs::ReadingCoreLines::bare_of))]
 fn bare_of<A: Allocator + Clone + Drop>(
     call: &[u8],
@@ -126,7 +126,7 @@ fn insert_of<A: Allocator + Clone + Drop>(
     })
 }
 
-/// A caller, and a key behind it.
+/// Returns a caller, and the key behind it.
 #[tactic(auto, unfolding(crate::specs::ReadingCoreLines::caller_and_key_of))]
 fn caller_and_key_of(arguments: &[&[u8]]) -> Result<(u32, u64), LineError>
     ensures { Gives result (caller_and_key_of (map (λ word. word.now) arguments.now)) }

@@ -10,7 +10,7 @@ pub(crate) trait FromWords<A: Allocator + Clone + Drop, C: Copy>: Drop {
     // What words are read as.
     ghost reading: { C → List (List ℕ) → Option Self };
 
-    /// The line that has these words.
+    /// Returns the line of these words.
     fn from_words(alloc: A, context: C, words: &[&[u8]]) -> Result<Self, LineError>
         ensures { Gives result (reading context (map (λ word. word.now) words.now)) };
 }

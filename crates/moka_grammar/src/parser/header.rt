@@ -30,7 +30,7 @@ impl<A: Allocator + Clone + Drop> FromWords<A, ()> for Header {
     }
 }
 
-/// The mode of this name.
+/// Returns the mode of this name.
 #[tactic(auto, unfolding(crate::specs::ReadingLines::mode_of))]
 fn mode_of(name: &[u8]) -> Result<Mode, LineError>
     ensures { Gives result (mode_of name.now) }
@@ -47,7 +47,7 @@ fn mode_of(name: &[u8]) -> Result<Mode, LineError>
     Err(LineError::Bad)
 }
 
-/// The header of a script of calls to a cache of this mode.
+/// Returns the header of a script of calls to a cache of this mode.
 #[tactic(auto, unfolding(crate::specs::ReadingLines::cache_header_of))]
 fn cache_header_of(mode: Mode, arguments: &[&[u8]]) -> Result<Header, LineError>
     ensures { Gives result (cache_header_of mode (map (λ word. word.now) arguments.now)) }

@@ -64,7 +64,7 @@ fn request_of<A: Allocator + Clone + Drop>(
     bare_of(call, arguments)
 }
 
-/// The request of this name, which is given nothing.
+/// Returns the request of this name, which takes no argument.
 #[tactic(auto, unfolding(crate::specs::ReadingLines::bare_of))]
 fn bare_of<A: Allocator + Clone + Drop>(
     call: &[u8],
@@ -125,7 +125,7 @@ fn invalidate_if_of<A: Allocator + Clone + Drop>(
     Ok(Request::InvalidateIf { text })
 }
 
-/// The weight that is left, where inserts have one. Where they don't, that nothing is left.
+/// Returns the weight that is left, if inserts have one, or else that no word is left.
 #[tactic(auto, unfolding(crate::specs::ReadingLines::weight_of))]
 pub(super) fn weight_of(
     options: CacheOptions,

@@ -6,7 +6,7 @@ ghost use Rattle.moka_grammar.specs.ReadingOptions.{front_of, span_of, option_of
 use crate::line::{CacheOptions, Span};
 use crate::words::{LineError, no_argument, number_of};
 
-/// The settings that all of the words spell, each at most once and in their order.
+/// Returns the settings that all of the words spell, each at most once and in their order.
 #[tactic(auto, unfolding(crate::specs::ReadingOptions::options_of))]
 pub(super) fn options_of(arguments: &[&[u8]]) -> Result<CacheOptions, LineError>
     ensures { Gives result (options_of (map (λ word. word.now) arguments.now)) }
@@ -26,7 +26,7 @@ pub(super) fn options_of(arguments: &[&[u8]]) -> Result<CacheOptions, LineError>
     })
 }
 
-/// The number behind this name, where the name comes first, and the words that are left.
+/// Returns the number after this name, if the name comes first, and the words that are left.
 #[tactic(auto, unfolding(crate::specs::ReadingOptions::option_of))]
 fn number_option<'a>(
     name: &[u8],
@@ -44,7 +44,7 @@ fn number_option<'a>(
     Ok((Some(number), behind))
 }
 
-/// The span behind this name, where the name comes first, and the words that are left.
+/// Returns the span after this name, if the name comes first, and the words that are left.
 #[tactic(auto, unfolding(crate::specs::ReadingOptions::option_of))]
 fn span_option<'a>(
     name: &[u8],
@@ -62,7 +62,7 @@ fn span_option<'a>(
     Ok((Some(span), behind))
 }
 
-/// Answers if the first word says that inserts have weights, and returns the words that are left.
+/// Returns whether the first word says that inserts have weights, and the words that are left.
 #[tactic(auto, unfolding(crate::specs::ReadingOptions::weighed_of))]
 fn weighed_of<'a>(arguments: &'a [&'a [u8]]) -> (bool, &'a [&'a [u8]])
     ensures { (result.0, map (λ word. word.now) result.1.now) ≡ weighed_of (map (λ word. word.now) arguments.now) }
@@ -76,7 +76,7 @@ fn weighed_of<'a>(arguments: &'a [&'a [u8]]) -> (bool, &'a [&'a [u8]])
     (false, arguments)
 }
 
-/// The span that a word spells: a number, and its unit at once behind it.
+/// Returns the span that a word spells: a number, and its unit at once after it.
 #[tactic(auto, unfolding(crate::specs::ReadingOptions::span_of))]
 fn span_of(word: &[u8]) -> Result<Span, LineError>
     ensures { Gives result (span_of word.now) }

@@ -39,7 +39,7 @@ impl<R: Read> FromRead<R> {
         }
     }
 
-    /// The reader, with what it has left.
+    /// Returns the reader, with what it has left.
     pub fn into_inner(self) -> R
         ensures { R.remaining result ≡ ⟦<FromRead<R> as Source>⟧.remaining self }
     {

@@ -28,7 +28,7 @@ impl<A: Allocator> Model for IdList<A> {
 }
 
 impl<A: Allocator> IdList<A> {
-    /// An empty list, which allocates nothing.
+    /// Makes an empty list, which allocates nothing.
     pub fn new(alloc: A) -> Self
         ensures ids { result.ids ≡ [] }
         ensures capacity { result.capacity ≡ 0 }
@@ -39,7 +39,7 @@ impl<A: Allocator> IdList<A> {
         }
     }
 
-    /// Makes room for all ids below `capacity`. Where memory is refused, the list is as it was.
+    /// Reserves capacity for all ids below `capacity`. If memory is refused, the list is as it was.
     pub fn reserve(&mut self, capacity: usize) -> Result<(), OutOfMemory>
         ensures ok { OnOk result (capacity ≤ self.new.capacity) }
         ensures had_room { capacity ≤ self.old.capacity → IsOk result × (self.new ≡ self.old) }
@@ -55,7 +55,7 @@ impl<A: Allocator> IdList<A> {
         }
     }
 
-    /// The id at the front.
+    /// Returns the id at the front.
     pub fn front(&self) -> Option<NodeId>
         ensures { result ≡ first_of self.now.ids }
     {
@@ -67,7 +67,7 @@ impl<A: Allocator> IdList<A> {
         })
     }
 
-    /// Puts an id at the back, which isn't in the list and for which room was made. It allocates nothing.
+    /// Adds an id at the back, which isn't in the list and is below the capacity. It allocates nothing.
     pub fn push_back(&mut self, id: NodeId)
         requires room { id < self.old.capacity }
         requires absent { is_listed self.old.ids id ≡ false }
@@ -78,7 +78,7 @@ impl<A: Allocator> IdList<A> {
         self.len += 1;
     }
 
-    /// Takes an id out, which is in the list.
+    /// Removes an id, which must be in the list.
     pub fn remove(&mut self, id: NodeId)
         requires { is_listed self.old.ids id ≡ true }
         ensures ids { self.new.ids ≡ ids_without id self.old.ids }
@@ -88,7 +88,7 @@ impl<A: Allocator> IdList<A> {
         self.len -= 1;
     }
 
-    /// Moves an id to the back, which is in the list.
+    /// Moves an id to the back, which must be in the list.
     pub fn move_to_back(&mut self, id: NodeId)
         requires { is_listed self.old.ids id ≡ true }
         ensures ids { self.new.ids ≡ ids_without id self.old.ids ++ id ∷ [] }

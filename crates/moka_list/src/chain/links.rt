@@ -32,7 +32,7 @@ pub(crate) struct LinkTable<A: Allocator = Global> {
 }
 
 impl<A: Allocator> LinkTable<A> {
-    /// A table for no node.
+    /// Makes a table for no node.
     pub(crate) fn new(alloc: A) -> Self
         ensures next { (id : ℕ) → next_at result id ≡ NONE }
         ensures prev { (id : ℕ) → prev_at result id ≡ NONE }
@@ -53,7 +53,7 @@ impl<A: Allocator> LinkTable<A> {
         self.links.len()
     }
 
-    /// Makes room for the links of `len` nodes in all. Those that are new have no neighbours.
+    /// Grows the table to the links of `len` nodes in all. New nodes have no neighbours.
     pub(crate) fn grow(&mut self, len: usize) -> Result<(), AllocError>
         requires { IsNumbered self.old }
         ensures ok { OnOk result (len ≤ length self.new.links.items) }
@@ -95,7 +95,7 @@ impl<A: Allocator> LinkTable<A> {
         links[id] = APART;
     }
 
-    /// Puts a node, which has no neighbours, behind the last.
+    /// Puts a node, which has no neighbours, after the last.
     pub(crate) fn link_back(&mut self, id: usize)
         requires numbered { IsNumbered self.old }
         requires here { id < length self.old.links.items }

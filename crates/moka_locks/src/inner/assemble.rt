@@ -21,7 +21,7 @@ use std::alloc::Allocator;
 use std::hash::{BuildHasher, Hash};
 use std::sync::Mutex;
 
-/// The counts of a publisher, if there is one.
+/// Returns the counts of a publisher, if there is one.
 pub(super) fn counts_of<A: Allocator + Drop>(
     publisher: &Option<Publisher<A>>,
 ) -> Result<Option<Counts<A>>, OutOfMemory>
@@ -33,7 +33,7 @@ pub(super) fn counts_of<A: Allocator + Drop>(
     }
 }
 
-/// Empty logs, and a maintenance that has done nothing.
+/// Makes empty logs, and a maintenance that has done nothing.
 pub(super) fn logs_and_maintenance<A: Allocator + Clone + Drop>(
     alloc: &A,
 ) -> Result<(Logs<A>, Box<Maintenance<A>, A>), OutOfMemory>
@@ -44,7 +44,7 @@ pub(super) fn logs_and_maintenance<A: Allocator + Clone + Drop>(
     Ok((Logs::new(alloc)?, maintenance))
 }
 
-/// The settings of a new cache, and its shards, with room for `capacity` entries in each.
+/// Makes the settings of a new cache, and its shards, with capacity for `capacity` entries in each.
 pub(super) fn settings_and_shards<
     K: Eq + Hash + Drop,
     V: Drop,
@@ -66,7 +66,7 @@ pub(super) fn settings_and_shards<
     Ok((Settings::new(hash_state, policy, is_weighed), shards))
 }
 
-/// The shards of a new cache, each behind its lock, with room for `capacity` entries in each.
+/// Makes the shards of a new cache, each behind its lock, with capacity for `capacity` entries in each.
 fn locked_shards<
     K: Eq + Hash + Drop,
     V: Drop,
@@ -88,7 +88,7 @@ fn locked_shards<
     Ok(shards)
 }
 
-/// A shard of a new cache, by its number, with room for `capacity` entries.
+/// Makes a shard of a new cache, by its number, with capacity for `capacity` entries.
 fn empty_shard<
     K: Eq + Hash + Drop,
     V: Drop,

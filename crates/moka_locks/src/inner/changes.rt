@@ -24,7 +24,7 @@ impl<
     W: Drop,
     A: Allocator + Clone + Drop,
 > Inner<K, V, S, P, W, A> {
-    /// Takes out the entry of a key. The answer is its ticket.
+    /// Removes the entry of a key. Returns its ticket.
     pub(crate) fn invalidate<R: Wait>(&self, rt: &R, key: &K) -> Option<Ticket>
         ensures { InvalidatesIn (keys_by K.Hash S.BuildHasher S.Hasher.Hasher) P.holds key.now result }
     {
@@ -42,7 +42,7 @@ impl<
     W: WeighShared<K, V>,
     A: Allocator + Clone + Drop,
 > Inner<K, V, S, P, W, A> {
-    /// Puts the value at the key. The answer is the entry's ticket. A key that isn't there is hashed again, by the hash state of its shard, since no lock's type
+    /// Puts the value at the key. Returns the entry's ticket. A key that isn't there is hashed again, by the hash state of its shard, since no lock's type
     /// says whose hash this is. If that gives another hash, or one of another shard, the call never returns. Nothing proves that this can't happen; it doesn't in
     /// a cache, whose shards share its hash state.
     pub(crate) fn insert<R: Wait>(

@@ -23,8 +23,8 @@ impl<
     W: Drop,
     A: Allocator + Clone + Drop,
 > Inner<K, V, S, P, W, A> {
-    /// One turn of the maintenance, with the lock of what it needs; or several, where operations leave their log and are applied at once. Of the writes
-    /// that have left their log no more are to be applied than the round will.
+    /// Takes one turn of the maintenance, with the lock of what it needs, or several if operations leave their log together. The writes that have left their
+    /// log are no more than the round will apply.
     pub(crate) fn turn<R: Wait>(
         &self,
         rt: &R,
@@ -52,7 +52,7 @@ impl<
         self.turn_by_need(rt, maintenance);
     }
 
-    /// One turn that takes no operation out of a log, with the lock of what it needs.
+    /// Takes a turn that takes no operation out of a log, with the lock of what it needs.
     fn turn_by_need<R: Wait>(&self, rt: &R, maintenance: &mut Maintenance<A>)
         ensures { IsTurn K V self.now.settings maintenance.old maintenance.new }
     {
@@ -77,8 +77,7 @@ impl<
         }
     }
 
-    /// Returns how many of the reads that are left in a round may leave their log together. Where a time to idle is set a get sees whether an entry was
-    /// touched, so there each leaves when its turn comes.
+    /// Returns how many of the reads left in a round may leave their log together. With a time to idle it is one: a get sees when an entry is touched.
     fn reads_wanted(&self, left: usize) -> usize
         ensures within { result ≤ left }
         ensures singly { IsSome self.now.settings.policy.time_to_idle → result ≤ 1 }
@@ -89,8 +88,7 @@ impl<
         left
     }
 
-    /// The turns that take the next reads and apply them, if there are any. No lock is held while their hashes are counted and nodes move, which lie in
-    /// memory of their own.
+    /// Takes the next reads and applies them, if there are any. No lock but the maintenance's is held while their hashes are counted and their nodes move.
     fn apply_next_reads<R: Wait>(&self, rt: &R, maintenance: &mut Maintenance<A>)
         requires { TakesRead maintenance.old }
         ensures { AreTurns K V self.now.settings (empty_handed maintenance.old) (empty_handed maintenance.new) }
@@ -106,7 +104,7 @@ impl<
         maintenance.apply_reads(reads);
     }
 
-    /// The entries of hits were used, one after another, each behind the lock of its shard. Their hints tell then where their nodes may be found.
+    /// Touches the entries of hits, one after another, each under the lock of its shard. Their hints are those of their nodes then.
     fn touch_all<R: Wait>(&self, rt: &R, reads: &mut [LoggedRead])
         ensures { length reads.new ≡ length reads.old }
     {
@@ -115,7 +113,7 @@ impl<
         }
     }
 
-    /// The entry of a hit, if it stands, was used; it is looked for in a slot first. The answer is where its node may be found.
+    /// Touches the entry of a hit, if there is one, looking in a slot first. Returns a hint for its node.
     fn touch<R: Wait>(&self, rt: &R, read: Read, slot: usize) -> usize {
         let Read::Hit { ticket, moment } = read else {
             return 0;
@@ -124,7 +122,7 @@ impl<
         shard.touch(ticket, slot, moment)
     }
 
-    /// The turn that takes a write, and the one that applies it, if there is one.
+    /// Takes the next write, if there is one, and applies it.
     fn apply_next_write<R: Wait>(
         &self,
         rt: &R,
@@ -149,7 +147,7 @@ impl<
         }
     }
 
-    /// The write that the maintenance is to take next. It has left its log before, or leaves it now with those behind it.
+    /// Returns the write that the maintenance takes next. It has left its log before, or leaves it now with those after it.
     fn next_write<R: Wait>(
         &self,
         rt: &R,

@@ -28,7 +28,7 @@ use moka_sync_model::ticket::Ticket;
 use std::alloc::Allocator;
 
 impl Scan {
-    /// The node that it looks at next: none where it has ended.
+    /// Returns the node that it looks at next, or `None` if it has ended.
     pub(crate) fn next_seen(&self) -> Option<NodeId>
         ensures { result ≡ next_id_if (is_decided self.now.candidate self.now.tally) self.now.next }
     {
@@ -39,7 +39,7 @@ impl Scan {
     }
 }
 
-/// The state where victims are left, or none.
+/// Returns `Removing` if victims are left, and `Enter` otherwise.
 fn removing_or_enter(work: Work, removal: Removal) -> PhaseState
     ensures { result ≡ state_of_removal work removal }
 {
@@ -54,7 +54,7 @@ fn removing_or_enter(work: Work, removal: Removal) -> PhaseState
 }
 
 impl<A: Allocator + Clone + Drop> State<A> {
-    /// A scan that hasn't ended looks at the next node, whose entry weighs this, where it stands.
+    /// Looks at the next node of a scan that hasn't ended. `weight` is that of its entry, if there is one.
     pub(crate) fn see<K: Drop, V: Drop>(
         &mut self,
         work: Work,
@@ -86,7 +86,7 @@ impl<A: Allocator + Clone + Drop> State<A> {
         };
     }
 
-    /// Returns a scan after it has looked at one more entry, which weighs this, if it stands.
+    /// Returns the tally once one more entry was looked at. `weight` is that of the entry, if there is one.
     fn with_found<K: Drop, V: Drop>(
         &self,
         tally: Tally,
@@ -111,7 +111,7 @@ impl<A: Allocator + Clone + Drop> State<A> {
         }
     }
 
-    /// The candidate is rejected: its entry leaves, and the nodes that were absent go to the back.
+    /// Rejects the candidate: its entry leaves, and the nodes that were absent go to the back.
     pub(crate) fn reject<K: Drop, V: Drop>(&mut self, work: Work, scan: Scan) -> EntryChange
         requires round { work.round ≤ MAX_ROUNDS }
         requires scanning { IsScanning self.old.orders scan }
@@ -124,7 +124,7 @@ impl<A: Allocator + Clone + Drop> State<A> {
         EntryChange::Leaves
     }
 
-    /// The candidate is admitted: what was seen is to be removed.
+    /// Admits the candidate: the nodes that were seen are removed next.
     pub(crate) fn admit(&mut self, work: Work, scan: Scan)
         requires round { work.round ≤ MAX_ROUNDS }
         requires scanning { IsScanning self.old.orders scan }
@@ -144,7 +144,7 @@ impl<A: Allocator + Clone + Drop> State<A> {
         );
     }
 
-    /// The next node stays, as its entry was absent or has left since.
+    /// Skips the next node, whose entry was absent or has left since.
     pub(crate) fn skip(&mut self, work: Work, removal: Removal, id: NodeId)
         requires round { work.round ≤ MAX_ROUNDS }
         requires removing { IsRemoving self.old.orders removal }
@@ -168,7 +168,7 @@ impl<A: Allocator + Clone + Drop> State<A> {
         );
     }
 
-    /// The next node leaves with its entry.
+    /// Removes the next node with its entry.
     fn remove_next(&mut self, work: Work, removal: Removal, id: NodeId)
         requires round { work.round ≤ MAX_ROUNDS }
         requires removing { IsRemoving self.old.orders removal }
@@ -195,7 +195,7 @@ impl<A: Allocator + Clone + Drop> State<A> {
         );
     }
 
-    /// The turn of a victim: it leaves where it still stands, and else is skipped.
+    /// Removes a victim if its entry is still there, and skips it otherwise.
     pub(crate) fn remove_victim<K: Drop, V: Drop>(
         &mut self,
         work: Work,
@@ -221,7 +221,7 @@ impl<A: Allocator + Clone + Drop> State<A> {
         EntryChange::Leaves
     }
 
-    /// The candidate enters with its weight now, if it still stands, and the skipped nodes go to the back.
+    /// Enters the candidate with its weight now, if it is still there, and moves the skipped nodes to the back.
     pub(crate) fn enter<K: Drop, V: Drop, S: Drop>(
         &mut self,
         settings: &Settings<S, A>,
@@ -265,7 +265,7 @@ impl<A: Allocator + Clone + Drop> State<A> {
         Need::Entry(scan.candidate.ticket)
     }
 
-    /// The turn of a scan that needs an entry, which weighs this, where it stands.
+    /// Takes a turn of a scan that needs an entry. `weight` is the entry's, if there is one.
     #[inline(always)]
     pub(crate) fn scan<K: Drop, V: Drop>(
         &mut self,
@@ -303,7 +303,7 @@ impl<A: Allocator + Clone + Drop> State<A> {
         Need::Nothing
     }
 
-    /// The turn of the removals where the next node was absent.
+    /// Takes a turn of the removals at a node whose entry was absent.
     pub(crate) fn skip_absent<K: Drop, V: Drop>(&mut self, work: Work, removal: Removal)
         requires round { work.round ≤ MAX_ROUNDS }
         requires left { 0 < removal.left }
@@ -317,7 +317,7 @@ impl<A: Allocator + Clone + Drop> State<A> {
         }
     }
 
-    /// The turn of the removals where it was present.
+    /// Takes a turn of the removals at a node whose entry was present.
     pub(crate) fn remove<K: Drop, V: Drop>(
         &mut self,
         work: Work,

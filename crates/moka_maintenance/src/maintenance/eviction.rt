@@ -17,7 +17,7 @@ use moka_sync_model::ticket::Ticket;
 use std::alloc::Allocator;
 
 impl<A: Allocator + Clone + Drop> State<A> {
-    /// The ticket at the front of the order of use, where there is a turn at it because more is charged than the limit.
+    /// Returns the ticket at the front of the access order, if the eviction takes a turn at it: more is charged than the limit.
     pub(crate) fn eviction_front<S: Drop>(
         &self,
         settings: &Settings<S, A>,
@@ -32,7 +32,7 @@ impl<A: Allocator + Clone + Drop> State<A> {
         None
     }
 
-    /// A turn of the eviction. An entry of which an upsert is outstanding isn't evicted: it is about to be used.
+    /// Takes a turn of the eviction. An entry with an outstanding upsert isn't evicted, since it is about to be touched.
     pub(crate) fn evict<K: Drop, V: Drop>(
         &mut self,
         turns: usize,

@@ -16,7 +16,7 @@ use moka_sync_model::settings::Settings;
 use moka_sync_model::ticket::Ticket;
 use std::alloc::Allocator;
 
-/// Returns `true` if the last write of an entry is too long ago.
+/// Returns `true` if an entry was last written too long ago, or before the last invalidation of all.
 fn is_past_ttl_or_hidden<K: Drop, V: Drop, S: Drop, A: Allocator + Drop>(
     settings: &Settings<S, A>,
     valid_after: Instant,
@@ -28,7 +28,7 @@ fn is_past_ttl_or_hidden<K: Drop, V: Drop, S: Drop, A: Allocator + Drop>(
     settings.limits().is_past_ttl(entry.modified(), now) || entry.modified() < valid_after
 }
 
-/// Returns `true` if the last use of an entry is too long ago.
+/// Returns `true` if an entry was last used too long ago, or before the last invalidation of all.
 fn is_past_tti_or_hidden<K: Drop, V: Drop, S: Drop, A: Allocator + Drop>(
     settings: &Settings<S, A>,
     valid_after: Instant,
@@ -41,7 +41,7 @@ fn is_past_tti_or_hidden<K: Drop, V: Drop, S: Drop, A: Allocator + Drop>(
 }
 
 impl<A: Allocator + Clone + Drop> State<A> {
-    /// The ticket at the front of the order of writing, where there is a turn at it.
+    /// Returns the ticket at the front of the write order, if there is a turn at it.
     pub(crate) fn write_front<S: Drop>(
         &self,
         settings: &Settings<S, A>,
@@ -55,7 +55,7 @@ impl<A: Allocator + Clone + Drop> State<A> {
         None
     }
 
-    /// The ticket at the front of the order of use, where there is a turn at it because of its use.
+    /// Returns the ticket at the front of the access order, if there is an expiry turn at it.
     pub(crate) fn access_front<S: Drop>(
         &self,
         settings: &Settings<S, A>,
@@ -71,7 +71,7 @@ impl<A: Allocator + Clone + Drop> State<A> {
         None
     }
 
-    /// A turn at the front of the order of writing.
+    /// Takes a turn at the front of the write order.
     pub(crate) fn expire_write<K: Drop, V: Drop, S: Drop>(
         &mut self,
         settings: &Settings<S, A>,
@@ -100,7 +100,7 @@ impl<A: Allocator + Clone + Drop> State<A> {
         EntryChange::Stays
     }
 
-    /// A turn at the front of the order of use.
+    /// Takes a turn of the expiry at the front of the access order.
     pub(crate) fn expire_access<K: Drop, V: Drop, S: Drop>(
         &mut self,
         settings: &Settings<S, A>,

@@ -25,7 +25,7 @@ pub(crate) fn touch_ticket<A: Allocator + Clone + Drop>(
     }
 }
 
-/// The ticket's node leaves, if there is one.
+/// Removes the node of a ticket, if there is one.
 pub(crate) fn remove_ticket<A: Allocator + Clone + Drop>(orders: &mut Orders<A>, ticket: Ticket)
     ensures { orders_of orders.new ≡ without_node ticket (orders_of orders.old) }
 {
@@ -34,7 +34,7 @@ pub(crate) fn remove_ticket<A: Allocator + Clone + Drop>(orders: &mut Orders<A>,
     }
 }
 
-/// The ticket of the least recently used node.
+/// Returns the ticket of the least recently used node.
 pub(crate) fn front_ticket<A: Allocator + Clone + Drop>(orders: &Orders<A>) -> Option<Ticket>
     ensures { result ≡ front_of orders.now }
 {
@@ -42,7 +42,7 @@ pub(crate) fn front_ticket<A: Allocator + Clone + Drop>(orders: &Orders<A>) -> O
     Some(orders.get(id).ticket)
 }
 
-/// The least recently used node becomes the most recently used one.
+/// Makes the least recently used node the most recently used one.
 pub(crate) fn touch_front<A: Allocator + Clone + Drop>(orders: &mut Orders<A>)
     ensures { IfSome (front_of orders.old) (λ t. orders_of orders.new ≡ used t (orders_of orders.old)) }
 {
@@ -51,7 +51,7 @@ pub(crate) fn touch_front<A: Allocator + Clone + Drop>(orders: &mut Orders<A>)
     }
 }
 
-/// It becomes the most recent one in both orders.
+/// Makes the least recently used node the most recent one in both orders.
 pub(crate) fn touch_front_both<A: Allocator + Clone + Drop>(orders: &mut Orders<A>)
     ensures { IfSome (front_of orders.old) (λ t. orders_of orders.new ≡ renewed t (orders_of orders.old)) }
 {
@@ -60,7 +60,7 @@ pub(crate) fn touch_front_both<A: Allocator + Clone + Drop>(orders: &mut Orders<
     }
 }
 
-/// It leaves.
+/// Removes the least recently used node.
 pub(crate) fn remove_front<A: Allocator + Clone + Drop>(orders: &mut Orders<A>)
     ensures { IfSome (front_of orders.old) (λ t. orders_of orders.new ≡ without_node t (orders_of orders.old)) }
 {
@@ -69,7 +69,7 @@ pub(crate) fn remove_front<A: Allocator + Clone + Drop>(orders: &mut Orders<A>)
     }
 }
 
-/// The least recently used node, of which there is one, goes to the back.
+/// Moves the least recently used node to the back. There must be a node.
 fn send_front<A: Allocator + Clone + Drop>(orders: &mut Orders<A>)
     requires { 0 < length orders.old.nodes }
     ensures { IsSent orders.old orders.new }
@@ -79,7 +79,7 @@ fn send_front<A: Allocator + Clone + Drop>(orders: &mut Orders<A>)
     }
 }
 
-/// So many nodes go from the front to the back, one after another.
+/// Moves `count` nodes from the front to the back, one after another.
 pub(crate) fn requeue_front<A: Allocator + Clone + Drop>(orders: &mut Orders<A>, count: usize)
     requires { count ≤ length orders.old.nodes }
     ensures { orders_of orders.new ≡ all_used (first_tickets count orders.old.nodes) (orders_of orders.old) }
@@ -89,7 +89,7 @@ pub(crate) fn requeue_front<A: Allocator + Clone + Drop>(orders: &mut Orders<A>,
     }
 }
 
-/// A node that a scan has marked as absent goes to the back. Which node stood behind it.
+/// Moves a node to the back if a scan has marked it as absent. Returns the node that was after it.
 fn send_if_absent<A: Allocator + Clone + Drop>(orders: &mut Orders<A>, id: NodeId) -> Option<NodeId>
     requires { IsIn orders.old.nodes id }
     ensures next { result ≡ next_id id orders.old.nodes }
@@ -105,7 +105,7 @@ fn send_if_absent<A: Allocator + Clone + Drop>(orders: &mut Orders<A>, id: NodeI
     next
 }
 
-/// Of the first `count` nodes, those that a scan has marked as absent go to the back, one after another.
+/// Moves those of the first `count` nodes to the back that a scan has marked as absent, one after another.
 pub(crate) fn requeue_missing<A: Allocator + Clone + Drop>(orders: &mut Orders<A>, count: usize)
     requires { count ≤ length orders.old.nodes }
     ensures { orders_of orders.new ≡ all_used (absent_of (first_seen count orders.old.nodes)) (orders_of orders.old) }

@@ -1,4 +1,4 @@
-// Where a maintenance is, and what it keeps there.
+// The phases of a maintenance, with what it keeps in each.
 ghost use Rattle.std.specs.Prelude.{◌≡◌, ℕ, List};
 ghost use Rattle.moka_sync_model.specs.Phase.{name_of};
 ghost use Rattle.moka_queues.specs.declared.orders.Node.{Node};
@@ -9,24 +9,24 @@ use moka_sync_model::operation::{Read, Write};
 use moka_sync_model::phase::Phase;
 use moka_sync_model::progress::{Candidate, Tally, Work};
 
-/// A scan from the front of the order of use on. What it has seen is marked in the nodes.
+/// A scan of the access order from its front. What it has seen is noted in the nodes.
 #[derive(Clone, Copy)]
 pub(crate) struct Scan {
     pub(crate) candidate: Candidate,
     pub(crate) tally: Tally,
     pub(crate) seen: usize,
-    /// The node behind those that were seen.
+    /// The node after those that were seen.
     pub(crate) next: Option<NodeId>,
 }
 
-/// The removal of what a scan has seen. At the front of the order of use are those that are skipped, and behind them those that are left.
+/// The removal of what a scan has seen. At the front of the access order are the skipped nodes, and after them those that are left.
 #[derive(Clone, Copy)]
 pub(crate) struct Removal {
     pub(crate) candidate: Candidate,
     pub(crate) tally: Tally,
     pub(crate) skipped: usize,
     pub(crate) left: usize,
-    /// The node behind those that are skipped.
+    /// The node after those that are skipped.
     pub(crate) next: Option<NodeId>,
 }
 
@@ -91,7 +91,7 @@ pub(crate) enum PhaseState {
 }
 
 impl PhaseState {
-    /// Its name.
+    /// Returns its name.
     pub(crate) fn name(&self) -> Phase
         ensures { (nodes : List (ℕ × Node)) → result ≡ name_of (phase_of nodes self.now) }
     {

@@ -10,7 +10,7 @@ use moka_sync_model::published::Published;
 use std::alloc::Allocator;
 
 impl<A: Allocator + Clone + Drop> State<A> {
-    /// The counts are published, and the maintenance ends.
+    /// Publishes the counts, and ends the maintenance.
     pub(crate) fn publish(&mut self)
         ensures step { maintenance_of self.new
             ≡ record (maintenance_of self.old) { phase = Idle; published = next_published (maintenance_of self.old) } }

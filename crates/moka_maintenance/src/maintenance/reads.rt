@@ -23,7 +23,7 @@ use moka_sync_model::progress::Work;
 use moka_sync_model::ticket::Ticket;
 use std::alloc::Allocator;
 
-/// The state after an operation, where this is left of the reads.
+/// Returns `Reads` if reads are left of the round, and `WriteCount` otherwise.
 fn reads_or_on(work: Work) -> PhaseState
     requires { work.round ≤ MAX_ROUNDS }
     ensures { IsPlain result (reads_or_on work) }
@@ -34,7 +34,7 @@ fn reads_or_on(work: Work) -> PhaseState
     PhaseState::Reads { work }
 }
 
-/// The state once the read log was looked at behind a round.
+/// Returns the phase after the look at the read log that ends a round.
 fn after_more_reads(round: usize, len: usize) -> PhaseState
     requires { round ≤ MAX_ROUNDS }
     ensures { IsPlain result (after_more_reads round len) }
@@ -48,7 +48,7 @@ fn after_more_reads(round: usize, len: usize) -> PhaseState
     PhaseState::MoreWrites { round }
 }
 
-/// The hash that a read counts.
+/// Returns the hash that a read counts.
 fn hash_of(read: Read) -> u64
     ensures { result ≡ hash_of_read read }
 {
@@ -76,7 +76,7 @@ fn touch_node<A: Allocator + Clone + Drop>(orders: &mut Orders<A>, logged: Logge
     }
 }
 
-/// The nodes of hits do, one after another.
+/// Makes the nodes of hits the most recently used ones, one after another.
 fn use_nodes<A: Allocator + Clone + Drop>(orders: &mut Orders<A>, reads: &[LoggedRead])
     ensures { orders_of orders.new ≡ fold used_by (orders_of orders.old) (reads_of reads.now) }
 {
@@ -96,7 +96,7 @@ impl<A: Allocator + Clone + Drop> State<A> {
         self.phase = reads_or_on(Work { round, left: len });
     }
 
-    /// The first read leaves the log.
+    /// Takes the first read out of the log.
     pub(crate) fn take_read(&mut self, work: Work, log: &mut ReadLog<A>)
         requires round { work.round ≤ MAX_ROUNDS }
         requires holds { HoldsIn self.old.orders self.old.phase }
@@ -111,7 +111,7 @@ impl<A: Allocator + Clone + Drop> State<A> {
         }
     }
 
-    /// Many reads make another round.
+    /// Begins another round if the read log has reached the flush point.
     pub(crate) fn look_for_reads(&mut self, round: usize, len: usize)
         requires { round ≤ MAX_ROUNDS }
         ensures step { maintenance_of self.new ≡ gone_to (after_more_reads round len) (maintenance_of self.old) }
@@ -120,7 +120,7 @@ impl<A: Allocator + Clone + Drop> State<A> {
         self.phase = after_more_reads(round, len);
     }
 
-    /// A miss: its hash is counted.
+    /// Counts the hash of a miss.
     pub(crate) fn apply_miss(&mut self, work: Work, hash: u64)
         requires { work.round ≤ MAX_ROUNDS }
         ensures step { maintenance_of self.new ≡ after_miss work hash (maintenance_of self.old) }
@@ -141,7 +141,7 @@ impl<A: Allocator + Clone + Drop> State<A> {
         self.apply_miss(work, ticket.hash);
     }
 
-    /// Reads are applied: their hashes are counted, and then the nodes of the hits move.
+    /// Applies reads: it counts their hashes, and then moves the nodes of the hits.
     pub(crate) fn apply_reads(&mut self, work: Work, reads: &[LoggedRead])
         requires { work.round ≤ MAX_ROUNDS }
         ensures step { maintenance_of self.new ≡ having_applied work (reads_of reads.now) (maintenance_of self.old) }

@@ -1,4 +1,4 @@
-// What lies behind the lock of the maintenance, in parts.
+// The maintenance as its phases see it.
 ghost use Rattle.std.specs.Prelude.{◌≡◌, ◌↔◌, IsTrue};
 ghost use Rattle.moka_sync_model.specs.CoreState.{new_maintenance};
 ghost use Rattle.moka_maintenance.specs.Held.{maintenance_of};
@@ -11,7 +11,7 @@ use moka_sync_model::published::Published;
 use std::alloc::{Allocator, Global};
 use std::marker::Model;
 
-/// The parts of a maintenance, and where it is. The files of this folder have its turns, one a phase.
+/// The parts of a maintenance, and its phase. The files of this folder have its turns, one a phase.
 #[derive(Drop)]
 pub(crate) struct State<A: Allocator + Clone + Drop = Global> {
     pub(crate) orders: Orders<A>,

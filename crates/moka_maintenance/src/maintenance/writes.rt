@@ -22,7 +22,7 @@ use moka_sync_model::settings::Settings;
 use moka_sync_model::ticket::Ticket;
 use std::alloc::Allocator;
 
-/// The state after an operation, where this is left of the writes.
+/// Returns `Writes` if writes are left of the round, and `Sketch` otherwise.
 pub(crate) fn writes_or_on(work: Work) -> PhaseState
     requires { work.round ≤ MAX_ROUNDS }
     ensures { IsPlain result (writes_or_on work) }
@@ -33,7 +33,7 @@ pub(crate) fn writes_or_on(work: Work) -> PhaseState
     PhaseState::Writes { work }
 }
 
-/// The state once the write log was looked at behind a round that isn't the last.
+/// Returns the phase after the look at the write log that ends a round, if that isn't the last.
 fn after_more_writes(round: usize, len: usize) -> PhaseState
     requires { round < MAX_ROUNDS }
     ensures { IsPlain result (after_more_writes round len) }
@@ -65,7 +65,7 @@ impl<A: Allocator + Clone + Drop> State<A> {
         self.phase = writes_or_on(Work { round, left: len });
     }
 
-    /// The first write leaves the log.
+    /// Takes the first write out of the log.
     pub(crate) fn take_write(&mut self, work: Work, log: &mut WriteLog<A>)
         requires round { work.round ≤ MAX_ROUNDS }
         requires holds { HoldsIn self.old.orders self.old.phase }
@@ -80,7 +80,7 @@ impl<A: Allocator + Clone + Drop> State<A> {
         }
     }
 
-    /// Many writes make another round.
+    /// Begins another round if the write log has reached the flush point.
     pub(crate) fn look_for_writes(&mut self, round: usize, len: usize)
         requires { round < MAX_ROUNDS }
         ensures step { maintenance_of self.new ≡ gone_to (after_more_writes round len) (maintenance_of self.old) }
@@ -89,7 +89,7 @@ impl<A: Allocator + Clone + Drop> State<A> {
         self.phase = after_more_writes(round, len);
     }
 
-    /// A removal: the ticket's node leaves.
+    /// Removes the node of a removal's ticket.
     pub(crate) fn apply_removal(&mut self, work: Work, ticket: Ticket)
         requires { work.round ≤ MAX_ROUNDS }
         ensures step { maintenance_of self.new ≡ after_removal work ticket (maintenance_of self.old) }
@@ -99,7 +99,7 @@ impl<A: Allocator + Clone + Drop> State<A> {
         self.phase = writes_or_on(work);
     }
 
-    /// An upsert: it is dropped where its entry has left, and sets the charge where there is one.
+    /// Applies an upsert. It sets the charge of the entry's node, admits an entry without one, and drops the upsert if the entry has left.
     #[inline(always)]
     pub(crate) fn apply_upsert<K: Drop, V: Drop, S: Drop>(
         &mut self,
@@ -126,7 +126,7 @@ impl<A: Allocator + Clone + Drop> State<A> {
         EntryChange::UpsertDone
     }
 
-    /// The upsert of an entry that isn't charged. Room for its node is made before its admission is asked.
+    /// Applies the upsert of an entry that isn't charged. It reserves its node before it asks for its admission.
     fn apply_first_upsert<K: Drop, V: Drop, S: Drop>(
         &mut self,
         settings: &Settings<S, A>,
@@ -160,7 +160,7 @@ impl<A: Allocator + Clone + Drop> State<A> {
         EntryChange::Leaves
     }
 
-    /// A scan decides: it has looked at no node yet.
+    /// Begins a scan, which decides about admission.
     #[inline(always)]
     fn begin_scan(&mut self, work: Work, ticket: Ticket, weight: u32)
         requires round { work.round ≤ MAX_ROUNDS }

@@ -28,7 +28,7 @@ impl<K, V, L: Drop, W: Drop, P> Model for NotifyingBuilder<K, V, L, W, P> {
 }
 
 impl<K, V, L: Drop, W: Drop, P> NotifyingBuilder<K, V, L, W, P> {
-    /// A builder with a listener.
+    /// Makes a builder with a listener.
     pub(crate) fn new(builder: CacheBuilder<K, V, W, P>, listener: L) -> Self
         ensures { result ≡ record { builder = builder; listener = listener } }
     {

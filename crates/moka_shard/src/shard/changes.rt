@@ -130,7 +130,7 @@ impl<
         Ok(ticket)
     }
 
-    /// Takes out the entry of a key, found by its hash. The answer is its ticket.
+    /// Removes the entry of a key, found by its hash. Returns its ticket.
     pub fn invalidate(&mut self, key: &K, hash: u64) -> Option<Ticket>
         ensures permitted { IsPermitted (keys_by K.Hash S.BuildHasher S.Hasher.Hasher) P.holds (state_of self.old) }
         ensures step { hash ≡ (keys_by K.Hash S.BuildHasher S.Hasher.Hasher).hash_of self.old.hash_state key.now
@@ -254,7 +254,7 @@ impl<
     }
 }
 
-/// A clone of the value of an entry, if there is one.
+/// Returns a clone of the value of an entry, if there is one.
 fn try_clone_of<K: Drop, V: Clone, A: Allocator + Drop>(
     entry: Option<&Entry<K, V, A>>,
 ) -> Result<Option<V>, OutOfMemory>
@@ -267,7 +267,7 @@ fn try_clone_of<K: Drop, V: Clone, A: Allocator + Drop>(
     }
 }
 
-/// Makes room for one more entry, in the slots and in the index. Where there is none, there is room for a quarter more than before then.
+/// Reserves capacity for one more entry, in the slots and in the index. If there is none, capacity grows by a quarter.
 fn make_room<K: Drop, V: Drop, A: Allocator + Clone + Drop>(
     slots: &mut Slab<Entry<K, V, A>, A>,
     index: &mut HashIndex<A>,

@@ -34,7 +34,7 @@ impl<K, V, L: Drop, W: Drop, A: Allocator + Clone + Drop> Model
 }
 
 impl<K, V, L: Drop, W: Drop, A: Allocator + Clone + Drop> NotifyingBuilder<K, V, L, W, A> {
-    /// A builder with a listener.
+    /// Makes a builder with a listener.
     pub(crate) fn new(builder: CacheBuilder<K, V, W, A>, listener: L) -> Self
         ensures { result ≡ record { builder = builder; listener = listener } }
     {

@@ -158,7 +158,7 @@ impl<
 
     /// Removes the entry of the key, if there is one, and returns its value, unless it is expired. The value is moved out, so it needs no `Clone`.
     ///
-    /// The answer is `None` where the key has no entry, and where its entry is expired and no call has removed it yet: that leaves too. The key is
+    /// Returns `None` if the key has no entry, and if its entry is expired and no call has removed it yet: that leaves too. The key is
     /// not counted, and what was counted of it stays. It takes constant time on average, beside the batch that leaves first, and no memory, so it is
     /// never refused.
     pub fn remove(&mut self, key: &K, now: Instant) -> Option<V>
@@ -254,8 +254,8 @@ impl<
     W: Weigh<K, V> + Drop,
     A: Allocator + Clone + Drop,
 > Cache<K, V, S, W, A> {
-    /// Puts the value at the key, as the most recent entry in both orders. Where the key is there already, its entry keeps the first key object.
-    /// A new entry for which there is no room may be rejected by the admission policy, which is `Ok` as well. Where there is a window, older entries of it may
+    /// Puts the value at the key, as the most recent entry in both orders. If the key is there already, its entry keeps the first key object.
+    /// A new entry above the capacity may be rejected by the admission policy, which is `Ok` as well. If there is a window, older entries of it may
     /// leave too.
     ///
     /// Memory is reserved first, for an update too, which may need none in the end. If it is refused, nothing was expired, evicted, weighed or stored, an entry

@@ -20,8 +20,8 @@ impl<
     W: Weigh<K, V> + Drop,
     A: Allocator + Clone + Drop,
 > Cache<K, V, S, W, A> {
-    /// A clone of the key's value. Where the key has no unexpired entry, `make` is called, once, and what it gives is inserted, as by `insert`; it is
-    /// answered also where the admission policy rejects the entry. The key is counted, found or not, and its entry is used.
+    /// Returns a clone of the key's value. If the key has no unexpired entry, `make` is called once, and its value is inserted as by `insert`. It is returned
+    /// even if the admission policy rejects the entry. The key is counted, found or not, and its entry is used.
     ///
     /// ```
     /// let square = cache.get_or_insert_with(7, now, || 7 * 7)?;
@@ -103,7 +103,7 @@ impl<
     }
 }
 
-/// A clone of a value.
+/// Clones a value.
 fn copy_of<V: Clone>(value: &V) -> Result<V, InsertError>
     ensures ok { IfOk result (λ copy. V.is_clone value.now copy) }
     ensures err { OnErr result (¬ (V.is_infallible value.now)) }

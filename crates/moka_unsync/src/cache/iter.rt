@@ -38,7 +38,7 @@ impl<'a, K: Drop, V: Drop, A: Allocator> Model for Iter<'a, K, V, A> {
 }
 
 impl<'a, K: Drop, V: Drop, A: Allocator> Iter<'a, K, V, A> {
-    /// An iterator over those of the entries that are unexpired at a moment.
+    /// Makes an iterator over the entries that are unexpired at a moment.
     pub(crate) fn new(
         entries: Entries<'a, Entry<K, V>, A>,
         bounds: &'a Bounds,
