@@ -112,7 +112,7 @@ impl<
         self.machine.is_new()
     }
 
-    /// Returns the same core, with shards that give out the ticket numbers from this one on. It must be new, and stays so: `is_new` is the test.
+    /// Makes the shards of a new core give out ticket numbers from `first` on. It must be new, as `is_new` tells, and stays so.
     pub fn with_first_ticket(mut self, first: u64) -> Self
         requires new { IsNew self.state }
         ensures state { result.state ≡ new_core self.state.settings first }
@@ -147,7 +147,7 @@ impl<
     W: WeighShared<K, V>,
     A: Allocator + Clone + Drop,
 > Core<K, V, S, W, A> {
-    /// Takes the steps in turn, and gives their replies. If memory for the replies, or for what callers may have pending, is refused, no step
+    /// Takes the steps in turn, and returns their replies. If memory for the replies, or for what callers may have pending, is refused, no step
     /// was taken; later only an `Insert`, a `Get` or a `Copy` can be refused it.
     ///
     /// It takes the time of the steps, and memory for one reply and one pending operation a step.
@@ -167,11 +167,11 @@ impl<
         self.machine.run(events)
     }
 
-    /// Makes one whole call of a caller that is alone, and replies to it. Nothing may be under way: `is_at_rest` is the test. Then nothing is again.
+    /// Makes one whole call of a caller that is alone, and replies to it. Nothing may be under way before, as `is_at_rest` tells, and nothing is afterwards.
     ///
-    /// An insert or a get, and an invalidation that finds its key, runs a maintenance first where 64 operations are in its log, or the last one that such
-    /// a call has run is half a second ago. That takes the time of what was put off, of the entries that give way, and of at most 1,500 that are expired
-    /// or too many. Any other call but `Sync` takes the time of a look-up.
+    /// An insert or a get, and an invalidation or a removal that finds its key, runs a maintenance first if 64 operations are in its log, or the last one
+    /// that such a call has run is half a second ago. That takes the time of what was put off, of the entries that give way, and of at most 1,500 that are
+    /// expired or too many. Any other call but `Sync` takes the time of a look-up.
     pub fn call(
         &mut self,
         call: Call<Shared<K, A>, Shared<V, A>>,
@@ -198,7 +198,7 @@ impl<
         self.machine.call_get(key, now)
     }
 
-    /// Takes turns until no maintenance is under way. Returns whether one was.
+    /// Takes turns until no maintenance is under way. Returns `true` if one was.
     ///
     /// It takes the time of what was put off, of the entries that give way, and of at most 1,500 that are expired or too many.
     pub fn finish(&mut self) -> bool

@@ -155,7 +155,7 @@ impl<K: Eq + Hash + Drop, V: Drop, S: BuildHasher + Drop, A: Allocator + Clone +
         shard.insert(hash, key, value, weigher, now)
     }
 
-    /// Shares the live pairs of a shard. It allocates only if there are any.
+    /// Returns the live pairs of a shard, shared. It allocates only if there are any.
     pub fn copy(
         &self,
         alloc: &A,
@@ -250,7 +250,7 @@ impl<K: Eq + Hash + Drop, V: Drop, S: BuildHasher + Drop, A: Allocator + Clone +
         shard.touch(ticket, slot, moment)
     }
 
-    /// Touches the entries of hits, one after another. Their hints are those of their nodes then.
+    /// Touches the entries of hits, one after another. Each read's hint is then that of its node.
     pub fn touch_all(&mut self, reads: &mut [LoggedRead])
         ensures entries { self.new ≡ record self.old { entries = fold touched_by self.old.entries (reads_of reads.old) } }
         ensures reads { reads_of reads.new ≡ reads_of reads.old }

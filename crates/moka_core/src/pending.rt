@@ -31,7 +31,7 @@ impl<A: Allocator + Drop> Model for PendingOperations<A> {
 }
 
 impl<A: Allocator + Drop> PendingOperations<A> {
-    /// Makes pending operations with none, and with capacity for that of the caller of whole calls.
+    /// Makes a list without operations, with capacity for that of the caller of whole calls.
     pub fn new(alloc: A) -> Result<PendingOperations<A>, OutOfMemory>
         ensures { IfOk result (λ pending. pending ≡ record { operations = []; room = 1 }) }
     {

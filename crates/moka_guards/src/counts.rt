@@ -88,7 +88,7 @@ impl<A: Allocator + Drop> Model for Publisher<A> {
 }
 
 impl<A: Allocator + Clone + Drop> Publisher<A> {
-    /// Makes counts with nothing published but the opening ones.
+    /// Makes a publisher of counts, with nothing published but the opening ones.
     pub fn new(alloc: &A) -> Result<Self, AllocError>
         ensures { IfOk result (λ publisher. publisher.published ≡ opening ∷ []) }
     {
@@ -134,7 +134,7 @@ impl<A: Allocator + Drop> Publisher<A> {
 }
 
 impl<A: Allocator + Drop> Counts<A> {
-    /// Loads the newest counts, which the pass has seen then. They are no older than what it had seen.
+    /// Loads the newest counts, which the pass has then seen. They are no older than what it had seen.
     pub fn load<R: Wait>(&self, rt: &R, pass: &mut CountPass) -> Published
         requires { pass.old.counts ≡ self.now }
         ensures counts { pass.new.counts ≡ pass.old.counts }

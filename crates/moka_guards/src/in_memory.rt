@@ -39,7 +39,7 @@ where
 }
 
 impl<T> InMemory<T> {
-    /// Makes one. It is never refused, which is known when it is compiled.
+    /// Makes one. It is refused only for a type of more than 2^63 - 1 bytes, which the compiler knows.
     pub(crate) fn new() -> Result<Self, AllocError>
         ensures { IfOk result (λ _. FitsInMemory T.row) }
     {
@@ -51,7 +51,7 @@ impl<T> InMemory<T> {
         }
     }
 
-    /// Returns the same answer once more.
+    /// Returns another one.
     pub(crate) fn again(&self) -> Self {
         InMemory { of: self.of }
     }

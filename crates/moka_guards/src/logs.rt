@@ -69,7 +69,7 @@ impl<A: Allocator + Clone + Drop> Logs<A> {
         lock(rt, &self.writes.queue)
     }
 
-    /// Publishes the length of the read log: its capacity, the flush point or 0, since callers ask no more. It stores only a value that differs: a store takes
+    /// Publishes the length of the read log: its capacity, the flush point or 0, since callers need no more. It stores only a value that differs: a store takes
     /// the cache line from all who read it.
     pub fn publish_read_len(&self, len: usize) {
         let published = if len >= READ_LOG_SIZE {
@@ -93,7 +93,7 @@ impl<A: Allocator + Clone + Drop> Logs<A> {
         }
     }
 
-    /// Pushes a read to its log, and returns whether there was space. A log that is full by its published length isn't locked.
+    /// Pushes a read to its log, and returns `true` if there was space. A log that is full by its published length isn't locked.
     pub fn push_read<R: Wait>(&self, rt: &R, logged: LoggedRead) -> bool {
         if self.reads.load(Ordering::Acquire) >= READ_LOG_SIZE {
             return false;
@@ -104,8 +104,8 @@ impl<A: Allocator + Clone + Drop> Logs<A> {
         is_pushed
     }
 
-    /// Takes the first reads into a slice: as many as there are, as it holds, and as are wanted. Returns their number. Callers that push reads have the lock
-    /// first.
+    /// Takes the first reads into a slice: the least of what there is, what it holds and what is wanted. Returns their number. Callers that push reads get
+    /// the lock first.
     pub fn take_reads<R: Wait>(&self, rt: &R, wanted: usize, reads: &mut [LoggedRead]) -> usize
         ensures wanted { result ≤ wanted }
         ensures held { result ≤ length reads.old }
@@ -117,7 +117,8 @@ impl<A: Allocator + Clone + Drop> Logs<A> {
         count
     }
 
-    /// Pushes a write to its log, and returns whether there was space. While the log is full by its published length, the writer waits without the lock.
+    /// Pushes a write to its log, and returns `true` if there was space. While the log is full by its published length, the writer waits for a while, without
+    /// the lock.
     pub fn push_write<R: Wait>(&self, rt: &R, write: Write) -> bool {
         if !has_room(&self.writes.len, WRITE_LOG_SIZE) {
             return false;
@@ -128,7 +129,7 @@ impl<A: Allocator + Clone + Drop> Logs<A> {
         is_pushed
     }
 
-    /// Takes the first writes once those taken before are applied: as many as there are, as are wanted, and as can be taken at once.
+    /// Takes the first writes once those taken before are applied: the least of what there is, what is wanted and what can be taken at once.
     pub fn take_writes<R: Wait>(&self, rt: &R, wanted: usize, taken: &mut TakenWrites)
         requires { taken.old ≡ [] }
         ensures { length taken.new ≤ wanted }
@@ -138,7 +139,7 @@ impl<A: Allocator + Clone + Drop> Logs<A> {
         self.publish_write_len(queue.len());
     }
 
-    /// Notes that the writes that were taken are applied. They count against the capacity no more.
+    /// Notes that the writes that were taken are applied. They no longer count against the capacity.
     pub fn note_applied<R: Wait>(&self, rt: &R) {
         let mut queue = self.lock_writes(rt);
         queue.note_applied();

@@ -53,7 +53,7 @@ impl<A: Allocator + Clone + Drop> WriteQueue<A> {
         self.log.len() + self.taken
     }
 
-    /// Pushes a write. Returns whether there was space.
+    /// Pushes a write. Returns `true` if there was space.
     pub(crate) fn push(&mut self, write: Write) -> bool
         ensures variant { IsTrue result ↔ (on_their_way self.old < WRITE_LOG_SIZE) }
         ensures pushed { IsTrue result → self.new ≡ record self.old { log = self.old.log ++ write ∷ [] } }
@@ -65,7 +65,7 @@ impl<A: Allocator + Clone + Drop> WriteQueue<A> {
         self.log.push(write).is_ok()
     }
 
-    /// Takes the first writes out of the log, up to `wanted` or as many as fit in `taken`. All that were taken before must be applied.
+    /// Takes the first writes out of the log, up to `wanted` and up to 16. All that were taken before must be applied.
     pub(crate) fn take_first(&mut self, wanted: usize, taken: &mut TakenWrites)
         requires { taken.old ≡ [] }
         ensures count { length taken.new ≡ min (min wanted 16) (length self.old.log) }

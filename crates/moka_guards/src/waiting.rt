@@ -32,7 +32,7 @@ pub fn wait_forever<R: Wait>(rt: &R) -> ! {
     unreachable!()
 }
 
-/// Locks.
+/// Locks, and waits while another thread has the lock.
 #[inline]
 pub fn lock<'a, T, R: Wait>(rt: &R, part: &'a Mutex<T>) -> MutexGuard<'a, T> {
     match part.try_lock() {
@@ -75,12 +75,12 @@ fn spin(count: usize) {
     }
 }
 
-/// Returns `true` if a log has space, or gets it while one waits, by the word with its length.
+/// Returns `true` if a log has space, or gets it while the caller waits, by the word with its length.
 pub(crate) fn has_room(len: &AtomicUsize, size: usize) -> bool {
     len.load(Ordering::Acquire) < size || gets_room(len, size)
 }
 
-/// Returns `true` if a full log gets space while one looks at its word, ever more seldom.
+/// Returns `true` if a full log gets space while the caller looks at its word, ever more seldom.
 #[cold]
 #[inline(never)]
 fn gets_room(len: &AtomicUsize, size: usize) -> bool {

@@ -61,7 +61,7 @@ impl Housekeeper {
     }
 
     /// Calls the closure and returns `true`, unless another caller's closure is running: then it returns `false`, and drops the closure. The next
-    /// maintenance is due half a second after `now`, from before the closure is called.
+    /// maintenance is scheduled, half a second after `now`, before the closure is called.
     pub fn try_sync<F: FnOnce()>(&self, now: Instant, run: F) -> bool
         requires { F.pre run }
         ensures { IsTrue result → F.post run tt }

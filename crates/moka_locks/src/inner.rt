@@ -46,7 +46,7 @@ use std::sync::{Mutex, Wait};
 /// The shards, each behind its lock and on lines of its own.
 pub(crate) type LockedShards<K, V, S, P, A> = Vec<CachePadded<Mutex<Shard<K, V, S, P, A>>>, A>;
 
-/// The locks of a cache, and what lies beside them. What threads write to lies on lines of its own.
+/// The locks of a cache, and what lies beside them. Each lock lies on lines of its own.
 #[derive(Drop)]
 pub struct Inner<
     K: Eq + Hash + Drop,
@@ -165,13 +165,13 @@ impl<
         &self.shards[(hash % SHARDS as u64) as usize]
     }
 
-    /// Returns the moment of the last invalidation of all; older entries are hidden. It must be called while the lock of the tested entry's shard is held:
-    /// then it sees each invalidation that had ended when the entry was written.
+    /// Returns the moment of the last invalidation of all; older entries are hidden. An entry is tested by one that is loaded while the lock of its shard is
+    /// held: then it sees each invalidation that had ended when the entry was written.
     fn valid_after(&self) -> Instant {
         Instant::from_nanos(self.valid_after.load(Ordering::Acquire))
     }
 
-    /// Returns the moment of the last invalidation of all, and no earlier one than before.
+    /// Returns the moment of the last invalidation of all, or `before` if that is later.
     fn valid_after_since(&self, before: Instant) -> Instant
         ensures { before ≤ result }
     {
@@ -203,7 +203,7 @@ impl<
         shard.contains_key(key, hash, &self.settings, self.valid_after(), now)
     }
 
-    /// Shares the live pairs of a shard.
+    /// Returns the live pairs of a shard, shared.
     fn pairs<R: Wait>(
         &self,
         rt: &R,
@@ -261,7 +261,7 @@ impl<
         self.add_own(number, copied, pairs)
     }
 
-    /// Hides all entries from before a moment.
+    /// Hides all entries that were last written, or last read, before a moment.
     pub(crate) fn invalidate_all(&self, now: Instant) {
         self.valid_after.fetch_max(now.nanos(), Ordering::AcqRel);
     }
@@ -271,12 +271,12 @@ impl<
         self.entry_count.load(Ordering::Acquire)
     }
 
-    /// Returns their weight, at most `u64::MAX`.
+    /// Returns the weight of the charged entries when a maintenance last ended, at most `u64::MAX`.
     pub fn weighted_size(&self) -> u64 {
         self.weighted_size.load(Ordering::Acquire)
     }
 
-    /// Returns the counts that were published last, which the pass has seen then.
+    /// Returns the counts that were published last, which the pass has then seen.
     pub fn published<R: Wait>(&self, rt: &R, pass: &mut CountPass) -> Published
         requires { self.now.counted ≡ Some pass.old.counts }
         ensures counts { pass.new.counts ≡ pass.old.counts }
@@ -311,7 +311,7 @@ impl<
         RunningMaintenance::begin(rt, &self.maintenance, keeps_writes, now)
     }
 
-    /// Publishes what a maintenance that has ended has left.
+    /// Writes the counts of a maintenance that has ended into their words.
     pub(crate) fn publish(&self, published: Published) {
         self.entry_count.store(published.count, Ordering::Release);
         self.weighted_size

@@ -47,7 +47,7 @@ impl<'a, A: Allocator + Clone + Drop> Model for RunningMaintenance<'a, A> {
 }
 
 impl<'a, A: Allocator + Clone + Drop> RunningMaintenance<'a, A> {
-    /// Takes the lock, and begins a maintenance of a cache with a time to live, or of one without.
+    /// Takes the lock, and begins a maintenance. `keeps_writes` says if the cache has a time to live.
     pub(crate) fn begin<R: Wait>(
         rt: &R,
         lock_of: &'a Mutex<Option<IdleMaintenance<A>>>,
@@ -122,7 +122,7 @@ impl<'a, A: Allocator + Clone + Drop> RunningMaintenance<'a, A> {
         self.maintenance.phase()
     }
 
-    /// Publishes the counts of the maintenance, which has ended, gives it back, and frees its lock.
+    /// Publishes the counts of the maintenance, which has ended, to the cell, if there is one, gives it back, and releases its lock.
     pub(crate) fn end<R: Wait>(self, rt: &R)
         requires { self.working.maintenance.phase ≡ Idle }
     {

@@ -44,7 +44,7 @@ pub struct Session<
     pending: Pending,
     /// The maintenance that the caller runs.
     running: Option<RunningMaintenance<'a, A>>,
-    /// True if the caller has been told to run it, and nobody else is until it has ended.
+    /// True if the caller has won the flag: nobody else wins it until the maintenance has ended.
     runs_maintenance: bool,
 }
 
@@ -110,14 +110,14 @@ impl<
         }
     }
 
-    /// With a time to live, the maintenance that the caller runs has the same tickets in both orders. A law: the call does nothing.
+    /// Does nothing, and tells a proof that, with a time to live, the maintenance that the caller runs has the same tickets in both orders.
     pub fn has_both_orders(&self)
         ensures { IfSome self.now.working (λ w. HasBothOrders (keeps_writes self.now.cache.settings.policy) w.maintenance.orders) }
     {
         let _ = &self.running;
     }
 
-    /// Gives back the maintenance, which has ended, and publishes what it has left.
+    /// Writes the counts of the maintenance, which has ended, gives it back, and clears the flag if the caller won it.
     fn end<R: Wait>(&mut self, rt: &R)
         requires { IfSome self.old.working (λ w. w.maintenance.phase ≡ Idle) }
         ensures { self.new ≡ running None self.old }

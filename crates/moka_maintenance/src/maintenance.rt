@@ -49,7 +49,7 @@ pub enum Need {
     Nothing,
     Reads,
     Writes,
-    /// The entry of this ticket, if it stands.
+    /// The entry of this ticket, if there is one.
     Entry(Ticket),
 }
 
@@ -93,7 +93,7 @@ impl<A: Allocator + Clone + Drop> Maintenance<A> {
         self.state.orders.len()
     }
 
-    /// Returns the sum of their charges.
+    /// Returns the sum of the charges of all entries.
     pub fn charged_weight(&self) -> u128
         ensures { result ≡ charged_weight self.now.orders }
     {
@@ -156,7 +156,7 @@ impl<A: Allocator + Clone + Drop> Maintenance<A> {
         }
     }
 
-    /// Begins a maintenance, if none is under way: `phase` is the test.
+    /// Begins a maintenance. None may be under way: `phase` tells.
     pub fn begin(&mut self, now: Instant)
         requires { self.old.phase ≡ Idle }
         ensures { self.new ≡ record self.old { phase = ReadCount 1; moment = now } }
@@ -187,7 +187,7 @@ impl<A: Allocator + Clone + Drop> Maintenance<A> {
         matches!(self.state.phase, PhaseState::Reads { .. })
     }
 
-    /// Returns the number of reads that its round is still to take, if the next turn is to take one.
+    /// Returns the number of reads that its round is still to take if the next turn is to take one, and 0 otherwise.
     pub fn reads_left(&self) -> usize
         ensures { result ≡ reads_left self.now.phase }
     {
@@ -197,7 +197,7 @@ impl<A: Allocator + Clone + Drop> Maintenance<A> {
         }
     }
 
-    /// Takes the next reads and applies them, one after another. The caller pops the log and touches the entries.
+    /// Applies reads together, with the result of their single turns. The caller has popped them and touched their entries.
     pub fn apply_reads(&mut self, reads: &[LoggedRead])
         requires some { 0 < length reads.now }
         requires left { length reads.now ≤ reads_left self.old.phase }
@@ -215,7 +215,7 @@ impl<A: Allocator + Clone + Drop> Maintenance<A> {
         matches!(self.state.phase, PhaseState::Writes { .. })
     }
 
-    /// Returns the number of writes that its round is still to take, if the next turn is to take one.
+    /// Returns the number of writes that its round is still to take. The next turn must be one that takes a write.
     pub fn writes_left(&self) -> usize
         requires { TakesWrite self.now }
         ensures { result ≡ writes_left self.now.phase }

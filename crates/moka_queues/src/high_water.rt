@@ -14,7 +14,7 @@ pub(crate) struct HighWater {
 }
 
 impl HighWater {
-    /// Marks that no ticket with a number above 0 has come to.
+    /// Makes marks that no ticket with a number above 0 has come to.
     pub(crate) fn new() -> Self {
         HighWater { marks: [0; SHARDS] }
     }

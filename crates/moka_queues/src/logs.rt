@@ -71,7 +71,7 @@ impl<A: Allocator + Drop> ReadLog<A> {
         self.push_logged(LoggedRead { read, hint: 0 })
     }
 
-    /// Adds a read with its hint, as `push` does.
+    /// Pushes a read with its hint, as `push` does.
     pub fn push_logged(&mut self, logged: LoggedRead) -> Result<(), Read>
         ensures variant { IsOk result ↔ (length self.old < READ_LOG_SIZE) }
         ensures ok { OnOk result (self.new ≡ self.old ++ logged.read ∷ []) }
@@ -93,7 +93,7 @@ impl<A: Allocator + Drop> ReadLog<A> {
         Some(logged.read)
     }
 
-    /// Takes the first reads into a slice: as many as there are, as it holds, and as are wanted. Returns their number.
+    /// Takes the first reads into a slice: the least of what there is, what it holds and what is wanted. Returns their number.
     pub fn take_first(&mut self, wanted: usize, reads: &mut [LoggedRead]) -> usize
         ensures count { result ≡ min (min wanted (length reads.old)) (length self.old) }
         ensures reads { map (λ l. l.read) (take result reads.new) ≡ take result self.old }
@@ -151,7 +151,7 @@ impl<A: Allocator + Drop> WriteLog<A> {
         self.writes.try_push_back(write)
     }
 
-    /// Takes the first writes into a slice: as many as there are, as it holds, and as are wanted. Returns their number.
+    /// Takes the first writes into a slice: the least of what there is, what it holds and what is wanted. Returns their number.
     pub fn take_first(&mut self, wanted: usize, writes: &mut [Write]) -> usize
         ensures count { result ≡ min (min wanted (length writes.old)) (length self.old) }
         ensures writes { take result writes.new ≡ take result self.old }

@@ -79,8 +79,8 @@ impl<A: Allocator + Clone + Drop> Orders<A> {
         })
     }
 
-    /// Reserves capacity for one more node. If there is none, it doubles the capacity, but not past the number of nodes that the limit lets in and
-    /// one more, if that is less. The order of writing gets links for as many, also without a time to live: `enter` may be handed other limits.
+    /// Reserves capacity for one more node. If there is none, the capacity doubles, but stops at one more than the limit if it was
+    /// within that. The order of writing gets links for as many, even without a time to live: `enter` may be called with other limits.
     pub fn reserve(&mut self, limits: &Limits) -> Result<(), OutOfMemory>
         ensures ok { OnOk result (0 < self.new.room) }
         ensures unchanged { self.new ≡ record self.old { room = self.new.room } }
@@ -223,7 +223,7 @@ impl<A: Allocator + Clone + Drop> Orders<A> {
         self.access.update(id, |node| node.charge = weight);
     }
 
-    /// Notes if a scan found the entry of the node.
+    /// Notes whether a scan found the entry of the node.
     pub fn set_present(&mut self, id: NodeId, is_present: bool)
         requires { IsIn self.old.nodes id }
         ensures step { AtNode self.old id (λ n.
@@ -233,8 +233,8 @@ impl<A: Allocator + Clone + Drop> Orders<A> {
         self.access.update(id, |node| node.is_present = is_present);
     }
 
-    /// Adds a node at the back, also in the order of writing if there is a time to live. There must be room for it, and no node of its ticket: `reserve`
-    /// and `find` tell. Returns a hint for `find_at`.
+    /// Adds a node at the back, also in the order of writing if there is a time to live. There must be room for it, and no node of its ticket, as `reserve`
+    /// and `find` ensure. Returns a hint for `find_at`.
     pub fn enter(&mut self, ticket: Ticket, charge: u32, limits: &Limits) -> usize
         requires room { 0 < self.old.room }
         requires absent { charge_of ticket (orders_of self.old) ≡ None }

@@ -48,7 +48,7 @@ impl TakenWrites {
         }
     }
 
-    /// Returns `true` if all taken writes were applied.
+    /// Returns `true` if no taken write is left.
     pub fn is_empty(&self) -> bool
         ensures { result ≡ (length self.now == 0) }
     {

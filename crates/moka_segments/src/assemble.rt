@@ -37,7 +37,7 @@ fn caches_of<
     Ok(caches)
 }
 
-/// Builds a cache of this plan, and who hands out its owners' sessions. What the cache for one thread refuses is refused here, by the name of want of memory.
+/// Builds a cache by this plan, and the `Owners` that hand out its sessions. Whatever the cache for one thread refuses is returned as `OutOfMemory`.
 pub(crate) fn assemble<
     K: Eq + Hash + Drop,
     V: Drop,

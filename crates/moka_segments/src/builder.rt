@@ -26,7 +26,7 @@ use std::hash::{BuildHasher, Hash};
 use std::marker::{Model, PhantomData};
 use std::time::Duration;
 
-/// Makes a segmented cache, with what is set. Nothing is limited that isn't set.
+/// Builds a segmented cache with the settings that are made. What isn't set isn't limited.
 ///
 /// ```
 /// let cache: SegmentedCache<u64, u64> = SegmentedCache::builder(alloc)
@@ -36,8 +36,8 @@ use std::time::Duration;
 ///     .build()?;
 /// ```
 ///
-/// A builder takes no memory. `build` and its sisters refuse a duration of more than 1000 years, the time to live first, then a share above 100%, the window's
-/// first, then a number of segments that is 0 or above 2^32, and then want of memory.
+/// A builder takes no memory. `build`, `build_with_hasher` and `build_owned` refuse a duration of more than 1000 years, the time to live first, then a share
+/// above 100%, the window's first, then a number of segments that is 0 or above 2^32, and then want of memory.
 #[derive(Drop)]
 pub struct CacheBuilder<K, V, W: Drop = UnitWeight, P = Unruled> {
     alloc: Global,
@@ -94,7 +94,7 @@ impl<K, V> CacheBuilder<K, V, UnitWeight, Unruled> {
 }
 
 impl<K, V, W: Drop, P> CacheBuilder<K, V, W, P> {
-    /// Sets the most entries, or with a weigher the most weight, of all segments together.
+    /// Sets the largest number of entries, or with a weigher the largest weight, of all segments together.
     pub fn max_capacity(self, max_capacity: u64) -> Self
         ensures { result ≡ record self { policy = record self.policy { max_capacity = Some max_capacity } } }
     {
@@ -104,7 +104,7 @@ impl<K, V, W: Drop, P> CacheBuilder<K, V, W, P> {
         }
     }
 
-    /// Sets the number of segments, from 1 to 2^32. The default is 64, and fewer if a segment had less than 100 entries of the limit then.
+    /// Sets the number of segments, from 1 to 2^32. The default is 64, or fewer if a segment would have less than 100 of the limit.
     pub fn num_segments(self, num_segments: usize) -> Self
         ensures { result ≡ record self { num_segments = Some num_segments } }
     {
@@ -114,7 +114,7 @@ impl<K, V, W: Drop, P> CacheBuilder<K, V, W, P> {
         }
     }
 
-    /// Sets the number of entries that the segments together have room for from the start. Each has its part of that.
+    /// Sets the number of entries that the segments together have room for from the start. Each segment gets an equal part.
     pub fn initial_capacity(self, initial_capacity: usize) -> Self
         ensures { result ≡ record self { initial_capacity = initial_capacity } }
     {
@@ -170,7 +170,7 @@ impl<K, V, W: Drop, P> CacheBuilder<K, V, W, P> {
         }
     }
 
-    /// Sets what says how much an entry weighs. It is asked under the lock of the key's segment, once for each insert that has its room.
+    /// Sets the weigher. It is called under the lock of the key's segment, once for each insert that isn't refused memory.
     pub fn weigher<N: Weighing<K, V>>(self, weigher: N) -> CacheBuilder<K, V, N, P>
         ensures { result ≡ record {
           policy = self.policy;
@@ -209,7 +209,7 @@ impl<K, V, W: Drop, P> CacheBuilder<K, V, W, P> {
         }
     }
 
-    /// Sets the listener, of which each session gets a clone. It is set last.
+    /// Sets the listener, of which each session gets a clone. Set it last.
     ///
     /// ```
     /// let cache: NotifyingCache<u64, u64, Statistics> = SegmentedCache::builder(alloc)
@@ -233,7 +233,7 @@ impl<K, V, W: Drop, P> CacheBuilder<K, V, W, P> {
         }
     }
 
-    /// Returns the first fault of what is set.
+    /// Returns the first fault among the settings.
     fn fault(&self) -> Option<BuildError>
         ensures { result ≡ fault_of self.now }
     {
@@ -297,7 +297,7 @@ impl<K: Eq + Hash + Drop, V: Drop, W: Weighing<K, V> + Copy, P: Rule<K, V>> Cach
         self.build_with_hasher(FixedState::default())
     }
 
-    /// Builds the cache with a hash state of one's own, of which each segment has a copy.
+    /// Builds the cache with this hash state, of which each segment has a copy.
     pub fn build_with_hasher<S: BuildHasher + Copy>(
         self,
         hash_state: S,
@@ -310,7 +310,7 @@ impl<K: Eq + Hash + Drop, V: Drop, W: Weighing<K, V> + Copy, P: Rule<K, V>> Cach
         Ok(cache)
     }
 
-    /// Builds the cache, and who hands out the sessions of its owners.
+    /// Builds the cache with this hash state, and the `Owners` that hand out sessions by number.
     pub fn build_owned<S: BuildHasher + Copy>(
         self,
         hash_state: S,

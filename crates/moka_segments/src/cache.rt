@@ -138,11 +138,11 @@ impl<
         call::peek(rt, shared, &mut caller, key, now)
     }
 
-    /// Returns a clone of the value of the key. If the key has no unexpired entry, `make` is called, and what it gives is inserted, as by `insert`; a clone of it
-    /// is returned also if the admission policy rejects the entry.
+    /// Returns a clone of the value of the key. If the key has no unexpired entry, `make` is called, and its value is inserted, as by `insert`; a clone of it
+    /// is returned even if the admission policy rejects the entry.
     ///
-    /// All of it is one visit under the lock of the key's segment: however many threads ask for a key at once, one of them makes its value, as long as the entry
-    /// stays. So `make` must not call this cache, which would wait for itself. If memory is refused, what was made is dropped.
+    /// All of it is one visit under the lock of the key's segment: however many threads ask for a key at once, one of them makes its value, as long as the
+    /// entry stays. So `make` must not call this cache, which would wait for itself. If memory is refused, what was made is dropped.
     pub fn get_or_insert_with<F: FnOnce() -> V, R: Wait>(
         &self,
         rt: &R,
@@ -171,7 +171,7 @@ impl<
     P: Rule<K, V>,
 > SegmentedCache<K, V, S, W, P> {
     /// Clones the live pairs, one segment after another: those of a segment as they are at one moment, in its order of use. Each key comes once.
-    /// If memory is refused for the list or a clone, it answers `OutOfMemory` and the cache is as it was.
+    /// If memory is refused for the list or a clone, it returns `OutOfMemory`, and the cache is as it was.
     pub fn iter<R: Wait>(
         &self,
         rt: &R,
@@ -202,7 +202,7 @@ impl<
     W: Weighing<K, V>,
     P: Rule<K, V>,
 > SegmentedCache<K, V, S, W, P> {
-    /// Returns whether the key has an unexpired entry. It doesn't count as a use of the key.
+    /// Returns `true` if the key has an unexpired entry. It doesn't count as a use of the key.
     pub fn contains_key<R: Wait>(&self, rt: &R, key: &K, now: Instant) -> bool
         ensures made { ByGuest {K = K} {V = V} {S = S} {W = W} self.now.plan (λ old new. Looks (keys_by K.Hash S.BuildHasher
             S.Hasher.Hasher) W.weighs P.rules self.now.plan old key.now now result new) }
@@ -212,7 +212,8 @@ impl<
         call::contains_key(rt, shared, &mut caller, key, now, &mut NoListener)
     }
 
-    /// Puts the value at the key. The admission policy of the segment may reject a new entry, which is `Ok` as well. If memory is refused, all is as it was.
+    /// Puts the value at the key. The admission policy of the segment may reject a new entry, which is `Ok` as well. If memory is refused, the entries are as
+    /// they were.
     pub fn insert<R: Wait>(&self, rt: &R, key: K, value: V, now: Instant) -> Result<(), InsertError>
         requires holds { P.rules.holds key value }
         requires owns { (seat : ℕ) → P.rules.owns (guest seat) key }
@@ -264,7 +265,7 @@ impl<
         );
     }
 
-    /// Removes the entries at which the predicate answers `true`, one segment after another. It is called once at each entry, in order of use, with a copy of it
+    /// Removes the entries for which the predicate returns `true`, one segment after another. It is called once for each entry, in order of use, and copied
     /// for each segment. It must not call this cache, which would wait for itself.
     pub fn invalidate_entries_if<F: FnMut(&K, &V) -> bool + Copy, R: Wait>(
         &self,

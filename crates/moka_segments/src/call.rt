@@ -24,7 +24,7 @@ use moka_unsync_model::listener::Listener;
 use std::hash::{BuildHasher, Hash};
 use std::sync::Wait;
 
-/// Returns a clone of the value of the key, which is used.
+/// Returns a clone of the value of the key's unexpired entry, if there is one, and counts as a use.
 #[inline]
 pub(crate) fn get<
     K: Eq + Hash + Drop,
@@ -59,7 +59,7 @@ pub(crate) fn get<
     visit::get(rt, &shared.table.shared, me, i, key, hash, now, listener)
 }
 
-/// Returns a clone of the value of the key, which is not used.
+/// Returns a clone of the value of the key's unexpired entry, if there is one, without counting as a use.
 #[inline]
 pub(crate) fn peek<
     K: Eq + Hash + Drop,
@@ -89,7 +89,7 @@ pub(crate) fn peek<
     visit::peek(rt, &shared.table.shared, me, i, key, hash, now)
 }
 
-/// Returns whether the key has an unexpired entry.
+/// Returns `true` if the key has an unexpired entry.
 #[inline]
 pub(crate) fn contains_key<
     K: Eq + Hash + Drop,
@@ -202,7 +202,7 @@ pub(crate) fn invalidate<
     visit::invalidate(rt, &shared.table.shared, me, i, key, hash, now, listener);
 }
 
-/// Removes the entry of the key, and returns its value.
+/// Removes the entry of the key, and returns its value, unless it is expired.
 #[inline]
 pub(crate) fn remove<
     K: Eq + Hash + Drop,

@@ -16,7 +16,7 @@ use std::marker::Brand;
 use std::snapshot::Snapshot;
 use std::sync::Wait;
 
-/// Removes the entries of a segment at which the predicate answers `true`.
+/// Removes the entries of a segment for which the predicate returns `true`.
 fn invalidate_entries_if_in<
     K: Eq + Hash + Drop,
     V: Drop,
@@ -53,7 +53,7 @@ fn invalidate_entries_if_in<
     leave::<_, _, _, _, _, Brand>(row, me, i, (before, after));
 }
 
-/// Removes the entries at which the predicate answers `true`, one segment after another.
+/// Removes the entries for which the predicate returns `true`, one segment after another.
 pub fn invalidate_entries_if<
     K: Eq + Hash + Drop,
     V: Drop,

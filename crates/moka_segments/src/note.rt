@@ -4,7 +4,7 @@ use crate::weigher::Weighing;
 use std::hash::{BuildHasher, Hash};
 use std::marker::Model;
 
-/// A note of what a session has seen, which may cross threads: a session that takes it in (`Session::learn`) goes on from that history. To a clause it is
+/// A note of what a session has seen, which may cross threads: a session that takes it in (`Session::learn`) goes on from that history. A clause sees
 /// which cache it is of, and of each segment a history.
 #[derive(Drop)]
 pub struct Note<K: Eq + Hash + Drop, V: Drop, S: BuildHasher + Drop, W: Weighing<K, V>> {

@@ -14,8 +14,8 @@ use std::alloc::AllocError;
 use std::hash::{BuildHasher, Hash};
 use std::marker::Model;
 
-/// A cache of segments with a listener, of which each session has a clone. So each entry that leaves goes to the listener of the session in whose call it leaves:
-/// within the call, once, with its cause.
+/// A cache of segments with a listener, of which each session has a clone. So each entry that leaves goes to the listener of the session in whose call it
+/// leaves: within the call, once, with its cause.
 ///
 /// ```
 /// let cache: NotifyingCache<u64, u64, Statistics> = SegmentedCache::builder(alloc)
@@ -30,7 +30,7 @@ use std::marker::Model;
 /// All calls are those of a session. A session's listener is its own, so threads don't wait for each other's. To put together what the listeners of several
 /// sessions got, have them share it, as by an `Arc`, or add it up in the end.
 ///
-/// What is left in a cache that is dropped goes to no listener: `invalidate_all` of a session tells it.
+/// What is left in a cache that is dropped goes to no listener: call `invalidate_all` of a session first.
 #[derive(Drop)]
 pub struct NotifyingCache<
     K: Eq + Hash + Drop,

@@ -88,7 +88,7 @@ impl<
         &self.listener
     }
 
-    /// Puts another listener in place of the one that is there, and returns that.
+    /// Replaces the listener, and returns the old one.
     pub fn replace_listener(&mut self, listener: L) -> L
         ensures value { result ≡ self.old.listener }
         ensures step { self.new ≡ record self.old { listener = listener } }
@@ -242,7 +242,7 @@ impl<
     W: Weighing<K, V>,
     P: Rule<K, V>,
 > NotifyingSession<K, V, L, S, W, P> {
-    /// Returns whether the key has an unexpired entry, as `Session::contains_key` does.
+    /// Returns `true` if the key has an unexpired entry, as `Session::contains_key` does.
     pub fn contains_key<R: Wait>(&mut self, rt: &R, key: &K, now: Instant) -> bool
         ensures same { self.new.session.cache ≡ self.old.session.cache }
         ensures made { Looks (keys_by K.Hash S.BuildHasher S.Hasher.Hasher) W.weighs P.rules self.old.session.cache.plan self.old.session.knows key.now now
@@ -254,7 +254,7 @@ impl<
             .contains_notifying(rt, key, now, &mut self.listener)
     }
 
-    /// Puts the value at the key, as `Session::insert` does. If it replaces a value, the listener gets that with the key that was handed in.
+    /// Puts the value at the key, as `Session::insert` does. If it replaces a value, the listener gets the old value with the new key.
     pub fn insert<R: Wait>(
         &mut self,
         rt: &R,

@@ -14,8 +14,8 @@ use std::hash::{BuildHasher, Hash};
 use std::sync::Wait;
 use std::thread::{Threads, join};
 
-/// Writes a value at a key, and reads the key. What is found is that value, unless a visit of another thread between the two wrote, invalidated or removed
-/// the key. If the session is the only one that may write the key, nothing can. It returns `None` if memory was refused.
+/// Writes a value at a key, and reads the key. If a value is found, it is that one, unless a visit of another thread between the two wrote, invalidated or
+/// removed the key. If the session is the only one that may write the key, nothing can. It returns `None` if memory was refused.
 pub fn write_and_read<
     K: Eq + Hash + Copy,
     V: Copy,
@@ -38,8 +38,8 @@ pub fn write_and_read<
     Some(found)
 }
 
-/// Writes a value at a key by one session, tells another, and reads the key by that one. What is found is that value, unless a visit behind the write wrote,
-/// invalidated or removed the key. It returns `None` if memory was refused.
+/// Writes a value at a key by one session, tells another, and reads the key by that one. If a value is found, it is that one, unless a visit after the write
+/// wrote, invalidated or removed the key. It returns `None` if memory was refused.
 pub fn tell_and_read<
     K: Eq + Hash + Copy,
     V: Copy,
@@ -70,8 +70,8 @@ pub fn tell_and_read<
     Some(found)
 }
 
-/// Takes in a note of what another session has seen, and reads a key. What is found is the value last written in a history that goes on from the note. It returns
-/// `None` if memory was refused.
+/// Takes in a note of what another session has seen, and reads a key. If a value is found, it is the one last written in a history that goes on from the
+/// note. It returns `None` if memory was refused.
 pub fn learn_and_read<
     K: Eq + Hash + Drop,
     V: Clone + Drop,
@@ -98,8 +98,8 @@ pub fn learn_and_read<
     Some(found)
 }
 
-/// Shares a cache between two threads, each of which writes a key by its session and reads it. Whatever the schedule, each finds what it wrote, unless a
-/// visit between its two calls touched its key.
+/// Shares a cache between two threads, each of which writes a key by its session and reads it. Whatever the schedule, a value that one finds is what it
+/// wrote, unless a visit between its two calls touched its key.
 pub fn both<
     K: Eq + Hash + Copy + Send + Sync,
     V: Copy + Send + Sync,

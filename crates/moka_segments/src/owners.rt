@@ -15,7 +15,7 @@ use std::hash::{BuildHasher, Hash};
 use std::marker::Model;
 use std::sync::Arc;
 
-/// Hands out the sessions of owners, numbered in turn, of which no two have one number. A cache has one such, which comes with it from the builder. A rule may
+/// Hands out the sessions of owners, numbered in turn, no two alike. A cache has one, from `CacheBuilder::build_owned`. A rule may
 /// say which owner writes which keys (`Rule`).
 #[derive(Drop)]
 pub struct Owners<

@@ -20,7 +20,7 @@ pub struct Plan<S: Drop> {
     pub is_weighed: bool,
 }
 
-/// Returns the segment of a hash, by its high bits. The index and the sketch of a segment go by other bits.
+/// Returns the segment of a hash, by its high bits. The index and the sketch of a segment multiply the hash first, so keys of one segment are spread there.
 #[inline]
 pub fn segment_of(hash: u64, count: usize) -> usize
     requires { (0 < count) × (count ≤ 2 ^ 32) }
@@ -30,7 +30,7 @@ pub fn segment_of(hash: u64, count: usize) -> usize
     (hash / 4_294_967_296 * count as u64 / 4_294_967_296) as usize
 }
 
-/// Returns the part of a limit that a segment has.
+/// Returns segment `i`'s part of a limit.
 pub fn share(limit: u64, count: usize, i: usize) -> u64
     requires { (0 < count) × (count ≤ 2 ^ 32) }
     ensures { result ≡ share limit count i }
@@ -44,7 +44,7 @@ pub fn share(limit: u64, count: usize, i: usize) -> u64
     }
 }
 
-/// The parts of a limit sum up to the limit.
+/// States that the parts of a limit sum up to it.
 pub fn shares_are_the_limit()
     ensures { (limit count : ℕ) → 0 < count → total (share limit count) count ≡ limit }
 {}

@@ -159,7 +159,7 @@ pub fn lock<T, E, K, P: Account<T, E, K>, R: Wait>(
     }
 }
 
-/// Waits for a lock that another has. Each look is after a longer pause, which soon yields the processor to the holder of the lock, and a thread that still
+/// Waits for a lock that another has. Each look comes after a longer pause, which soon yields the processor to the holder of the lock, and a thread that still
 /// finds it held sleeps: so more threads than processors make progress, and none burns its time slice.
 #[cold]
 #[inline(never)]
@@ -245,7 +245,7 @@ pub fn leave_unsaid<T, E, K, P: Account<T, E, K>>(
 /// A row with its memory.
 pub type RowTable<T, E, K, P> = Table<T, Known<E, K>, K, Ruled<P>, Global>;
 
-/// Opens a row of these values, each with an empty history, and returns with it who deals out the owners' numbers.
+/// Opens a row of these values, each with an empty history, and returns it with the seat that deals out the owners' numbers.
 pub fn open<T: Drop, E, K, P: Account<T, E, K>>(
     alloc: Global,
     values: Vec<T>,

@@ -31,9 +31,9 @@ use std::sync::{Arc, Wait};
 
 /// A caller's place in the histories of the segments. A thread has one of its own, by `SegmentedCache::session` or `Owners::session`.
 ///
-/// To a clause it is its cache, and what it knows: its number, of each segment a history that it has seen, and its own visits there. Each call stands in the
-/// history behind all that the session had seen, so what is proved of the cache for one thread holds at that place. A session that was told of another's
-/// (`note` and `learn`) stands behind that too.
+/// A clause sees its cache and what it knows: its number, of each segment a history that it has seen, and its own visits there. Each call comes, in the
+/// history, after all that the session had seen, so what is proved of the cache for one thread holds at that place. The calls of a session that learned a note
+/// (`note` and `learn`) come after what that had seen, too.
 #[derive(Drop)]
 pub struct Session<
     K: Eq + Hash + Drop,
@@ -89,11 +89,11 @@ impl<
         call::peek(rt, &*self.shared, &mut self.caller, key, now)
     }
 
-    /// Returns a clone of the value of the key. If the key has no unexpired entry, `make` is called, and what it gives is inserted, as by `insert`; a clone of it
-    /// is returned also if the admission policy rejects the entry.
+    /// Returns a clone of the value of the key. If the key has no unexpired entry, `make` is called, and its value is inserted, as by `insert`; a clone of it
+    /// is returned even if the admission policy rejects the entry.
     ///
-    /// All of it is one visit under the lock of the key's segment: however many threads ask for a key at once, one of them makes its value, as long as the entry
-    /// stays. So `make` must not call this cache, which would wait for itself. If memory is refused, what was made is dropped.
+    /// All of it is one visit under the lock of the key's segment: however many threads ask for a key at once, one of them makes its value, as long as the
+    /// entry stays. So `make` must not call this cache, which would wait for itself. If memory is refused, what was made is dropped.
     pub fn get_or_insert_with<F: FnOnce() -> V, R: Wait>(
         &mut self,
         rt: &R,
@@ -121,7 +121,7 @@ impl<
     P: Rule<K, V>,
 > Session<K, V, S, W, P> {
     /// Clones the live pairs, one segment after another: those of a segment as they are at one moment, in its order of use. Each key comes once.
-    /// If memory is refused for the list or a clone, it answers `OutOfMemory` and the cache is as it was.
+    /// If memory is refused for the list or a clone, it returns `OutOfMemory`, and the cache is as it was.
     pub fn iter<R: Wait>(
         &mut self,
         rt: &R,
@@ -151,7 +151,7 @@ impl<K: Eq + Hash + Drop, V: Drop, S: BuildHasher + Drop, W: Weighing<K, V>, P: 
     W,
     P,
 > {
-    /// Returns whether the key has an unexpired entry. It doesn't count as a use of the key.
+    /// Returns `true` if the key has an unexpired entry. It doesn't count as a use of the key.
     pub fn contains_key<R: Wait>(&mut self, rt: &R, key: &K, now: Instant) -> bool
         ensures same { self.new.cache ≡ self.old.cache }
         ensures made { Looks (keys_by K.Hash S.BuildHasher S.Hasher.Hasher) W.weighs P.rules self.old.cache.plan self.old.knows key.now now
@@ -160,7 +160,8 @@ impl<K: Eq + Hash + Drop, V: Drop, S: BuildHasher + Drop, W: Weighing<K, V>, P: 
         self.contains_notifying(rt, key, now, &mut NoListener)
     }
 
-    /// Puts the value at the key. The admission policy of the segment may reject a new entry, which is `Ok` as well. If memory is refused, all is as it was.
+    /// Puts the value at the key. The admission policy of the segment may reject a new entry, which is `Ok` as well. If memory is refused, the entries are as
+    /// they were.
     pub fn insert<R: Wait>(
         &mut self,
         rt: &R,
@@ -207,7 +208,7 @@ impl<K: Eq + Hash + Drop, V: Drop, S: BuildHasher + Drop, W: Weighing<K, V>, P: 
         self.invalidate_all_notifying(rt, &mut NoListener);
     }
 
-    /// Removes the entries at which the predicate answers `true`, one segment after another. It is called once at each entry, in order of use, with a copy of it
+    /// Removes the entries for which the predicate returns `true`, one segment after another. It is called once for each entry, in order of use, and copied
     /// for each segment. It must not call this cache, which would wait for itself.
     pub fn invalidate_entries_if<F: FnMut(&K, &V) -> bool + Copy, R: Wait>(
         &mut self,
@@ -253,7 +254,7 @@ impl<K: Eq + Hash + Drop, V: Drop, S: BuildHasher + Drop, W: Weighing<K, V>, P: 
         )
     }
 
-    /// Makes it a session that tells a listener of each entry that leaves in its calls.
+    /// Turns it into a session that gives a listener each entry that leaves in its calls.
     pub fn with_listener<L: Drop>(self, listener: L) -> NotifyingSession<K, V, L, S, W, P>
         ensures { result ≡ record { session = self; listener = listener } }
     {
@@ -267,7 +268,7 @@ impl<K: Eq + Hash + Drop, V: Drop, S: BuildHasher + Drop, W: Weighing<K, V>, P: 
         self.shared.plan.policy
     }
 
-    /// Returns a note of what the session has seen so far, to be told to another one.
+    /// Returns a note of what the session has seen so far, for another one to learn.
     pub fn note(&mut self) -> Note<K, V, S, W>
         ensures same { self.new ≡ self.old }
         ensures note { result ≡ record { id = self.old.cache.id; seen = self.old.knows.seen } }
@@ -278,7 +279,7 @@ impl<K: Eq + Hash + Drop, V: Drop, S: BuildHasher + Drop, W: Weighing<K, V>, P: 
         }
     }
 
-    /// Takes in a note of another session of the same cache. What that session had seen then, this one has seen from now on, and its next calls stand behind
+    /// Takes in a note of another session of the same cache. What that session had seen then, this one has seen from now on, and its next calls come after
     /// it.
     pub fn learn(&mut self, note: Note<K, V, S, W>)
         requires { note.id ≡ self.old.cache.id }

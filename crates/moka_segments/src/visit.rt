@@ -34,7 +34,7 @@ use std::marker::Brand;
 use std::snapshot::Snapshot;
 use std::sync::Wait;
 
-/// Clones what was found, and says what it is for the proofs.
+/// Clones what was found, and returns a snapshot of it for the proofs.
 #[inline]
 pub(crate) fn looked<V: Clone>(
     found: Option<&V>,
@@ -54,7 +54,7 @@ pub(crate) fn looked<V: Clone>(
     }
 }
 
-/// Returns a clone of the value of a key, which is used.
+/// Returns a clone of the value of a key's unexpired entry, if there is one, and counts as a use.
 #[inline]
 pub fn get<
     K: Eq + Hash + Drop,
@@ -95,7 +95,7 @@ pub fn get<
     found
 }
 
-/// Returns a clone of the value of a key, which is not used.
+/// Returns a clone of the value of a key's unexpired entry, if there is one, without counting as a use.
 #[inline]
 pub fn peek<
     K: Eq + Hash + Drop,
@@ -133,7 +133,7 @@ pub fn peek<
     found
 }
 
-/// Returns whether a key has an unexpired entry.
+/// Returns `true` if a key has an unexpired entry.
 #[inline]
 pub fn contains_key<
     K: Eq + Hash + Drop,
@@ -262,7 +262,7 @@ pub fn invalidate<
     leave::<_, _, _, _, _, Brand>(row, me, i, (before, after, asked, moment));
 }
 
-/// Removes the entry of a key, and returns its value.
+/// Removes the entry of a key, and returns its value, unless it is expired.
 #[inline]
 pub fn remove<
     K: Eq + Hash + Drop,

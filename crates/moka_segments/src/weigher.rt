@@ -9,10 +9,10 @@ use std::marker::Model;
 /// Weighs entries. It is a trait apart from `Weigh`, which closures have too: a type with a bound whose trait fits in two ways gets no generated proof
 /// where it is used. So a closure needs a type of its own with an impl.
 pub trait Weighing<K, V>: Drop {
-    // Whether the weigher may be asked.
+    // That the weigher may be called.
     ghost ready: { Self → Type 0 };
 
-    // What the weigher answers for a key and a value, and what it is then.
+    // What the weigher returns for a key and a value, and what it is then.
     ghost weighs: { Self → K → V → ℕ → Self → Type 0 };
 
     /// Returns the weight of an entry, which may be 0.

@@ -319,7 +319,7 @@ impl<
         false
     }
 
-    /// Shares the live pairs.
+    /// Returns the live pairs, shared.
     pub fn pairs(
         &self,
         alloc: A,

@@ -23,7 +23,7 @@ use std::hash::{BuildHasher, Hash};
 use std::marker::{Model, PhantomData};
 use std::time::Duration;
 
-/// Makes a cache that threads share, or the core of one, with what is set. Nothing is limited that isn't set.
+/// Builds a cache that threads share, or the core of one, with the settings that are made. What isn't set isn't limited.
 ///
 /// ```
 /// let cache: Cache<u64, String> = Cache::builder(alloc)
@@ -32,7 +32,7 @@ use std::time::Duration;
 ///     .build()?;
 /// ```
 ///
-/// A weigher makes the capacity a weight, as of the bytes of a text. It changes nothing, since several threads may ask it at the same time:
+/// A weigher makes the capacity a weight, as of the bytes of a text. It has no state to change, since several threads may call it at the same time:
 ///
 /// ```
 /// let cache = Cache::builder(alloc)
@@ -41,17 +41,17 @@ use std::time::Duration;
 ///     .build()?;
 /// ```
 ///
-/// `pair_rule` sets a rule that each pair of the cache meets (`PairRule`). `build_with_hasher` takes a hash state of the caller's; `build_counted` takes
-/// one too, and gives a pass beside the cache, by which a count and its weight are loaded together (`Cache::published`); `build_core` gives the
+/// `pair_rule` sets a rule that each pair of the cache meets (`PairRule`). `build_with_hasher` takes a hash state; `build_counted` takes
+/// one too, and returns a pass beside the cache, by which a count and its weight are loaded together (`Cache::published`); `build_core` returns the
 /// cache's core, which has no locks.
 ///
-/// A builder takes no memory. Each way to build refuses a duration of more than 1000 years, the time to live first, an initial capacity that passes
+/// A builder takes no memory. Each way to build refuses a duration of more than 1000 years, the time to live first, an initial capacity that exceeds
 /// `usize::MAX` together with a log's room, and want of memory.
 ///
 /// # What differs from mini-moka
 ///
 /// `new` and `default` take the allocator, and `build` returns a `Result`: a duration that makes mini-moka panic is a named refusal. The weigher is a type
-/// parameter and not a box. It is asked while the lock of the key's shard is held, once there is room for the entry; mini-moka asks it before that lock.
+/// parameter and not a box. It is called while the lock of the key's shard is held, once there is room for the entry; mini-moka calls it before that lock.
 /// The default hash state has a fixed key. Pair rules, published counts and the core are not in mini-moka.
 #[derive(Drop)]
 pub struct CacheBuilder<
@@ -111,8 +111,8 @@ impl<K, V, W: Drop, A: Allocator + Clone + Drop, P> CacheBuilder<K, V, W, A, P> 
         }
     }
 
-    /// Sets the number of entries that fit from the start, in equal parts for the shards, with as many more as a log holds. More are found room for as they
-    /// come.
+    /// Sets the number of entries for which memory is reserved at the start, in equal parts for the shards, and for as many more as a log holds. Room for
+    /// more is made as they come.
     pub fn initial_capacity(self, initial_capacity: usize) -> Self
         ensures { result ≡ record self { initial_capacity = initial_capacity } }
     {
@@ -163,7 +163,7 @@ impl<K, V, W: Drop, A: Allocator + Clone + Drop, P> CacheBuilder<K, V, W, A, P> 
 }
 
 impl<K: Eq, V, W: Drop, A: Allocator + Clone + Drop, P> CacheBuilder<K, V, W, A, P> {
-    /// Makes a builder, with all that is set, of caches whose pairs meet this rule.
+    /// Sets the rule that each pair of the cache meets.
     pub fn pair_rule<Q: PairRule<K, V>>(self) -> CacheBuilder<K, V, W, A, Q>
         ensures { result ≡ self }
     {
@@ -187,7 +187,7 @@ impl<K: Eq, V, W: Drop, A: Allocator + Clone + Drop, P> CacheBuilder<K, V, W, A,
 }
 
 impl<K, V, W: Drop, A: Allocator + Clone + Drop, P> CacheBuilder<K, V, W, A, P> {
-    /// Returns the parts of a cache, with the allocator, if what is set is legal.
+    /// Returns the parts of a cache, with the allocator, if the settings are legal.
     fn parts<S: Drop>(self, hash_state: S) -> Result<(A, CoreParts<S, W>), BuildError>
         ensures legal { IfOk result (λ built. IsLegal self) }
         ensures parts { IfOk result (λ built. ArePartsOf self hash_state built.1) }

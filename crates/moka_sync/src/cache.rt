@@ -50,18 +50,18 @@ use std::sync::Wait;
 ///
 /// # Locks
 ///
-/// The map has 16 shards, each behind a lock of its own. A call takes the lock of its key's shard, frees it, and then puts what it has done into a log
+/// The map has 16 shards, each behind a lock of its own. A call takes the lock of its key's shard, releases it, and then puts what it has done into a log
 /// behind another lock: a read into one, which drops it if it is full, and a write into the other, if need be after a wait for space. No call takes two locks
-/// at a time but a maintenance, which has its own and one other. A value is cloned when no lock is held, but for `remove`, which clones it behind the
-/// shard's; the weigher is asked behind the shard's too.
+/// at a time but a maintenance, which has its own and one other. A value is cloned when no lock is held, except by `remove`, which clones it under the
+/// shard's; the weigher is called under it too.
 /// `policy`, `entry_count`, `weighted_size`, `invalidate_all` and `clone` take no lock. No clause says that a call which waits returns.
 ///
 /// # Maintenance
 ///
-/// Some caller drains the logs within its call: when one reaches 64 operations, every 500 ms by the moments that are handed in, or on `sync`. This
-/// maintenance charges entries, and admits or rejects them by the size-aware TinyLFU of Caffeine (Einziger, Friedman and Manes). It evicts entries that
-/// are expired, over the limit, or have no memory for a node. Until then the map may exceed its limit, by as many entries as the logs hold and threads
-/// are about to push, and the counts are those of the last maintenance. No read gives an expired entry, evicted or not.
+/// A caller drains the logs within its call: when one has 64 operations, when 500 ms have passed since the last maintenance, by the moments that are handed
+/// in, or on `sync`. This maintenance charges entries, and admits or rejects them by the size-aware TinyLFU of Caffeine (Einziger, Friedman and Manes). It
+/// evicts entries that are expired, over the limit, or have no memory for a node. Until then the map may exceed its limit, by as many entries as the logs
+/// hold and threads are about to push, and the counts are those of the last maintenance. No read returns an expired entry, evicted or not.
 ///
 /// # Pairs
 ///
@@ -69,8 +69,8 @@ use std::sync::Wait;
 ///
 /// # Size, expiry, hashing
 ///
-/// These are as at `unsync::Cache`, but that limits hold after a maintenance. A call hashes its key once, before it takes a lock; the insert of a key that
-/// isn't there hashes it once more under the lock.
+/// These are as for `unsync::Cache`, but without a window or protected entries, and limits hold after a maintenance. A call hashes its key once, before it
+/// takes a lock; the insert of a key that isn't there hashes it once more under the lock.
 ///
 /// # Cost
 ///
@@ -131,7 +131,7 @@ impl<
 > Clone for Cache<K, V, S, P, W, A> {
     ghost is_clone = { λ cache copy. copy ≡ cache };
 
-    /// Returns the same cache. It takes no memory: only where there are too many clones to count is it refused.
+    /// Returns the same cache. It takes no memory, and is refused only if there are too many clones to count.
     fn clone(&self) -> Result<Self, AllocError> {
         Ok(Cache {
             inner: self.inner.try_clone()?,
@@ -194,7 +194,7 @@ impl<
         self.inner.get().settings().limits().policy()
     }
 
-    /// Returns the number of entries when a maintenance last ended, or 0 before the first one. It is one load: no contract says of which maintenance.
+    /// Returns the number of charged entries when a maintenance last ended, or 0 before the first one. It is one load: no contract says of which maintenance.
     pub fn entry_count(&self) -> u64 {
         self.inner.get().entry_count()
     }
@@ -228,8 +228,8 @@ impl<
         self.inner.get().split(pass)
     }
 
-    /// Returns a snapshot of the unexpired pairs, shard by shard. The pairs of a shard are those of one moment, and the snapshot holds no lock. It counts as no
-    /// read. It is refused for want of memory.
+    /// Returns a snapshot of the unexpired pairs, shard by shard. The pairs of a shard are those of one moment, and the snapshot holds no lock. It doesn't
+    /// count as a read. It is refused for want of memory.
     pub fn iter<R: Wait>(&self, rt: &R, now: Instant) -> Result<Iter<K, V, A>, OutOfMemory>
         ensures ruled { IfOk result (λ pairs. PairsMeet P.holds pairs) }
         ensures once { IfOk result (λ pairs. IsDistinct K.eq (map (λ p. p.0) pairs)) }
@@ -251,7 +251,7 @@ impl<
     W: WeighShared<K, V>,
     A: Allocator + Clone + Drop,
 > Cache<K, V, S, P, W, A> {
-    /// Returns `true` if a key has an unexpired value. That counts as no read.
+    /// Returns `true` if a key has an unexpired value. It doesn't count as a read.
     pub fn contains_key<R: Wait>(&self, rt: &R, key: &K, now: Instant) -> bool
         ensures call { CallsContains (locked_allows (keys_by K.Hash S.BuildHasher S.Hasher.Hasher) P.holds W.weighs) locked_decides
             (pends_by locked_caller) CALLER key.now now (reply.Bool result) (resting_at self.now) (resting_at self.now) }
@@ -259,7 +259,7 @@ impl<
         steps::contains_key(rt, &Session::new(self.inner.get()), key, now)
     }
 
-    /// Puts a value at a key, in place of the one that is there. The pair has to meet the rule. It is refused for want of memory, or if the key's
+    /// Puts a value at a key, in place of the one that is there. The pair has to meet the rule. It is refused if memory is, or if the key's
     /// shard has no ticket left, and then the cache is as it was.
     pub fn insert<R: Wait>(&self, rt: &R, key: K, value: V, now: Instant) -> Result<(), InsertError>
         requires ruled { P.holds key value }
@@ -273,7 +273,7 @@ impl<
         steps::insert(rt, &mut Session::new(self.inner.get()), key, value, now)
     }
 
-    /// Takes the entry of a key out.
+    /// Removes the entry of a key, if there is one.
     pub fn invalidate<R: Wait>(&self, rt: &R, key: &K, now: Instant)
         ensures call { (new : LockedValue S W) × CallsInvalidate (locked_allows (keys_by K.Hash S.BuildHasher S.Hasher.Hasher) P.holds W.weighs) locked_decides
             (pends_by locked_caller) CALLER key.now now reply.Done (resting_at self.now) new }
@@ -281,7 +281,7 @@ impl<
         steps::invalidate(rt, &mut Session::new(self.inner.get()), key, now);
     }
 
-    /// Hides all entries that were inserted or read last before this moment. Those of the moment itself stay. It takes no lock.
+    /// Hides each entry whose last write or last read was before this moment; one of the two is enough. Those of the moment itself stay. It takes no lock.
     pub fn invalidate_all(&self, now: Instant)
         ensures call { (new : LockedValue S W) × CallsInvalidateAll
             (locked_allows (keys_by K.Hash S.BuildHasher S.Hasher.Hasher) P.holds W.weighs) locked_decides
@@ -310,7 +310,7 @@ impl<
         steps::get(rt, &mut Session::new(self.inner.get()), key, now)
     }
 
-    /// Calls `get`.
+    /// Does what `get` does.
     pub fn get_if_present<R: Wait>(
         &self,
         rt: &R,
@@ -324,8 +324,8 @@ impl<
         self.get(rt, key, now)
     }
 
-    /// Takes the entry of a key out, and hands back a clone of its value where that is unexpired. The clone is made while the lock of the key's shard is
-    /// held, before the entry leaves: if it is refused, the cache is as it was. It counts as no read.
+    /// Removes the entry of a key, if there is one, and returns a clone of its value if that is unexpired. The clone is made while the lock of the key's
+    /// shard is held, before the entry leaves: if it is refused, the cache is as it was. It doesn't count as a read.
     pub fn remove<R: Wait>(&self, rt: &R, key: &K, now: Instant) -> Result<Option<V>, OutOfMemory>
         ensures call { (new : LockedValue S W) × AnswersRemove (locked_allows (keys_by K.Hash S.BuildHasher S.Hasher.Hasher) P.holds W.weighs)
             locked_decides locked_caller V.is_clone V.is_infallible key.now now result (resting_at self.now) new }
@@ -350,12 +350,13 @@ fn shared<K: Drop, V: Drop, A: Allocator + Clone + Drop>(
     Some((key, value))
 }
 
-/// A maintenance at a caller's word.
+/// A maintenance at a caller's request.
 pub trait ConcurrentCacheExt {
     // What a whole maintenance is, at a moment.
     ghost synced: { Self → ℕ → Type 0 };
 
-    /// Runs a whole maintenance, after any other has ended: it applies the logs, removes what is expired or above the limit, and publishes the counts.
+    /// Runs a whole maintenance, after any other has ended: it applies the logs, removes expired entries and those above the limit, in 500 turns each at
+    /// most, and publishes the counts.
     fn sync<R: Wait>(&self, rt: &R, now: Instant)
         ensures { synced self.now now };
 }

@@ -10,7 +10,7 @@ use std::collections::VecDeque;
 use std::fmt::{Debug, Formatter, Result, Write};
 use std::marker::Model;
 
-/// The pairs that a snapshot has taken and not given yet. It holds no lock. A contract sees their list.
+/// The pairs of a snapshot that are still to come. It holds no lock. A contract sees their list.
 ///
 /// ```
 /// let mut pairs = Vec::new(alloc);
@@ -58,7 +58,7 @@ impl<K: Drop, V: Drop, A: Allocator + Drop> Iterator for Iter<K, V, A> {
     }
 }
 
-/// It shows the pairs that are left.
+/// Shows the pairs that are left.
 impl<K: Debug + Drop, V: Debug + Drop, A: Allocator + Drop> Debug for Iter<K, V, A> {
     fn fmt<T: Write>(&self, f: &mut Formatter<T>) -> Result {
         let mut map = f.debug_map();

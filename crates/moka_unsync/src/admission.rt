@@ -26,7 +26,7 @@ use moka_unsync_model::listener::{Cause, Listener};
 use moka_unsync_model::shares::PartLimits;
 use std::alloc::Allocator;
 
-/// Stores a new entry in place of its victims in main, or drops it if it is rejected. Returns whether it was stored.
+/// Stores a new entry in place of its victims in main, or gives it to the listener if it is rejected. Returns `true` if it was stored.
 pub(crate) fn admit<K: Eq + Drop, V: Drop, A: Allocator + Clone + Drop, L: Listener<K, V>>(
     store: &mut Store<K, V, A>,
     limit: Option<u64>,
@@ -118,7 +118,7 @@ fn victims_outweighed_by<K: Eq + Drop, V: Drop, A: Allocator + Clone + Drop>(
     None
 }
 
-/// Tells if an entry is in the window.
+/// Returns `true` if an entry is in the window.
 #[inline(always)]
 pub(crate) fn is_windowed<K: Drop, V: Drop>(entry: &Entry<K, V>) -> bool
     ensures { result ≡ is_window entry.now.part }
@@ -196,7 +196,7 @@ pub(crate) fn insert_into_window<
     }
 }
 
-/// Returns the window's least recently used entry if it alone weighs `enough`.
+/// Returns the window's least recently used entry if it alone weighs `enough` or more.
 #[inline(always)]
 fn last_candidate<K: Eq + Drop, V: Drop, A: Allocator + Clone + Drop>(
     store: &Store<K, V, A>,
@@ -211,7 +211,7 @@ fn last_candidate<K: Eq + Drop, V: Drop, A: Allocator + Clone + Drop>(
     Some(id)
 }
 
-/// Does the same if several entries are judged, or the new one is. The weight that has to leave the window is `enough`.
+/// Does what `insert_into_window` does if several entries are judged, or the new one is. The weight that has to leave the window is `enough`.
 #[cold]
 #[inline(never)]
 fn insert_and_drain<K: Eq + Drop, V: Drop, A: Allocator + Clone + Drop, L: Listener<K, V>>(
@@ -265,7 +265,7 @@ fn excess<K: Eq + Drop, V: Drop, A: Allocator + Clone + Drop>(
     above_share.max(all.saturating_sub(limits.all))
 }
 
-/// Judges the window's entries, least recently used first, until `enough` weight has left the window. Returns how much is lacking then.
+/// Judges the window's entries, least recently used first, until `enough` weight has left the window. Returns the weight that is still missing then.
 fn drain_window<K: Eq + Drop, V: Drop, A: Allocator + Clone + Drop, L: Listener<K, V>>(
     store: &mut Store<K, V, A>,
     limits: &PartLimits,
@@ -316,7 +316,7 @@ fn admit_or_evict<K: Eq + Drop, V: Drop, A: Allocator + Clone + Drop, L: Listene
     }
 }
 
-/// Does the same and stores a new entry in the window, in the node of an entry that leaves, if one does.
+/// Does what `admit_or_evict` does, and stores a new entry in the window, in the node of an entry that leaves, if one does.
 #[inline(always)]
 fn admit_or_evict_last<K: Eq + Drop, V: Drop, A: Allocator + Clone + Drop, L: Listener<K, V>>(
     store: &mut Store<K, V, A>,

@@ -19,7 +19,7 @@ use std::hash::{BuildHasher, Hash};
 use std::marker::{Model, PhantomData};
 use std::time::Duration;
 
-/// Makes a cache, with what is set. Nothing is limited that isn't set.
+/// Builds a cache with the settings that are made. What isn't set isn't limited.
 ///
 /// ```
 /// let mut cache: Cache<u64, String> = Cache::builder(alloc)
@@ -99,8 +99,8 @@ impl<K, V, W: Drop, A: Allocator + Clone + Drop> CacheBuilder<K, V, W, A> {
         }
     }
 
-    /// Sets the number of entries that fit from the start. With fewer, no insert is refused. More are found room for as they come. Without a weigher room for
-    /// one more than the limit lasts for ever.
+    /// Sets the number of entries for which memory is reserved at the start. While there are fewer, no insert is refused. Room for more is made as they come.
+    /// Without a weigher, room for one more than the limit is always enough.
     pub fn initial_capacity(self, initial_capacity: usize) -> Self
         ensures { result ≡ record self { initial_capacity = initial_capacity } }
     {
@@ -159,7 +159,7 @@ impl<K, V, W: Drop, A: Allocator + Clone + Drop> CacheBuilder<K, V, W, A> {
         }
     }
 
-    /// Sets the weigher: a closure, or a type with an impl of `Weigh`. It is asked once for each insert that has its room.
+    /// Sets the weigher: a closure, or a type with an impl of `Weigh`. It is called once for each insert that isn't refused memory.
     pub fn weigher<N: Weigh<K, V> + Drop>(self, weigher: N) -> CacheBuilder<K, V, N, A>
         ensures { result ≡ record {
           policy = self.policy;
@@ -172,7 +172,7 @@ impl<K, V, W: Drop, A: Allocator + Clone + Drop> CacheBuilder<K, V, W, A> {
         self.weigher_where(true, weigher)
     }
 
-    /// Sets the listener, which gets each entry that leaves. It is set last.
+    /// Sets the listener, which gets each entry that leaves. Set it last.
     ///
     /// ```
     /// let mut cache: NotifyingCache<u64, u32, Statistics> = Cache::builder(alloc)
@@ -223,7 +223,7 @@ impl<K: Eq + Hash + Drop, V: Drop, W: Drop, A: Allocator + Clone + Drop> CacheBu
         self.build_with_hasher(FixedState::default())
     }
 
-    /// Builds the cache with a hash state of the caller's. It is refused as `build` is.
+    /// Builds the cache with this hash state. It is refused as `build` is.
     pub fn build_with_hasher<S: BuildHasher + Drop>(
         self,
         hash_state: S,

@@ -49,9 +49,9 @@ pub(crate) struct Parts<S: Drop, W: Drop> {
 
 /// A single-thread cache, bounded by a number of entries or by their weight, with expiry by time to live and by time to idle.
 ///
-/// A look-up, an insert, an invalidation or a removal of a key first removes expired entries, and the least recently used ones while the weight is
+/// A `get`, `contains_key`, `insert`, `invalidate` or `remove` first removes expired entries, and the least recently used ones while the weight is
 /// above the limit, each time a batch of `EVICTION_BATCH_SIZE` entries at most; by time to idle a batch of the window and of each segment of the main
-/// part. No read gives an expired entry that remained.
+/// part. No read returns an expired entry that is still stored.
 ///
 /// ```
 /// let now = Instant::from_secs(0);
@@ -68,8 +68,8 @@ pub(crate) struct Parts<S: Drop, W: Drop> {
 ///
 /// # Size
 ///
-/// A cache with a `max_capacity` is bounded. Without a weigher an entry weighs 1, so the capacity is the most entries that it has at a call's end.
-/// With one it is a weight: the weigher answers a `u32` for key and value at each insert. An update may leave more, which later calls remove.
+/// A cache with a `max_capacity` is bounded. Without a weigher an entry weighs 1, so the capacity is the largest number of entries at the end of a call.
+/// With one it is a weight: the weigher returns a `u32` for key and value at each insert. An update may leave more, which later calls remove.
 /// When the cache is full, a new entry is admitted only if its estimated frequency exceeds the sum of its victims', which are the least recently
 /// used entries: the size-aware TinyLFU of Caffeine, by Einziger, Friedman and Manes. Weights don't choose the victims.
 ///
@@ -95,13 +95,14 @@ pub(crate) struct Parts<S: Drop, W: Drop> {
 ///
 /// # Expiry
 ///
-/// With a time to live an entry expires that long after its last insert, with a time to idle that long after its last `get` or insert, from the very
-/// end of that time on. No call reads a clock: the moment is handed in, and it may go back. `contains_key` and `iter` don't count as an access.
+/// With a time to live an entry expires that long after its last insert, with a time to idle that long after its last `get` or insert, from the very end of
+/// that time on. No call reads a clock: the moment is handed in, and it may go back. `contains_key`, `peek`, `next_after` and `iter` don't count as an
+/// access.
 ///
 /// # Hashing
 ///
 /// The default hash state is std's with a fixed key, so that runs can be repeated. If strangers choose the keys, hand in a `RandomState` by
-/// `CacheBuilder::build_with_hasher`; any other state that is made for a kind of keys does as well. A call hashes its key once.
+/// `CacheBuilder::build_with_hasher`; or any other state, such as one made for a kind of keys. A call hashes its key once.
 ///
 /// # Cost
 ///
@@ -114,7 +115,7 @@ pub(crate) struct Parts<S: Drop, W: Drop> {
 ///
 /// # What differs from mini-moka
 ///
-/// Moments are handed in. Building and inserting answer a `Result`: want of memory, a duration of more than 1000 years and a share above 100 are named
+/// Moments are handed in. Building and inserting return a `Result`: refused memory, a duration of more than 1000 years and a share above 100 are named
 /// refusals in place of an abort or a panic. Counts and weights follow every removal. Keys are looked up by `&K`. `iter` and the predicate of
 /// `invalidate_entries_if` go in order of use, the window last, `iter` leaves expired entries out, and `Debug` shows every stored one. `remove` is added, and
 /// new entries enter a window, whose share and that of a protected segment can be set.
@@ -194,7 +195,7 @@ impl<K: Eq + Hash + Drop, V: Drop, A: Allocator + Clone + Drop> Cache<
     UnitWeight,
     A,
 > {
-    /// Makes a cache with a limit of `max_capacity` entries, and std's default hash state, whose key is fixed. It is refused only for want of memory.
+    /// Makes a cache with a limit of `max_capacity` entries, and std's default hash state, whose key is fixed. It fails only if memory is refused.
     pub fn new(alloc: A, max_capacity: u64) -> Result<Self, BuildError>
         ensures ok { IfOk result (λ cache. cache ≡ new_cache (record {
           hash_state = cache.settings.hash_state;
@@ -254,7 +255,7 @@ impl<
         self.hash_state.hash_one(key)
     }
 
-    /// Makes it a cache that tells a listener of each entry that leaves.
+    /// Turns it into a cache that gives a listener each entry that leaves.
     pub fn with_listener<L: Drop>(self, listener: L) -> NotifyingCache<K, V, L, S, W, A>
         ensures { result ≡ record { cache = self; listener = listener } }
     {
@@ -275,7 +276,7 @@ impl<
         self.shares
     }
 
-    /// Returns the number of entries, expired ones among them that no call has removed yet. It takes constant time.
+    /// Returns the number of entries, including expired ones that no call has removed yet. It takes constant time.
     pub fn entry_count(&self) -> u64
         ensures { result ≡ length self.now.contents.entries }
     {
@@ -322,7 +323,7 @@ impl<
         Some(&self.store.get(id).value)
     }
 
-    /// Returns an iterator over the unexpired pairs, in order of use, LRU first and the window last. It doesn't count as an access, and removes none.
+    /// Returns an iterator over the unexpired pairs, in order of use, LRU first and the window last. It doesn't count as an access, and removes nothing.
     pub fn iter(&self, now: Instant) -> Iter<'_, K, V, A>
         ensures value { result ≡ pairs_at self.now now }
         ensures fits { length result < 2 ^ 64 }
@@ -341,7 +342,7 @@ impl<
         Some((&entry.key, &entry.value))
     }
 
-    /// Asks for the sketch's table, if the cache is at least half full and has none. If that fails it asks again at the next new entry.
+    /// Asks for the sketch's table, if the cache is at least half full and has none. If memory is refused, the next new entry asks again.
     #[inline(always)]
     fn enable_sketch(&mut self)
         ensures { (refused : Bool) × (self.new ≡ after_asking K.eq refused self.old) }
@@ -366,7 +367,7 @@ impl<
     }
 }
 
-/// Returns the largest useful capacity of a store: the limit plus one candidate, or any number if entries have weights.
+/// Returns the largest useful capacity of a store: the limit plus one candidate, or `usize::MAX` if entries have weights or there is no limit.
 fn max_entries(policy: Policy, is_weighed: bool) -> usize {
     if is_weighed {
         return usize::MAX;
@@ -377,7 +378,7 @@ fn max_entries(policy: Policy, is_weighed: bool) -> usize {
         .saturating_add(1)
 }
 
-/// Makes a store without entries, with this capacity.
+/// Makes a store without entries, with capacity for at least `room` of them.
 fn empty_store<K: Eq + Drop, V: Drop, A: Allocator + Clone + Drop>(
     alloc: &A,
     policy: Policy,

@@ -58,7 +58,7 @@ impl Bounds {
         self.limits.policy()
     }
 
-    /// Removes expired entries, and then entries above the limit. Each call does so first.
+    /// Removes expired entries, and then entries above the limit. `get`, `contains_key`, `insert`, `invalidate` and `remove` do so first.
     #[inline(always)]
     pub(crate) fn clean_up<K: Eq + Drop, V: Drop, A: Allocator + Clone + Drop, L: Listener<K, V>>(
         &self,
@@ -78,7 +78,7 @@ impl Bounds {
         }
     }
 
-    /// Tells if an entry is past its time to live or its time to idle.
+    /// Returns `true` if an entry is past its time to live or its time to idle.
     #[inline(always)]
     pub(crate) fn is_expired<K: Drop, V: Drop>(&self, entry: &Entry<K, V>, now: Instant) -> bool
         ensures { result ≡ is_expired self.now now entry.now }
@@ -87,7 +87,7 @@ impl Bounds {
     }
 }
 
-/// Removes a batch by time to live and a batch by time to idle, if these are set.
+/// Removes a batch by time to live, and a batch of each part by time to idle, if these are set.
 fn expire<K: Eq + Drop, V: Drop, A: Allocator + Clone + Drop, L: Listener<K, V>>(
     store: &mut Store<K, V, A>,
     limits: &Limits,

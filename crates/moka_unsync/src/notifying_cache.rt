@@ -32,7 +32,7 @@ use std::marker::Model;
 ///
 /// The listener doesn't get a value that `remove` returns, since the caller has it. Nor does it get the key and value of an insert that is refused memory:
 /// they never entered.
-/// A cache that is dropped tells nothing: `invalidate_all` does.
+/// A cache that is dropped gives its listener nothing: call `invalidate_all` first.
 #[derive(Drop)]
 pub struct NotifyingCache<
     K: Eq + Hash + Drop,
@@ -195,7 +195,7 @@ impl<
     W: Weigh<K, V> + Drop,
     A: Allocator + Clone + Drop,
 > NotifyingCache<K, V, L, S, W, A> {
-    /// Puts the value at the key, as `Cache::insert` does. If it replaces a value, the listener gets that with the key that was handed in.
+    /// Puts the value at the key, as `Cache::insert` does. If it replaces a value, the listener gets the old value with the new key.
     pub fn insert(&mut self, key: K, value: V, now: Instant) -> Result<(), InsertError>
         requires ready { W.ready self.old.cache.weigher }
         ensures step { OnOk result (IsInserted (keys_by K.Hash S.BuildHasher S.Hasher.Hasher) W.weighs self.old.cache key value now self.new.cache) }
@@ -219,7 +219,8 @@ impl<
     W: Weigh<K, V> + Drop,
     A: Allocator + Clone + Drop,
 > NotifyingCache<K, V, L, S, W, A> {
-    /// Returns a clone of the value of the key, as `Cache::get_or_insert_with` does. If the clone is refused, the listener doesn't get what was made.
+    /// Returns a clone of the value of the key, as `Cache::get_or_insert_with` does. If memory is refused, for the clone or for room, the listener doesn't
+    /// get what was made.
     pub fn get_or_insert_with<F: FnOnce() -> V>(
         &mut self,
         key: K,

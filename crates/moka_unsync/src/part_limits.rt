@@ -30,7 +30,7 @@ pub(crate) fn share_fault(shares: Shares) -> Option<BuildError>
     None
 }
 
-/// Returns a share of a weight in hundredths, rounded down. The product doesn't overflow.
+/// Returns that many hundredths of a weight, rounded down. The product doesn't overflow.
 fn hundredths(share: u8, weight: u64) -> u64
     requires { share ≤ 100 }
     ensures value { result ≡ hundredths share weight }

@@ -59,12 +59,12 @@ pub enum Reply<V: Drop, A: Allocator + Drop = Global> {
     Bool(bool),
     Done,
     Number(u64),
-    /// Memory was refused, for an insert or for one more owner of a value. A refused insert changes nothing. If a `get` or `peek` can't share its value, the
-    /// look-up is done and nothing is inserted.
+    /// Memory was refused, for an insert or for one more owner of a value. A refused insert changes nothing but the capacity. If a `get`, `peek` or
+    /// `get_or_insert_with` can't share its value, the look-up is done and nothing is inserted.
     OutOfMemory,
 }
 
-/// Makes the calls in turn, and gives their replies. If memory for the replies is refused, no call was made.
+/// Makes the calls in turn, and returns their replies. If memory for the replies is refused, no call was made.
 ///
 /// It takes the time of the calls, and memory for one reply a call.
 ///
@@ -103,7 +103,7 @@ pub fn run<
     Ok(replies)
 }
 
-/// Makes a call.
+/// Makes a call and returns its reply.
 fn reply_to<
     K: Eq + Hash + Drop,
     V: Drop,

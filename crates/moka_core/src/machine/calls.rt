@@ -232,7 +232,7 @@ impl<
         self.finish();
     }
 
-    /// Takes turns until the maintenance ends, if one is under way. Returns whether one was.
+    /// Takes turns until the maintenance ends, if one is under way. Returns `true` if one was.
     pub fn end_maintenance(&mut self) -> bool
         requires good { IsConsistent (keys_by K.Hash S.BuildHasher S.Hasher.Hasher) self.old.state }
         ensures step { Finishes (keys_by K.Hash S.BuildHasher S.Hasher.Hasher) (W.weighs self.old.weigher)
@@ -265,7 +265,7 @@ impl<
         }
     }
 
-    /// Takes the next operations out of a log and applies them, if the next turn is to take one and there is one. Returns whether it did.
+    /// Takes the next operations out of a log and applies them, if the next turn is to take one and there is one. Returns `true` if it did.
     fn apply_next(&mut self) -> bool
         ensures turns { AppliesNext self.old.state result self.new.state }
         ensures weigher { self.new.weigher ≡ self.old.weigher }
@@ -273,7 +273,7 @@ impl<
         self.apply_next_reads() || self.apply_next_write()
     }
 
-    /// Applies the next reads together: it touches their entries, counts their hashes, and then moves their nodes. So they wait for memory at the same time.
+    /// Applies the next reads together: it touches their entries, counts their hashes, and then moves their nodes. So their waits for memory overlap.
     fn apply_next_reads(&mut self) -> bool
         ensures turns { AppliesNextReads self.old.state result self.new.state }
         ensures kept { KeepsRoom self.old self.new }
@@ -293,7 +293,7 @@ impl<
         true
     }
 
-    /// Takes the two turns of the next write.
+    /// Takes the next write out of its log and applies it, if the next turn is to take one and there is one. Returns `true` if it did.
     fn apply_next_write(&mut self) -> bool
         ensures turns { AppliesNextWrite self.old.state result self.new.state }
         ensures kept { KeepsRoom self.old self.new }

@@ -52,7 +52,7 @@ impl<
         }
     }
 
-    /// Takes the steps in turn, and gives their replies.
+    /// Takes the steps in turn, and returns their replies.
     pub fn run(
         &mut self,
         events: Vec<Event<Shared<K, A>, Shared<V, A>>, A>,

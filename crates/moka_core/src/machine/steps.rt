@@ -123,7 +123,7 @@ impl<
         }
     }
 
-    /// Looks if a key has a live entry.
+    /// Replies `true` if a key has a live entry.
     pub fn contains_key(&self, key: &K, now: Instant) -> Reply<Shared<V, A>, Rows<K, V, A>>
         ensures step { Happens (keys_by K.Hash S.BuildHasher S.Hasher.Hasher) (W.weighs self.now.weigher)
             self.now.state (Event.Contains key.now now) result self.now.state }
@@ -163,7 +163,7 @@ impl<
         Some(Write::Remove { ticket })
     }
 
-    /// Removes a key for a caller, and replies with its value.
+    /// Removes a key for a caller, and replies with its live value.
     pub fn take(&mut self, caller: u32, key: &K, now: Instant) -> Reply<Shared<V, A>, Rows<K, V, A>>
         requires room { HasRoomFor caller self.old.room }
         ensures step { Happens (keys_by K.Hash S.BuildHasher S.Hasher.Hasher) (W.weighs self.old.weigher)
@@ -198,7 +198,7 @@ impl<
         (found, Some(Write::Remove { ticket }))
     }
 
-    /// Hides all entries from before a moment.
+    /// Hides all entries that were last written, or last read, before a moment.
     pub fn invalidate_all(&mut self, now: Instant) -> Reply<Shared<V, A>, Rows<K, V, A>>
         ensures step { Happens (keys_by K.Hash S.BuildHasher S.Hasher.Hasher) (W.weighs self.old.weigher)
             self.old.state (Event.InvalidateAll now) result self.new.state }
@@ -341,7 +341,7 @@ impl<
         }
     }
 
-    /// Returns `true` if a maintenance is due by the length of a log or by time. The next one is due by time a while after it.
+    /// Returns `true` if a maintenance is due by the length of a log or by time. Then the next one is due half a second after `now`.
     pub fn decide(&mut self, log: WhichLog, now: Instant) -> bool
         ensures decision { Decides self.old.state (log_of log) now result self.new.state }
         ensures weigher { self.new.weigher ≡ self.old.weigher }

@@ -104,7 +104,7 @@ impl<
         maintenance.apply_reads(reads);
     }
 
-    /// Touches the entries of hits, one after another, each under the lock of its shard. Their hints are those of their nodes then.
+    /// Touches the entries of hits, one after another, each under the lock of its shard. Each read's hint is then that of its node.
     fn touch_all<R: Wait>(&self, rt: &R, reads: &mut [LoggedRead])
         ensures { length reads.new ≡ length reads.old }
     {

@@ -221,7 +221,7 @@ impl<A: Allocator + Clone + Drop> State<A> {
         EntryChange::Leaves
     }
 
-    /// Enters the candidate with its weight now, if it is still there, and moves the skipped nodes to the back.
+    /// Enters the candidate with its current weight, if its entry is still there, and moves the skipped nodes to the back.
     pub(crate) fn enter<K: Drop, V: Drop, S: Drop>(
         &mut self,
         settings: &Settings<S, A>,
@@ -338,7 +338,7 @@ impl<A: Allocator + Clone + Drop> State<A> {
     }
 }
 
-/// Returns the weight of an entry, if it stands.
+/// Returns the weight of an entry, if there is one.
 #[inline(always)]
 pub(super) fn weight_of<K: Drop, V: Drop, A: Allocator + Drop>(
     found: Option<&Entry<K, V, A>>,

@@ -11,7 +11,7 @@ use moka_sync_model::published::Published;
 use std::alloc::{Allocator, Global};
 use std::marker::Model;
 
-/// The parts of a maintenance, and its phase. The files of this folder have its turns, one a phase.
+/// The parts of a maintenance, and its phase. The files of this folder have its turns, a file for each kind.
 #[derive(Drop)]
 pub(crate) struct State<A: Allocator + Clone + Drop = Global> {
     pub(crate) orders: Orders<A>,

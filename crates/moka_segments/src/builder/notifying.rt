@@ -12,7 +12,7 @@ use moka_common::weigh::UnitWeight;
 use std::hash::{BuildHasher, Hash};
 use std::marker::Model;
 
-/// Makes a cache with a listener, as `CacheBuilder::eviction_listener` returns it. What else is to be set is set before.
+/// Builds a cache with a listener. `CacheBuilder::eviction_listener` returns it, after all other settings.
 #[derive(Drop)]
 pub struct NotifyingBuilder<K, V, L: Drop, W: Drop = UnitWeight, P = Unruled> {
     builder: CacheBuilder<K, V, W, P>,
@@ -54,7 +54,7 @@ impl<
         self.build_with_hasher(FixedState::default())
     }
 
-    /// Builds the cache with a hash state of one's own, as `CacheBuilder::build_with_hasher` does.
+    /// Builds the cache with this hash state, as `CacheBuilder::build_with_hasher` does.
     pub fn build_with_hasher<S: BuildHasher + Copy>(
         self,
         hash_state: S,

@@ -27,7 +27,7 @@ impl<
     W: Weighing<K, V>,
     P: Rule<K, V>,
 > Session<K, V, S, W, P> {
-    /// Returns a clone of the value of the key, as `get` does.
+    /// Returns a clone of the value of the key, as `get` does. The listener gets what leaves.
     #[inline]
     pub fn get_notifying<L: Listener<K, V>, R: Wait>(
         &mut self,
@@ -84,7 +84,7 @@ impl<K: Eq + Hash + Drop, V: Drop, S: BuildHasher + Drop, W: Weighing<K, V>, P: 
     W,
     P,
 > {
-    /// Returns whether the key has an unexpired entry, as `contains_key` does.
+    /// Returns `true` if the key has an unexpired entry, as `contains_key` does. The listener gets what leaves.
     #[inline]
     pub fn contains_notifying<L: Listener<K, V>, R: Wait>(
         &mut self,
@@ -102,7 +102,7 @@ impl<K: Eq + Hash + Drop, V: Drop, S: BuildHasher + Drop, W: Weighing<K, V>, P: 
         call::contains_key(rt, &*self.shared, &mut self.caller, key, now, listener)
     }
 
-    /// Puts the value at the key, as `insert` does. If it replaces a value, the listener gets that with the key that was handed in.
+    /// Puts the value at the key, as `insert` does. If it replaces a value, the listener gets the old value with the new key.
     #[inline]
     pub fn insert_notifying<L: Listener<K, V>, R: Wait>(
         &mut self,
@@ -131,7 +131,7 @@ impl<K: Eq + Hash + Drop, V: Drop, S: BuildHasher + Drop, W: Weighing<K, V>, P: 
         )
     }
 
-    /// Removes the entry of the key, as `invalidate` does.
+    /// Removes the entry of the key, as `invalidate` does. The listener gets what leaves.
     #[inline]
     pub fn invalidate_notifying<L: Listener<K, V>, R: Wait>(
         &mut self,
@@ -169,7 +169,7 @@ impl<K: Eq + Hash + Drop, V: Drop, S: BuildHasher + Drop, W: Weighing<K, V>, P: 
         call::remove(rt, &*self.shared, &mut self.caller, key, now, listener)
     }
 
-    /// Removes all entries, as `invalidate_all` does.
+    /// Removes all entries, as `invalidate_all` does. The listener gets them.
     pub fn invalidate_all_notifying<L: Listener<K, V>, R: Wait>(&mut self, rt: &R, listener: &mut L)
         requires owns { (key : K) → P.rules.owns self.old.knows.by key }
         ensures same { self.new.cache ≡ self.old.cache }
@@ -188,7 +188,7 @@ impl<K: Eq + Hash + Drop, V: Drop, S: BuildHasher + Drop, W: Weighing<K, V>, P: 
         );
     }
 
-    /// Removes the entries that the predicate chooses, as `invalidate_entries_if` does.
+    /// Removes the entries that the predicate chooses, as `invalidate_entries_if` does. The listener gets them.
     pub fn invalidate_entries_if_notifying<
         F: FnMut(&K, &V) -> bool + Copy,
         L: Listener<K, V>,

@@ -43,7 +43,7 @@ impl<
     P: PairRule<K, V>,
     A: Allocator + Clone + Drop,
 > Shard<K, V, S, P, A> {
-    /// Puts the value at the key, whose hash it is, and returns the entry's ticket. An equal key that is there stays, with its ticket. Memory is reserved
+    /// Puts the value at the key, and returns the entry's ticket. The hash is the key's. An equal key that is there stays, with its ticket. Memory is reserved
     /// before the weigher is asked, so a refused insert doesn't ask it.
     pub fn insert<W: WeighShared<K, V>>(
         &mut self,
@@ -68,7 +68,7 @@ impl<
         }
     }
 
-    /// Gives the entry of a key, in the slot in which it was found, another value.
+    /// Replaces the value of a key's entry, in the slot in which it was found. Returns its ticket. It is refused if no more of its upserts can be counted.
     pub fn update<W: WeighShared<K, V>>(
         &mut self,
         slot: usize,
@@ -94,7 +94,7 @@ impl<
         Ok(entry.ticket())
     }
 
-    /// Adds the entry of a key that has none. Memory is reserved before the weigher is asked.
+    /// Adds the entry of a key that has none, and returns its ticket. Memory is reserved before the weigher is asked.
     pub fn add<W: WeighShared<K, V>>(
         &mut self,
         hash: u64,
@@ -186,7 +186,7 @@ impl<
         (entry.into_value(), ticket)
     }
 
-    /// Records that the entry of a ticket, if it stands, was used at a moment. Looks into `slot` first, where the caller has found it before. Returns the
+    /// Records that the entry of a ticket, if there is one, was used at a moment. Looks into `slot` first, where the caller has found it before. Returns the
     /// entry's node hint, or `NO_HINT`.
     pub fn touch(&mut self, ticket: Ticket, slot: usize, moment: Instant) -> usize
         ensures step { state_of self.new ≡ record (state_of self.old) {
@@ -200,7 +200,7 @@ impl<
         hint
     }
 
-    /// Makes this of the entry in a slot, if a search has found one.
+    /// Makes this change to the entry in a slot, if a search has found one.
     pub fn change(&mut self, slot: Option<usize>, change: EntryChange)
         requires found { IfSome slot (λ s. IsSome (entry_in self.old.slots s)) }
         ensures step { (t : Ticket) → entry_found self.old.slots slot ≡ entry_of t (entries_in self.old.slots)
@@ -267,7 +267,7 @@ fn try_clone_of<K: Drop, V: Clone, A: Allocator + Drop>(
     }
 }
 
-/// Reserves capacity for one more entry, in the slots and in the index. If there is none, capacity grows by a quarter.
+/// Reserves capacity for one more entry, in the slots and in the index. If there is none, capacity grows by a quarter, and by 4 at least.
 fn make_room<K: Drop, V: Drop, A: Allocator + Clone + Drop>(
     slots: &mut Slab<Entry<K, V, A>, A>,
     index: &mut HashIndex<A>,

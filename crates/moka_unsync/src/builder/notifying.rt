@@ -11,7 +11,7 @@ use std::alloc::{Allocator, Global};
 use std::hash::{BuildHasher, Hash};
 use std::marker::Model;
 
-/// Makes a cache with a listener, as `CacheBuilder::eviction_listener` returns it. What else is to be set is set before.
+/// Builds a cache with a listener. `CacheBuilder::eviction_listener` returns it, after all other settings.
 #[derive(Drop)]
 pub struct NotifyingBuilder<
     K,
@@ -57,7 +57,7 @@ impl<K: Eq + Hash + Drop, V: Drop, L: Drop, W: Drop, A: Allocator + Clone + Drop
         self.build_with_hasher(FixedState::default())
     }
 
-    /// Builds the cache with a hash state of one's own, as `CacheBuilder::build_with_hasher` does.
+    /// Builds the cache with this hash state, as `CacheBuilder::build_with_hasher` does.
     pub fn build_with_hasher<S: BuildHasher + Drop>(
         self,
         hash_state: S,

@@ -40,7 +40,7 @@ impl<
         self.contains_hashed(key, hash, now)
     }
 
-    /// Tells if the key has an unexpired entry, as `contains_key` does, by the key's hash. An owner of many caches with one hash state hashes once.
+    /// Returns `true` if the key has an unexpired entry, as `contains_key` does, by the key's hash. An owner of many caches with one hash state hashes once.
     pub fn contains_hashed(&mut self, key: &K, hash: u64, now: Instant) -> bool
         requires { hash ≡ (keys_by K.Hash S.BuildHasher S.Hasher.Hasher).hash_of self.old.settings.hash_state key.now }
         ensures value { result
@@ -51,7 +51,7 @@ impl<
         self.contains_notifying(key, hash, now, &mut NoListener)
     }
 
-    /// Tells if the key has an unexpired entry, as `contains_hashed` does.
+    /// Returns `true` if the key has an unexpired entry, as `contains_hashed` does. The listener gets what leaves.
     pub fn contains_notifying<L: Listener<K, V>>(
         &mut self,
         key: &K,
@@ -95,7 +95,7 @@ impl<
         self.get_notifying(key, hash, now, &mut NoListener)
     }
 
-    /// Returns the value of the key, as `get_hashed` does.
+    /// Returns the value of the key, as `get_hashed` does. The listener gets what leaves.
     pub fn get_notifying<L: Listener<K, V>>(
         &mut self,
         key: &K,
@@ -122,7 +122,7 @@ impl<
         Some(&self.store.get(id).value)
     }
 
-    /// Removes the entry of the key, if there is one. What was counted of the key stays.
+    /// Removes the entry of the key, if there is one. The sketch keeps the key's count.
     pub fn invalidate(&mut self, key: &K, now: Instant)
         ensures step { self.new
             ≡ after_invalidate (keys_by K.Hash S.BuildHasher S.Hasher.Hasher) self.old key.now now }
@@ -140,7 +140,7 @@ impl<
         self.invalidate_notifying(key, hash, now, &mut NoListener);
     }
 
-    /// Removes the entry of the key, as `invalidate_hashed` does.
+    /// Removes the entry of the key, as `invalidate_hashed` does. The listener gets what leaves.
     pub fn invalidate_notifying<L: Listener<K, V>>(
         &mut self,
         key: &K,
@@ -158,8 +158,8 @@ impl<
 
     /// Removes the entry of the key, if there is one, and returns its value, unless it is expired. The value is moved out, so it needs no `Clone`.
     ///
-    /// Returns `None` if the key has no entry, and if its entry is expired and no call has removed it yet: that leaves too. The key is
-    /// not counted, and what was counted of it stays. It takes constant time on average, beside the batch that leaves first, and no memory, so it is
+    /// Returns `None` if the key has no entry, or an expired one, which is removed too. The key is
+    /// not counted, and the sketch keeps its count. It takes constant time on average, beside the batch that leaves first, and no memory, so it is
     /// never refused.
     pub fn remove(&mut self, key: &K, now: Instant) -> Option<V>
         ensures value { result
@@ -205,14 +205,14 @@ impl<
         Some(entry.value)
     }
 
-    /// Removes all entries. What was counted of their keys stays, and so does the room. It takes time linear in the number of entries.
+    /// Removes all entries. The sketch keeps their keys' counts, and the capacity stays. It takes time linear in the number of entries.
     pub fn invalidate_all(&mut self)
         ensures step { self.new ≡ after_invalidate_all self.old }
     {
         self.invalidate_all_notifying(&mut NoListener);
     }
 
-    /// Removes all entries, as `invalidate_all` does.
+    /// Removes all entries, as `invalidate_all` does. The listener gets them.
     pub fn invalidate_all_notifying<L: Listener<K, V>>(&mut self, listener: &mut L)
         ensures step { self.new ≡ after_invalidate_all self.old }
         ensures told { TellsWhatLeft L.hears Explicit (λ e. ⊤) self.old.contents.entries [] listener.old listener.new }
@@ -220,8 +220,8 @@ impl<
         clear(&mut self.store, listener);
     }
 
-    /// Removes the entries at which the predicate answers `true`. It is called once at each entry, expired ones among them, in order of use, least
-    /// recently used first and those of the window last. What was counted of the keys stays. It takes time linear in the number of entries, and no memory.
+    /// Removes the entries for which the predicate returns `true`. It is called once for each entry, including expired ones, in order of use, least
+    /// recently used first and those of the window last. The sketch keeps the keys' counts. It takes time linear in the number of entries, and no memory.
     pub fn invalidate_entries_if<F: FnMut(&K, &V) -> bool>(&mut self, predicate: F)
         requires { F.IsAlwaysCallable predicate }
         ensures step { (answers : List Bool)
@@ -231,7 +231,7 @@ impl<
         self.invalidate_entries_if_notifying(predicate, &mut NoListener);
     }
 
-    /// Removes the entries that the predicate chooses, as `invalidate_entries_if` does.
+    /// Removes the entries that the predicate chooses, as `invalidate_entries_if` does. The listener gets them.
     pub fn invalidate_entries_if_notifying<F: FnMut(&K, &V) -> bool, L: Listener<K, V>>(
         &mut self,
         predicate: F,
@@ -254,12 +254,12 @@ impl<
     W: Weigh<K, V> + Drop,
     A: Allocator + Clone + Drop,
 > Cache<K, V, S, W, A> {
-    /// Puts the value at the key, as the most recent entry in both orders. If the key is there already, its entry keeps the first key object.
-    /// A new entry above the capacity may be rejected by the admission policy, which is `Ok` as well. If there is a window, older entries of it may
-    /// leave too.
+    /// Inserts the value at the key, as the most recently used and the most recently written entry. If the key is there already, its entry keeps the first
+    /// key object. A new entry above the capacity may be rejected by the admission policy, which is `Ok` as well. If there is a window, older entries in it
+    /// may leave too.
     ///
     /// Memory is reserved first, for an update too, which may need none in the end. If it is refused, nothing was expired, evicted, weighed or stored, an entry
-    /// at the key keeps its value, and the key and value that were handed in are dropped. Otherwise the weigher is asked once.
+    /// at the key keeps its value, and the key and value that were handed in are dropped. Otherwise the weigher is called once.
     pub fn insert(&mut self, key: K, value: V, now: Instant) -> Result<(), InsertError>
         requires ready { W.ready self.old.weigher }
         ensures step { OnOk result (IsInserted (keys_by K.Hash S.BuildHasher S.Hasher.Hasher)
@@ -291,7 +291,7 @@ impl<
         self.insert_notifying(key, hash, value, now, &mut NoListener)
     }
 
-    /// Puts the value at the key, as `insert_hashed` does. If it replaces a value, the listener gets that with the key that was handed in.
+    /// Puts the value at the key, as `insert_hashed` does. If it replaces a value, the listener gets the old value with the new key.
     pub fn insert_notifying<L: Listener<K, V>>(
         &mut self,
         key: K,

@@ -21,15 +21,15 @@ impl<
     A: Allocator + Clone + Drop,
 > Cache<K, V, S, W, A> {
     /// Returns a clone of the key's value. If the key has no unexpired entry, `make` is called once, and its value is inserted as by `insert`. It is returned
-    /// even if the admission policy rejects the entry. The key is counted, found or not, and its entry is used.
+    /// even if the admission policy rejects the entry. The key is counted, found or not, and a hit counts as a use.
     ///
     /// ```
     /// let square = cache.get_or_insert_with(7, now, || 7 * 7)?;
     /// let found = cache.peek(&7, now).copied().unwrap_or(0);
     /// ```
     ///
-    /// It hashes the key once. Memory can be refused for the clone, or for room: then the key is counted and used, but nothing is inserted, and what was made
-    /// is dropped.
+    /// It hashes the key once. Memory can be refused for the clone, or for room: then the key is counted, and an entry that was found is used, but nothing is
+    /// inserted, and what was made is dropped.
     pub fn get_or_insert_with<F: FnOnce() -> V>(
         &mut self,
         key: K,
@@ -72,7 +72,8 @@ impl<
         self.get_or_insert_notifying(key, hash, now, make, &mut NoListener)
     }
 
-    /// Returns a clone of the value of the key, as `get_or_insert_hashed` does. If the clone is refused, the listener doesn't get what was made.
+    /// Returns a clone of the value of the key, as `get_or_insert_hashed` does. If memory is refused, for the clone or for room, the listener doesn't get
+    /// what was made.
     pub fn get_or_insert_notifying<F: FnOnce() -> V, L: Listener<K, V>>(
         &mut self,
         key: K,

@@ -71,7 +71,7 @@ impl<'a, K: Drop, V: Drop, A: Allocator> Iterator for Iter<'a, K, V, A> {
     }
 }
 
-/// It shows what it tests entries by: those that are left can't be looked at without taking them.
+/// Shows the policy and the moment: the entries that are left can't be shown without taking them.
 impl<'a, K: Drop, V: Drop, A: Allocator> Debug for Iter<'a, K, V, A> {
     fn fmt<T: Write>(&self, f: &mut Formatter<T>) -> Result {
         f.debug_struct("Iter")
