@@ -223,40 +223,6 @@ impl<
         Some(entry)
     }
 
-    /// Returns `true` if a search has found a live entry.
-    fn is_live(
-        &self,
-        slot: Option<usize>,
-        settings: &Settings<S, A>,
-        valid_after: Instant,
-        now: Instant,
-    ) -> bool
-        ensures { result ≡ is_some (unexpired settings.now valid_after now (entry_found self.now.slots slot)) }
-    {
-        self.unexpired(slot, settings, valid_after, now).is_some()
-    }
-
-    /// Returns the value of a live entry that a search has found, shared, and its ticket.
-    fn value(
-        &self,
-        slot: Option<usize>,
-        settings: &Settings<S, A>,
-        valid_after: Instant,
-        now: Instant,
-    ) -> Result<Option<(Shared<V, A>, Ticket)>, OutOfMemory>
-        ensures value { IfOk result (λ found. found ≡ option_map (λ e. (e.value, e.ticket))
-            (unexpired settings.now valid_after now (entry_found self.now.slots slot))) }
-
-        // Only a copy can be refused.
-        ensures refused { IsErr result → IsSome (unexpired settings.now valid_after now (entry_found self.now.slots slot)) }
-    {
-        let Some(entry) = self.unexpired(slot, settings, valid_after, now) else {
-            return Ok(None);
-        };
-        let value = entry.value().try_clone()?;
-        Ok(Some((value, entry.ticket())))
-    }
-
     /// Returns `true` if a key has a live entry. It is found by the hash.
     pub fn contains_key(
         &self,
@@ -274,7 +240,8 @@ impl<
         ensures found { IsTrue result
             → IsTrue (is_some (unexpired settings.now valid_after now (entry_at K.eq key.now (entries_in self.now.slots)))) }
     {
-        self.is_live(self.find(key, hash), settings, valid_after, now)
+        let slot = self.find(key, hash);
+        self.unexpired(slot, settings, valid_after, now).is_some()
     }
 
     /// Returns the value of a key's live entry, shared, its ticket, and the slot in which it may be found again. It is found by the hash.
@@ -302,8 +269,12 @@ impl<
             IsSome (unexpired settings.now valid_after now (entry_at K.eq key.now (entries_in self.now.slots))) }
     {
         let slot = self.find(key, hash);
-        let found = self.value(slot, settings, valid_after, now)?;
-        Ok((found, slot.unwrap_or(0)))
+        let hint = slot.unwrap_or(0);
+        let Some(entry) = self.unexpired(slot, settings, valid_after, now) else {
+            return Ok((None, hint));
+        };
+        let value = entry.value().try_clone()?;
+        Ok((Some((value, entry.ticket())), hint))
     }
 
     /// Returns `true` if the shard has a live pair.

@@ -165,7 +165,9 @@ impl<
         let Some(slot) = self.find(key, hash) else {
             return (None, None);
         };
-        let is_live = self.is_live(Some(slot), settings, valid_after, now);
+        let is_live = self
+            .unexpired(Some(slot), settings, valid_after, now)
+            .is_some();
         let (value, ticket) = self.remove(slot);
         if !is_live {
             return (None, Some(ticket));
