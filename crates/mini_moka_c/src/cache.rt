@@ -86,8 +86,10 @@ impl ByteCache {
     ) -> Result<Inserted, InsertError>
         ensures answer { IfOk result (λ inserted. inserted ≡ inserted_of (is_some (entry_at byte_keys.eq key.now self.new.cache.contents.entries))) }
         ensures step { OnOk result (IsInserted byte_keys byte_weighs self.old.cache key.now value.now now self.new.cache) }
-        ensures counts { OnOk result (self.new.leaving.statistics ≡ with_insertion byte_keys self.old.cache now key.now self.new.cache self.old.leaving.statistics) }
-        ensures removed { OnOk result (TellsInsert queues byte_keys self.old.cache now key.now value.now self.new.cache self.old.leaving.removed self.new.leaving.removed) }
+        ensures counts { OnOk result (self.new.leaving.statistics ≡ with_insertion byte_keys self.old.cache now key.now self.new.cache
+            self.old.leaving.statistics) }
+        ensures removed { OnOk result (TellsInsert queues byte_keys self.old.cache now key.now value.now self.new.cache self.old.leaving.removed
+            self.new.leaving.removed) }
         ensures walk { OnOk result (self.new.walk ≡ Ended) }
         ensures refused { OnErr result (self.new ≡ record self.old { cache = record self.old.cache { capacity = self.new.cache.capacity } }) }
         ensures error { IfErr result (λ error. error ≡ InsertError.OutOfMemory) }
@@ -184,7 +186,8 @@ impl ByteCache {
         ensures walk { OnOk result (self.new.walk ≡ Ended) }
         ensures refused { OnErr result ((self.new ≡ self.old) × (buffer.new ≡ buffer.old)) }
         ensures counts { OnOk result (self.new.leaving.statistics
-            ≡ with_taken byte_keys self.old.cache now (is_longer (found_by_peek byte_keys self.old.cache key.now now) buffer.old) key.now self.old.leaving.statistics) }
+            ≡ with_taken byte_keys self.old.cache now (is_longer (found_by_peek byte_keys self.old.cache key.now now) buffer.old) key.now
+            self.old.leaving.statistics) }
         ensures removed { OnOk result (QueuesTaken byte_keys self.old.cache now
             (is_longer (found_by_peek byte_keys self.old.cache key.now now) buffer.old) key.now self.old.leaving.removed self.new.leaving.removed) }
         ensures short { OnErr result (SHORT_KEY < length key.now) }
@@ -232,8 +235,8 @@ impl ByteCache {
         self.cache.invalidate_all_notifying(&mut self.leaving);
     }
 
-    /// Drains the entry that left first, if its key and value fit in the buffers, and returns their lengths. They are copied to the beginnings. If one doesn't fit,
-    /// the entry stays in front.
+    /// Drains the entry that left first, if its key and value fit in the buffers, and returns their lengths. They are copied to the beginnings. If one
+    /// doesn't fit, the entry stays in front.
     pub fn drain(&mut self, keys: &mut [u8], values: &mut [u8]) -> Option<Drained>
         ensures told { result ≡ option_map drained_of (oldest self.old.leaving.removed) }
         ensures key { keys.new ≡ copied_to keys.old (option_map (λ p. p.0)
@@ -257,8 +260,8 @@ impl ByteCache {
         Some(drained)
     }
 
-    /// Begins a walk through the unexpired entries, in the order of `Cache::iter`. Each call that may change the cache ends it, unless it is refused memory: all
-    /// but `peek` and the looks at counts.
+    /// Begins a walk through the unexpired entries, in the order of `Cache::iter`. Each call that may change the cache ends it, unless it is refused memory:
+    /// all but `peek` and the looks at counts.
     pub fn begin_walk(&mut self)
         ensures { self.new ≡ record self.old { walk = AtStart } }
     {

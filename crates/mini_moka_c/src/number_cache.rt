@@ -182,8 +182,8 @@ impl NumberCache {
         self.leaving.removed.take()
     }
 
-    /// Begins a walk through the unexpired entries, in the order of `Cache::iter`. Each call that may change the cache ends it, unless it is refused memory: all
-    /// but `peek` and the looks at counts.
+    /// Begins a walk through the unexpired entries, in the order of `Cache::iter`. Each call that may change the cache ends it, unless it is refused memory:
+    /// all but `peek` and the looks at counts.
     pub fn begin_walk(&mut self)
         ensures { self.new ≡ record self.old { walk = AtStart } }
     {

@@ -84,8 +84,8 @@ impl<A: Allocator + Clone + Drop> Logs<A> {
         }
     }
 
-    /// Publishes how many writes are on their way, as a multiple of `WRITE_BATCH`: callers ask if the log is full, has reached the flush point, or has space
-    /// for so many. It stores only a value that differs, since a store is an exchange here.
+    /// Publishes how many writes are on their way, as a multiple of `WRITE_BATCH`. Callers ask by it if the log is full, has reached the flush point, or has
+    /// space for so many. Only a value that differs is stored, since a store is an exchange here.
     pub fn publish_write_len(&self, len: usize) {
         let published = len - len % WRITE_BATCH;
         if self.writes.len.load(Ordering::Acquire) != published {
@@ -129,7 +129,7 @@ impl<A: Allocator + Clone + Drop> Logs<A> {
         is_pushed
     }
 
-    /// Takes the first writes once those taken before are applied: the least of what there is, what is wanted and what can be taken at once.
+    /// Takes the first writes, once those taken before are applied. It takes the least of what there is, what is wanted and what can be taken at once.
     pub fn take_writes<R: Wait>(&self, rt: &R, wanted: usize, taken: &mut TakenWrites)
         requires { taken.old ≡ [] }
         ensures { length taken.new ≤ wanted }

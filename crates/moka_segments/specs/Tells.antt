@@ -62,7 +62,8 @@ module _ {K V S W : Type 0} (keys : Keys K S) (weighs : W → K → V → ℕ �
 
   module _ (plan : Plan S) where
     -- what a get makes and tells, in the segment of its key
-    pub record Gets (is_clone : V → V → Type 0) (old : Knows K V S W) (key : K) (now : ℕ) (result : Result (Option V) error.OutOfMemory) (new : Knows K V S W) : Type 0 where
+    pub record Gets (is_clone : V → V → Type 0) (old : Knows K V S W) (key : K) (now : ℕ)
+        (result : Result (Option V) error.OutOfMemory) (new : Knows K V S W) : Type 0 where
       pub found : Option V
       pub told : TellsClone is_clone found result
       pub made : Makes keys weighs rules plan old (place_of plan keys key) (Get key now) (Found found) new
@@ -74,7 +75,8 @@ module _ {K V S W : Type 0} (keys : Keys K S) (weighs : W → K → V → ℕ �
       pub met : (value : V) → found ≡ Some value → rules.holds key value
 
     -- what a peek makes and tells: it is no use of the entry, and the law of misses doesn't speak of it
-    pub record Peeks (is_clone : V → V → Type 0) (old : Knows K V S W) (key : K) (now : ℕ) (result : Result (Option V) error.OutOfMemory) (new : Knows K V S W) : Type 0 where
+    pub record Peeks (is_clone : V → V → Type 0) (old : Knows K V S W) (key : K) (now : ℕ)
+        (result : Result (Option V) error.OutOfMemory) (new : Knows K V S W) : Type 0 where
       pub found : Option V
       pub told : TellsClone is_clone found result
       pub made : Makes keys weighs rules plan old (place_of plan keys key) (Peek key now) (Found found) new
@@ -107,8 +109,8 @@ module _ {K V S W : Type 0} (keys : Keys K S) (weighs : W → K → V → ℕ �
       pub answered : (get.answer ≡ Found None) × (insert.answer ≡ answer)
       pub made : Visits keys weighs rules plan old i (insert ∷ get ∷ []) new
 
-    -- what a get or insert makes and tells: a value was found, or it was made and inserted in the visit in which nothing was found; a clone of it is answered, or
-    -- memory is refused for that or for the insert
+    -- what a get or insert makes and tells: a value was found, or it was made and inserted in the visit in which nothing was found; a clone of it is
+    -- answered, or memory is refused for that or for the insert
     abbrev pub GetsOrInserts : (V → V → Type 0) → (V → Type 0) → Knows K V S W → ℕ → K → ℕ → Result V InsertError → Knows K V S W → Type 0
     GetsOrInserts is_clone makes old i key now (Ok copy) new =
         (value : V) × is_clone value copy

@@ -25,7 +25,8 @@ IsPairClone key_clone value_clone pair copy = key_clone pair.0 copy.0 × value_c
 
 module _ {K V S W : Type 0} (keys : Keys K S) (weighs : W → K → V → ℕ → W → Type 0) (rules : Rules K V) (plan : Plan S) where
   -- what an invalidation by a predicate makes and tells in a segment: the predicate is called once at each entry, and those at which it answers true leave
-  pub record InvalidatesIf {F : Type 0} (asks : F → Bor K → Bor V → Bool → F → Type 0) (predicate : F) (old : Knows K V S W) (i : ℕ) (new : Knows K V S W) : Type 0 where
+  pub record InvalidatesIf {F : Type 0} (asks : F → Bor K → Bor V → Bool → F → Type 0)
+      (predicate : F) (old : Knows K V S W) (i : ℕ) (new : Knows K V S W) : Type 0 where
     pub answers : List Bool
     pub made : MakesIn keys weighs rules plan old i (InvalidateEntriesIf answers) Done new
     pub told : List Bool
@@ -33,7 +34,8 @@ module _ {K V S W : Type 0} (keys : Keys K S) (weighs : W → K → V → ℕ �
     pub left : made.call.after ≡ after_invalidate_if keys made.call.before told
 
   -- and in each segment, one after another
-  pub record InvalidatesAllIf {F : Type 0} (asks : F → Bor K → Bor V → Bool → F → Type 0) (predicate : F) (old : Knows K V S W) (count : ℕ) (new : Knows K V S W) : Type 0 where
+  pub record InvalidatesAllIf {F : Type 0} (asks : F → Bor K → Bor V → Bool → F → Type 0)
+      (predicate : F) (old : Knows K V S W) (count : ℕ) (new : Knows K V S W) : Type 0 where
     pub made : (i : ℕ) → i < count → InvalidatesIf asks predicate old i new
     pub later : (i : ℕ) → count ≤ i → SameIn old i new
     pub same : new.by ≡ old.by

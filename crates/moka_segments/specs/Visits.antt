@@ -43,8 +43,8 @@ pub data Role : Type 0 where
   Tells : Role
   Deals : Role
 
--- what is known at a seat: what it is for, the plan, its number, which lock it has, of each value a history that it has seen, one that it was told of, and its own
--- visits there; the last visit stands first
+-- what is known at a seat: what it is for, the plan, its number, which lock it has, of each value a history that it has seen, one that it was told of, and
+-- its own visits there; the last visit stands first
 pub record Known (E K : Type 0) : Type 0 where
   pub role : Role
   pub plan : Option K

@@ -46,7 +46,8 @@ fn put<
     ensures step { IsPut (keys_by K.Hash S.BuildHasher S.Hasher.Hasher) W.weighs cache.old key now (option_map (λ p. (p.0.value, p.1))
         result.1) cache.new }
     ensures ready { W.ready cache.new.weigher }
-    ensures told { TellsIfPut L.hears (keys_by K.Hash S.BuildHasher S.Hasher.Hasher) cache.old key now (option_map (λ p. (p.0.value, p.1)) result.1) cache.new listener.old
+    ensures told { TellsIfPut L.hears (keys_by K.Hash S.BuildHasher S.Hasher.Hasher) cache.old key now (option_map (λ p. (p.0.value, p.1)) result.1)
+        cache.new listener.old
         listener.new }
 {
     let given = Snapshot::of(&value);
@@ -87,10 +88,12 @@ fn get_or_put<
     requires make { F.pre make }
     ensures answered { TellsGot V.is_clone (F.post make) (option_map (λ s. s.value) result.1.0) (option_map (λ p. (p.0.value, p.1)) result.1.2) result.0 }
     ensures leads { Leads (keys_by K.Hash S.BuildHasher S.Hasher.Hasher) W.weighs cache.old
-        (visit_of cache.old key now (option_map (λ s. s.value) result.1.0) result.1.1.value (option_map (λ p. (p.0.value, p.1)) result.1.2) cache.new) cache.new }
+        (visit_of cache.old key now (option_map (λ s. s.value) result.1.0) result.1.1.value (option_map (λ p. (p.0.value, p.1)) result.1.2) cache.new)
+        cache.new }
     ensures ready { W.ready cache.new.weigher }
     ensures told { TellsVisit L.hears (keys_by K.Hash S.BuildHasher S.Hasher.Hasher)
-        (visit_of cache.old key now (option_map (λ s. s.value) result.1.0) result.1.1.value (option_map (λ p. (p.0.value, p.1)) result.1.2) cache.new) listener.old listener.new }
+        (visit_of cache.old key now (option_map (λ s. s.value) result.1.0) result.1.1.value (option_map (λ p. (p.0.value, p.1)) result.1.2) cache.new)
+        listener.old listener.new }
 {
     let (found, told) = looked(cache.get_notifying(&key, hash, now, listener));
     let between = Snapshot::of(&*cache);

@@ -6,7 +6,8 @@ use Rattle.moka_list.specs.IdList.{is_listed}
 use Rattle.moka_unsync_model.specs.declared.entry.Entry.{Entry}
 use Rattle.moka_unsync_model.specs.declared.entry.Part.{Part}
 use Rattle.moka_unsync_model.specs.declared.entry.Part.TheVariants.{Probation, Protected, Window}
-use Rattle.moka_unsync_model.specs.Contents.{Contents, Write, after_moving, entries_without, entry_at, entry_keys, is_probation, is_protected, is_window, without}
+use Rattle.moka_unsync_model.specs.Contents.{Contents, Write, after_moving, entries_without, entry_at, entry_keys, is_probation, is_protected, is_window}
+use Rattle.moka_unsync_model.specs.Contents.{without}
 use Rattle.moka_unsync_model.specs.Contents.{write_of, writes_without}
 use Rattle.moka_unsync_model.specs.Insert.{after_arrival, after_update}
 use Rattle.moka_unsync_model.specs.Lookup.{after_using}

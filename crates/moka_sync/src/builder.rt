@@ -111,8 +111,8 @@ impl<K, V, W: Drop, A: Allocator + Clone + Drop, P> CacheBuilder<K, V, W, A, P> 
         }
     }
 
-    /// Sets the number of entries for which memory is reserved at the start, in equal parts for the shards, and for as many more as a log holds. Room for
-    /// more is made as they come.
+    /// Sets the number of entries for which memory is reserved at the start. It is reserved in equal parts for the shards, and for as many more as a log
+    /// holds. Room for more is made as they come.
     pub fn initial_capacity(self, initial_capacity: usize) -> Self
         ensures { result ≡ record self { initial_capacity = initial_capacity } }
     {

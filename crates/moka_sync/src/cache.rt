@@ -355,7 +355,7 @@ pub trait ConcurrentCacheExt {
     // What a whole maintenance is, at a moment.
     ghost synced: { Self → ℕ → Type 0 };
 
-    /// Runs a whole maintenance, after any other has ended: it applies the logs, removes expired entries and those above the limit, in 500 turns each at
+    /// Runs a whole maintenance, after any other has ended. It applies the logs, removes expired entries and those above the limit, in 500 turns each at
     /// most, and publishes the counts.
     fn sync<R: Wait>(&self, rt: &R, now: Instant)
         ensures { synced self.now now };

@@ -31,7 +31,8 @@ module _ (K V L S W A H : RattleType) (key : HashMembers K.Denot) (build : build
       notifying.ghost_name none (λ _ _. ⊤) holds
 
   -- what its listener is left as it has
-  abbrev pub lends_listener : MutBor (Notifying K.Denot V.Denot S.Denot W.Denot L.Denot) → Notifying K.Denot V.Denot S.Denot W.Denot L.Denot → MutBor L.Denot → Fml
+  abbrev pub lends_listener : MutBor (Notifying K.Denot V.Denot S.Denot W.Denot L.Denot) → Notifying K.Denot V.Denot S.Denot W.Denot L.Denot
+      → MutBor L.Denot → Fml
   lends_listener notifying start listener = Lends
       (notifying_row K V L S W A H (record { eq = key.eq }) (record { hash_input = key.hash_input }) build hash heap copies) L notifying listener
       (λ left. record start { listener = left })

@@ -29,7 +29,8 @@ pub record IsCached {K V S : Type 0} (keys : Keys K S) (state : S) (policy : Pol
   pub room : space ≡ protected_room shares policy.max_capacity
 
 -- a new entry was put, by the window where there is one, and whether it stays
-abbrev pub IsPut : {K V : Type 0} → (K → K → Bool) → Bool → Option PartLimits → Option ℕ → Option Table → Entry K V → Contents K V → Bool → Contents K V → Type 0
+abbrev pub IsPut : {K V : Type 0} → (K → K → Bool) → Bool → Option PartLimits → Option ℕ → Option Table → Entry K V → Contents K V → Bool → Contents K V
+    → Type 0
 IsPut eq keeps None max sketch new old stays put =
     (put ≡ after_admission eq keeps new (victims_of max sketch new old.entries) old) × (stays ≡ is_some (victims_of max sketch new old.entries))
 IsPut eq keeps (Some limits) max sketch new old stays put =

@@ -202,7 +202,8 @@ impl<
         ensures err { OnErr result (IsRefused self.old.cache self.new.cache) }
         ensures error { IfErr result (λ error. error ≡ InsertError.OutOfMemory) }
         ensures ready { W.ready self.new.cache.weigher }
-        ensures told { OnOk result (TellsInsert L.hears (keys_by K.Hash S.BuildHasher S.Hasher.Hasher) self.old.cache now key value self.new.cache self.old.listener self.new.listener) }
+        ensures told { OnOk result (TellsInsert L.hears (keys_by K.Hash S.BuildHasher S.Hasher.Hasher)
+            self.old.cache now key value self.new.cache self.old.listener self.new.listener) }
         ensures untold { OnErr result (self.new.listener ≡ self.old.listener) }
     {
         let hash = self.cache.hash_of(&key);
@@ -231,13 +232,16 @@ impl<
         requires make { found_by_get (keys_by K.Hash S.BuildHasher S.Hasher.Hasher) self.old.cache key now ≡ None → F.pre make }
         ensures ok { IfOk result (λ copy. (value : V) × V.is_clone value copy
             × IsGotOrInserted (keys_by K.Hash S.BuildHasher S.Hasher.Hasher) self.old.cache key now W.weighs (F.post make) value self.new.cache) }
-        ensures err { OnErr result (((value : V) × (¬ (V.is_infallible value)) × (self.new.cache ≡ after_get (keys_by K.Hash S.BuildHasher S.Hasher.Hasher) self.old.cache key now))
+        ensures err { OnErr result (((value : V) × (¬ (V.is_infallible value))
+            × (self.new.cache ≡ after_get (keys_by K.Hash S.BuildHasher S.Hasher.Hasher) self.old.cache key now))
             ⊎ IsRefusedBehind (keys_by K.Hash S.BuildHasher S.Hasher.Hasher) self.old.cache key now self.new.cache) }
         ensures error { IfErr result (λ error. error ≡ InsertError.OutOfMemory) }
         ensures ready { W.ready self.new.cache.weigher }
-        ensures told { OnOk result (TellsGot L.hears (keys_by K.Hash S.BuildHasher S.Hasher.Hasher) self.old.cache now (found_by_get (keys_by K.Hash S.BuildHasher S.Hasher.Hasher) self.old.cache key now) key self.new.cache
+        ensures told { OnOk result (TellsGot L.hears (keys_by K.Hash S.BuildHasher S.Hasher.Hasher) self.old.cache now
+            (found_by_get (keys_by K.Hash S.BuildHasher S.Hasher.Hasher) self.old.cache key now) key self.new.cache
             self.old.listener self.new.listener) }
-        ensures looked { OnErr result (TellsLook L.hears (keys_by K.Hash S.BuildHasher S.Hasher.Hasher) self.old.cache now self.old.listener self.new.listener) }
+        ensures looked { OnErr result (TellsLook L.hears (keys_by K.Hash S.BuildHasher S.Hasher.Hasher) self.old.cache now
+            self.old.listener self.new.listener) }
     {
         let hash = self.cache.hash_of(&key);
         self.cache

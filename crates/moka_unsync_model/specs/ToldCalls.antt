@@ -57,4 +57,5 @@ module _ {L K V S W : Type 0} (hears : L → K → V → Cause → L → Type 0)
   abbrev pub TellsGot : Option V → K → CacheState K V S W → L → L → Type 0
   TellsGot (Some found) key new before after = TellsLook hears keys old now before after
   TellsGot None key new before after =
-      (value : V) × (between : L) × TellsLook hears keys old now before between × TellsInsert hears keys (after_get keys old key now) now key value new between after
+      (value : V) × (between : L) × TellsLook hears keys old now before between
+      × TellsInsert hears keys (after_get keys old key now) now key value new between after

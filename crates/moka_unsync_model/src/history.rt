@@ -1,7 +1,8 @@
 //! What follows for a cache's entries from the calls that were made, a law a function. A law is its function's clause: there is no code to call.
 ghost use Rattle.moka_common.specs.Keys.{keys_by};
 ghost use Rattle.moka_unsync_model.specs.Excluded.{EntriesWithoutCauseStay, ExpiredValuesAreNotCurrent, ReplacedValuesAreNotCurrent};
-ghost use Rattle.moka_unsync_model.specs.History.{ContainsAsGet, HitsAreCurrent, LastWritesAreInserts, PairsAreCurrent, PeekAsGet, PeeksAreCurrent, RemoveAsGet};
+ghost use Rattle.moka_unsync_model.specs.History.{ContainsAsGet, HitsAreCurrent, LastWritesAreInserts, PairsAreCurrent, PeekAsGet, PeeksAreCurrent};
+ghost use Rattle.moka_unsync_model.specs.History.{RemoveAsGet};
 ghost use Rattle.moka_unsync_model.specs.History.{RunsHaveAHistory};
 ghost use Rattle.moka_unsync_model.specs.Removal.{EntriesLeaveForACause, InsertsEnterOrAreRejected, MissesHaveAReason};
 

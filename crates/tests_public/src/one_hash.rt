@@ -99,8 +99,8 @@ fn a_new_key_of_the_same_hash_is_rejected(rt: HostRuntime) -> Result<(), Fail> {
     Ok(())
 }
 
-/// Counts the keys that are found with their own values, of a thousand of which every third was invalidated. The 990th was rejected as it left the window; it is
-/// a third too, so 332 others are invalidated.
+/// Counts the keys that are found with their own values, of a thousand of which every third was invalidated. The 990th was rejected as it left the window; it
+/// is a third too, so 332 others are invalidated.
 fn found_of_a_thousand(alloc: Global) -> Result<u64, Fail> {
     let mut cache = zero_hashed(alloc, 1000)?;
     for key in 0..=1000u64 {

@@ -3,10 +3,9 @@ ghost use Rattle.std.specs.Prelude.{◌≡◌, ℕ, ◌+◌, ◌-◌, ◌<◌, �
 ghost use Rattle.std.specs.Borrow.{sem};
 ghost use Rattle.std.specs.Map.{lookup};
 ghost use Rattle.slab.specs.Slab.{ContainsKey, HasRoomFor, Updates, get, slab_len};
-ghost use Rattle.moka_list.specs.Nodes.{IsIn, first_id, next_id, moved_to_back};
+ghost use Rattle.moka_list.specs.Nodes.{AreApart, IsIn, first_id, next_id, moved_to_back};
 ghost use Rattle.moka_deque.specs.Lends.{lends_element, lends_value};
 ghost use Rattle.moka_deque.specs.Linked.{EndsWith, Pushes, Unlinks};
-ghost use Rattle.moka_list.specs.Nodes.{AreApart};
 ghost use Rattle.moka_deque.specs.RawNodes.{IsAt, AtNode, linked};
 ghost use Rattle.moka_deque.specs.Slots.{AreEnds, Follows, HasFollower, IsFirst, IsLast, IsPlaced, IsTied, items_of, live_at, nodes_of, room_of, shown};
 ghost use Rattle.moka_deque.specs.declared.deque.nodes.Slot.{Slot};
@@ -98,8 +97,7 @@ impl<T, A: Allocator> Ends<T, A> {
         ensures ends { (alloc : A) → AreEnds alloc self.old → AreEnds alloc self.new × (result.alloc ≡ alloc) }
         ensures nodes { AtNode self.old.list.nodes node.ptr (λ xs n ys. (self.new.list.nodes ≡ xs ++ ys) × (n ≡ linked result.ptr result.id result.element)) }
     {
-        let node = self.list.detach(node);
-        node
+        self.list.detach(node)
     }
 
     // Links the node in at the back, and tells its id.

@@ -43,8 +43,8 @@ impl<
     A: Allocator + Clone + Drop,
 > Inner<K, V, S, P, W, A> {
     /// Puts the value at the key. Returns the entry's ticket. A key that isn't there is hashed again, by the hash state of its shard, since no lock's type
-    /// says whose hash this is. If that gives another hash, or one of another shard, the call never returns. Nothing proves that this can't happen; it doesn't in
-    /// a cache, whose shards share its hash state.
+    /// says whose hash this is. If that gives another hash, or one of another shard, the call never returns. Nothing proves that this can't happen; it
+    /// doesn't in a cache, whose shards share its hash state.
     pub(crate) fn insert<R: Wait>(
         &self,
         rt: &R,

@@ -51,7 +51,8 @@ impl<K: Eq + Hash + Drop, V: Drop, L: Drop, W: Drop, A: Allocator + Clone + Drop
 > {
     /// Builds the cache, as `CacheBuilder::build` does. If it is refused, the listener is dropped.
     pub fn build(self) -> Result<NotifyingCache<K, V, L, FixedState, W, A>, BuildError>
-        ensures ok { IfOk result (λ notifying. IsBuilt self.builder notifying.cache.settings.hash_state notifying.cache × (notifying.listener ≡ self.listener)) }
+        ensures ok { IfOk result (λ notifying. IsBuilt self.builder notifying.cache.settings.hash_state notifying.cache
+            × (notifying.listener ≡ self.listener)) }
         ensures err { IfErr result (λ error. error ≡ refusal_of self.builder) }
     {
         self.build_with_hasher(FixedState::default())

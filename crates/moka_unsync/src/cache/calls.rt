@@ -306,7 +306,8 @@ impl<
         ensures err { OnErr result (IsRefused self.old self.new) }
         ensures error { IfErr result (λ error. error ≡ InsertError.OutOfMemory) }
         ensures ready { W.ready self.new.weigher }
-        ensures told { OnOk result (TellsInsert L.hears (keys_by K.Hash S.BuildHasher S.Hasher.Hasher) self.old now key value self.new listener.old listener.new) }
+        ensures told { OnOk result (TellsInsert L.hears (keys_by K.Hash S.BuildHasher S.Hasher.Hasher)
+            self.old now key value self.new listener.old listener.new) }
         ensures untold { OnErr result (listener.new ≡ listener.old) }
     {
         if self.store.reserve(1, self.max_entries).is_err() {

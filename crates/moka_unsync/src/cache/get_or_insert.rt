@@ -87,11 +87,13 @@ impl<
         requires make { found_by_get (keys_by K.Hash S.BuildHasher S.Hasher.Hasher) self.old key now ≡ None → F.pre make }
         ensures ok { IfOk result (λ copy. (value : V) × V.is_clone value copy
             × IsGotOrInserted (keys_by K.Hash S.BuildHasher S.Hasher.Hasher) self.old key now W.weighs (F.post make) value self.new) }
-        ensures err { OnErr result (((value : V) × (¬ (V.is_infallible value)) × (self.new ≡ after_get (keys_by K.Hash S.BuildHasher S.Hasher.Hasher) self.old key now))
+        ensures err { OnErr result (((value : V) × (¬ (V.is_infallible value))
+            × (self.new ≡ after_get (keys_by K.Hash S.BuildHasher S.Hasher.Hasher) self.old key now))
             ⊎ IsRefusedBehind (keys_by K.Hash S.BuildHasher S.Hasher.Hasher) self.old key now self.new) }
         ensures error { IfErr result (λ error. error ≡ InsertError.OutOfMemory) }
         ensures ready { W.ready self.new.weigher }
-        ensures told { OnOk result (TellsGot L.hears (keys_by K.Hash S.BuildHasher S.Hasher.Hasher) self.old now (found_by_get (keys_by K.Hash S.BuildHasher S.Hasher.Hasher) self.old key now) key self.new listener.old listener.new) }
+        ensures told { OnOk result (TellsGot L.hears (keys_by K.Hash S.BuildHasher S.Hasher.Hasher) self.old now
+            (found_by_get (keys_by K.Hash S.BuildHasher S.Hasher.Hasher) self.old key now) key self.new listener.old listener.new) }
         ensures looked { OnErr result (TellsLook L.hears (keys_by K.Hash S.BuildHasher S.Hasher.Hasher) self.old now listener.old listener.new) }
     {
         if let Some(found) = self.get_notifying(&key, hash, now, listener) {

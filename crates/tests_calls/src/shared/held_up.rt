@@ -137,8 +137,8 @@ fn get_often<R: Wait>(rt: &R, cache: &GatedCache, key: u64, times: u64, now: Ins
     }
 }
 
-/// Fills a cache of weight 2 with the keys 1 and 2, of which 1 is the least recently used. An entry that is too heavy waits to be rejected, once a maintenance is
-/// due by time.
+/// Fills a cache of weight 2 with the keys 1 and 2, of which 1 is the least recently used. An entry that is too heavy waits to be rejected, once a
+/// maintenance is due by time.
 fn fill<R: Wait>(rt: &R, cache: &GatedCache, gate: &Arc<Gate>) -> Result<(), Fail> {
     get_often(rt, cache, 9, 65, at(0));
     cache.insert(rt, 1, light(1), at(0))?;
@@ -190,8 +190,8 @@ fn fill_shard<R: Wait>(rt: &R, cache: &GatedCache, gate: &Arc<Gate>) -> Result<(
     Ok(())
 }
 
-/// Hides all entries while a maintenance waits for the lock of their shard, which another thread has that removes the key 0. Returns how many entries are counted
-/// then: what is charged for 0 until its removal is applied, and 16 if it isn't seen to be hidden.
+/// Hides all entries while a maintenance waits for the lock of their shard, which another thread has that removes the key 0. Returns how many entries are
+/// counted then: what is charged for 0 until its removal is applied, and 16 if it isn't seen to be hidden.
 fn count_after_hiding<R: Wait + Threads + Clock + Copy + Send + 'static>(
     rt: R,
     alloc: Global,

@@ -1,3 +1,4 @@
+// Calls of the cache of segments without a listener.
 ghost use Rattle.std.specs.Prelude.{⊤};
 
 use moka_common::error;

@@ -76,8 +76,8 @@ fn found<R: Wait>(
     ))
 }
 
-/// Returns the counts of two sessions. In one, 3 gets another value and 0 is invalidated. In the other, a predicate chooses 2, 1 expires at 11, and 3 is left to
-/// the end.
+/// Returns the counts of two sessions. In one, 3 gets another value and 0 is invalidated. In the other, a predicate chooses 2, 1 expires at 11, and 3 is left
+/// to the end.
 fn counts<R: Wait>(rt: &R, cache: &Squares) -> Result<[u64; 4], Fail> {
     let mut one = cache.session()?;
     let mut other = cache.session()?;
