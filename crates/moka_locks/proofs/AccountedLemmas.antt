@@ -27,7 +27,7 @@ use Rattle.moka_sync_model.specs.Turn.Expiry.{access_front, after_eviction, afte
 use Rattle.moka_sync_model.specs.Turn.Expiry.{write_front}
 use Rattle.moka_sync_model.specs.Turn.Turn.{after_more_reads, after_more_writes, after_read_taken, after_write_taken}
 use Rattle.moka_sync_model.specs.Turn.Turn.{next_published, turn_at}
-use Rattle.moka_shard.specs.PlannedTurn.{IsPlanned, IsTurn}
+use Rattle.moka_shard.specs.PlannedTurn.{IsPlanned}
 use Rattle.moka_sync_model.specs.Published.{opening}
 use Rattle.moka_guards.specs.Counts.{Publisher}
 use Rattle.moka_locks.specs.Charged.{IsAccounted, IsCharged, IsNewest, published_after}

@@ -120,9 +120,9 @@ impl<
             parts.capacity,
         )?;
         let keeps_writes = settings.limits().has_time_to_live();
-        let (logs, maintenance) = logs_and_maintenance(&alloc)?;
+        let (logs, working) = logs_and_maintenance(&alloc)?;
         let maintenance = IdleMaintenance {
-            maintenance,
+            working,
             publisher,
             keeps_writes,
         };

@@ -5,13 +5,11 @@ ghost use Rattle.moka_sync_model.specs.Phase.{Idle, name_of};
 ghost use Rattle.moka_locks.specs.MaintenanceTurn.{AreTurns};
 ghost use Rattle.moka_locks.specs.SameTickets.{AtWork, IsOrdered, just_begun};
 
-use crate::idle::IdleMaintenance;
+use crate::idle::{IdleMaintenance, Working};
 use crate::inner::Inner;
 use moka_common::time::Instant;
 use moka_guards::counts::Publisher;
 use moka_guards::waiting::lock;
-use moka_maintenance::maintenance::Maintenance;
-use moka_queues::taken::TakenWrites;
 use moka_shard::rule::PairRule;
 use moka_sync_model::phase::Phase;
 use moka_sync_model::published::Published;
@@ -26,8 +24,7 @@ use std::sync::{Mutex, MutexGuard, Wait};
 #[derive(Drop)]
 pub(crate) struct RunningMaintenance<'a, A: Allocator + Clone + Drop> {
     guard: MutexGuard<'a, Option<IdleMaintenance<A>>>,
-    maintenance: Box<Maintenance<A>, A>,
-    taken: TakenWrites,
+    working: Box<Working<A>, A>,
     publisher: Option<Publisher<A>>,
     keeps_writes: bool,
 }
@@ -40,10 +37,14 @@ impl<'a, A: Allocator + Clone + Drop> Model for RunningMaintenance<'a, A> {
 
     ghost Value = { AtWork };
 
-    ghost view = { λ r. record { keeps_writes = r.keeps_writes; working = record { maintenance = r.maintenance.value; taken = r.taken } } };
+    ghost view = { λ r. record {
+      keeps_writes = r.keeps_writes;
+      working = record { maintenance = r.working.value.maintenance; taken = r.working.value.taken };
+    } };
 
-    ghost invariant = { λ r. (length r.taken ≤ writes_left r.maintenance.value.phase) × HasBothOrders r.keeps_writes r.maintenance.value.orders
-        × IfSome r.publisher (λ p. IsAccounted r.maintenance.value p.published) };
+    ghost invariant = { λ r. (length r.working.value.taken ≤ writes_left r.working.value.maintenance.phase)
+        × HasBothOrders r.keeps_writes r.working.value.maintenance.orders
+        × IfSome r.publisher (λ p. IsAccounted r.working.value.maintenance p.published) };
 }
 
 impl<'a, A: Allocator + Clone + Drop> RunningMaintenance<'a, A> {
@@ -82,15 +83,14 @@ impl<'a, A: Allocator + Clone + Drop> RunningMaintenance<'a, A> {
         ensures ordered { IsOrdered result }
     {
         let IdleMaintenance {
-            mut maintenance,
+            mut working,
             publisher,
             keeps_writes,
         } = idle;
-        maintenance.begin(now);
+        working.maintenance.begin(now);
         RunningMaintenance {
             guard,
-            maintenance,
-            taken: TakenWrites::new(),
+            working,
             publisher,
             keeps_writes,
         }
@@ -100,7 +100,7 @@ impl<'a, A: Allocator + Clone + Drop> RunningMaintenance<'a, A> {
     pub(crate) fn published(&self) -> Published
         ensures { result ≡ self.now.working.maintenance.published }
     {
-        self.maintenance.published()
+        self.working.maintenance.published()
     }
 
     /// Takes one turn, with the lock of what it needs, or several if operations leave their log together. Returns the phase after it.
@@ -118,8 +118,9 @@ impl<'a, A: Allocator + Clone + Drop> RunningMaintenance<'a, A> {
         ensures keeps { self.new.keeps_writes ≡ self.old.keeps_writes }
         ensures ordered { IsOrdered self.new }
     {
-        inner.turn(rt, &mut self.maintenance, &mut self.taken);
-        self.maintenance.phase()
+        let working = &mut *self.working;
+        inner.turn(rt, &mut working.maintenance, &mut working.taken);
+        working.maintenance.phase()
     }
 
     /// Publishes the counts of the maintenance, which has ended, to the cell, if there is one, gives it back, and releases its lock.
@@ -128,16 +129,15 @@ impl<'a, A: Allocator + Clone + Drop> RunningMaintenance<'a, A> {
     {
         let RunningMaintenance {
             mut guard,
-            maintenance,
-            taken: _,
+            working,
             mut publisher,
             keeps_writes,
         } = self;
         if let Some(publisher) = &mut publisher {
-            publisher.publish(rt, maintenance.published());
+            publisher.publish(rt, working.maintenance.published());
         }
         *guard = Some(IdleMaintenance {
-            maintenance,
+            working,
             publisher,
             keeps_writes,
         });

@@ -1,10 +1,11 @@
 // The parts of a new cache.
-ghost use Rattle.std.specs.Prelude.{◌≡◌, ◌<◌, IfOk};
+ghost use Rattle.std.specs.Prelude.{◌≡◌, ◌<◌, [], IfOk};
 ghost use Rattle.std.specs.Vec.{vec_len};
 ghost use Rattle.moka_sync_model.specs.declared.constants.TheConstants.{SHARDS};
 ghost use Rattle.moka_locks.specs.Charged.{counts_of};
 ghost use Rattle.moka_sync_model.specs.CoreState.{new_maintenance};
 
+use crate::idle::Working;
 use crate::inner::LockedShards;
 use crossbeam_utils::CachePadded;
 use moka_common::error::OutOfMemory;
@@ -13,6 +14,7 @@ use moka_common::shared::Shared;
 use moka_guards::counts::{Counts, Publisher};
 use moka_guards::logs::Logs;
 use moka_maintenance::maintenance::Maintenance;
+use moka_queues::taken::TakenWrites;
 use moka_shard::rule::PairRule;
 use moka_shard::shard::Shard;
 use moka_sync_model::constants::SHARDS;
@@ -33,15 +35,19 @@ pub(super) fn counts_of<A: Allocator + Drop>(
     }
 }
 
-/// Makes empty logs, and a maintenance that has done nothing.
+/// Makes empty logs, and a maintenance that has done nothing and taken no write.
 pub(super) fn logs_and_maintenance<A: Allocator + Clone + Drop>(
     alloc: &A,
-) -> Result<(Logs<A>, Box<Maintenance<A>, A>), OutOfMemory>
-    ensures { IfOk result (λ made. made.1.value ≡ new_maintenance) }
+) -> Result<(Logs<A>, Box<Working<A>, A>), OutOfMemory>
+    ensures maintenance { IfOk result (λ made. made.1.value.maintenance ≡ new_maintenance) }
+    ensures taken { IfOk result (λ made. made.1.value.taken ≡ []) }
 {
-    let maintenance = Maintenance::new(alloc.clone()?)?;
-    let maintenance = Box::new(alloc.clone()?, maintenance)?;
-    Ok((Logs::new(alloc)?, maintenance))
+    let working = Working {
+        maintenance: Maintenance::new(alloc.clone()?)?,
+        taken: TakenWrites::new(),
+    };
+    let working = Box::new(alloc.clone()?, working)?;
+    Ok((Logs::new(alloc)?, working))
 }
 
 /// Makes the settings of a new cache, and its shards, with capacity for `capacity` entries in each.
