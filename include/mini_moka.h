@@ -2,31 +2,31 @@
  * mini-moka's cache for one thread, proved. Keys and values are bytes of any length, or numbers of 64 bits, which take no memory of their own.
  * docs/C_AND_RUST.md says how the library is built and linked.
  *
- * Moments and durations are nanoseconds. Moments count from a start of the program's choice, as by CLOCK_MONOTONIC; one may be before an earlier call's. Each
- * call returns a mini_moka_status, and none aborts. A call writes through a pointer only if it returns MINI_MOKA_DONE, and a length at MINI_MOKA_TOO_SHORT too.
+ * Moments and durations are nanoseconds. Moments count from any start that the program chooses, as with CLOCK_MONOTONIC; they may go backwards. Each call
+ * returns a mini_moka_status, and none aborts. A call writes through a pointer only if it returns MINI_MOKA_DONE, and a length at MINI_MOKA_TOO_SHORT too.
  *
- * A handle can keep the entries that leave its cache, for the program to drain: a write-back cache writes them to a store, and a cache of objects frees them. Its
- * settings have a removed_room, and mini_moka_removed takes them out.
+ * A handle can keep the entries that leave its cache, for the program to drain: a write-back cache writes them to a store, and a cache of objects frees them.
+ * The setting removed_room says how many; mini_moka_removed takes them out.
  *
  * The size of a cache:
  *
  * - An update with a longer value may leave a weighed cache above its capacity. Then each insert, get, mini_moka_contains, mini_moka_remove and
- *   mini_moka_invalidate first evicts up to 100 entries, least recently used first, until the others fit. An update that is heavier than the whole capacity is
- *   stored, so these calls evict most entries, and it: remove its key instead. Any other cache never exceeds its capacity.
- * - A cache has at most 2,000,000,000 entries; another new key gets MINI_MOKA_OUT_OF_MEMORY. An entry weighs at most UINT32_MAX, even if it has more bytes.
+ *   mini_moka_invalidate first evicts up to 100 entries, least recently used first, until the others fit. An update heavier than the whole capacity is
+ *   stored, so these calls evict most entries and the update: remove its key instead. Any other cache never exceeds its capacity.
+ * - A cache has at most 2,000,000,000 entries; then an insert gets MINI_MOKA_OUT_OF_MEMORY. An entry weighs at most UINT32_MAX, even if it has more bytes.
  * - An insert that finds the cache's memory full doubles it, and moves each entry, so a big cache pauses. A cache with an initial_capacity of the
  *   most entries that it will have never grows.
  *
  * A program keeps these rules, since no proof sees it:
  *
- * - A handle is all zeros at first, which is a closed one: struct mini_moka cache = {0}; From then on the program only passes its address on. It neither changes
- *   nor copies a handle, and closes it in the end.
+ * - A handle is all zeros at first, which is a closed one: struct mini_moka cache = {0}; From then on the program only passes its address on. It neither
+ *   changes nor copies a handle, and closes it in the end.
  * - One call of a handle is made at a time. Threads that share one hold a lock for each call; mini_moka_segments.h has a cache that does so.
  * - No pointer is null, not even one to zero bytes.
  * - What a call writes to (the handle, a buffer, a length, a value, a count, a cause, statistics) overlaps nothing else that the call gets. So the two lengths
  *   of mini_moka_next and mini_moka_removed are two places. The key and the value of an insert, which are only read, may overlap each other. What is only
  *   written, as a buffer, needn't be initialised.
- * - Memory is that of malloc, realloc and free. A program that replaces them replaces all three, before it opens a handle.
+ * - The library uses malloc, realloc and free. A program that replaces them replaces all three, before it opens a handle.
  * - No call is made from a signal handler.
  * - A child of fork may use its copies of the handles, if no other thread was in a call of them at the fork.
  */
@@ -91,7 +91,7 @@ static inline const char *mini_moka_status_text(uint32_t status) {
     return status < sizeof texts / sizeof *texts ? texts[status] : "an unknown status";
 }
 
-/* A handle on a cache of either kind. Its fields are the library's. */
+/* A handle on a cache of either kind. Its fields are internal. */
 struct mini_moka {
     void *at;
     bool is_open;
@@ -108,29 +108,29 @@ struct mini_moka_settings {
                                 than 24 bytes */
     uint64_t seed[2];        /* the key of the hash: if strangers choose the cache's keys, 16 bytes that they can't know */
     bool is_weighed;         /* true if an entry weighs its bytes of key and value, and not 1 */
-    size_t removed_room;     /* the most entries that left that are kept for mini_moka_removed: 0 keeps none */
+    size_t removed_room;     /* the most removed entries that are kept for mini_moka_removed: 0 keeps none */
 };
 
 /* Settings without limits. A program sets what it needs: struct mini_moka_settings settings = MINI_MOKA_SETTINGS_INIT; settings.capacity = 1000; */
 #define MINI_MOKA_SETTINGS_INIT {MINI_MOKA_UNLIMITED, MINI_MOKA_UNLIMITED, MINI_MOKA_UNLIMITED, 0, {0, 0}, false, 0}
 
 /*
- * Opens a closed handle with a new cache. If memory is refused or a duration is 0, the handle stays closed. The memory for removed_room entries is reserved here,
- * so no other call is refused memory for them.
+ * Opens a closed handle with a new cache. If memory is refused or a duration is 0, the handle stays closed. The memory for removed_room entries is reserved
+ * here, so no other call is refused memory for them.
  */
 uint32_t mini_moka_open(struct mini_moka *handle, const struct mini_moka_settings *settings);
 
 /*
- * Puts a copy of the value at a copy of the key, so that the cache has this entry: MINI_MOKA_DONE. A new entry begins in a window, a hundredth of the capacity,
- * rounded down. If that is full, an entry of it may leave for those that are used more (MINI_MOKA_CAUSE_SIZE). An entry that is too heavy for the window, as
- * any is with a capacity below 100, may be rejected in this call: MINI_MOKA_REJECTED, and the cache has no entry of the key.
+ * Puts a copy of the value at a copy of the key, so that the cache has this entry: MINI_MOKA_DONE. A new entry begins in a window, a hundredth of the
+ * capacity, rounded down. If that is full, an entry of it may leave for those that are used more (MINI_MOKA_CAUSE_SIZE). An entry that is too heavy for the
+ * window, as any is with a capacity below 100, may be rejected in this call: MINI_MOKA_REJECTED, and the cache has no entry of the key.
  */
 uint32_t mini_moka_insert(struct mini_moka *handle, const void *key, size_t key_length, const void *value, size_t value_length, uint64_t now);
 
 /*
  * Looks the key up, and makes its entry the most recently used one. The value is copied to the beginning of the buffer, and its length is written; if the
- * buffer is shorter, the answer is MINI_MOKA_TOO_SHORT, which counts as a hit too. (mini_moka_peek tells the length without counting.) Here and below only a key
- * of more than 24 bytes can be refused memory: it is copied into memory that the handle keeps, which grows if it is shorter than the key.
+ * buffer is shorter, the answer is MINI_MOKA_TOO_SHORT, which counts as a hit too. (mini_moka_peek tells the length without counting.) Here and below memory
+ * can be refused only for a key of more than 24 bytes: it is copied into memory of the handle, which grows if it is shorter than the key.
  */
 uint32_t mini_moka_get(struct mini_moka *handle, const void *key, size_t key_length, uint64_t now, void *buffer, size_t buffer_length, size_t *length);
 
@@ -150,19 +150,20 @@ uint32_t mini_moka_remove(struct mini_moka *handle, const void *key, size_t key_
 uint32_t mini_moka_invalidate(struct mini_moka *handle, const void *key, size_t key_length, uint64_t now);
 
 /*
- * Copies the next entry of a walk (mini_moka_walk) to the beginnings of both buffers, and writes the lengths of its key and its value. If a buffer is shorter,
- * the answer is MINI_MOKA_TOO_SHORT, and the walk stays where it is, so that the call can be made again. It doesn't count as an access.
+ * Copies the next entry of a walk (mini_moka_walk) to the beginnings of both buffers, and writes the lengths of its key and its value. If a buffer is
+ * shorter, the answer is MINI_MOKA_TOO_SHORT, and the walk stays where it is, so that the call can be made again. It doesn't count as an access.
  */
 uint32_t mini_moka_next(struct mini_moka *handle, uint64_t now, void *key, size_t key_room, void *value, size_t value_room, size_t *key_length,
                         size_t *value_length);
 
 /*
- * Drains the removed entry that left first: copies its key and its value to the beginnings of both buffers, and writes their lengths and a mini_moka_cause. If a
- * buffer is shorter, the answer is MINI_MOKA_TOO_SHORT, only the lengths are written, and the entry stays in front. The answer is MINI_MOKA_ABSENT if there is none.
+ * Drains the removed entry that left first: copies its key and its value to the beginnings of both buffers, and writes their lengths and a mini_moka_cause.
+ * If a buffer is shorter, the answer is MINI_MOKA_TOO_SHORT, only the lengths are written, and the entry stays in front. The answer is MINI_MOKA_ABSENT if
+ * there is none.
  *
- * Each entry that leaves is queued, in the call in which it leaves, unless mini_moka_remove returns it. A replaced value comes with its key, and a rejected entry
- * as it was passed. If removed_room entries are queued, what leaves is dropped and counted: `lost` of the statistics. What is queued stays until it is drained,
- * or until the handle is closed.
+ * Each entry that leaves is queued, in the call in which it leaves, unless mini_moka_remove returns it. A replaced value comes with its key, and a rejected
+ * entry as it was passed. If removed_room entries are queued, what leaves is dropped and counted: `lost` of the statistics. What is queued stays until it is
+ * drained, or until the handle is closed.
  */
 uint32_t mini_moka_removed(struct mini_moka *handle, void *key, size_t key_room, void *value, size_t value_room, size_t *key_length, size_t *value_length,
                            uint32_t *cause);
@@ -175,7 +176,7 @@ struct mini_moka_u64_settings {
     uint64_t time_to_live;   /* how long an entry lives after it was last written */
     uint64_t time_to_idle;   /* how long an entry lives after it was last read or written */
     size_t initial_capacity; /* number of entries that fit from the start: up to there no insert is refused */
-    size_t removed_room;     /* the most entries that left that are kept for mini_moka_u64_removed: 0 keeps none */
+    size_t removed_room;     /* the most removed entries that are kept for mini_moka_u64_removed: 0 keeps none */
 };
 
 /* Settings without limits. */
@@ -195,8 +196,8 @@ uint32_t mini_moka_u64_next(struct mini_moka *handle, uint64_t now, uint64_t *ke
 uint32_t mini_moka_u64_removed(struct mini_moka *handle, uint64_t *key, uint64_t *value, uint32_t *cause);
 
 /*
- * Gets the value of the key, or inserts `otherwise` if there is none, and writes the value that it got or inserted. The answer is MINI_MOKA_DONE, even if the new
- * entry was rejected.
+ * Gets the value of the key, or inserts `otherwise` if there is none, and writes the value that it got or inserted. The answer is MINI_MOKA_DONE, even if the
+ * new entry was rejected.
  */
 uint32_t mini_moka_u64_get_or_insert(struct mini_moka *handle, uint64_t key, uint64_t otherwise, uint64_t now, uint64_t *value);
 
@@ -236,7 +237,7 @@ uint32_t mini_moka_statistics(struct mini_moka *handle, struct mini_moka_statist
 /*
  * Begins a walk through the unexpired entries, least recently used first, those of the window last. Each mini_moka_next of bytes, or mini_moka_u64_next of
  * numbers, writes one entry; after the last it returns MINI_MOKA_ABSENT. A program may peek within a walk, drain removed entries, and ask for the count, the
- * weight and the statistics. Each other call ends the walk, unless it returns MINI_MOKA_OUT_OF_MEMORY.
+ * weight and the statistics. Any other call may end the walk.
  */
 uint32_t mini_moka_walk(struct mini_moka *handle);
 

@@ -1,11 +1,11 @@
 /*
- * A cache of bytes that threads share: N segments, each a handle of mini_moka.h behind a mutex of pthreads. This header is all of it; a program links
- * libmini_moka.a, and pthreads. The caches inside are proved. The hand-over between threads is tested: dev/c_library/run runs threads under ThreadSanitizer.
+ * A cache of bytes that threads share: N segments, each a handle of mini_moka.h behind a mutex of pthreads. This header has all its code; a program links
+ * libmini_moka.a and pthreads. The caches inside are proved. The hand-over between threads is tested: dev/c_library/run runs threads under ThreadSanitizer.
  *
- * A key belongs to one segment, which has its part of the capacity and an admission policy of its own. A call waits only for calls in the same segment. Each
- * call is the one of mini_moka.h, and has its status. A new entry that weighs more than its segment's part of the capacity is rejected; an update to such a
- * weight may empty the segment (mini_moka.h, the size of a cache). Keys that strangers choose may all belong to one segment: then the capacity of the others is
- * not used. There is no walk.
+ * A key belongs to one segment, which has its part of the capacity and an admission policy of its own. A call waits only for calls in the same segment. Calls
+ * work as those of mini_moka.h, and return the same status. A new entry that weighs more than its segment's part of the capacity is rejected; an update to
+ * such a weight may empty the segment (mini_moka.h, the size of a cache). Keys that strangers choose may all belong to one segment: then the capacity of the
+ * others is not used. There is no walk.
  *
  * A program keeps these rules:
  *
@@ -25,8 +25,8 @@ extern "C" {
 #endif
 
 /*
- * The most segments that mini_moka_segments_open chooses, and the least capacity that it gives one, in entries and in bytes. With fewer entries a segment has no
- * window, and with fewer bytes only small entries fit in it, so more new entries are rejected.
+ * The most segments that mini_moka_segments_open chooses, and the least capacity that it gives one, in entries and in bytes. With fewer entries a segment has
+ * no window, and with fewer bytes only small entries fit in it, so more new entries are rejected.
  */
 #define MINI_MOKA_SEGMENTS_MOST 16
 #define MINI_MOKA_SEGMENT_LEAST 100
@@ -44,7 +44,7 @@ union mini_moka_segment {
     char lines[MINI_MOKA_SEGMENT_SIZE];
 };
 
-/* Its fields are this header's. */
+/* Its fields are internal. */
 struct mini_moka_segments {
     union mini_moka_segment *segments;
     void *block; /* the memory of the segments, which begin at its first cache line */
@@ -103,15 +103,15 @@ static inline uint32_t mini_moka_segments_close(struct mini_moka_segments *all) 
     return MINI_MOKA_DONE;
 }
 
-/* Returns the part of a segment: the parts of all are the whole, and no two differ by more than 1. */
+/* Returns the part of a segment: the parts add up to the whole, and no two differ by more than 1. */
 static inline uint64_t mini_moka_segments_part(uint64_t whole, size_t count, size_t at) {
     return whole == MINI_MOKA_UNLIMITED ? whole : whole / count + (at < whole % count);
 }
 
 /*
- * Opens a cache of `count` segments. If that is 0 there are 16, or as many as leave each a capacity of 100 entries, or of 1 MiB if bytes are weighed. Each has
- * its part of the capacity, of initial_capacity and of removed_room, which is rounded up. With more segments than the capacity some keep nothing. If a segment
- * is refused, nothing stays open.
+ * Opens a cache of `count` segments. If that is 0, up to 16: as many as get a capacity of 100 entries each, or of 1 MiB if bytes are weighed. Each has its
+ * part of the capacity, of initial_capacity and of removed_room, which is rounded up. With more segments than the capacity some keep nothing. If a segment is
+ * refused, nothing stays open.
  */
 static inline uint32_t mini_moka_segments_open(struct mini_moka_segments *all, const struct mini_moka_settings *settings, size_t count) {
     if (all->segments != NULL)
@@ -147,7 +147,7 @@ static inline uint32_t mini_moka_segments_open(struct mini_moka_segments *all, c
     return MINI_MOKA_DONE;
 }
 
-/* The calls at a key. Each is MINI_MOKA_CLOSED before the cache is opened. */
+/* The calls at a key. Each returns MINI_MOKA_CLOSED before the cache is opened. */
 static inline uint32_t mini_moka_segments_insert(struct mini_moka_segments *all, const void *key, size_t key_length, const void *value, size_t value_length,
                                                  uint64_t now) {
     if (all->segments == NULL)
@@ -206,8 +206,8 @@ static inline uint32_t mini_moka_segments_invalidate_all(struct mini_moka_segmen
 }
 
 /*
- * Drains a removed entry of the first segment that has one, as mini_moka_removed does; entries of one key come in the order in which they left. If other threads
- * make calls, a call after MINI_MOKA_TOO_SHORT may meet another entry.
+ * Drains a removed entry of the first segment that has one, as mini_moka_removed does; entries of one key come in the order in which they left. If other
+ * threads make calls, a call after MINI_MOKA_TOO_SHORT may meet another entry.
  */
 static inline uint32_t mini_moka_segments_removed(struct mini_moka_segments *all, void *key, size_t key_room, void *value, size_t value_room,
                                                   size_t *key_length, size_t *value_length, uint32_t *cause) {

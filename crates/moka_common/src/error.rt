@@ -28,7 +28,7 @@ impl<T: Drop> From<AllocFailed<T>> for OutOfMemory {
 pub enum BuildError {
     TimeToLiveTooLong,
     TimeToIdleTooLong,
-    /// Of the cache for one thread alone, as the next: more than 100 in 100.
+    /// Not of `sync::Cache`, as the next: more than 100 in 100.
     WindowShareTooLarge,
     ProtectedShareTooLarge,
     /// Of the shared cache alone: `initial_capacity` and a log's room together pass `usize::MAX`.
