@@ -15,7 +15,7 @@ use std::thread::{Builder, Threads};
 use std::time::Duration;
 
 /// Calls that each thread makes.
-const CALLS: u64 = 100_000;
+const CALLS: u64 = 20_000;
 
 /// A core with a small limit and both durations, with which nothing has been done.
 fn new_core(alloc: Global) -> Result<Core<u64, u64>, Fail>
