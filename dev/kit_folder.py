@@ -1,4 +1,4 @@
-"""A folder that stands for the kit: what checks on this machine have kept lies beside the kit, so a command of another folder begins from nothing."""
+"""A folder that stands in for the kit. Checks keep their results beside the kit, so a command of another folder starts without any."""
 import shutil
 
 # The commands of the kit that find the others beside themselves.

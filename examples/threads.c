@@ -11,7 +11,7 @@
 #define THREADS 4
 #define SESSIONS 5000
 
-/* A thread, and how many entries that left it has drained. */
+/* A thread, and the number of removed entries that it has drained. */
 struct worker {
     struct mini_moka_segments *cache;
     pthread_t thread;

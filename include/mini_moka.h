@@ -14,8 +14,8 @@
  *   mini_moka_invalidate first evicts up to 100 entries, least recently used first, until the others fit. An update heavier than the whole capacity is
  *   stored, so these calls evict most entries and the update: remove its key instead. Any other cache never exceeds its capacity.
  * - A cache has at most 2,000,000,000 entries; then an insert gets MINI_MOKA_OUT_OF_MEMORY. An entry weighs at most UINT32_MAX, even if it has more bytes.
- * - An insert that finds the cache's memory full doubles it, and moves each entry, so a big cache pauses. A cache with an initial_capacity of the
- *   most entries that it will have never grows.
+ * - An insert that finds the cache's memory full doubles it, and moves each entry, so a big cache pauses. A cache never grows if its
+ *   initial_capacity is the most entries that it will have.
  *
  * A program keeps these rules, since no proof sees it:
  *
@@ -122,7 +122,7 @@ uint32_t mini_moka_open(struct mini_moka *handle, const struct mini_moka_setting
 
 /*
  * Puts a copy of the value at a copy of the key, so that the cache has this entry: MINI_MOKA_DONE. A new entry begins in a window, a hundredth of the
- * capacity, rounded down. If that is full, an entry of it may leave for those that are used more (MINI_MOKA_CAUSE_SIZE). An entry that is too heavy for the
+ * capacity, rounded down. If the window is full, one of its entries may leave for others used more (MINI_MOKA_CAUSE_SIZE). An entry that is too heavy for the
  * window, as any is with a capacity below 100, may be rejected in this call: MINI_MOKA_REJECTED, and the cache has no entry of the key.
  */
 uint32_t mini_moka_insert(struct mini_moka *handle, const void *key, size_t key_length, const void *value, size_t value_length, uint64_t now);
@@ -130,7 +130,7 @@ uint32_t mini_moka_insert(struct mini_moka *handle, const void *key, size_t key_
 /*
  * Looks the key up, and makes its entry the most recently used one. The value is copied to the beginning of the buffer, and its length is written; if the
  * buffer is shorter, the answer is MINI_MOKA_TOO_SHORT, which counts as a hit too. (mini_moka_peek tells the length without counting.) Here and below memory
- * can be refused only for a key of more than 24 bytes: it is copied into memory of the handle, which grows if it is shorter than the key.
+ * can be refused to a call of bytes only for a key of more than 24 bytes: it is copied into memory of the handle, which grows if it is shorter than the key.
  */
 uint32_t mini_moka_get(struct mini_moka *handle, const void *key, size_t key_length, uint64_t now, void *buffer, size_t buffer_length, size_t *length);
 

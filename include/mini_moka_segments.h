@@ -109,7 +109,7 @@ static inline uint64_t mini_moka_segments_part(uint64_t whole, size_t count, siz
 }
 
 /*
- * Opens a cache of `count` segments. If that is 0, up to 16: as many as get a capacity of 100 entries each, or of 1 MiB if bytes are weighed. Each has its
+ * Opens a cache of `count` segments. If that is 0, up to 16, each with a capacity of 100 entries or more, or of 1 MiB if bytes are weighed. Each has its
  * part of the capacity, of initial_capacity and of removed_room, which is rounded up. With more segments than the capacity some keep nothing. If a segment is
  * refused, nothing stays open.
  */

@@ -1,4 +1,4 @@
-//! What else goes on on the machine, by the counters of Linux: elsewhere nothing is said.
+//! The load of the machine, from the counters of Linux. On other systems it is unknown.
 use std::fs;
 use std::thread::sleep;
 use std::time::Duration;

@@ -131,7 +131,7 @@ fn play_list<S: ThreadSide>(side: &S, together: &Barrier, calls: &[Call]) -> Par
     }
 }
 
-/// How many gets found their key, and the sum of what they found.
+/// Makes the calls, and returns the number of gets that found their key and the sum of their values.
 fn make_calls<S: ThreadSide>(side: &S, calls: &[Call]) -> (u64, u64) {
     let (mut hits, mut sum) = (0, 0u64);
     for call in calls {

@@ -92,7 +92,7 @@ pub fn measure(trace: &Trace, players: &[Option<Player>], repeats: usize) -> Vec
     least
 }
 
-/// What a reading of the clock takes: the original reads it once or twice a call where a duration is set, and the port is handed moments.
+/// Returns the nanoseconds of a clock reading. The original reads it once or twice a call if a duration is set; the port is given moments.
 pub fn clock_nanos() -> f64 {
     let readings = 1_000_000;
     let start = Instant::now();

@@ -203,7 +203,7 @@ impl Zipf {
     }
 }
 
-/// Look-ups that insert what they miss, by a Zipf distribution over a hundred times as many keys as the cache has room for, two for each entry and
+/// Look-ups that insert what they miss, by a Zipf distribution over a hundred keys for each entry of the capacity: two look-ups for each entry, and
 /// two millions at least.
 pub fn growing(entries: u64) -> Trace {
     let zipf = Zipf::new(100 * entries);

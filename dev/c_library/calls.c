@@ -38,7 +38,7 @@ static uint32_t insert(struct mini_moka *cache, const char *key, const char *val
 
 typedef uint32_t look_up(struct mini_moka *, const void *, size_t, uint64_t, void *, size_t, size_t *);
 
-/* Whether a look-up answers this, and finds this text in a buffer of eight bytes, or leaves it where the text is null. */
+/* Returns true if a look-up returns this status and writes this text to a buffer of eight bytes, or nothing if the text is null. */
 static bool finds(look_up *call, struct mini_moka *cache, const char *key, uint64_t now, uint32_t status, const char *text) {
     uint8_t buffer[ROOM], before[ROOM];
     size_t length = BEFORE;

@@ -6,7 +6,7 @@
  * Without a capacity the model knows what each call has to answer. With one it doesn't know which entries have left, so a look-up may find nothing; what is
  * found has to be the value that was written last, and unexpired, and the capacity has to hold.
  *
- * Where a cache queues what leaves, each entry that is drained has to be one that was inserted and hasn't left, for a cause that it can have. Each entry that was
+ * If a cache queues what leaves, each entry that is drained has to be one that was inserted and hasn't left, for a cause that it can have. Each entry that was
  * inserted is there, or was drained once, returned by a removal, or lost. As long as none was lost, the model knows which entries have left.
  */
 #include "mini_moka.h"
@@ -66,7 +66,7 @@ static uint64_t below(uint64_t bound) {
 struct known {
     bool is_there;
     uint64_t version, written, used;
-    bool may_remain; /* its entry is expired, and a call found none: cleanup removes at most a hundred in a call, and a peek none */
+    bool may_remain; /* its entry is expired, and a call found none: cleanup removes expired entries in batches of a hundred, and a peek none */
 };
 
 /* What a call put: another version of a key's value, until it has left. */
@@ -335,7 +335,7 @@ static bool is_found(uint32_t status) {
     return status == MINI_MOKA_DONE || status == MINI_MOKA_TOO_SHORT;
 }
 
-/* Whether the status is one of want of memory, which has to have been refused. */
+/* Returns true if the status is MINI_MOKA_OUT_OF_MEMORY, for which memory must have been refused. */
 static bool is_refused(uint32_t status) {
     require(status != MINI_MOKA_OUT_OF_MEMORY || was_refused, "memory was there");
     return status == MINI_MOKA_OUT_OF_MEMORY;

@@ -1,4 +1,4 @@
-"""fuzz.py --program P --seed N --count N --jobs J --mode all|unsync|core|recorded|sync|sketch
+"""fuzz.py --program P --seed N --count N --jobs J --mode all|unsync|core|recorded|sync|sketch [--malformed]
 
 Makes random scripts, runs `P < script`, and compares stdout and exit status with the model. The status is 1 if a script differs, or if none was compared.
 """
@@ -203,7 +203,7 @@ class WindowScript:
         self.lines = [self.s.first()]
         self.share = limit // 100
         self.main = limit - self.share
-        # so much weighs a row where the rows of the fill reach about the limit
+        # weight of a row at which the rows of the fill reach about the limit
         self.usual = max(1, min(U32, limit // max(self.filled, 3)))
         self.none = r.choice([0, 0, 0.05, 0.3, 0.8])
         self.heavy = r.choice([0, 0, 0.03, 0.15])

@@ -416,7 +416,7 @@ class Unsync:
         self.trim()
 
     def main_takes(self, limit, hash_, w, who):
-        """Whether main, of this limit or of none, takes a row of this weight. What gives way to it leaves."""
+        """Returns True if main takes a row of this weight within the limit, if there is one. The victims leave."""
         if limit is None or weight_of(self.main) + w <= limit:
             return True
         if w > limit:

@@ -202,8 +202,8 @@ impl Original {
         words("ok")
     }
 
-    /// Whether `invalidate` of keys does nothing but to take them out, and so mends what `invalidate_entries_if` does to the weight:
-    /// it evicts where the weight is above the limit, which a predicate's call doesn't. Without a limit nothing is to mend.
+    /// Returns `true` if `invalidate` only removes keys, and so avoids the wrong weight that `invalidate_entries_if` leaves:
+    /// it evicts if the weight is above the limit, which a predicate's call doesn't. Without a limit there is nothing to correct.
     fn keys_leave_alike(&self) -> bool {
         self.stale.weight == 0 && self.max.is_some_and(|max| self.cache.weighted_size() <= max)
     }
@@ -245,7 +245,7 @@ impl Original {
         format!("max {max} live {live} idle {idle}")
     }
 
-    /// Whether the call would evict or have room otherwise without the weight that a predicate's call has left.
+    /// Returns `true` if the weight that a predicate's call has left decides whether this call evicts or fits.
     fn stale_weight_decides(&self, call: &Call) -> bool {
         let Some(max) = self.max.filter(|_| self.stale.weight > 0) else {
             return false;

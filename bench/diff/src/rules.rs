@@ -3,7 +3,7 @@
 /// Why a reply of the port may be another than the original's. The reply must then be the original's as the rule mends it.
 #[derive(Clone, Copy, PartialEq, Eq)]
 pub enum Rule {
-    /// "invalidations of the cache for one thread leave `entry_count` as it was": the count is the original's less the entries that
+    /// "`unsync` invalidations leave `entry_count` as it was": the count is the original's less the entries that
     /// left by `invalidate`, `invalidate_all` and `invalidate_entries_if`.
     CountAfterRemovals,
     /// "`invalidate_entries_if` .. subtract[s] weights from a sum that begins at 0, so the weight stays": the weight is the original's

@@ -1,4 +1,4 @@
-//! How long a call takes through the package in Rust, beside the original and `lru` in one process: `library INSIDE [REPEATS]`. Numbers are keys and values of
+//! Times calls through the package in Rust, beside the original and `lru` in one process: `mini_moka_library_bench INSIDE [REPEATS]`. Numbers are keys and values of
 //! 64 bits; bytes are keys of 16 and values of 64, which the package copies in and out. Each side has its own default hash, and a byte of each value that it
 //! finds is read. INSIDE is the program that plays a trace of numbers inside of Rattle: two static libraries of Rattle's don't go into one program.
 //!
@@ -288,7 +288,7 @@ fn this_program() -> PathBuf {
     std::env::current_exe().expect("this program isn't found")
 }
 
-/// How many instructions a call has in a function of a program that is told last how many calls to make.
+/// Returns the instructions of a call in a function of a program whose last argument is the number of calls.
 fn instructions(program: &Path, function: &str, words: &[&str]) -> Option<f64> {
     let of = |calls: usize| {
         let calls = calls.to_string();
@@ -378,6 +378,6 @@ fn main() {
             let repeats = repeats.parse();
             print_table(inside, repeats.expect("the number of repeats is no number"));
         }
-        _ => panic!("usage: library INSIDE [REPEATS]"),
+        _ => panic!("usage: mini_moka_library_bench INSIDE [REPEATS]"),
     }
 }

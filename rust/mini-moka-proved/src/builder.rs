@@ -64,17 +64,17 @@ impl Builder {
         self
     }
 
-    /// Reserves memory for so many entries from the start. Up to there an insert is refused
+    /// Reserves memory for `entries` entries from the start. Up to that number an insert is refused
     /// memory only for its value, or for a key of more than 24 bytes.
     ///
     /// A cache that is full of entries doubles its memory within one insert, which takes time
-    /// linear in their number. With the most entries that it will have, it never does.
+    /// linear in their number. It never doubles if `entries` is the most that it will have.
     pub fn initial_capacity(mut self, entries: usize) -> Builder {
         self.limits.initial_capacity = entries;
         self
     }
 
-    /// Keeps up to so many entries that leave, for [`Cache::removed`] to drain. Without it none is kept.
+    /// Keeps up to `entries` removed entries, for [`Cache::removed`] to drain. By default none is kept.
     ///
     /// The memory for them is reserved when the cache is built, so that no call is refused memory for
     /// them. If the queue is full, what leaves is dropped and counted: [`Statistics::lost`].
@@ -163,7 +163,7 @@ impl Builder {
         self.limits.max_capacity.map(|capacity| capacity / least)
     }
 
-    /// Returns the builder of a segment. The parts of all segments are the whole.
+    /// Returns the builder of a segment. The capacities of all segments add up to the whole.
     pub(crate) fn part(&self, count: u64, at: u64) -> Builder {
         let part = |whole: u64| whole / count + u64::from(at < whole % count);
         let mut builder = self.clone();

@@ -31,7 +31,7 @@ const SHORT: usize = 256;
 ///
 /// A full cache admits an entry only if its estimated frequency exceeds the sum of its victims',
 /// which are the least recently used entries. From a capacity of 100 on, a hundredth of it is a
-/// window, in which a new entry begins if it fits; it is judged when it leaves that, and if it isn't
+/// window. A new entry that fits begins there. It is judged when it leaves, and if it isn't
 /// admitted then, it is evicted. A new entry that doesn't fit in the window is judged at once, and
 /// may be rejected: [`Inserted::Rejected`].
 ///
@@ -63,7 +63,7 @@ const SHORT: usize = 256;
 ///
 /// # Cost
 ///
-/// A call takes constant time on average, and the time of copying the key and the value. All but
+/// A call at a key takes constant time on average, plus copying the key and the value. All but
 /// [`peek`](Self::peek) first remove expired entries, a few hundred at most. A key of up to 24
 /// bytes lies in its entry, and looking it up asks for no memory but that of the value's copy. A
 /// look-up copies a longer key into memory that the cache keeps, which grows if it is shorter than
@@ -255,8 +255,8 @@ impl Cache {
     ///
     /// # Errors
     ///
-    /// [`OutOfMemory`] if the look-up is refused memory, and `make` isn't called; or if the insert
-    /// is, and the value is dropped.
+    /// [`OutOfMemory`] if the look-up is refused memory: then `make` isn't called. Or if the insert
+    /// is refused memory: then the value is dropped.
     pub fn get_or_insert_with(
         &mut self,
         key: impl AsRef<[u8]>,
@@ -419,7 +419,7 @@ impl Cache {
     }
 
     /// Returns an iterator that drains the entries that left, the first one first. What it doesn't
-    /// come to stays in the queue. Without [`Builder::removed_room`] there is none.
+    /// come to stays in the queue. Without [`Builder::removed_room`] it yields nothing.
     ///
     /// An entry is queued within the call in which it leaves, unless [`remove`](Self::remove)
     /// returns it. A replaced value comes with its key, and a rejected entry as it was handed in.

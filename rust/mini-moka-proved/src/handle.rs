@@ -17,8 +17,8 @@ use std::ptr::null_mut;
 pub(crate) const UNLIMITED: u64 = u64::MAX;
 
 // The statuses of calls. The header's others are those of a closed handle, of an open one that is
-// opened, of one that keeps the other kind, and of a duration of 0. No handle of this module meets
-// them.
+// opened, of one of the other kind, of an ended walk, and of a duration of 0. This module meets
+// none of them.
 const DONE: u32 = 0;
 const ABSENT: u32 = 1;
 const OUT_OF_MEMORY: u32 = 4;
@@ -58,7 +58,7 @@ pub(crate) struct NumberSettings {
 /// Counts of the calls of a cache since it was built, and of the entries that left. Each stays at
 /// `u64::MAX` once it has reached that.
 ///
-/// Until then `inserts - updates - rejections` is `evictions + expirations + removals` and the
+/// Until then `inserts - updates - rejections` is `evictions + expirations + removals` plus the
 /// number of entries.
 #[repr(C)]
 #[derive(Clone, Copy, Debug, Default, PartialEq, Eq)]
@@ -350,7 +350,7 @@ pub(crate) enum Look {
     Copied,
     /// No unexpired entry. The buffer is empty.
     Absent,
-    /// A value of this length, for which the buffer has no room. The buffer is empty.
+    /// A value of this length, which exceeds the buffer's capacity. The buffer is empty.
     TooLong(usize),
 }
 
@@ -707,7 +707,7 @@ fn expect_done(status: u32) {
     }
 }
 
-/// No call answers this, by the header.
+/// Panics at a status that the header rules out.
 fn unexpected(status: u32) -> ! {
     panic!("libmini_moka.a isn't the library of this package's header: a call answers {status}")
 }

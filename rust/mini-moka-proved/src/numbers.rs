@@ -12,7 +12,7 @@ use std::time::Duration;
 ///
 /// It is the [`Cache`](crate::Cache) of bytes for numbers, which take no memory of their own.
 /// Sizes, moments, threads and cost are as there, but nothing is copied. No look-up takes memory,
-/// so only inserts can be refused it.
+/// so only inserts can be refused memory.
 ///
 /// The keys' hash has a fixed key. If strangers choose the keys, they can choose ones of one hash,
 /// which makes the cache slow: use a `Cache` with a random seed then.

@@ -660,7 +660,7 @@ impl Builder {
     /// Sets the number of segments, from 1 to 65,536; a number outside becomes the nearer of the two.
     /// With more segments than the capacity some keep nothing.
     ///
-    /// Without one, a cache has 16, or as many as leave each a capacity of 100 entries, or of 1 MiB
+    /// By default a cache has 16, or fewer, so that each has a capacity of 100 entries, or of 1 MiB
     /// if bytes are weighed. A smaller segment has no window, or one that fits only small entries, so
     /// more new entries are rejected.
     pub fn segments(mut self, segments: usize) -> Builder {
