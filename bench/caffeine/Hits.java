@@ -1,4 +1,4 @@
-// Caffeine's hits: Hits CAPACITY.. reads the keys of a trace from standard input, eight bytes each, and prints the hits of a cache of each capacity.
+// Prints Caffeine's hits at each capacity: Hits CAPACITY... The keys of a trace come from standard input, in eight little-endian bytes each.
 import com.github.benmanes.caffeine.cache.Caffeine;
 import java.nio.ByteBuffer;
 import java.nio.ByteOrder;

@@ -1,4 +1,4 @@
-/* Traces, each with the outcome that it has to have, which was worked by hand: `dev/memcheck` plays them. */
+/* Plays traces and batches whose outcomes were worked out by hand, and reports those that differ: `dev/memcheck` runs it. */
 #include "bench_trace.h"
 #include <inttypes.h>
 #include <stdio.h>
@@ -22,19 +22,19 @@ enum { TICK = 10 };
 
 static const struct bench_trace_outcome before = {9, 9, 9, 9};
 
-/* Two keys: 7 has the value 5 and then 6, and 8 has 4 and then 9. Three look-ups find 5, 4 and 5. */
+/* Key 7 has the value 5 and then 6, key 8 has 4 and then 9. Three look-ups find 5, 4 and 5. */
 static const struct bench_trace_operation each_kind[] = {
     {7, 5, MOKA_TRACE_INSERT},       {7, 0, MOKA_TRACE_GET},           {8, 4, MOKA_TRACE_READ_THROUGH},
     {8, 3, MOKA_TRACE_READ_THROUGH}, {7, 6, MOKA_TRACE_GET_AND_INSERT}, {8, 9, MOKA_TRACE_REMOVE_AND_INSERT},
 };
 
-/* An insert at the moment 0, and looks at 10 and 20. */
+/* An insert at moment 0, and gets at 10 and 20. */
 static const struct bench_trace_operation looks[] = {{7, 5, MOKA_TRACE_INSERT}, {7, 0, MOKA_TRACE_GET}, {7, 0, MOKA_TRACE_GET}};
 
-/* An insert, and an operation of no kind. */
+/* An insert, and an operation of an unknown kind. */
 static const struct bench_trace_operation strange[] = {{7, 5, MOKA_TRACE_INSERT}, {7, 5, 5}};
 
-/* Where one entry is allowed, 8 is rejected while it was asked for as often as 7, and then takes its place; 7 doesn't come back for the same reason. */
+/* At a capacity of one, key 8 is rejected when it was looked up only as often as 7, and then replaces it. Then 7 is rejected for the same reason. */
 static const struct trace traces[] = {
     {"each kind", bench_trace_play, {NONE, NONE, NONE, 0, TICK, false, false, 1, 0}, each_kind, 6, MOKA_TRACE_DONE, {3, 14, 2, 2}},
     {"each kind on a core", bench_trace_play_core, {NONE, NONE, NONE, 0, TICK, false, false, 1, 0}, each_kind, 6, MOKA_TRACE_DONE, {3, 14, 2, 2}},
@@ -48,10 +48,10 @@ static const struct trace traces[] = {
     {"no kind", bench_trace_play, {NONE, NONE, NONE, 0, TICK, false, false, 1, 0}, strange, 2, MOKA_TRACE_UNKNOWN_KIND, {9, 9, 9, 9}},
 };
 
-/* How many of a count differ: 0 or 1, which is told. */
+/* Returns 1 and prints both values if they differ, else 0. */
 static int differs(const char *name, uint64_t found, uint64_t wanted) {
     if (found != wanted)
-        printf("%s: %" PRIu64 " in place of %" PRIu64 "\n", name, found, wanted);
+        printf("%s: %" PRIu64 " instead of %" PRIu64 "\n", name, found, wanted);
     return found != wanted;
 }
 
@@ -64,7 +64,7 @@ static int plays(const struct trace *trace) {
     return wrong + differs(trace->name, found.weight, trace->outcome.weight);
 }
 
-/* Two agings of nine words of 15 in each counter. At each of them all 144 counters are odd, so the half of the size is less by 36: 2147483611, and then
+/* Ages nine words twice, with 15 in each counter. All 144 counters are odd both times, so the size is halved and reduced by 36: to 2147483611, and then to
  * 1073741769. */
 static int ages(uint32_t load, uint32_t status, uint64_t wanted) {
     uint64_t words[9], sum = 9;
@@ -72,7 +72,7 @@ static int ages(uint32_t load, uint32_t status, uint64_t wanted) {
     return differs("aging", bench_trace_aging(load, words, 9, 2, &sum), status) + differs("aging", sum, wanted);
 }
 
-/* 1 is counted four times and read twice, and 2 is counted twice: hashes that differ modulo 4 share no counter. */
+/* Counts hash 1 four times and reads it twice, and counts hash 2 twice and reads it once. Hashes that differ modulo 4 share no counter. */
 static int counts(void) {
     const uint64_t hashes[] = {1, 1, 2};
     uint64_t sum = 9;

@@ -1,4 +1,4 @@
-/* Plays both caches, the list, the sketch and the index, for a checker of memory: `dev/memcheck` runs it under valgrind. */
+/* Plays loads on both caches, the list, the sketch and the index: `dev/memcheck` runs it under valgrind. */
 #include "bench_trace.h"
 #include <stdio.h>
 
@@ -6,13 +6,13 @@ enum { COUNT = 20000, NODES = 500 };
 
 static uint64_t state = 1;
 
-/* The next of numbers that look random. */
+/* Returns the next pseudorandom number. */
 static uint64_t next(void) {
     state = state * 6364136223846793005u + 1442695040888963407u;
     return state >> 33;
 }
 
-/* Plays the operations on a cache of these settings. */
+/* Plays the operations on a cache with these settings. */
 static uint32_t plays(uint32_t (*play)(const struct bench_trace_settings *, const struct bench_trace_operation *, size_t, struct bench_trace_outcome *),
                       struct bench_trace_settings settings, const struct bench_trace_operation *operations) {
     struct bench_trace_outcome outcome;

@@ -1,8 +1,8 @@
-//! Instructions, which don't vary from run to run as times do.
+//! Counts instructions, which don't vary from run to run as times do.
 use std::path::Path;
 use std::process::Command;
 
-/// What callgrind counts of a run of a program, or of what this function of it does, if there is a `valgrind`.
+/// Counts the instructions of a run of a program, or of one of its functions. Returns `None` if `valgrind` isn't installed or fails.
 pub fn collected(program: &Path, words: &[&str], function: Option<&str>) -> Option<f64> {
     let output = Command::new("valgrind")
         .args(["--tool=callgrind", "--callgrind-out-file=/dev/null"])

@@ -1,10 +1,10 @@
-//! Lists as one writes them by hand, two in a slab, in safe Rust, and one of boxed nodes with raw pointers, and the loads that are played on them.
+//! Lists written by hand, and the loads that are played on them. Two are in a slab, in safe Rust, and one has boxed nodes with raw pointers.
 use std::ptr;
 
-/// No node.
+/// Id of no node.
 const NONE: usize = usize::MAX;
 
-/// A list whose nodes are named by ids.
+/// A list whose nodes have ids.
 pub trait List {
     fn with_room(nodes: usize) -> Self;
     fn push_back(&mut self, element: u64) -> usize;
@@ -15,14 +15,14 @@ pub trait List {
     fn get(&self, id: usize) -> (u64, usize);
 }
 
-/// A slot with its links beside it and perhaps an element. Free slots are linked by `next`.
+/// A slot with its links, and an element unless it is free. Free slots are linked by `next`.
 struct Slot {
     next: usize,
     prev: usize,
     element: Option<u64>,
 }
 
-/// A list in slots.
+/// A list in plain slots.
 pub struct Plain {
     slots: Vec<Slot>,
     head: usize,
@@ -124,7 +124,7 @@ impl List for Plain {
     }
 }
 
-/// A slot that says whether it is free.
+/// A slot that is tagged as free or as a node.
 enum TaggedSlot {
     Vacant { next_free: usize },
     Node(Node),
@@ -258,7 +258,7 @@ impl List for Tagged {
     }
 }
 
-/// A node in a block of its own.
+/// A node in an allocation of its own.
 struct BoxedNode {
     next: *mut BoxedNode,
     prev: *mut BoxedNode,
@@ -266,7 +266,7 @@ struct BoxedNode {
     element: Option<u64>,
 }
 
-/// A list of boxed nodes that are linked by raw pointers, with a table from ids to nodes. A node that leaves is kept for the next element.
+/// A list of boxed nodes with raw pointers as links, and a table from ids to nodes. A removed node is kept for the next element.
 pub struct Boxed {
     nodes: Vec<*mut BoxedNode>,
     head: *mut BoxedNode,
@@ -288,7 +288,7 @@ impl Boxed {
 
     #[inline]
     fn link_last(&mut self, node: *mut BoxedNode) {
-        // Each pointer in the table, in a link and at an end is of a node that lives as long as the list.
+        // Each pointer in the table, in a link or at an end points to a node that lives as long as the list.
         unsafe {
             (*node).next = ptr::null_mut();
             (*node).prev = self.tail;
@@ -399,7 +399,7 @@ impl Drop for Boxed {
     }
 }
 
-/// What is done to a list, by the number by which the static library knows it.
+/// Load of a list, with its number in the static library.
 #[derive(Clone, Copy, PartialEq, Eq)]
 pub enum ListLoad {
     Move = 0,
@@ -407,7 +407,7 @@ pub enum ListLoad {
     TakeTurns = 2,
 }
 
-/// As the port's `bench_trace_list`.
+/// Plays a load as the port's `bench_trace_list` does.
 pub fn play<L: List>(load: ListLoad, nodes: usize, picks: &[usize], rounds: usize) -> u64 {
     let mut list = L::with_room(nodes);
     if load != ListLoad::FillAndEmpty {

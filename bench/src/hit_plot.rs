@@ -1,4 +1,4 @@
-//! A plot of hit ratios over capacities, a panel for each trace, as SVG.
+//! Draws hit ratios over capacities as SVG, with a panel for each trace.
 
 const COLUMNS: usize = 2;
 const WIDTH: f64 = 400.0;
@@ -8,7 +8,7 @@ const RIGHT: f64 = 20.0;
 const TOP: f64 = 35.0;
 const BOTTOM: f64 = 35.0;
 
-/// A side's colour, and a panel's lines: for each side its hit ratios, in percent, at each capacity.
+/// A trace's name, and its lines: for each side the hit ratios, in percent, at each capacity.
 pub struct Panel {
     pub name: String,
     pub ratios: Vec<Vec<f64>>,
@@ -51,7 +51,7 @@ fn panel(panel: &Panel, capacities: &[&str], colours: &[&str], left: f64, top: f
     out
 }
 
-/// The panels, two in a row, and a legend.
+/// Draws the panels, two in a row, and a legend. Each side has a name and a colour.
 pub fn plot(panels: &[Panel], capacities: &[&str], sides: &[(&str, &str)]) -> String {
     let colours: Vec<&str> = sides.iter().map(|side| side.1).collect();
     let rows = panels.len().div_ceil(COLUMNS) as f64;

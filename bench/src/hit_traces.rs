@@ -1,27 +1,27 @@
-//! Traces of which only the hits are counted: the numbers of the keys that are looked for, one after another.
+//! Traces for counting hits alone: the numbers of the keys that are looked up, in order.
 use crate::traces::Random;
 
-/// How many keys most traces have.
+/// Number of keys in most traces.
 pub const KEYS: u64 = 100_000;
 
 const CALLS: usize = 1_000_000;
 
-/// How long a set of popular keys stays popular.
+/// Number of calls during which a set of keys stays popular.
 const DRIFT: usize = 100_000;
 
-/// How many calls of a scan, or of what it comes between, follow one another.
+/// Number of calls in a turn of the scan mix.
 const TURN: usize = 10_000;
 
-/// Within how many calls a key of the recency trace is asked for again.
+/// Number of calls within which a key of `recent` is due again.
 const SOON: u64 = 100;
 
-/// Which keys a trace asks for, and its name.
+/// Name and keys of a trace.
 pub struct HitTrace {
     pub name: &'static str,
     pub keys: Vec<u64>,
 }
 
-/// Ranks of a Zipf distribution of this exponent, from 0 on.
+/// Returns a generator of ranks from 0 on, in a Zipf distribution with this exponent.
 fn zipf(exponent: f64) -> impl FnMut() -> u64 {
     let mut total = 0.0;
     let sums: Vec<f64> = (1..=KEYS)
@@ -42,7 +42,7 @@ fn zipf_keys(exponent: f64) -> Vec<u64> {
     (0..CALLS).map(|_| rank()).collect()
 }
 
-/// By turns popular keys, and a scan of others that are asked for once in a long time.
+/// Returns by turns popular keys, and a scan of other keys that recur only after a long time.
 fn scan_mix() -> Vec<u64> {
     let mut rank = zipf(0.99);
     let mut scanned = 0;
@@ -57,7 +57,7 @@ fn scan_mix() -> Vec<u64> {
         .collect()
 }
 
-/// Popular keys, which are others after each `DRIFT` calls.
+/// Returns popular keys, which change after each `DRIFT` calls.
 fn drift() -> Vec<u64> {
     let mut rank = zipf(0.99);
     (0..CALLS)
@@ -68,7 +68,7 @@ fn drift() -> Vec<u64> {
         .collect()
 }
 
-/// New keys, each of which is asked for three times more, soon after it came, and never again.
+/// Returns new keys, each of which recurs three times soon after, and then never again.
 fn recent() -> Vec<u64> {
     let mut random = Random(3);
     let mut again = vec![Vec::new(); CALLS];
@@ -77,7 +77,7 @@ fn recent() -> Vec<u64> {
     while keys.len() < CALLS {
         let call = keys.len();
         match again[call].pop() {
-            // What else was due now comes next.
+            // The other keys that are due now move to the next call.
             Some(key) => {
                 let late = std::mem::take(&mut again[call]);
                 if let Some(next) = again.get_mut(call + 1) {
@@ -100,7 +100,7 @@ fn recent() -> Vec<u64> {
     keys
 }
 
-/// All traces, in the order of the table.
+/// Returns all traces, in the order of the table.
 pub fn hit_traces() -> Vec<HitTrace> {
     let trace = |name, keys| HitTrace { name, keys };
     vec![

@@ -1,5 +1,4 @@
-//! The port of the cache for one thread beside the original, by whole traces; its parts beside others, by whole batches; and the caches that threads share, by
-//! lists of calls.
+//! Compares the port with the original: by traces on single-thread caches and the core, batches on parts, and lists of calls on shared caches.
 pub mod callgrind;
 pub mod hand_lists;
 pub mod hit_plot;

@@ -1,20 +1,20 @@
-//! Loads of the parts of a cache, each with the sides that play it: the port's first, and what it is compared with.
+//! Loads of the parts of a cache, each with the sides that play it. The first side is the port's.
 use crate::hand_lists::{self, Boxed, ListLoad, Plain, Tagged};
 use crate::original_sketch;
 use crate::port::{self, AgingLoad, IndexLoad};
 use crate::traces::{spread, Random, Zipf};
 use std::rc::Rc;
 
-/// One side: it plays a load so many times over, and answers a sum that all sides must have.
+/// A side of a load. `play` takes a number of rounds, and returns a sum that must be the same on all sides.
 pub struct Side {
     pub name: &'static str,
     pub play: Box<dyn Fn(usize) -> u64>,
 }
 
-/// What is played by all sides.
+/// A load, with the sides that play it.
 pub struct Load {
     pub name: String,
-    /// How many operations a round has.
+    /// Number of operations in a round.
     pub operations: usize,
     pub sides: Vec<Side>,
 }
@@ -26,7 +26,7 @@ fn side(name: &'static str, play: impl Fn(usize) -> u64 + 'static) -> Side {
     }
 }
 
-/// The loads of a part, if there is a part of this name.
+/// Returns the loads of a part, if a part has this name.
 pub fn loads_of(part: &str) -> Option<Vec<Load>> {
     match part {
         "sketch" => Some(sketch_loads().into_iter().chain(aging_loads()).collect()),
@@ -36,10 +36,10 @@ pub fn loads_of(part: &str) -> Option<Vec<Load>> {
     }
 }
 
-/// So many hashes are counted, and then read.
+/// Number of hashes that are counted or read in a round.
 const HASHES: usize = 1 << 18;
 
-/// Counts and look-ups of the sketch, in tables of three lengths. Few keys make most counts.
+/// Returns counts and look-ups of the sketch, in tables of three lengths. A few keys make most counts.
 fn sketch_loads() -> Vec<Load> {
     let zipf = Zipf::new(1 << 20);
     let mut random = Random(3);
@@ -75,10 +75,10 @@ fn sketch_loads() -> Vec<Load> {
     loads
 }
 
-/// So many words age in a round, however many a table has.
+/// Number of words that age in a round, whatever the length of the table.
 const WORDS: usize = 1 << 22;
 
-/// Agings of tables of three lengths: an operation is that of a whole table.
+/// Returns agings of tables of three lengths. An operation ages a whole table.
 fn aging_loads() -> Vec<Load> {
     let mut loads = Vec::new();
     for words in [128, 16_384, 1_048_576] {
@@ -105,10 +105,10 @@ fn aging_loads() -> Vec<Load> {
     loads
 }
 
-/// So many operations a round, however many nodes a list has.
+/// Number of operations in a round of a list or an index, whatever its length.
 const TURNS: usize = 1_000_000;
 
-/// Moves, fillings and turns of lists of two lengths.
+/// Returns moves, fillings and turns of lists of two lengths.
 fn list_loads() -> Vec<Load> {
     let named = [
         ("move", ListLoad::Move),
@@ -121,11 +121,11 @@ fn list_loads() -> Vec<Load> {
         let picks: Vec<usize> = (0..TURNS)
             .map(|_| random.below(nodes as u64) as usize)
             .collect();
-        // The port and the boxed list take the last of the reserved nodes first, so there the first element has the greatest id.
+        // The port and the boxed list use the last of the reserved nodes first, so there the first element has the greatest id.
         let mirrored: Rc<Vec<usize>> = Rc::new(picks.iter().map(|pick| nodes - 1 - pick).collect());
         let picks = Rc::new(picks);
         for (name, load) in named {
-            // A round of moves has as many as there are picks, the others one for each node.
+            // Moves make one operation a pick, so a round plays them once. The other loads make one operation a node.
             let times = match load {
                 ListLoad::Move => 1,
                 _ => TURNS / nodes,
@@ -155,7 +155,7 @@ fn list_loads() -> Vec<Load> {
     loads
 }
 
-/// Look-ups and replacements of ids by their hashes, in the index and in std's map, which stands in the same library.
+/// Returns look-ups and replacements of ids by their hashes, in the index and in std's map, both in the static library.
 fn index_loads() -> Vec<Load> {
     let mut loads = Vec::new();
     for ids in [10_000, 1_000_000] {

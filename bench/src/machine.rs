@@ -1,16 +1,16 @@
-//! The load of the machine, from the counters of Linux. On other systems it is unknown.
+//! Measures the load of the machine by the counters of Linux. On other systems it is unknown.
 use std::fs;
 use std::thread::sleep;
 use std::time::Duration;
 
-/// What the processors have done so far, in ticks of the system's clock, all together.
+/// Time of all processors together so far, in ticks of the system's clock.
 struct Ticks {
     processors: usize,
     total: u64,
     idle: u64,
 }
 
-/// The first line of `/proc/stat` has the ticks of user, nice, system, idle, iowait, irq, softirq and steal, and each processor has a line of its own.
+/// Reads `/proc/stat`. Its first line has the ticks of user, nice, system, idle, iowait, irq, softirq and steal. Each processor has a line of its own after it.
 fn ticks() -> Option<Ticks> {
     let stat = fs::read_to_string("/proc/stat").ok()?;
     let mut lines = stat.lines();
@@ -28,7 +28,7 @@ fn ticks() -> Option<Ticks> {
     })
 }
 
-/// The ticks that a process has taken with all its threads. They stand behind its name, which may have spaces and ends in a bracket.
+/// Returns the ticks that a process and all its threads have taken. They come after its name, which may have spaces and ends with a bracket.
 fn ticks_of(process: u32) -> Option<u64> {
     let stat = fs::read_to_string(format!("/proc/{process}/stat")).ok()?;
     let (_, behind) = stat.rsplit_once(')')?;
@@ -38,7 +38,7 @@ fn ticks_of(process: u32) -> Option<u64> {
     Some(user + system)
 }
 
-/// The processors over a stretch of time, with what some processes of ours take of them.
+/// State of the processors at a start, with the ticks that some processes of ours had taken.
 pub struct Watch {
     processes: Vec<u32>,
     ticks: Option<Ticks>,
@@ -55,7 +55,7 @@ impl Watch {
         }
     }
 
-    /// How many processors were idle or ours since the start: what others or the host took is not.
+    /// Returns the number of processors that were idle or ours since the start. Other programs or the host had the rest.
     pub fn free(&self) -> Option<f64> {
         let (then, now) = (self.ticks.as_ref()?, ticks()?);
         let own = own(&self.processes)? - self.own?;
@@ -68,10 +68,10 @@ fn own(processes: &[u32]) -> Option<u64> {
     processes.iter().map(|process| ticks_of(*process)).sum()
 }
 
-/// What the machine has, and what others take of it just now. Takes a second.
+/// Describes the machine's processors and its present load. Takes a second.
 pub fn describe() -> String {
     let Some(ticks) = ticks() else {
-        return "What else went on on the machine isn't known".into();
+        return "The load of the machine is unknown".into();
     };
     let watch = Watch::start(&[]);
     sleep(Duration::from_secs(1));
@@ -79,7 +79,7 @@ pub fn describe() -> String {
     let load = fs::read_to_string("/proc/loadavg").unwrap_or_default();
     let load: Vec<&str> = load.split_whitespace().take(3).collect();
     format!(
-        "{idle} of {} processors were idle before the run, where the load was {}",
+        "{idle} of {} processors were idle before the run, at a load of {}",
         ticks.processors,
         load.join(", ")
     )

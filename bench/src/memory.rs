@@ -1,6 +1,6 @@
-//! What the benchmarks tell `malloc`.
+//! Settings of `malloc` for the benchmarks.
 
-/// Lets `malloc` keep what is freed, so that no side is charged with the first touch of a page: in the first repeat alone pages are new.
+/// Makes `malloc` keep freed memory, so that only the first repeat pays for the first touch of a page.
 #[cfg(target_env = "gnu")]
 pub fn keep_memory() {
     use std::ffi::c_int;
@@ -10,7 +10,7 @@ pub fn keep_memory() {
     const TRIM_THRESHOLD: c_int = -1;
     const MMAP_MAX: c_int = -4;
     let kept = unsafe { mallopt(MMAP_MAX, 0) == 1 && mallopt(TRIM_THRESHOLD, -1) == 1 };
-    assert!(kept, "malloc can't be told to keep its memory");
+    assert!(kept, "malloc refused to keep freed memory");
 }
 
 #[cfg(not(target_env = "gnu"))]

@@ -1,9 +1,9 @@
-//! The original's sketch, which isn't public: the build script says where the file of the dependency is, and it is compiled as it is.
+//! The original's sketch, which isn't public. The build script finds its file in the dependency, and it is compiled unchanged.
 #![allow(dead_code, unexpected_cfgs)]
 
 include!(env!("ORIGINAL_SKETCH"));
 
-/// As the port's `bench_trace_sketch`.
+/// Plays a batch as the port's `bench_trace_sketch` does.
 pub fn play(capacity: u32, hashes: &[u64], counts: usize, reads: usize) -> u64 {
     let mut sketch = FrequencySketch::default();
     sketch.ensure_capacity(capacity);
@@ -21,7 +21,7 @@ pub fn play(capacity: u32, hashes: &[u64], counts: usize, reads: usize) -> u64 {
     sum
 }
 
-/// As the port's `bench_trace_aging`.
+/// Plays a batch as the port's `bench_trace_aging` does.
 pub fn age(words: &[u64], agings: usize) -> u64 {
     let mut sketch = FrequencySketch {
         table: words.into(),

@@ -1,29 +1,29 @@
-//! The port as threads share it, by the program `bench_load`, which has threads where the static library has none. Its README says what each line does.
+//! Plays the port's shared caches by the program `bench_load`, since the static library has no threads. bench/README.md explains its lines.
 use crate::thread_loads::Call;
 use crate::thread_sides::Played;
 use std::io::{self, BufRead, BufReader, BufWriter, Write};
 use std::process::{Child, ChildStdin, ChildStdout, Command, Stdio};
 
-/// Which of the port's caches is played on.
+/// A cache of the port.
 #[derive(Clone, Copy)]
 pub enum Kind {
-    /// The cache for threads.
+    /// `sync::Cache`.
     Sync,
-    /// The same, with its counts published.
+    /// `sync::Cache` with published counts.
     Counted,
-    /// One lock round the cache for one thread.
+    /// `unsync::Cache` with one lock around it.
     Unsync,
-    /// The cache of segments.
+    /// `sync::SegmentedCache`.
     Segments,
 }
 
-/// The requests that say what each new cache is from here on.
+/// Writes the requests that set the capacity and the filling of new caches.
 pub fn write_filling(requests: &mut impl Write, capacity: u64, filling: &[Call]) -> io::Result<()> {
     writeln!(requests, "capacity {capacity}")?;
     write_calls(requests, filling)
 }
 
-/// The requests that say what the threads do from here on.
+/// Writes the requests that set the threads' lists of calls.
 pub fn write_lists(requests: &mut impl Write, lists: &[Vec<Call>]) -> io::Result<()> {
     writeln!(requests, "clear")?;
     for list in lists {
@@ -45,7 +45,7 @@ fn write_calls(requests: &mut impl Write, calls: &[Call]) -> io::Result<()> {
     Ok(())
 }
 
-/// The running program.
+/// A running `bench_load`.
 pub struct PlayProgram {
     child: Child,
     requests: BufWriter<ChildStdin>,
@@ -53,7 +53,7 @@ pub struct PlayProgram {
 }
 
 impl PlayProgram {
-    /// Its `malloc` is told to keep what is freed, as that of this process is (`memory::keep_memory`).
+    /// Starts the program. Its `malloc` keeps freed memory, as that of this process does (`memory::keep_memory`).
     pub fn start(path: &str) -> io::Result<PlayProgram> {
         let mut child = Command::new(path)
             .env("MALLOC_MMAP_MAX_", "0")
@@ -75,12 +75,12 @@ impl PlayProgram {
         self.child.id()
     }
 
-    /// What each new cache is from here on, before any thread is there.
+    /// Sets the capacity and the filling of new caches. Must come before `send_lists`.
     pub fn send_filling(&mut self, capacity: u64, filling: &[Call]) -> io::Result<()> {
         write_filling(&mut self.requests, capacity, filling)
     }
 
-    /// What the threads do from here on.
+    /// Sets the threads' lists of calls.
     pub fn send_lists(&mut self, lists: &[Vec<Call>]) -> io::Result<()> {
         write_lists(&mut self.requests, lists)?;
         self.requests.flush()
@@ -106,7 +106,7 @@ impl PlayProgram {
         })
     }
 
-    /// The numbers that are replied, each behind its name.
+    /// Sends a request, and returns the numbers of the reply, each of which follows its name.
     fn ask<const N: usize>(&mut self, request: &str, names: [&str; N]) -> io::Result<[u64; N]> {
         writeln!(self.requests, "{request}")?;
         self.requests.flush()?;
@@ -127,7 +127,7 @@ impl PlayProgram {
 
 impl Drop for PlayProgram {
     fn drop(&mut self) {
-        // It is this process's own, and whatever it does is of no use any more.
+        // Nothing reads its replies any more.
         let _ = self.child.kill();
         let _ = self.child.wait();
     }

@@ -1,4 +1,4 @@
-//! A plot of times over numbers of entries, as SVG.
+//! Draws times over numbers of entries as SVG.
 
 const WIDTH: f64 = 640.0;
 const HEIGHT: f64 = 360.0;
@@ -7,24 +7,24 @@ const RIGHT: f64 = 150.0;
 const TOP: f64 = 30.0;
 const BOTTOM: f64 = 50.0;
 
-/// One side: its name, its colour, and its nanoseconds a call at each number of entries.
+/// A side's name and colour, and its nanoseconds a call at each number of entries.
 pub struct Line<'a> {
     pub name: &'a str,
     pub colour: &'a str,
     pub nanos: Vec<f64>,
 }
 
-/// How far a number of entries is to the right, among these.
+/// Returns the x coordinate of the number of entries with this index.
 fn x_of(index: usize, count: usize) -> f64 {
     LEFT + (WIDTH - LEFT - RIGHT) * index as f64 / (count - 1) as f64
 }
 
-/// How far up a time is, where the axis ends at this one.
+/// Returns the y coordinate of a time, on an axis that ends at `most`.
 fn y_of(nanos: f64, most: f64) -> f64 {
     HEIGHT - BOTTOM - (HEIGHT - TOP - BOTTOM) * nanos / most
 }
 
-/// The end of an axis of five steps of 1, 2 or 5 times a power of ten that has this time on it.
+/// Returns the end of an axis that has this time on it, in five steps of 1, 2 or 5 times a power of ten.
 fn end_of(greatest: f64) -> f64 {
     let least = greatest / 5.0;
     let power = 10f64.powf(least.log10().floor());
@@ -40,7 +40,7 @@ fn text(x: f64, y: f64, anchor: &str, words: &str) -> String {
     format!("<text x=\"{x:.0}\" y=\"{y:.0}\" text-anchor=\"{anchor}\">{words}</text>\n")
 }
 
-/// The lines over these numbers of entries.
+/// Draws the lines over these numbers of entries.
 pub fn plot(entries: &[u64], lines: &[Line]) -> String {
     let greatest = lines
         .iter()

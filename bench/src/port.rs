@@ -1,8 +1,8 @@
-//! The port, by its static library.
+//! Calls of the port's static library.
 use crate::hand_lists::ListLoad;
 use crate::traces::{Operation, Settings};
 
-/// What a trace gave.
+/// Outcome of a trace.
 #[repr(C)]
 #[derive(Clone, Copy, Debug, Default, PartialEq, Eq)]
 pub struct Outcome {
@@ -71,7 +71,7 @@ extern "C" {
 /// Plays the operations on a new cache, which is dropped at the end.
 pub fn play(settings: &Settings, operations: &[Operation]) -> Outcome {
     let mut outcome = Outcome::default();
-    // All four are valid for the length of the call, and a slice's pointer is never null.
+    // All pointers are valid during the call, and a slice's pointer is never null.
     let status = unsafe {
         bench_trace_play(
             settings,
@@ -84,10 +84,10 @@ pub fn play(settings: &Settings, operations: &[Operation]) -> Outcome {
     outcome
 }
 
-/// Plays the operations on a new core of the cache that threads share, which is dropped at the end.
+/// Plays the operations on a new core of the shared cache, which is dropped at the end.
 pub fn play_core(settings: &Settings, operations: &[Operation]) -> Outcome {
     let mut outcome = Outcome::default();
-    // As above.
+    // As in `play`.
     let status = unsafe {
         bench_trace_play_core(
             settings,
@@ -100,41 +100,41 @@ pub fn play_core(settings: &Settings, operations: &[Operation]) -> Outcome {
     outcome
 }
 
-/// Counts all hashes `counts` times over in a new sketch, reads them `reads` times over, and sums up what was read.
+/// Counts all hashes `counts` times in a new sketch, and then reads them `reads` times. Returns the sum of the frequencies that were read.
 pub fn sketch(capacity: u32, hashes: &[u64], counts: usize, reads: usize) -> u64 {
-    // Here and below all pointers are valid for the length of the call, and a slice's is never null.
+    // Here and below, all pointers are valid during the call, and a slice's pointer is never null.
     answer(|sum| unsafe {
         bench_trace_sketch(capacity, hashes.as_ptr(), hashes.len(), counts, reads, sum)
     })
 }
 
-/// By which body a table ages, by the number by which the static library knows it.
+/// Loop that ages a table, with its number in the static library.
 #[derive(Clone, Copy)]
 pub enum AgingLoad {
     InLanes = 0,
     WordByWord = 1,
 }
 
-/// Ages a new table of these words so many times over, and sums up the sizes that follow from `u32::MAX`, by their order.
+/// Ages a new table of these words `agings` times, from a size of `u32::MAX`. Returns a sum of the sizes that depends on their order.
 pub fn age(load: AgingLoad, words: &[u64], agings: usize) -> u64 {
     answer(|sum| unsafe { bench_trace_aging(load as u32, words.as_ptr(), words.len(), agings, sum) })
 }
 
-/// Plays a load on a new list with room for so many nodes.
+/// Plays a load on a new list with capacity for `nodes` nodes.
 pub fn list(load: ListLoad, nodes: usize, picks: &[usize], rounds: usize) -> u64 {
     answer(|sum| unsafe {
         bench_trace_list(load as u32, nodes, picks.as_ptr(), picks.len(), rounds, sum)
     })
 }
 
-/// What is done to an index, by the number by which the static library knows it.
+/// Load of an index, with its number in the static library.
 #[derive(Clone, Copy, PartialEq, Eq)]
 pub enum IndexLoad {
     Find = 0,
     FindAndReplace = 1,
 }
 
-/// Plays a load on a new index in which each hash has its place in the list as id.
+/// Plays a load on a new index in which the id of each hash is its position in `hashes`.
 pub fn index(load: IndexLoad, hashes: &[u64], sought: &[u64], rounds: usize) -> u64 {
     answer(|sum| unsafe {
         bench_trace_index(
@@ -149,7 +149,7 @@ pub fn index(load: IndexLoad, hashes: &[u64], sought: &[u64], rounds: usize) -> 
     })
 }
 
-/// The same by std's map.
+/// Plays a load on std's map from hashes to ids.
 pub fn index_by_map(load: IndexLoad, hashes: &[u64], sought: &[u64], rounds: usize) -> u64 {
     answer(|sum| unsafe {
         bench_trace_index_by_map(
@@ -164,7 +164,7 @@ pub fn index_by_map(load: IndexLoad, hashes: &[u64], sought: &[u64], rounds: usi
     })
 }
 
-/// The sum that a call leaves.
+/// Returns the sum that a call writes.
 fn answer(call: impl FnOnce(*mut u64) -> u32) -> u64 {
     let mut sum = 0;
     assert_eq!(call(&mut sum), 0, "the port refused a batch");

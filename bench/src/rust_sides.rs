@@ -1,5 +1,5 @@
-//! The original for one thread and for several, an LRU cache and a map without a limit, all with the hasher that the port has; the original with
-//! std's as well.
+//! The original's caches for one thread and for several, an LRU cache, and a map without a limit, all with the port's hasher. The first can also have
+//! std's.
 use crate::port::Outcome;
 use crate::traces::{
     Operation, Settings, GET, GET_AND_INSERT, INSERT, READ_THROUGH, REMOVE_AND_INSERT, UNLIMITED,
@@ -9,13 +9,13 @@ use mini_moka::unsync::Cache;
 use std::hash::{BuildHasher, Hasher};
 use std::time::Duration;
 
-/// One multiplication for each word of 64 bits.
+/// Hasher with one multiplication for each word of 64 bits.
 #[derive(Clone, Copy, Default)]
 pub struct Multiply(u64);
 
 impl Hasher for Multiply {
     fn write(&mut self, _bytes: &[u8]) {
-        unreachable!("keys are numbers of 64 bits");
+        unreachable!("keys are 64-bit numbers");
     }
 
     fn write_u64(&mut self, word: u64) {
@@ -35,13 +35,13 @@ impl BuildHasher for Multiply {
     }
 }
 
-/// What operations are played on.
+/// A cache that operations are played on.
 pub trait Side {
     fn look(&mut self, key: u64) -> Option<u64>;
     fn put(&mut self, key: u64, value: u64);
-    /// Takes the key's entry out. The original hands no value back.
+    /// Removes the key's entry. The original returns no value.
     fn take_out(&mut self, key: u64);
-    /// Does what is put off, after the last operation.
+    /// Does delayed work after the last operation.
     fn finish(&mut self) {}
     fn entries(&self) -> u64;
     fn weight(&self) -> u64;
@@ -49,7 +49,7 @@ pub trait Side {
 
 pub type Original<S> = Cache<u64, u64, S>;
 
-/// The original with the port's hasher.
+/// Makes the original's single-thread cache, with the port's hasher.
 pub fn original(settings: &Settings) -> Original<Multiply> {
     original_with(settings, Multiply::default())
 }
@@ -93,10 +93,10 @@ impl<S: BuildHasher + Clone> Side for Original<S> {
     }
 }
 
-/// The original that threads share.
+/// The original's shared cache.
 pub type SharedOriginal = SharedCache<u64, u64, Multiply>;
 
-/// The original that threads share, with the port's hasher.
+/// Makes the original's shared cache, with the port's hasher.
 pub fn shared_original(settings: &Settings) -> SharedOriginal {
     let mut builder = SharedCache::builder();
     if settings.capacity != UNLIMITED {
@@ -218,7 +218,7 @@ pub fn play<S: Side>(side: &mut S, operations: &[Operation]) -> Outcome {
                 side.take_out(operation.key);
                 side.put(operation.key, u64::from(operation.value));
             }
-            _ => unreachable!("an operation of no kind that there is"),
+            _ => unreachable!("unknown kind of operation"),
         }
     }
     side.finish();

@@ -1,4 +1,4 @@
-//! Tables in Markdown.
+//! Prints tables in Markdown.
 
 /// Prints the head of a table.
 pub fn print_head(columns: &[&str]) {
@@ -12,12 +12,12 @@ pub fn print_row<T: AsRef<str>>(cells: &[T]) {
     println!("| {} |", row.join(" | "));
 }
 
-/// A number with one digit behind the point, or a dash.
+/// Formats a number with one digit after the point, or as a dash.
 pub fn number(value: Option<f64>) -> String {
     value.map_or("-".into(), |value| format!("{value:.1}"))
 }
 
-/// A ratio with two digits behind the point.
+/// Formats a ratio with two digits after the point.
 pub fn ratio(part: f64, whole: f64) -> String {
     format!("{:.2}", part / whole)
 }

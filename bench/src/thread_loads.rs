@@ -1,14 +1,14 @@
-//! What several threads do to one cache: a list of gets and inserts for each.
+//! Lists of calls that several threads make on one cache.
 use crate::traces::{spread, Random, Zipf};
 
-/// One call. An insert stores the key as value.
+/// A call. An insert stores the key as value.
 #[derive(Clone, Copy)]
 pub enum Call {
     Get(u64),
     Insert(u64),
-    /// How many entries were counted last.
+    /// Reads the entry count, which may be that of the last maintenance.
     Count,
-    /// A whole maintenance.
+    /// Runs a whole maintenance.
     Sync,
 }
 
@@ -17,7 +17,7 @@ pub const CALLS: usize = 500_000;
 const KEYS: u64 = 1_000_000;
 
 impl Call {
-    /// The same of a key that no list has.
+    /// Returns the call with a key that no list has.
     fn of_another_key(self) -> Call {
         match self {
             Call::Get(key) => Call::Get(!key),
@@ -27,14 +27,14 @@ impl Call {
     }
 }
 
-/// A hundred calls have so many gets.
+/// Lists of calls, with `gets` gets in a hundred calls.
 pub struct Mix {
     pub gets: u64,
-    /// A list for each thread. One that plays alone has the first.
+    /// A list for each thread. A thread that plays alone has the first.
     pub lists: Vec<Vec<Call>>,
 }
 
-/// What fills a new cache: its capacity in the keys that are asked for most often, of which the first comes last.
+/// Returns the calls that fill a new cache: inserts of the `CAPACITY` most frequent keys, the most frequent last.
 pub fn filling() -> Vec<Call> {
     (0..CAPACITY)
         .rev()
@@ -43,7 +43,7 @@ pub fn filling() -> Vec<Call> {
 }
 
 impl Mix {
-    /// Keys by a Zipf distribution, the same in each run and for each share of gets; a get that misses inserts nothing.
+    /// Makes lists of calls. Their keys follow a Zipf distribution, the same in each run and for each share of gets. A get that misses inserts nothing.
     pub fn new(gets: u64, threads: usize) -> Mix {
         let zipf = Zipf::new(KEYS);
         let list = |thread: usize| {
@@ -65,7 +65,7 @@ impl Mix {
         }
     }
 
-    /// The same, but that from halfway on all keys are others, which the cache has to learn.
+    /// Makes the lists of `new`, but all keys change halfway, and the cache must learn them.
     pub fn turning(gets: u64, threads: usize) -> Mix {
         let mut mix = Mix::new(gets, threads);
         for call in mix.lists.iter_mut().flat_map(|list| &mut list[CALLS / 2..]) {
@@ -74,7 +74,7 @@ impl Mix {
         mix
     }
 
-    /// How many gets so many threads make together.
+    /// Counts the gets of `threads` threads together.
     pub fn gets_of(&self, threads: usize) -> usize {
         self.lists[..threads]
             .iter()
@@ -84,12 +84,12 @@ impl Mix {
     }
 }
 
-/// For each of so many threads a list of nothing but looks at what is counted.
+/// Returns a list for each of `threads` threads that only reads the counts.
 pub fn counting(threads: usize) -> Vec<Vec<Call>> {
     vec![vec![Call::Count; CALLS]; threads]
 }
 
-/// A list of nothing but maintenances, which find nothing to do and publish what is counted.
+/// Returns one list of maintenances only. They have nothing to do but publish the counts.
 pub fn maintaining() -> Vec<Vec<Call>> {
     vec![vec![Call::Sync; CALLS]]
 }

@@ -1,4 +1,4 @@
-//! The original as threads share it: its own cache for threads, and one lock round its cache for one thread.
+//! Shares the original's caches among threads: `sync::Cache`, and `unsync::Cache` with one lock around it.
 use crate::rust_sides::{Multiply, Original, SharedOriginal};
 use crate::thread_loads::Call;
 use mini_moka::sync::ConcurrentCacheExt;
@@ -7,7 +7,7 @@ use std::sync::{Barrier, Mutex, PoisonError};
 use std::thread;
 use std::time::Instant;
 
-/// What a play gave, and how long it took, from the moment when the first thread began to that when the last one ended.
+/// Outcome of a play, and its time, from the first thread's start to the last thread's end.
 #[derive(Clone, Copy)]
 pub struct Played {
     pub hits: u64,
@@ -16,13 +16,13 @@ pub struct Played {
     pub nanos: u64,
 }
 
-/// A cache as threads share it.
+/// A cache that threads share.
 pub trait ThreadSide: Sync {
     fn look(&self, key: u64) -> Option<u64>;
     fn put(&self, key: u64);
-    /// How many entries were counted last.
+    /// Returns the entry count, which may be that of the last maintenance.
     fn count(&self) -> u64;
-    /// How many entries there are, once all is done that was put off.
+    /// Returns the number of entries after all delayed work is done.
     fn entries(&self) -> u64;
 }
 
@@ -45,11 +45,11 @@ impl ThreadSide for SharedOriginal {
     }
 }
 
-/// The original for one thread, which any thread may have in its turn.
+/// The original's single-thread cache, which threads use in turn.
 struct Handed(Original<Multiply>);
 
-// Its shared pointers and those to its nodes all lie in it, and none comes out: what comes out is a copy of a number. So no two threads have a part of it at a
-// time, as long as a lock is round the whole.
+// The cache's `Rc`s and its pointers to nodes never leave it: callers get copies of numbers. A lock around the whole keeps two threads from using a part of it
+// at the same time.
 unsafe impl Send for Handed {}
 
 pub struct LockedOriginal(Mutex<Handed>);
@@ -83,7 +83,7 @@ impl ThreadSide for LockedOriginal {
     }
 }
 
-/// What one thread found, and when it began and ended.
+/// Outcome of one thread, and its start and end.
 struct Part {
     hits: u64,
     sum: u64,
@@ -91,7 +91,7 @@ struct Part {
     ended: Instant,
 }
 
-/// Fills the cache, and then plays each list by a thread of its own.
+/// Fills the cache, and then plays each list on a thread of its own.
 pub fn play<S: ThreadSide>(side: &S, filling: &[Call], lists: &[Vec<Call>]) -> Played {
     make_calls(side, filling);
     let together = Barrier::new(lists.len());
@@ -118,7 +118,7 @@ pub fn play<S: ThreadSide>(side: &S, filling: &[Call], lists: &[Vec<Call>]) -> P
     }
 }
 
-/// Waits until all threads are there, and makes the calls.
+/// Waits for all threads, and then makes the calls.
 fn play_list<S: ThreadSide>(side: &S, together: &Barrier, calls: &[Call]) -> Part {
     together.wait();
     let begun = Instant::now();

@@ -1,4 +1,4 @@
-//! How long whole traces take.
+//! Times whole traces.
 use crate::port::{self, Outcome};
 use crate::rust_sides::{self, Side};
 use crate::traces::{Operation, Settings, Trace};
@@ -6,17 +6,17 @@ use std::collections::hash_map::RandomState;
 use std::hint::black_box;
 use std::time::Instant;
 
-/// Plays operations on a new cache, and says how many nanoseconds they took.
+/// Plays operations on a new cache, and returns the nanoseconds and the outcome.
 pub type Player = fn(&Settings, &[Operation]) -> (f64, Outcome);
 
-/// The port's time has the making and the dropping of the cache in it.
+/// Times the port, with the making and the dropping of the cache.
 pub fn time_port(settings: &Settings, operations: &[Operation]) -> (f64, Outcome) {
     let start = Instant::now();
     let outcome = port::play(settings, operations);
     (start.elapsed().as_nanos() as f64, black_box(outcome))
 }
 
-/// The time of the operations alone.
+/// Times the operations alone.
 pub fn time_side<S: Side>(mut side: S, operations: &[Operation]) -> (f64, Outcome) {
     let start = Instant::now();
     let outcome = rust_sides::play(&mut side, operations);
@@ -31,7 +31,7 @@ pub fn time_original(settings: &Settings, operations: &[Operation]) -> (f64, Out
     time_side(rust_sides::original(settings), operations)
 }
 
-/// The core's time has its making and its dropping in it.
+/// Times the core, with its making and its dropping.
 pub fn time_core(settings: &Settings, operations: &[Operation]) -> (f64, Outcome) {
     let start = Instant::now();
     let outcome = port::play_core(settings, operations);
@@ -42,7 +42,7 @@ pub fn time_shared_original(settings: &Settings, operations: &[Operation]) -> (f
     time_side(rust_sides::shared_original(settings), operations)
 }
 
-/// The least times of the repeats, in nanoseconds: of a whole trace, and of its filling alone.
+/// Least times of the repeats, in nanoseconds: of a whole trace, and of its filling alone.
 #[derive(Clone, Copy)]
 pub struct Least {
     pub whole: f64,
@@ -69,7 +69,7 @@ impl Least {
     }
 }
 
-/// The sides in turn, repeat by repeat.
+/// Times the sides in turn, repeat by repeat.
 pub fn measure(trace: &Trace, players: &[Option<Player>], repeats: usize) -> Vec<Option<Least>> {
     let mut least: Vec<Option<Least>> = players
         .iter()
@@ -92,7 +92,7 @@ pub fn measure(trace: &Trace, players: &[Option<Player>], repeats: usize) -> Vec
     least
 }
 
-/// Returns the nanoseconds of a clock reading. The original reads it once or twice a call if a duration is set; the port is given moments.
+/// Returns the nanoseconds of a clock reading. The original reads the clock once or twice a call if a duration is set. The port is given its moments.
 pub fn clock_nanos() -> f64 {
     let readings = 1_000_000;
     let start = Instant::now();

@@ -1,6 +1,6 @@
-//! The traces: lists of operations, and the cache that they are played on.
+//! Traces: lists of operations, with the settings of the cache that they are played on.
 
-/// The capacity or the duration of a cache that has none.
+/// Value of a capacity or duration that isn't set.
 pub const UNLIMITED: u64 = u64::MAX;
 
 pub const GET: u32 = 0;
@@ -9,7 +9,7 @@ pub const READ_THROUGH: u32 = 2;
 pub const GET_AND_INSERT: u32 = 3;
 pub const REMOVE_AND_INSERT: u32 = 4;
 
-/// One operation, as the static library takes it.
+/// An operation, in the layout of the static library.
 #[repr(C)]
 #[derive(Clone, Copy)]
 pub struct Operation {
@@ -18,7 +18,7 @@ pub struct Operation {
     pub kind: u32,
 }
 
-/// What a cache is built of, as the static library takes it.
+/// Settings of a cache, in the layout of the static library.
 #[repr(C)]
 #[derive(Clone, Copy)]
 pub struct Settings {
@@ -28,7 +28,7 @@ pub struct Settings {
     pub start: u64,
     pub tick: u64,
     pub is_weighed: bool,
-    /// Whether each side has its own std's default hash state in place of the one multiplication that all have in common.
+    /// True if each side uses its own default hash state instead of the multiplication that all have in common.
     pub is_std_hashed: bool,
     /// The port's shares of the window and of protected entries, in percent.
     pub window_share: u8,
@@ -50,7 +50,7 @@ impl Settings {
         }
     }
 
-    /// With other shares than the default ones.
+    /// Returns the settings with other shares than the default ones.
     pub fn with_shares(self, window_share: u8, protected_share: u8) -> Settings {
         Settings {
             window_share,
@@ -59,7 +59,7 @@ impl Settings {
         }
     }
 
-    /// With both durations, which nothing outlives: an hour, and moments that rise by one nanosecond.
+    /// Returns the settings with both durations, of an hour. Moments are a nanosecond apart, so nothing expires.
     pub fn with_durations(self) -> Settings {
         Settings {
             time_to_live: HOUR,
@@ -104,7 +104,7 @@ pub struct Trace {
     pub settings: Settings,
     pub filling: usize,
     pub operations: Vec<Operation>,
-    /// Whether a map without a limit does the same.
+    /// True if a map without a limit gives the same results.
     pub fits_a_map: bool,
 }
 
@@ -114,7 +114,7 @@ impl Trace {
     }
 }
 
-/// The finalizer of splitmix64, which spreads numbers.
+/// Spreads numbers by the finalizer of splitmix64.
 pub fn spread(number: u64) -> u64 {
     let mut z = number.wrapping_add(0x9E37_79B9_7F4A_7C15);
     z = (z ^ (z >> 30)).wrapping_mul(0xBF58_476D_1CE4_E5B9);
@@ -122,7 +122,7 @@ pub fn spread(number: u64) -> u64 {
     z ^ (z >> 31)
 }
 
-/// Numbers that look random, the same in each run.
+/// Pseudorandom numbers, the same in each run.
 pub struct Random(pub u64);
 
 impl Random {
@@ -144,7 +144,7 @@ pub const CALLS: usize = 2_000_000;
 const KEYS: usize = 1_000_000;
 const EXPONENT: f64 = 0.99;
 
-/// Ranks of a Zipf distribution.
+/// Returns `count` ranks in a Zipf distribution.
 fn zipf_ranks(count: usize) -> Vec<u64> {
     let mut total = 0.0;
     let sums: Vec<f64> = (1..=KEYS)
@@ -181,12 +181,12 @@ impl Zipf {
         }
     }
 
-    /// The area below the distribution's hat from 1 on.
+    /// Returns the area below the distribution's hat, from 1 to `rank`.
     fn area(rank: f64) -> f64 {
         (rank.powf(1.0 - EXPONENT) - 1.0) / (1.0 - EXPONENT)
     }
 
-    /// Where the area is so much.
+    /// Returns the rank up to which the area below the hat is `area`.
     fn place(area: f64) -> f64 {
         (1.0 + area * (1.0 - EXPONENT)).powf(1.0 / (1.0 - EXPONENT))
     }
@@ -203,8 +203,8 @@ impl Zipf {
     }
 }
 
-/// Look-ups that insert what they miss, by a Zipf distribution over a hundred keys for each entry of the capacity: two look-ups for each entry, and
-/// two millions at least.
+/// Returns a trace that reads through, with keys in a Zipf distribution. It has 100 keys and two calls for each entry of the capacity, and at least two
+/// million calls.
 pub fn growing(entries: u64) -> Trace {
     let zipf = Zipf::new(100 * entries);
     let mut random = Random(1);
@@ -227,7 +227,7 @@ fn operation(kind: u32, number: u64) -> Operation {
     }
 }
 
-/// An operation whose value is a weight of 1 to 16.
+/// Replaces the value of an operation by a weight of 1 to 16.
 fn weighed(operation: Operation) -> Operation {
     Operation {
         value: 1 + operation.value % 16,
@@ -253,7 +253,7 @@ fn read_through(name: &str, settings: Settings, numbers: &[u64]) -> Trace {
     }
 }
 
-/// Each look-up that misses inserts its key.
+/// Returns the traces that read through: each look-up that misses inserts its key.
 pub fn read_through_traces() -> Vec<Trace> {
     let ranks = zipf_ranks(CALLS);
     let one = Settings::with_capacity(KEYS as u64 / 100);
@@ -278,7 +278,7 @@ pub fn read_through_traces() -> Vec<Trace> {
     ]
 }
 
-/// By turns 10,000 ranks and 10,000 numbers of a loop over 50,000 other keys.
+/// Returns by turns 10,000 ranks and 10,000 numbers of a loop over 50,000 other keys.
 fn scan_mix(ranks: &[u64]) -> Vec<u64> {
     let (turn, looped) = (10_000, 50_000);
     let mut taken = 0;
@@ -296,12 +296,12 @@ fn scan_mix(ranks: &[u64]) -> Vec<u64> {
     numbers
 }
 
-/// One kind of call on a full cache of so many entries.
+/// Returns a trace for each kind of call, on a full cache of `entries` entries.
 pub fn single_calls(entries: u64) -> Vec<Trace> {
     single_calls_of(entries, CALLS)
 }
 
-/// The same, with so many calls.
+/// Returns the traces of `single_calls`, with `calls` calls each.
 fn single_calls_of(entries: u64, calls: usize) -> Vec<Trace> {
     let single = |name: &str, kind: u32, number: &mut dyn FnMut(u64) -> u64, fits_a_map| {
         let filling = (0..entries).map(|number| operation(INSERT, number));
@@ -329,7 +329,7 @@ fn single_calls_of(entries: u64, calls: usize) -> Vec<Trace> {
     ]
 }
 
-/// Traces of which each side takes its own std's default hash state, and for each the same with the multiplication that all have in common.
+/// Returns some traces twice: with the multiplication that all sides have in common, and with each side's own default hash state.
 pub fn std_hashed_traces() -> Vec<Trace> {
     let read_through = read_through_traces().into_iter().take(2);
     let single = single_calls(10_000).into_iter().take(3);
@@ -348,7 +348,7 @@ pub fn std_hashed_traces() -> Vec<Trace> {
         .collect()
 }
 
-/// The traces that are played from outside as well, through the library.
+/// Names of the traces that are also played through the library.
 pub const LIBRARY_TRACES: [&str; 4] = [
     "get hit, 10000",
     "get miss, 10000",
@@ -358,7 +358,7 @@ pub const LIBRARY_TRACES: [&str; 4] = [
 
 const ZIPF_ONE: &str = "Zipf 1%";
 
-/// One of those traces, with so many calls.
+/// Returns the trace of `LIBRARY_TRACES` with this name, with `calls` calls.
 pub fn library_trace(name: &str, calls: usize) -> Option<Trace> {
     if name == ZIPF_ONE {
         let settings = Settings::with_capacity(KEYS as u64 / 100);
@@ -368,7 +368,7 @@ pub fn library_trace(name: &str, calls: usize) -> Option<Trace> {
     single.into_iter().find(|it| it.name == name)
 }
 
-/// So many inserts, and then some look-ups a key, so that what the full cache holds is held for longest.
+/// Returns `entries` inserts, and then eight look-ups a key, so that the memory of the full cache is held longest.
 pub fn held(settings: Settings, entries: u64) -> Trace {
     let filling = (0..entries).map(|number| operation(INSERT, number));
     let looks = (0..8 * entries).map(|call| operation(GET, call % entries));

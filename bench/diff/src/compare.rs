@@ -1,27 +1,27 @@
-//! One script on both sides, line by line.
+//! Compares the replies of both sides to a script, line by line.
 use crate::original::{self, Met, Reply, Run};
 use crate::program::Program;
 use crate::rules::{End, Rule};
 use crate::script::Script;
 
-/// The port, and the model that stands for the original where the limit has a window.
+/// The port, and the model that replaces the original if the limit has a window.
 pub struct Sides {
     pub port: Program,
     pub model: Program,
 }
 
-/// What came of a script.
+/// Result of a script.
 #[derive(Default)]
 pub struct Outcome {
-    /// Whether it was compared with the model.
+    /// True if the script was compared with the model.
     pub by_model: bool,
     pub compared: u64,
     pub equal: u64,
-    /// The rules by which a line was another than the original's.
+    /// Rules of the allowed differences, one for each line that differs.
     pub allowed: Vec<Rule>,
-    /// Why the script ended early.
+    /// Reason for an early end.
     pub end: Option<End>,
-    /// How many lines stood behind an early end.
+    /// Number of lines that an early end leaves out.
     pub behind_end: u64,
     pub met: Met,
     pub difference: Option<Difference>,
@@ -30,13 +30,13 @@ pub struct Outcome {
 /// A difference that no rule allows.
 #[derive(Clone)]
 pub struct Difference {
-    /// The number of the line in the script, counted from 1.
+    /// Line number in the script, counted from 1.
     pub line: usize,
     pub expected: String,
     pub found: String,
 }
 
-/// Runs the script on both sides.
+/// Runs the script on both sides, and compares the replies.
 pub fn outcome(script: &Script, sides: &Sides) -> Outcome {
     let run = if script.has_window() {
         of_model(script, &sides.model)
@@ -57,7 +57,7 @@ pub fn outcome(script: &Script, sides: &Sides) -> Outcome {
     outcome
 }
 
-/// What the model replies. The port's replies must be the same, and pairs in the same order.
+/// Runs the script on the model. The port's replies must equal the model's, with pairs in the same order.
 fn of_model(script: &Script, model: &Program) -> Run {
     let (lines, fault) = match model.replies(script) {
         Ok(lines) if lines.len() == script.lines.len() + 1 => (lines, None),

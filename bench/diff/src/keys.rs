@@ -1,8 +1,8 @@
-//! Keys that meet each other: in the cache, in its map, and in the sketch.
+//! Keys for scripts, many of which collide in the hash map or in the sketch.
 use crate::random::Random;
 use crate::sketch::{index_of, DEPTHS};
 
-/// So many keys, most of them different.
+/// Draws `count` keys, most of them distinct.
 pub fn keys(random: &mut Random, count: u64) -> Vec<u64> {
     match random.share(&[6, 2, 2, 2, 2, 3]) {
         0 => (0..count).collect(),
@@ -14,14 +14,14 @@ pub fn keys(random: &mut Random, count: u64) -> Vec<u64> {
     }
 }
 
-/// Keys with the same four cells in every table of up to 2^18 words: they differ above bit 50 only, and a cell's place is of the
-/// lowest bits of the mixed hash and of those from bit 32 on.
+/// Draws keys that have all four cells in common, in every table of up to 2^18 words. They differ only from bit 50 on, and the
+/// index of a cell depends on the lowest 18 bits of the mixed hash and on the 18 bits from bit 32 on.
 fn of_one_cell(random: &mut Random, count: u64) -> Vec<u64> {
     let low = random.below(1 << 50);
     (0..count).map(|place| low | (place << 50)).collect()
 }
 
-/// Groups of a key and four others, each of which shares one of its cells in a table of 128 words.
+/// Draws groups of a key and four others. Each of the four shares another cell with the key, in a table of 128 words.
 fn covered(random: &mut Random, count: u64) -> Vec<u64> {
     let mut keys = Vec::new();
     while (keys.len() as u64) < count {
@@ -33,7 +33,7 @@ fn covered(random: &mut Random, count: u64) -> Vec<u64> {
     keys
 }
 
-/// Another key that has the same cell at a depth.
+/// Draws another key with the same cell at `depth`, in a table of 128 words.
 fn sharing(random: &mut Random, key: u64, depth: usize) -> u64 {
     loop {
         let other = (random.number() & !3) | (key & 3);
@@ -43,7 +43,7 @@ fn sharing(random: &mut Random, key: u64, depth: usize) -> u64 {
     }
 }
 
-/// Small keys, huge ones and ones of a cell by turns.
+/// Draws in turn small keys, huge ones, ones with common cells, and ones with a single bit set.
 fn mixed(random: &mut Random, count: u64) -> Vec<u64> {
     let of_cell = of_one_cell(random, count);
     let mixed = |place: u64| match place % 4 {

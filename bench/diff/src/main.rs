@@ -1,4 +1,4 @@
-//! Compares the port with the original, or with the model, on random scripts: moka_diff PROGRAM MODEL NUMBER_OF_SCRIPTS SEED
+//! Compares the port with the original, or with the model, on random scripts: `moka_diff PROGRAM MODEL NUMBER_OF_SCRIPTS SEED`.
 mod compare;
 mod keys;
 mod make;
@@ -21,9 +21,9 @@ use std::process::ExitCode;
 use std::sync::atomic::{AtomicU64, Ordering};
 use std::sync::Mutex;
 
-/// How many scripts are run at a time.
+/// Number of scripts that run at a time.
 const WORKERS: usize = 2;
-/// So many differences are shrunk and printed, those first that come early in their scripts. Further ones are only counted.
+/// Maximum number of differences that are shrunk and printed, those on the earliest lines first. The others are only counted.
 const PRINTED: usize = 5;
 
 fn main() -> ExitCode {
@@ -54,7 +54,7 @@ fn arguments(words: &[String]) -> Option<(Sides, u64, u64)> {
     Some((sides, scripts.parse().ok()?, seed.parse().ok()?))
 }
 
-/// The scripts, and what came of them so far.
+/// The scripts, and their results so far.
 struct Work {
     sides: Sides,
     scripts: u64,
@@ -77,7 +77,7 @@ impl Work {
         }
     }
 
-    /// Takes script after script until all are taken.
+    /// Runs one script after another until none is left.
     fn run(&self) {
         let mut tally = Tally::default();
         loop {
@@ -99,7 +99,7 @@ impl Work {
         }
     }
 
-    /// Prints the sums and the differences. The status is 1 where there are some.
+    /// Prints the totals and the differences. The status is 1 if there are differences.
     fn print(self) -> ExitCode {
         self.tally.lock().expect("no worker panics").print();
         let mut found = self.found.lock().expect("no worker panics").clone();

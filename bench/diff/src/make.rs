@@ -4,7 +4,7 @@ use crate::random::Random;
 use crate::script::{Call, Line, Script, WINDOWED};
 use crate::special;
 
-/// The script of this number.
+/// Makes the script with this number.
 pub fn script(seed: u64, number: u64) -> Script {
     let random = &mut Random::of_script(seed, number);
     match random.share(&[3800, 48, 150, 1, 1]) {
@@ -28,35 +28,35 @@ fn planned(random: &mut Random, plan: impl Fn(&mut Random) -> Plan) -> Script {
     }
 }
 
-/// The original's initial capacity.
+/// Draws the original's initial capacity.
 pub fn initial(random: &mut Random) -> Option<usize> {
     *random.pick(&[None, None, Some(0), Some(1), Some(7), Some(64), Some(1000)])
 }
 
-/// What a script's lines are drawn from.
+/// Parameters for drawing a script's lines.
 struct Plan {
     max: Option<u64>,
     weighed: bool,
     keys: Vec<u64>,
-    /// How many draws of a key's place there are, of which the first in the list is taken: the more, the more popular the first keys.
+    /// Number of positions drawn for a key, the least of which is taken: the more draws, the more popular the first keys.
     draws: u64,
-    /// How far along the list of keys popularity goes within the script.
+    /// Number of positions by which popularity moves along the list of keys during the script.
     drift: u64,
-    /// A get is followed by up to so many of its key, and then once in two times by an insert of it.
+    /// Exclusive upper bound of the gets that repeat a get. An insert of the key then follows in half of the cases. If 0, neither happens.
     asked_again: u64,
     texts: Vec<String>,
     weights: Weights,
     shares: [u64; 10],
     moments: u64,
-    /// How many keys are written before the calls are mixed.
+    /// Number of keys inserted before the mixed calls.
     filled: usize,
     length: u64,
 }
 
-/// Where the weights of a script come from.
+/// Distribution of a script's weights.
 struct Weights {
     most: u64,
-    /// Once in so many times a weight is heavy.
+    /// Average distance of heavy weights: one in this many is drawn up to `heavy`, the others up to `most`.
     heavy_in: u64,
     heavy: u64,
 }
@@ -86,7 +86,7 @@ impl Plan {
         }
     }
 
-    /// A plan by which the sketch ages several times, at 1,280 counts for the shortest table, while new entries come all the time.
+    /// Makes a plan of a script whose sketch ages several times, while new entries keep coming. The shortest table ages at a size of 1,280.
     fn that_ages(random: &mut Random) -> Plan {
         let count = random.between(80, 300);
         let max = random.between(5, 60);
@@ -109,7 +109,7 @@ impl Plan {
         }
     }
 
-    /// A plan by which an update outgrows the limit by more entries than leave in one call. At a limit without a window most weigh nothing.
+    /// Makes a plan of a script in which an update puts more entries above the limit than one call evicts. Without a window, most entries weigh 0.
     fn of_batches(random: &mut Random) -> Plan {
         let count = random.between(110, 350);
         let has_window = random.one_in(2);
@@ -200,7 +200,7 @@ impl Plan {
         }
     }
 
-    /// A key for the call behind so many others.
+    /// Draws the key of the call after `calls` others.
     fn key(&self, random: &mut Random, calls: u64) -> u64 {
         let count = self.keys.len() as u64;
         let place = (0..self.draws).map(|_| random.below(count)).min().unwrap_or(0);
@@ -216,7 +216,7 @@ impl Weights {
     }
 }
 
-/// How many mixed calls.
+/// Draws the number of mixed calls.
 fn length(random: &mut Random) -> u64 {
     match random.share(&[40, 35, 20, 5]) {
         0 => random.between(3, 20),
@@ -226,7 +226,7 @@ fn length(random: &mut Random) -> u64 {
     }
 }
 
-/// How many entries the script is about.
+/// Draws the number of entries that the keys, the weights and the limit are scaled by.
 fn entries(random: &mut Random, length: u64) -> u64 {
     let kind = if length < 400 {
         random.share(&[5, 3, 1, 0])
@@ -255,7 +255,7 @@ fn weights(random: &mut Random, entries: u64) -> Weights {
     }
 }
 
-/// A limit that about so many entries reach, or one that none do, or none.
+/// Draws a limit that about `entries` entries reach, a larger one, an extreme one, or none.
 fn limit(random: &mut Random, entries: u64, most_weight: Option<u64>) -> Option<u64> {
     let about = match most_weight {
         Some(most) => entries.saturating_mul(most) / 2 + random.below(3),
@@ -269,7 +269,7 @@ fn limit(random: &mut Random, entries: u64, most_weight: Option<u64>) -> Option<
     }
 }
 
-/// How often each kind of call comes.
+/// Draws the share of each kind of call.
 fn shares(random: &mut Random) -> [u64; 10] {
     let gets = random.between(1, 200);
     let inserts = random.between(20, 200);
@@ -280,13 +280,13 @@ fn shares(random: &mut Random) -> [u64; 10] {
     [gets, inserts, looks, invalidates, clears, drops, looks, looks, 2, 1]
 }
 
-/// The texts that are stored and dropped: few, so that several entries have one.
+/// Draws the texts that are stored and dropped: few, so that several entries share one.
 fn texts(random: &mut Random) -> Vec<String> {
     let count = random.between(1, 8);
     (0..count).map(|_| text(random)).collect()
 }
 
-/// A text of 1 to 64 letters, digits and dashes.
+/// Draws a text of 1 to 64 letters, digits and dashes.
 fn text(random: &mut Random) -> String {
     const LETTERS: &[u8] = b"abcdefghijklmnopqrstuvwxyzABCDEFGHIJKLMNOPQRSTUVWXYZ0123456789-";
     let length = if random.one_in(8) {

@@ -1,4 +1,4 @@
-//! The original: a script's calls on its `unsync::Cache`, and its replies, mended where a rule says so.
+//! Runs a script on the original's `unsync::Cache`, and corrects its replies as the rules say.
 use crate::panics;
 use crate::rules::{End, Rule};
 use crate::script::{Call, Script};
@@ -6,39 +6,39 @@ use crate::sketch;
 use mini_moka::unsync::Cache;
 use std::hash::{BuildHasher, Hasher};
 
-/// What the port must reply on a line.
+/// Reply that the port must give to a line.
 pub enum Reply {
-    /// These words. With a rule they are the original's as the rule mends them, and others than the original's.
+    /// Words to match. If there is a rule, it has corrected the original's reply to them.
     Words(String, Option<Rule>),
-    /// These pairs, in the order in which the original gave them.
+    /// Pairs to match, in the original's order.
     Pairs(Vec<String>),
 }
 
-/// What a script gave on the original.
+/// Result of a script on the original or on the model.
 pub struct Run {
-    /// The replies of the first lines, `ready` among them.
+    /// Replies to the lines that were run, `ready` first.
     pub replies: Vec<Reply>,
-    /// Why there are no further ones, where a rule ended the script.
+    /// Reason for an early end that a rule allows.
     pub end: Option<End>,
-    /// Why there are no further ones, where no rule did.
+    /// Reason for an early end that no rule allows.
     pub fault: Option<String>,
     pub met: Met,
 }
 
-/// How often a script came to what caches are about.
+/// Counts of the events that a script covers.
 #[derive(Clone, Copy, Default)]
 pub struct Met {
-    /// A get found its key.
+    /// Gets that found their key.
     pub hits: u64,
-    /// A new entry was rejected.
+    /// New entries that were rejected.
     pub rejected: u64,
-    /// A new entry was admitted, and entries left in that call.
+    /// New entries that were admitted in place of others.
     pub admitted: u64,
-    /// Entries left since the weight was above the limit, in a call that isn't such an insert.
+    /// Other calls that evicted entries because the weight was above the limit.
     pub trimmed: u64,
-    /// The sketch was turned on.
+    /// Sketches that were turned on.
     pub sketches: u64,
-    /// A predicate's entries left the original one by one, each by its key.
+    /// Predicates whose entries were removed from the original key by key.
     pub by_key: u64,
 }
 
@@ -61,7 +61,7 @@ pub fn run(script: &Script) -> Run {
             Err(panic) => {
                 ended_by(&mut run, panic);
                 run.met = original.met;
-                // What a panic leaves is not looked at, nor dropped.
+                // A panic may leave the cache inconsistent, so it isn't even dropped.
                 std::mem::forget(original);
                 return run;
             }
@@ -75,7 +75,7 @@ pub fn run(script: &Script) -> Run {
     run
 }
 
-/// The script ends by a panic: the one that a rule allows, or any other.
+/// Records the panic that ended the script: as an end if a rule allows it, else as a fault.
 fn ended_by(run: &mut Run, panic: panics::Panic) {
     if panic.is_subtraction_in("frequency_sketch.rs") {
         run.end = Some(End::Underflow);
@@ -88,7 +88,7 @@ fn words(words: &str) -> Reply {
     Reply::Words(words.to_string(), None)
 }
 
-/// What the cache stores, as the port's scripts do: the weight is the one that the insert's line says.
+/// Stored value, as in the port's scripts. The weight is that of the insert's line.
 struct Stored {
     text: String,
     weight: u32,
@@ -96,7 +96,7 @@ struct Stored {
 
 type Stores = Cache<u64, Stored, Numbers>;
 
-/// How far the original's sums are above those of its entries.
+/// Excess of the original's sums over those of its entries.
 #[derive(Clone, Copy, Default)]
 struct Stale {
     count: u64,
@@ -109,7 +109,7 @@ struct Original {
     weighed: bool,
     by_key: bool,
     met: Met,
-    /// Measured after calls that a rule is about, and after no other.
+    /// Measured only after calls that a rule is about.
     stale: Stale,
     sketch_is_on: bool,
     end: Option<End>,
@@ -202,13 +202,13 @@ impl Original {
         words("ok")
     }
 
-    /// Returns `true` if `invalidate` only removes keys, and so avoids the wrong weight that `invalidate_entries_if` leaves:
-    /// it evicts if the weight is above the limit, which a predicate's call doesn't. Without a limit there is nothing to correct.
+    /// Returns `true` if removing the entries key by key avoids the wrong weight that `invalidate_entries_if` leaves. `invalidate`
+    /// also evicts if the weight is above the limit, which a predicate's call doesn't. Without a limit there is nothing to correct.
     fn keys_leave_alike(&self) -> bool {
         self.stale.weight == 0 && self.max.is_some_and(|max| self.cache.weighted_size() <= max)
     }
 
-    /// How far the sums are now above those of the entries.
+    /// Measures the excess of the sums over those of the entries.
     fn measured(&self) -> Stale {
         Stale {
             count: self.cache.entry_count() - self.entries(),
@@ -245,7 +245,7 @@ impl Original {
         format!("max {max} live {live} idle {idle}")
     }
 
-    /// Returns `true` if the weight that a predicate's call has left decides whether this call evicts or fits.
+    /// Returns `true` if the wrong weight that a predicate's call left changes what this call evicts or rejects.
     fn stale_weight_decides(&self, call: &Call) -> bool {
         let Some(max) = self.max.filter(|_| self.stale.weight > 0) else {
             return false;
@@ -263,8 +263,8 @@ impl Original {
         }
     }
 
-    /// A new entry has come: the sketch is turned on where half of the limit is reached. Where the original does it otherwise than its
-    /// entries would have it, the script ends.
+    /// Records if a new entry turns the sketch on, at half of the limit. Ends the script if the sums of the entries wouldn't turn it on,
+    /// or would give it another capacity.
     fn see_to_sketch(&mut self) {
         let Some(max) = self.max.filter(|_| !self.sketch_is_on) else {
             return;
@@ -306,7 +306,7 @@ fn built(script: &Script) -> Stores {
     builder.build_with_hasher(Numbers)
 }
 
-/// A number of the original's, less what the rule says that it is too large by.
+/// Returns the original's number less its excess, with the rule if there is an excess.
 fn mended(number: u64, stale: u64, rule: Rule) -> Reply {
     let rule = (stale > 0).then_some(rule);
     Reply::Words((number - stale).to_string(), rule)
@@ -342,6 +342,6 @@ impl Hasher for NumberHasher {
     }
 
     fn write(&mut self, _bytes: &[u8]) {
-        unreachable!("keys are numbers of 64 bits");
+        unreachable!("keys are 64-bit numbers");
     }
 }

@@ -1,8 +1,8 @@
-//! Panics of the original, which are kept instead of printed.
+//! Keeps the original's panics instead of printing them.
 use std::cell::RefCell;
 use std::panic::{catch_unwind, set_hook, AssertUnwindSafe, PanicHookInfo};
 
-/// What a panic said, and in which file.
+/// Message and file of a panic.
 #[derive(Clone)]
 pub struct Panic {
     pub text: String,
@@ -10,7 +10,7 @@ pub struct Panic {
 }
 
 impl Panic {
-    /// Whether a subtraction went below 0 in the file.
+    /// Returns `true` if a subtraction in `file` went below 0.
     pub fn is_subtraction_in(&self, file: &str) -> bool {
         self.text.contains("attempt to subtract with overflow") && self.file.ends_with(file)
     }
@@ -21,7 +21,7 @@ thread_local! {
     static IS_KEPT: RefCell<bool> = const { RefCell::new(false) };
 }
 
-/// From here on panics inside `caught` are kept. Others are printed.
+/// Installs a hook that keeps panics inside `caught`. Others are printed.
 pub fn keep_panics() {
     let printed = std::panic::take_hook();
     set_hook(Box::new(move |info| {
@@ -33,7 +33,7 @@ pub fn keep_panics() {
     }));
 }
 
-/// What the call answers, or its panic.
+/// Returns the call's result, or its panic.
 pub fn caught<T>(call: impl FnOnce() -> T) -> Result<T, Panic> {
     IS_KEPT.with(|is_kept| *is_kept.borrow_mut() = true);
     let answer = catch_unwind(AssertUnwindSafe(call));
@@ -50,7 +50,7 @@ fn panic_of(info: &PanicHookInfo<'_>) -> Panic {
 
 fn unknown() -> Panic {
     Panic {
-        text: "a panic without a word".to_string(),
+        text: "a panic without a message".to_string(),
         file: String::new(),
     }
 }

@@ -1,32 +1,32 @@
-//! The programs that read a script and write its replies, one process a script.
+//! Programs that read a script and write its replies, in one process for each script.
 use crate::script::Script;
 use std::ffi::OsString;
 use std::io::{Read, Write};
 use std::path::Path;
 use std::process::{Child, Command, Stdio};
 
-/// What reads a script on standard input.
+/// A program that reads a script from standard input.
 pub struct Program {
-    /// The command and what stands behind it.
+    /// The command and its arguments.
     words: Vec<OsString>,
 }
 
 impl Program {
-    /// The port's program `moka_run`.
+    /// Names the port's program, `moka_run`.
     pub fn port(program: &Path) -> Program {
         Program {
             words: vec![program.into()],
         }
     }
 
-    /// The model, which is Python.
+    /// Names the model, a Python program.
     pub fn model(file: &Path) -> Program {
         Program {
             words: vec!["python3".into(), "-I".into(), "-S".into(), file.into()],
         }
     }
 
-    /// The lines that it replies to a script, or what went wrong.
+    /// Runs the program on a script, and returns its lines of output, or what went wrong.
     pub fn replies(&self, script: &Script) -> Result<Vec<String>, String> {
         let mut child = self.started()?;
         let replies = talk(&mut child, &script.words());
@@ -49,7 +49,7 @@ impl Program {
     }
 }
 
-/// Writes the whole script, which the program reads to its end before it replies, and reads the replies.
+/// Writes the whole script, and then reads the replies. The program replies only after it has read the script to its end.
 fn talk(child: &mut Child, words: &str) -> Result<String, String> {
     let mut input = child.stdin.take().ok_or("no input")?;
     let written = input.write_all(words.as_bytes());

@@ -6,40 +6,40 @@ pub struct Random {
 }
 
 impl Random {
-    /// The stream of one script of a seed.
+    /// Makes the stream of the script with this number, from a seed.
     pub fn of_script(seed: u64, number: u64) -> Random {
         Random {
             state: spread(seed).wrapping_add(spread(!number)),
         }
     }
 
-    /// Any number of 64 bits.
+    /// Draws a number of 64 bits.
     pub fn number(&mut self) -> u64 {
         self.state = self.state.wrapping_add(0x9e37_79b9_7f4a_7c15);
         spread(self.state)
     }
 
-    /// A number below a bound above 0.
+    /// Draws a number below `bound`, which is above 0.
     pub fn below(&mut self, bound: u64) -> u64 {
         self.number() % bound
     }
 
-    /// A number from the first to the last, both included. Not all numbers of 64 bits are asked for.
+    /// Draws a number from `first` to `last`, both included. The range may not be all numbers of 64 bits.
     pub fn between(&mut self, first: u64, last: u64) -> u64 {
         first + self.below(last - first + 1)
     }
 
-    /// True once in so many times.
+    /// Returns `true` once in `times` draws, on average.
     pub fn one_in(&mut self, times: u64) -> bool {
         self.below(times) == 0
     }
 
-    /// One of the items.
+    /// Draws one of the items.
     pub fn pick<'a, T>(&mut self, items: &'a [T]) -> &'a T {
         &items[self.below(items.len() as u64) as usize]
     }
 
-    /// The place of one of these shares, each as often as it is large. Their sum is above 0.
+    /// Draws the index of a share, with a probability in proportion to the share. The sum of the shares is above 0.
     pub fn share(&mut self, shares: &[u64]) -> usize {
         let mut left = self.below(shares.iter().sum());
         for (place, share) in shares.iter().enumerate() {

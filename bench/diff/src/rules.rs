@@ -1,15 +1,15 @@
-//! The differences that are allowed, each a row of docs/DIFFERENCES.md. What is no rule here is unexplained.
+//! Allowed differences, each by a row of docs/DIFFERENCES.md. Any other difference is unexplained.
 
-/// Why a reply of the port may be another than the original's. The reply must then be the original's as the rule mends it.
+/// Reason for a reply that differs from the original's. It must equal the original's reply as the rule corrects it.
 #[derive(Clone, Copy, PartialEq, Eq)]
 pub enum Rule {
-    /// "`unsync` invalidations leave `entry_count` as it was": the count is the original's less the entries that
-    /// left by `invalidate`, `invalidate_all` and `invalidate_entries_if`.
+    /// Row "`unsync` invalidations leave `entry_count` as it was". The count is the original's, less the entries that left by
+    /// `invalidate`, `invalidate_all` and `invalidate_entries_if`.
     CountAfterRemovals,
-    /// "`invalidate_entries_if` .. subtract[s] weights from a sum that begins at 0, so the weight stays": the weight is the original's
-    /// less what left by the predicate since all entries last left.
+    /// Row "`invalidate_entries_if` and expiry by time to live subtract weights from a sum that begins at 0, so the weight stays".
+    /// The weight is the original's, less what the predicate removed since the last `invalidate_all`.
     WeightAfterPredicate,
-    /// "`iter` goes in the order of a hash map": the same pairs, each once, in any order.
+    /// Row "`invalidate_entries_if` and `iter` go in the order of a hash map". The pairs are the original's, in any order.
     OrderOfIter,
 }
 
@@ -25,19 +25,20 @@ impl Rule {
     }
 }
 
-/// Why the two caches may differ from a line on. The script ends there: no further line is compared.
+/// Reason for ending a script early: the two caches may differ from this line on, and no further line is compared.
 #[derive(Clone, Copy, PartialEq, Eq)]
 pub enum End {
-    /// "`invalidate_entries_if` .. subtract[s] weights from a sum that begins at 0, so the weight stays": the next call would evict,
-    /// have no room, or turn the sketch on by the weight that stays, and would not by the weight of the entries.
+    /// Row "`invalidate_entries_if` and expiry by time to live subtract weights from a sum that begins at 0, so the weight stays".
+    /// Because of the weight that stays, the next call would evict or reject, or a new entry has just turned the sketch on or sized it.
+    /// The weight of the entries would decide otherwise.
     StaleWeight,
-    /// "invalidations .. leave `entry_count` as it was": a weighed cache has just turned its sketch on, and that count asks for
-    /// another capacity than the number of entries does.
+    /// Row "`unsync` invalidations leave `entry_count` as it was". A weighed cache has just turned its sketch on, and that count gives
+    /// it another capacity than the number of entries.
     StaleCount,
-    /// "the sketch's capacity is computed in floating point": a weighed cache has just turned its sketch on, and the whole number is
-    /// another.
+    /// Row "the sketch's capacity is computed in floating point". A weighed cache has just turned its sketch on, and whole numbers
+    /// give it another capacity.
     Rounding,
-    /// "the sketch's size can underflow when it ages": it has just done so.
+    /// Row "the sketch's size can underflow when it ages". The original has just panicked in its sketch.
     Underflow,
 }
 

@@ -1,30 +1,30 @@
-//! A script of the mode `unsync` without durations, and its words.
+//! Scripts of the mode `unsync` without durations, and their text.
 
-/// From this limit on new keys of the port wait in a window, which the original hasn't.
+/// Least limit at which the port's new keys wait in a window. The original has none.
 pub const WINDOWED: u64 = 100;
 
-/// A script, and how it is run on the original.
+/// A script, and settings of its run on the original.
 #[derive(Clone)]
 pub struct Script {
-    /// The limit.
+    /// Maximum capacity.
     pub max: Option<u64>,
-    /// Whether each insert has a weight.
+    /// True if each insert has a weight.
     pub weighed: bool,
-    /// The initial capacity of the original's cache. Scripts have no word for it, and no reply may depend on it.
+    /// Initial capacity of the original's cache. It isn't in the text of the script, and no reply may depend on it.
     pub initial: Option<usize>,
-    /// Whether entries of a text leave the original one by one, each by its key, where that mends what its predicate leaves wrong.
+    /// True if `drop-if` removes the original's entries key by key, when that avoids the wrong weight that a predicate leaves.
     pub by_key: bool,
     pub lines: Vec<Line>,
 }
 
-/// A call and its moment, which means nothing to a cache without durations.
+/// A call and its moment, which has no effect on a cache without durations.
 #[derive(Clone)]
 pub struct Line {
     pub moment: u64,
     pub call: Call,
 }
 
-/// A call of the cache.
+/// A call to the cache.
 #[derive(Clone)]
 pub enum Call {
     Get(u64),
@@ -40,12 +40,12 @@ pub enum Call {
 }
 
 impl Script {
-    /// Whether its limit has a window: such a script is compared with the model.
+    /// Returns `true` if the limit has a window, so that the script is compared with the model.
     pub fn has_window(&self) -> bool {
         self.max.is_some_and(|max| max >= WINDOWED)
     }
 
-    /// The script as the port reads it.
+    /// Returns the text of the script, as the port reads it.
     pub fn words(&self) -> String {
         let mut words = self.first_line();
         words.push('\n');

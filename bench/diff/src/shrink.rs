@@ -1,11 +1,11 @@
-//! The shortest script that still differs, as far as dropping lines leads.
+//! Shortens a script that differs, by dropping lines as long as it still differs.
 use crate::compare::{outcome, Difference, Sides};
 use crate::script::{Line, Script};
 
-/// At most so many shorter scripts are tried.
+/// Maximum number of shorter scripts that are tried.
 const TRIES: u64 = 2000;
 
-/// Drops lines, and the moments of the others, while some unexplained difference stays.
+/// Drops lines, and sets the moments of the others to 0, while an unexplained difference stays.
 pub fn shrunk(script: &Script, difference: &Difference, sides: &Sides) -> (Script, Difference) {
     let mut shrinking = Shrinking {
         sides,
@@ -17,7 +17,7 @@ pub fn shrunk(script: &Script, difference: &Difference, sides: &Sides) -> (Scrip
     let mut step = shrinking.script.lines.len();
     while step > 0 {
         let is_shorter = shrinking.drop_by(step);
-        // The shortest step is taken until no line can be dropped.
+        // A step of 1 is repeated until no line can be dropped.
         if step > 1 || !is_shorter {
             step /= 2;
         }
@@ -34,7 +34,7 @@ struct Shrinking<'a> {
 }
 
 impl Shrinking<'_> {
-    /// Takes the script instead, if it differs.
+    /// Replaces the script by this one if it differs and a try is left. Returns `true` if so.
     fn take(&mut self, script: Script) -> bool {
         if self.tries == 0 {
             return false;
@@ -57,7 +57,7 @@ impl Shrinking<'_> {
     }
 
     fn cut_behind_difference(&mut self) {
-        // The first line is the script's settings, so line n is the call with place n - 2.
+        // Line 1 has the script's settings, so line n has the call with index n - 2.
         let kept = self.difference.line.saturating_sub(1);
         if 0 < kept && kept < self.script.lines.len() {
             let lines = self.script.lines[..kept].to_vec();
@@ -65,7 +65,7 @@ impl Shrinking<'_> {
         }
     }
 
-    /// Drops so many lines at a time, wherever the difference stays. Says whether some were dropped.
+    /// Drops `step` lines at a time, if the script differs without them. Returns `true` if some were dropped.
     fn drop_by(&mut self, step: usize) -> bool {
         let mut is_shorter = false;
         let mut from = 0;

@@ -1,24 +1,24 @@
-//! Scripts that are made to meet faults of the original which chance doesn't meet. Their limits are below those that have a window: most entries have
-//! no weight, so that there are many all the same.
+//! Scripts that trigger faults of the original that chance doesn't. Their limits are too low for a window. Most entries weigh 0, so that there are
+//! many of them nevertheless.
 use crate::make::initial;
 use crate::random::Random;
 use crate::script::{Call, Line, Script, WINDOWED};
 use crate::sketch::{asked, asked_in_whole_numbers, index_of, DEPTHS};
 
-/// The words of the table for a capacity from 129 to 256.
+/// Number of words in the table for a capacity from 129 to 256.
 const TABLE_WORDS: u64 = 256;
-/// At each count the best of so many hashes is taken.
+/// Number of random hashes from which each get takes the best.
 const TRIES: u64 = 150;
 
-/// A script whose gets make most counters of the sketch odd until it ages, so that the original's size underflows.
+/// Makes a script whose gets turn most counters odd before the sketch ages, so that the original's size underflows.
 pub fn odd_counters(random: &mut Random) -> Script {
     let max = random.between(2, WINDOWED - 1);
     let count = random.between(129, 140);
     let mut lines: Vec<Line> = (1..count).map(weightless).collect();
-    // The last one fills the limit, so the sketch is turned on, for as many entries as there are.
+    // The last entry fills the limit. That turns the sketch on, with the number of entries as its capacity.
     lines.push(insert(count, max as u32));
     let mut parities = Parities::new();
-    // The sketch ages at ten times its capacity.
+    // The sketch ages at a size of ten times its capacity.
     for _ in 0..10 * count {
         let hash = parities.best(random);
         parities.count(hash);
@@ -35,7 +35,7 @@ pub fn odd_counters(random: &mut Random) -> Script {
     }
 }
 
-/// A script of a weighed cache that asks for another capacity of the sketch in floating point than in whole numbers.
+/// Makes a script of a weighed cache whose sketch gets another capacity in floating point than in whole numbers.
 pub fn rounded_capacity(random: &mut Random) -> Script {
     let (max, count, last) = rounded(random);
     let mut lines: Vec<Line> = (1..count).map(weightless).collect();
@@ -52,7 +52,7 @@ pub fn rounded_capacity(random: &mut Random) -> Script {
     }
 }
 
-/// A limit, a number of entries, and the weight of the last one, which alone reaches half of the limit: the others weigh nothing.
+/// Draws a limit, a number of entries, and the weight of the last one. It reaches half of the limit alone, since the others weigh 0.
 fn rounded(random: &mut Random) -> (u64, u64, u64) {
     loop {
         let max = random.between(3, WINDOWED - 1);
@@ -77,7 +77,7 @@ fn line(call: Call) -> Line {
     Line { moment: 0, call }
 }
 
-/// Which counters are odd.
+/// Parity of each counter.
 struct Parities {
     is_odd: Vec<bool>,
 }
@@ -89,7 +89,7 @@ impl Parities {
         }
     }
 
-    /// The hash that makes the most even counters odd.
+    /// Draws `TRIES` hashes, and returns the one that turns the most even counters odd.
     fn best(&self, random: &mut Random) -> u64 {
         let hashes = (0..TRIES).map(|_| random.number());
         hashes.max_by_key(|hash| self.evens(*hash)).unwrap_or(0)
@@ -107,7 +107,7 @@ impl Parities {
     }
 }
 
-/// The hash's counter at a depth: sixteen a word, four for each remainder by 4.
+/// Returns the number of the hash's counter at `depth`. A word has sixteen counters, four for the hashes of each remainder modulo 4.
 fn counter(hash: u64, depth: usize) -> usize {
     let word = index_of(hash, depth, TABLE_WORDS) as usize;
     16 * word + 4 * (hash & 3) as usize + depth

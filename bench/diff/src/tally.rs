@@ -1,4 +1,4 @@
-//! The sums of all scripts, and how they are printed.
+//! Adds up the results of all scripts, and prints the totals.
 use crate::compare::{Difference, Outcome};
 use crate::original::Met;
 use crate::rules::{End, Rule};
@@ -11,7 +11,7 @@ pub struct Found {
     pub difference: Difference,
 }
 
-/// What came of some scripts.
+/// Totals of some scripts.
 #[derive(Default)]
 pub struct Tally {
     scripts: u64,
@@ -58,12 +58,12 @@ impl Tally {
         println!("compared with the model {}", self.by_model);
         println!("lines compared          {}", self.compared);
         println!("lines equal             {}", self.equal);
-        println!("lines that a rule allows to be others than the original's, and that are as it says:");
+        println!("lines that differ from the original's exactly as a rule says:");
         for (sum, rule) in self.allowed.iter().zip(Rule::ALL) {
             println!("  {sum:>12}  {}", rule.words());
         }
         println!(
-            "scripts that a rule ends early, with {} lines in all behind the ends:",
+            "scripts that a rule ends early, which leaves out {} of their lines in all:",
             self.behind_end
         );
         for (sum, end) in self.ended.iter().zip(End::ALL) {
@@ -73,7 +73,7 @@ impl Tally {
     }
 
     fn print_met(&self) {
-        println!("what the scripts met on the original:");
+        println!("events on the original:");
         let rows = [
             (self.met.hits, "gets that found their key"),
             (self.met.rejected, "inserts of which the new entry was rejected"),

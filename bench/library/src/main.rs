@@ -1,9 +1,12 @@
-//! Times calls through the package in Rust, beside the original and `lru` in one process: `mini_moka_library_bench INSIDE [REPEATS]`. Numbers are keys and values of
-//! 64 bits; bytes are keys of 16 and values of 64, which the package copies in and out. Each side has its own default hash, and a byte of each value that it
-//! finds is read. INSIDE is the program that plays a trace of numbers inside of Rattle: two static libraries of Rattle's don't go into one program.
+//! Times calls through the package in Rust, beside the original and `lru` in one process: `mini_moka_library_bench INSIDE [REPEATS]`.
 //!
-//! Each repeat is a process of its own, `library once KIND TRACE`: which pages of memory a process gets decides how much of a cache the processor's caches hold,
-//! and that differs from one to the next by up to a half of a call's time. `library count KIND TRACE CALLS` plays the package alone, to be counted.
+//! Numbers are keys and values of 64 bits. Bytes are keys of 16 bytes and values of 64, which the package copies in and out. Each side has its default hash.
+//! Each found number is copied, and one byte of each found value of bytes is read. INSIDE is the program that plays a trace of numbers inside Rattle, since two
+//! static libraries of Rattle don't link into one program.
+//!
+//! Each repeat is a process of its own, `mini_moka_library_bench once KIND TRACE`. The pages of memory that a process gets decide how much of a cache fits into
+//! the processor's caches, which changes the time of a call by up to a half. `mini_moka_library_bench count KIND TRACE CALLS` plays the package alone, under
+//! callgrind.
 #[path = "../../src/callgrind.rs"]
 mod callgrind;
 #[path = "../../src/memory.rs"]
@@ -22,12 +25,12 @@ use std::time::Instant;
 use traces::{Operation, Trace, GET, INSERT, READ_THROUGH};
 
 const REPEATS: usize = 5;
-/// Instructions are those of twice this many calls, less those of this many.
+/// Number of calls that instructions are counted for: those of twice as many calls, less those of this many.
 const COUNTED_CALLS: usize = 100_000;
 
-/// A cache.
+/// A cache that traces are played on.
 trait Side {
-    /// Whether the key is found. Its value is read.
+    /// Looks the key up, and reads its value. Returns `true` if it was found.
     fn get(&mut self, key: u64) -> bool;
     fn insert(&mut self, key: u64);
 }
@@ -42,13 +45,13 @@ impl Side for PackageNumbers {
     }
 
     fn insert(&mut self, key: u64) {
-        self.0.insert(key, key).expect("memory is there");
+        self.0.insert(key, key).expect("memory is available");
     }
 }
 
 fn package_numbers(capacity: u64) -> Box<dyn Side> {
     let builder = mini_moka_proved::NumberCache::builder().max_capacity(capacity);
-    let cache = builder.build().expect("memory is there");
+    let cache = builder.build().expect("memory is available");
     Box::new(PackageNumbers(cache))
 }
 
@@ -86,7 +89,7 @@ fn lru_numbers(capacity: u64) -> Box<dyn Side> {
     Box::new(LruNumbers(cache))
 }
 
-/// The bytes of a key and of the one value. A key is made of its number in place, so no play waits for the memory of its keys.
+/// Buffers of a key and of the only value. Each key is written in place just before its call, so no side waits for keys from memory.
 struct Bytes {
     key: Vec<u8>,
     value: Vec<u8>,
@@ -106,7 +109,7 @@ impl Bytes {
     }
 }
 
-/// Reads a byte of a value, if one was found, and says whether it was.
+/// Reads a byte of the value, if one was found. Returns `true` if so.
 fn read(found: Option<&Vec<u8>>) -> bool {
     black_box(found.map(|value| value[0])).is_some()
 }
@@ -129,14 +132,14 @@ impl Side for PackageBytes {
         self.bytes.set_key(key);
         self.cache
             .insert(&self.bytes.key, &self.bytes.value)
-            .expect("memory is there");
+            .expect("memory is available");
     }
 }
 
 fn package_bytes(capacity: u64) -> Box<dyn Side> {
     let builder = mini_moka_proved::Cache::builder().max_capacity(capacity);
     Box::new(PackageBytes {
-        cache: builder.build().expect("memory is there"),
+        cache: builder.build().expect("memory is available"),
         bytes: Bytes::new(),
         found: Vec::with_capacity(64),
     })
@@ -180,7 +183,7 @@ fn lru_bytes(capacity: u64) -> Box<dyn Side> {
     Box::new(LruBytes(cache, Bytes::new()))
 }
 
-/// Makes an operation. Whether a value is found.
+/// Makes an operation. Returns `true` if it found a value.
 fn make(side: &mut dyn Side, operation: &Operation) -> bool {
     let key = operation.key;
     match operation.kind {
@@ -196,17 +199,17 @@ fn make(side: &mut dyn Side, operation: &Operation) -> bool {
             }
             is_found
         }
-        _ => unreachable!("a trace of other operations"),
+        _ => unreachable!("library traces have no other operations"),
     }
 }
 
-/// What a play took, in nanoseconds a call, and the share of calls that found a value.
+/// Nanoseconds a call of a play, and the share of calls that found a value.
 struct Played {
     nanos: f64,
     hits: f64,
 }
 
-/// Makes operations, and says how many found a value.
+/// Makes operations, and returns the number that found a value. It isn't inlined, since callgrind counts it by name.
 #[inline(never)]
 fn play_counted(side: &mut dyn Side, operations: &[Operation]) -> usize {
     operations.iter().filter(|it| make(side, it)).count()
@@ -229,12 +232,12 @@ fn play(make_side: Make, trace: &Trace) -> Played {
     }
 }
 
-/// Keys and values of one kind: how a cache of each side is made.
+/// A kind of keys and values, with a constructor for each side.
 struct Kind {
     name: &'static str,
-    /// The package, the original and `lru`.
+    /// Constructors for the package, the original and `lru`.
     sides: [Make; 3],
-    /// Whether they are what the program inside plays.
+    /// True if INSIDE plays this kind.
     is_inside: bool,
 }
 
@@ -251,14 +254,14 @@ const KINDS: [Kind; 2] = [
     },
 ];
 
-/// The kind and the trace of these names.
+/// Finds the kind and the trace by their names.
 fn named(kind: &str, trace: &str, calls: usize) -> (&'static Kind, Trace) {
     let kind = KINDS.iter().find(|it| it.name == kind);
     let trace = traces::library_trace(trace, calls);
-    kind.zip(trace).expect("no kind or no trace has this name")
+    kind.zip(trace).expect("no kind or trace has this name")
 }
 
-/// Has each side play in turn, and prints what the plays took.
+/// Plays the trace on each side in turn, and prints the time and the hit ratio of each.
 fn play_once(kind: &str, trace: &str) {
     let (kind, trace) = named(kind, trace, traces::CALLS);
     memory::keep_memory();
@@ -268,27 +271,27 @@ fn play_once(kind: &str, trace: &str) {
     }
 }
 
-/// Has the package play `calls` calls.
+/// Plays `calls` calls on the package alone.
 fn play_package(kind: &str, trace: &str, calls: usize) {
     let (kind, trace) = named(kind, trace, calls);
     play(kind.sides[0], &trace);
 }
 
-/// The numbers that a program prints.
+/// Runs a program, and returns the numbers that it prints.
 fn numbers_of(command: &mut Command) -> Vec<f64> {
     let output = command.output().expect("a play can't be started");
     assert!(output.status.success(), "a play failed");
     String::from_utf8_lossy(&output.stdout)
         .split_whitespace()
-        .map(|word| word.parse().expect("a number of a play is none"))
+        .map(|word| word.parse().expect("a play prints numbers"))
         .collect()
 }
 
 fn this_program() -> PathBuf {
-    std::env::current_exe().expect("this program isn't found")
+    std::env::current_exe().expect("the path of this program is unknown")
 }
 
-/// Returns the instructions of a call in a function of a program whose last argument is the number of calls.
+/// Returns the instructions that `function` takes for a call. The program's last argument is the number of calls.
 fn instructions(program: &Path, function: &str, words: &[&str]) -> Option<f64> {
     let of = |calls: usize| {
         let calls = calls.to_string();
@@ -298,7 +301,7 @@ fn instructions(program: &Path, function: &str, words: &[&str]) -> Option<f64> {
     Some((of(2 * COUNTED_CALLS)? - of(COUNTED_CALLS)?) / COUNTED_CALLS as f64)
 }
 
-/// Prints the row of a trace: the least of the repeats of each side, which play in turn.
+/// Prints the row of a trace, with the least time of each side. The sides play in turn, repeat by repeat.
 fn print_trace(kind: &Kind, trace: &str, inside: &str, repeats: usize) {
     let mut least = [f64::INFINITY; 3];
     let mut least_inside = kind.is_inside.then_some(f64::INFINITY);
@@ -370,13 +373,13 @@ fn main() {
             play_package(
                 kind,
                 trace,
-                calls.expect("the number of calls is no number"),
+                calls.expect("the number of calls isn't a number"),
             );
         }
         [inside] => print_table(inside, REPEATS),
         [inside, repeats] => {
             let repeats = repeats.parse();
-            print_table(inside, repeats.expect("the number of repeats is no number"));
+            print_table(inside, repeats.expect("the repeat count isn't a number"));
         }
         _ => panic!("usage: mini_moka_library_bench INSIDE [REPEATS]"),
     }

@@ -1,4 +1,4 @@
-//! How many bytes an entry takes on each side: `bytes [sync]`, where `sync` is the core of the cache that threads share beside its original.
+//! Counts the bytes that an entry takes on each side: `bytes [sync]`. With `sync`, the sides are the core of the shared cache and the original's `sync`.
 use mini_moka_bench::hand_lists::ListLoad;
 use mini_moka_bench::port::{self, IndexLoad};
 use mini_moka_bench::rust_sides::{self, Side};
@@ -8,8 +8,8 @@ use std::alloc::{GlobalAlloc, Layout, System};
 use std::sync::atomic::{AtomicUsize, Ordering::Relaxed};
 
 mod recorder {
-    //! What the port asks of `malloc`: the linker leads the calls of `malloc`, `realloc` and `free` here. Only while it is on are they
-    //! recorded.
+    //! Records the port's allocations. The linker redirects the calls of `malloc`, `realloc` and `free` here. They are recorded only
+    //! while `record` runs.
     use std::collections::HashMap;
     use std::ffi::c_void;
     use std::sync::Mutex;
@@ -23,7 +23,7 @@ mod recorder {
 
     const MOST_BLOCKS: usize = 3 << 20;
 
-    /// Sizes of the blocks that are held, by where they are, and which total was held for longest.
+    /// Sizes of the held blocks by their addresses, and the total that was held longest.
     struct Record {
         since: Instant,
         blocks: HashMap<usize, usize>,
@@ -32,10 +32,10 @@ mod recorder {
         totals: Totals,
     }
 
-    /// Bytes that were held.
+    /// Totals of held bytes.
     #[derive(Clone, Copy, Default)]
     pub struct Totals {
-        /// That total which was held for longest.
+        /// Total that was held longest.
         pub longest: usize,
         pub peak: usize,
     }
@@ -43,8 +43,8 @@ mod recorder {
     static RECORD: Mutex<Option<Record>> = Mutex::new(None);
 
     impl Record {
-        // There is room for all blocks from the start, since what a record itself takes can't be recorded; and the time that this takes isn't
-        // one for which nothing was held.
+        // The map gets its whole capacity now, since an allocation by the record itself can't be recorded. The clock starts after that,
+        // so that this time doesn't count as one in which nothing was held.
         fn new() -> Record {
             let blocks = HashMap::with_capacity(MOST_BLOCKS);
             Record {
@@ -56,7 +56,7 @@ mod recorder {
             }
         }
 
-        /// Ends the time for which the present total was held.
+        /// Ends the time in which the present total was held.
         fn close(&mut self) {
             let now = Instant::now();
             if now - self.since > self.longest {
@@ -69,7 +69,7 @@ mod recorder {
         fn take(&mut self, block: usize, size: usize) {
             self.close();
             if self.blocks.len() == MOST_BLOCKS {
-                // There are more blocks than can be recorded, and a message would take memory.
+                // The map is full. A message would allocate.
                 std::process::abort();
             }
             self.blocks.insert(block, size);
@@ -83,20 +83,20 @@ mod recorder {
         }
     }
 
-    /// What was held while `play` ran.
+    /// Runs `play`, and returns the totals held meanwhile.
     pub fn record(play: impl FnOnce()) -> Totals {
         let record = Record::new();
         *RECORD.lock().unwrap() = Some(record);
         play();
         let record = RECORD.lock().unwrap().take();
         let Some(mut record) = record else {
-            unreachable!("nobody else ends a record");
+            unreachable!("nothing else ends a record");
         };
         record.close();
         record.totals
     }
 
-    /// Records a change, where a record is being made.
+    /// Applies a change to the record, if there is one.
     fn with_record(change: impl FnOnce(&mut Record)) {
         if let Some(record) = RECORD.lock().unwrap().as_mut() {
             change(record);
@@ -133,7 +133,7 @@ mod recorder {
     }
 }
 
-/// Counts the bytes that the other sides have.
+/// Allocator that counts the bytes of the other sides.
 struct Counting;
 
 static PRESENT: AtomicUsize = AtomicUsize::new(0);
@@ -159,7 +159,7 @@ unsafe impl GlobalAlloc for Counting {
 #[global_allocator]
 static ALLOCATOR: Counting = Counting;
 
-/// The bytes that a side has in the end, and the most that it had at once.
+/// Plays a trace on a new side. Returns its bytes at the end, and their maximum.
 fn count<S: Side>(build: fn(&Settings) -> S, trace: &Trace) -> (usize, usize) {
     let before = PRESENT.load(Relaxed);
     PEAK.store(before, Relaxed);
@@ -169,13 +169,13 @@ fn count<S: Side>(build: fn(&Settings) -> S, trace: &Trace) -> (usize, usize) {
     (after - before, PEAK.load(Relaxed) - before)
 }
 
-/// Bytes an entry, and in brackets the most at once.
+/// Formats bytes an entry, with the maximum in brackets.
 fn cell(entries: u64, (held, peak): (usize, usize)) -> String {
     let a_entry = |bytes| bytes as f64 / entries as f64;
     format!("{:.1} ({:.1})", a_entry(held), a_entry(peak))
 }
 
-/// The settings whose bytes are counted.
+/// Returns the settings whose bytes are counted, each with its name.
 fn settings_of(entries: u64) -> [(&'static str, Settings); 3] {
     let plain = Settings::with_capacity(entries);
     [
@@ -185,9 +185,9 @@ fn settings_of(entries: u64) -> [(&'static str, Settings); 3] {
     ]
 }
 
-/// The core of the cache that threads share, beside its original. While keys are looked up the core takes no block.
+/// Prints the table of the shared cache's core beside the original's `sync`. Look-ups in the core don't allocate.
 fn print_shared() {
-    println!("Bytes an entry of two numbers of 64 bits, in a full cache that threads share; in brackets the most at once while it grew.");
+    println!("Bytes an entry of two 64-bit numbers, in a full shared cache; in brackets the maximum while it grew.");
     println!();
     table::print_head(&["Entries", "core", "mini-moka, sync"]);
     for entries in [10_000, 1_000_000] {
@@ -211,7 +211,7 @@ fn main() {
         print_shared();
         return;
     }
-    println!("Bytes an entry of two numbers of 64 bits, in a full cache; in brackets the most at once while it grew.");
+    println!("Bytes an entry of two 64-bit numbers, in a full cache; in brackets the maximum while it grew.");
     println!();
     table::print_head(&["Entries", "port", "mini-moka", "lru", "map"]);
     for entries in [10_000, 1_000_000] {
@@ -239,7 +239,7 @@ fn main() {
         }
     }
     println!();
-    println!("Bytes an id of the port's index, and of std's map from hashes to ids in its place.");
+    println!("Bytes an id in the port's index, and in std's map from hashes to ids.");
     println!();
     table::print_head(&["Ids", "index", "map"]);
     for ids in [10_000, 1_000_000] {
@@ -253,7 +253,7 @@ fn main() {
         table::print_row(&[ids.to_string(), held(port::index), held(port::index_by_map)]);
     }
     println!();
-    println!("Bytes a node of the port's list, whose elements are 8 bytes.");
+    println!("Bytes a node of the port's list, with elements of 8 bytes.");
     println!();
     table::print_head(&["Nodes", "port"]);
     for nodes in [1_000, 1_000_000] {

@@ -1,4 +1,4 @@
-//! How the time a call grows with the number of entries: `growth FILE [REPEATS]` prints a table, and draws it into the file as SVG.
+//! Measures how the time of a call grows with the number of entries: `growth FILE [REPEATS]` prints a table, and draws it into FILE as SVG.
 use mini_moka_bench::plot::{plot, Line};
 use mini_moka_bench::timing::{time_original, time_port, Player};
 use mini_moka_bench::traces;
@@ -16,7 +16,7 @@ fn main() -> ExitCode {
     let repeats = words
         .get(1)
         .map_or(Ok(REPEATS), |word| word.parse())
-        .expect("the number of repeats is no number");
+        .expect("the number of repeats isn't a number");
     let players: [Player; 2] = [time_port, time_original];
     let mut nanos = [Vec::new(), Vec::new()];
     println!("| Entries | Port, ns a call | Original | Ratio | Hits | Original's |");

@@ -1,5 +1,5 @@
-//! Hit ratios over capacities: `hits FILE [CAFFEINE.jar]` prints a table and draws it into the file as SVG. The best possible is Belady's, which knows what
-//! is asked for next.
+//! Measures hit ratios over capacities: `hits FILE [CAFFEINE.jar]` prints a table, and draws it into FILE as SVG. The best possible cache is Belady's, which
+//! knows all later calls.
 use mini_moka_bench::hit_plot::{plot, Panel};
 use mini_moka_bench::hit_traces::{hit_traces, KEYS};
 use mini_moka_bench::port;
@@ -27,12 +27,12 @@ const SIDES: [(&str, &str); 9] = [
     ("first in, first out", "#6a5acd"),
 ];
 
-/// The hits of the best possible cache: what is asked for latest, or never again, leaves, the new key among the others.
+/// Counts the hits of the best possible cache. It evicts the key whose next call is latest or never comes, which may be the new key.
 fn best_hits(keys: &[u64], capacity: usize) -> u64 {
     let mut next = vec![usize::MAX; keys.len()];
     let mut seen = HashMap::new();
     for (call, key) in keys.iter().enumerate().rev() {
-        // Keys that never come again are told apart by their calls.
+        // A key that never recurs gets a number of its own, above those of all calls.
         next[call] = seen.insert(*key, call).unwrap_or(keys.len() + call);
     }
     let mut held = HashSet::new();
@@ -74,7 +74,7 @@ fn fifo_hits(keys: &[u64], capacity: usize) -> u64 {
     hits
 }
 
-/// Caffeine's hits at each capacity, by `java` with this jar.
+/// Counts Caffeine's hits at each capacity, by `java` with this jar.
 fn caffeine_hits(jar: &str, keys: &[u64], capacities: &[u64]) -> Vec<u64> {
     let program = concat!(env!("CARGO_MANIFEST_DIR"), "/caffeine/Hits.java");
     let mut java = Command::new("java")
@@ -83,10 +83,10 @@ fn caffeine_hits(jar: &str, keys: &[u64], capacities: &[u64]) -> Vec<u64> {
         .stdin(Stdio::piped())
         .stdout(Stdio::piped())
         .spawn()
-        .expect("java is not there");
+        .expect("java can't be started");
     let bytes: Vec<u8> = keys.iter().flat_map(|key| key.to_le_bytes()).collect();
     let mut input = java.stdin.take().expect("java has an input");
-    input.write_all(&bytes).expect("java takes the trace");
+    input.write_all(&bytes).expect("java reads the trace");
     drop(input);
     let output = java.wait_with_output().expect("java ends");
     assert!(output.status.success(), "java failed");
@@ -96,7 +96,7 @@ fn caffeine_hits(jar: &str, keys: &[u64], capacities: &[u64]) -> Vec<u64> {
         .collect()
 }
 
-/// The hits of `SegmentedCache` with its usual segments. Each segment is one more cache of this library, with its part of the capacity and of the keys.
+/// Counts the hits of `SegmentedCache` with its default number of segments. A single-thread cache plays each segment, with its part of the capacity and keys.
 fn segmented_hits(operations: &[Operation], capacity: u64) -> u64 {
     let count = (capacity / 100).clamp(1, 64);
     let mut parts = vec![Vec::new(); count as usize];
@@ -112,7 +112,7 @@ fn segmented_hits(operations: &[Operation], capacity: u64) -> u64 {
     hits
 }
 
-/// Each side's hits at a capacity, but for Caffeine's, which are handed in.
+/// Counts the hits of each side at a capacity, except Caffeine's, which are passed in.
 fn hits_at(keys: &[u64], capacity: u64, caffeine: Option<u64>) -> [Option<u64>; 9] {
     let settings = Settings::with_capacity(capacity);
     let operations: Vec<Operation> = keys

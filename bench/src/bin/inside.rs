@@ -1,5 +1,5 @@
-//! How long a call takes inside of Rattle, with the hash state that a user gets who names none: `inside TRACE [CALLS]` prints the nanoseconds. It plays a
-//! trace once; the benchmark of the library has it do so in turn with the calls from outside.
+//! Times calls inside Rattle with the default hash state: `inside TRACE [CALLS]` plays a trace once, and prints the nanoseconds a call. The benchmark of the
+//! library runs it in turn with the calls from outside.
 use mini_moka_bench::memory::keep_memory;
 use mini_moka_bench::timing::{measure, time_port};
 use mini_moka_bench::traces::{library_trace, CALLS};
@@ -12,7 +12,7 @@ fn main() -> ExitCode {
         return ExitCode::from(2);
     };
     let calls = words.get(1).map_or(CALLS, |word| {
-        word.parse().expect("the number of calls is no number")
+        word.parse().expect("the number of calls isn't a number")
     });
     let Some(mut trace) = library_trace(name, calls) else {
         eprintln!("no trace has this name: {name}");

@@ -1,5 +1,5 @@
-//! Plays one trace on one side, to be watched by a profiler: `one SIDE TRACE [TIMES]`, where SIDE is `port`, `original`, `core` or `sync`: the last two are
-//! the core of the cache that threads share and its original.
+//! Plays one trace on one side, for a profiler: `one SIDE TRACE [TIMES]`. SIDE is `port`, `original`, `core` or `sync`. The last two are the core of the shared
+//! cache, and the original's `sync`.
 use mini_moka_bench::{port, rust_sides, traces};
 
 fn main() {
@@ -8,9 +8,9 @@ fn main() {
         panic!("usage: one SIDE TRACE [TIMES]");
     };
     let times = times.first().map_or(1, |word| {
-        word.parse().expect("the number of times is no number")
+        word.parse().expect("the number of times isn't a number")
     });
-    // A trace of single calls has its number of entries as its last word.
+    // The name of a trace of single calls ends with its number of entries.
     let entries = name.rsplit(", ").next().and_then(|word| word.parse().ok());
     let all = match entries {
         Some(entries) => traces::single_calls(entries),

@@ -1,6 +1,6 @@
-//! How long an operation of a part of the cache takes, beside what it is compared with: `parts PART [REPEATS]`, where PART is `sketch`, `list`
-//! or `index`. Where there is a `valgrind`, its count of instructions stands beside the times.
-//! `parts once PART LOAD SIDE ROUNDS` plays one side, to be watched: LOAD and SIDE are numbers from 0 on.
+//! Times the operations of a part of the cache beside others: `parts PART [REPEATS]`, with PART `sketch`, `list` or `index`. If `valgrind` is
+//! installed, the table also has instructions.
+//! `parts once PART LOAD SIDE ROUNDS` plays one side for a profiler. LOAD and SIDE are numbers from 0 on.
 use mini_moka_bench::callgrind::collected;
 use mini_moka_bench::loads::{loads_of, Load, Side};
 use mini_moka_bench::memory::keep_memory;
@@ -10,7 +10,7 @@ use std::process::ExitCode;
 use std::time::Instant;
 
 const REPEATS: usize = 9;
-/// A time is that of so many rounds, less the least of one: neither the making of a part nor the first touch of its memory counts.
+/// Number of timed rounds. The least time of one round is subtracted, so neither making a part nor the first touch of its memory counts.
 const ROUNDS: usize = 5;
 
 fn main() -> ExitCode {
@@ -44,10 +44,10 @@ fn usage() -> ExitCode {
 }
 
 fn number(word: &str) -> usize {
-    word.parse().expect("a number is none")
+    word.parse().expect("an argument isn't a number")
 }
 
-/// The least and the greatest of the repeats, in nanoseconds an operation.
+/// Least and greatest time of the repeats, in nanoseconds.
 #[derive(Clone, Copy)]
 struct Spread {
     least: f64,
@@ -77,7 +77,7 @@ fn names_of(load: &Load) -> Vec<&'static str> {
     load.sides.iter().map(|side| side.name).collect()
 }
 
-/// Prints the head of a table of loads that these sides play.
+/// Prints the head of a table for loads with these sides.
 fn print_head_of(names: &[&str]) {
     let mut head = vec!["Load".to_string()];
     head.extend(names.iter().map(|name| name.to_string()));
@@ -91,7 +91,7 @@ fn print_head_of(names: &[&str]) {
     table::print_head(&head.iter().map(String::as_str).collect::<Vec<_>>());
 }
 
-/// Prints the row of a load. Says whether all sides had the same sum.
+/// Prints the row of a load. Returns `true` if all sides had the same sum.
 fn print_load(part: &str, at: usize, load: &Load, repeats: usize) -> bool {
     let spreads = measure(load, repeats);
     let sums: Vec<u64> = load.sides.iter().map(|side| (side.play)(2)).collect();
@@ -118,7 +118,7 @@ fn print_load(part: &str, at: usize, load: &Load, repeats: usize) -> bool {
     is_same
 }
 
-/// The sides in turn, repeat by repeat. What one round takes at least is taken off.
+/// Times the sides in turn, repeat by repeat. Subtracts the least time of one round.
 fn measure(load: &Load, repeats: usize) -> Vec<Spread> {
     let none = Spread {
         least: f64::INFINITY,
@@ -151,12 +151,12 @@ fn nanos_of(side: &Side, rounds: usize) -> f64 {
     start.elapsed().as_nanos() as f64
 }
 
-/// How many instructions a round has: those of two rounds less those of one.
+/// Counts the instructions of a round: those of two rounds, less those of one.
 fn instructions(part: &str, load: usize, side: usize) -> Option<f64> {
     Some(played(part, load, side, 2)? - played(part, load, side, 1)?)
 }
 
-/// What callgrind counts of this program as it plays one side.
+/// Counts the instructions of this program while it plays one side.
 fn played(part: &str, load: usize, side: usize, rounds: usize) -> Option<f64> {
     let program = std::env::current_exe().ok()?;
     let numbers = [load, side, rounds].map(|number| number.to_string());

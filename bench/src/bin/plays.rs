@@ -1,5 +1,5 @@
-//! The requests by which `bench_load` plays what `bench/run threads` plays, to be watched by a profiler: `plays GETS THREADS [TIMES]`, where GETS is how
-//! many of a hundred calls are gets.
+//! Prints the lines that make `bench_load` play the lists of `bench/run threads`, for a profiler: `plays GETS THREADS [TIMES]`. GETS is the number of gets in
+//! a hundred calls.
 use mini_moka_bench::play_program::{write_filling, write_lists};
 use mini_moka_bench::thread_loads::{filling, Mix, CAPACITY};
 use std::io::{self, BufWriter, Write};

@@ -1,4 +1,4 @@
-//! How long a call takes on each side: `speed [PART] [REPEATS]`, where PART is `zipf`, `single`, `hashers` or `all`.
+//! Times calls on each side: `speed [PART] [REPEATS]`. PART is `zipf`, `single`, `hashers`, or `all` for the first two.
 use mini_moka_bench::memory::keep_memory;
 use mini_moka_bench::port::Outcome;
 use mini_moka_bench::rust_sides;
@@ -17,7 +17,7 @@ fn time_map(settings: &Settings, operations: &[Operation]) -> (f64, Outcome) {
     time_side(rust_sides::map(settings), operations)
 }
 
-/// Prints the row of a trace. The original has no window, so its hits may be others.
+/// Prints the row of a trace. The original has no window, so its hits may differ.
 fn print_trace(trace: &Trace, repeats: usize) {
     let settings = &trace.settings;
     let is_plain = !settings.is_weighed && !settings.has_durations() && !settings.is_std_hashed;
@@ -53,7 +53,7 @@ fn main() {
     keep_memory();
     let part = std::env::args().nth(1).unwrap_or("all".into());
     let repeats = std::env::args().nth(2).map_or(REPEATS, |word| {
-        word.parse().expect("the number of repeats is no number")
+        word.parse().expect("the number of repeats isn't a number")
     });
     println!(
         "Nanoseconds a call, the least of {repeats} repeats; a reading of the clock takes {:.1}.",

@@ -1,4 +1,4 @@
-//! How long a whole call of the core of the cache that threads share takes beside the original's `sync`, for one caller: `sync [REPEATS]`.
+//! Times whole calls of the shared cache's core beside the original's `sync`, by one caller: `sync [REPEATS]`.
 use mini_moka_bench::memory::keep_memory;
 use mini_moka_bench::table;
 use mini_moka_bench::timing::{clock_nanos, measure, time_core, time_shared_original, Player};
@@ -8,7 +8,7 @@ use std::process::ExitCode;
 const REPEATS: usize = 5;
 const ENTRIES: u64 = 10_000;
 
-/// Prints the row of a trace. Says whether the core stayed within its limit.
+/// Prints the row of a trace. Returns `true` if the core is within its capacity at the end.
 fn print_trace(trace: &Trace, repeats: usize) -> bool {
     let players: [Option<Player>; 2] = [Some(time_core), Some(time_shared_original)];
     let least: Vec<_> = measure(trace, &players, repeats)
@@ -36,7 +36,7 @@ fn print_trace(trace: &Trace, repeats: usize) -> bool {
 fn main() -> ExitCode {
     keep_memory();
     let repeats = std::env::args().nth(1).map_or(REPEATS, |word| {
-        word.parse().expect("the number of repeats is no number")
+        word.parse().expect("the number of repeats isn't a number")
     });
     println!(
         "Nanoseconds a call, the least of {repeats} repeats; a reading of the clock takes {:.1}.",

@@ -1,4 +1,4 @@
-//! The cache that threads share beside others, all in one run: `threads PROGRAM [REPEATS]`, where PROGRAM is the built `bench_load`.
+//! Times the shared caches beside others, all in one run: `threads PROGRAM [REPEATS]`. PROGRAM is the built `bench_load`.
 use mini_moka_bench::machine::{describe, Watch};
 use mini_moka_bench::memory::keep_memory;
 use mini_moka_bench::play_program::{Kind, PlayProgram};
@@ -15,10 +15,10 @@ const REPEATS: usize = 7;
 const GETS: [u64; 2] = [90, 50];
 const THREADS: [usize; 3] = [1, 2, 4];
 
-/// How many pairs of plays are made for each repeat, where two sides differ by less than repeats do.
+/// Number of pairs of plays for each repeat, if two sides differ by less than repeats do.
 const PAIRS: usize = 8;
 
-/// What is compared.
+/// A cache to compare.
 #[derive(Clone, Copy, PartialEq, Eq)]
 enum Side {
     Port,
@@ -37,18 +37,18 @@ const SIDES: [Side; 5] = [
     Side::LockedPort,
 ];
 
-/// What all sides are played with.
+/// Data that the plays of all sides share.
 struct Bench {
     program: PlayProgram,
     filling: Vec<Call>,
     repeats: usize,
 }
 
-/// What one side gave in each repeat.
+/// Outcomes of the plays of one side.
 struct Repeats(Vec<Played>);
 
 impl Repeats {
-    /// Nanoseconds a call of a thread, the least first.
+    /// Returns the nanoseconds a call of a thread, in ascending order.
     fn times(&self) -> Vec<f64> {
         let mut times: Vec<f64> = self
             .0
@@ -63,7 +63,7 @@ impl Repeats {
         median_of(&self.times())
     }
 
-    /// How many times as long each play took as the other side's just before it: the median.
+    /// Returns the median ratio of each play's time to that of the other side's neighbouring play.
     fn ratio_in_pairs(&self, other: &Repeats) -> f64 {
         let pairs = self.0.iter().zip(&other.0);
         let mut ratios: Vec<f64> = pairs
@@ -73,21 +73,21 @@ impl Repeats {
         median_of(&ratios)
     }
 
-    /// The median, and the least and the greatest in brackets.
+    /// Formats the median, with the least and the greatest in brackets.
     fn text(&self) -> String {
         let times = self.times();
         let (least, greatest) = (times[0], times[times.len() - 1]);
         format!("{:.0} ({least:.0} to {greatest:.0})", self.median())
     }
 
-    /// The share of gets that found their key, of all repeats.
+    /// Formats the hit ratio of all repeats together.
     fn hit_ratio(&self, gets: usize) -> String {
         let hits: u64 = self.0.iter().map(|played| played.hits).sum();
         format!("{:.4}", hits as f64 / (gets * self.0.len()) as f64)
     }
 }
 
-/// The median of numbers that rise.
+/// Returns the median of numbers in ascending order.
 fn median_of(sorted: &[f64]) -> f64 {
     let middle = sorted.len() / 2;
     match sorted.len() % 2 {
@@ -112,7 +112,7 @@ impl Bench {
         }
     }
 
-    /// The sides in turn, repeat by repeat, and in every other repeat the other way round.
+    /// Plays the sides in turn, repeat by repeat, in every other repeat in reverse order.
     fn measure<const N: usize>(
         &mut self,
         sides: [Side; N],
@@ -130,7 +130,7 @@ impl Bench {
         Ok(all)
     }
 
-    /// Prints the row of so many threads. Says whether it is right.
+    /// Prints the row for `threads` threads. Returns `true` if it is right.
     fn print_row(&mut self, mix: &Mix, threads: usize) -> io::Result<bool> {
         let watch = Watch::start(&[process::id(), self.program.process()]);
         let all = self.measure(SIDES, &mix.lists[..threads], self.repeats)?;
@@ -155,7 +155,7 @@ impl Bench {
         Ok(is_right(&all, threads))
     }
 
-    /// Prints what publishing costs the calls of so many threads.
+    /// Prints the cost of publishing for the calls of `threads` threads.
     fn print_counted_row(&mut self, mix: &Mix, threads: usize) -> io::Result<()> {
         let watch = Watch::start(&[process::id(), self.program.process()]);
         let sides = [Side::Port, Side::Counted];
@@ -172,7 +172,7 @@ impl Bench {
         Ok(())
     }
 
-    /// Prints what so many threads find of keys that change.
+    /// Prints the hit ratios of `threads` threads on lists whose keys change.
     fn print_turning_row(&mut self, mix: &Mix, threads: usize) -> io::Result<()> {
         let watch = Watch::start(&[process::id(), self.program.process()]);
         let sides = [Side::Port, Side::Original];
@@ -190,7 +190,7 @@ impl Bench {
         Ok(())
     }
 
-    /// Prints what a maintenance takes that finds nothing to do, so that what it does is to publish.
+    /// Prints the time of a maintenance that has nothing to do but publish.
     fn print_maintenance_row(&mut self) -> io::Result<()> {
         let watch = Watch::start(&[process::id(), self.program.process()]);
         let [port, counted, original] = self.measure(
@@ -210,7 +210,7 @@ impl Bench {
         Ok(())
     }
 
-    /// Prints what a look at the counts costs where so many threads do nothing else.
+    /// Prints the time of reading the counts if `threads` threads do nothing else.
     fn print_looks_row(&mut self, threads: usize) -> io::Result<()> {
         let watch = Watch::start(&[process::id(), self.program.process()]);
         let [port, counted, original] = self.measure(
@@ -231,10 +231,10 @@ impl Bench {
     }
 }
 
-/// Prints the third table: what is found where the keys that are asked for change.
+/// Prints the third table: hit ratios on lists whose keys change.
 fn print_turning_table(bench: &mut Bench) -> io::Result<()> {
     println!();
-    println!("Hits where halfway through each list all keys are others.");
+    println!("Hits if all keys change halfway through each list.");
     println!();
     table::print_head(&[
         "gets of 100",
@@ -254,8 +254,8 @@ fn print_turning_table(bench: &mut Bench) -> io::Result<()> {
     Ok(())
 }
 
-/// Whether no side has more entries than its capacity; and where one thread plays alone, so that nothing hangs on the order of calls, whether both caches for
-/// one thread have the same hits.
+/// Returns `true` if no side has more entries than its capacity. If one thread plays alone, so that the order of calls is fixed, both single-thread caches must
+/// also have the same hits and the same sum of values.
 fn is_right(all: &[Repeats; 5], threads: usize) -> bool {
     let [_, _, _, original, port] = all;
     let is_within = all
@@ -270,10 +270,14 @@ fn is_right(all: &[Repeats; 5], threads: usize) -> bool {
     is_within && (threads > 1 || are_same)
 }
 
-/// Prints the second table: the port's cache beside itself with its counts published.
+/// Prints the second table: the port's `sync` with and without published counts.
 fn print_counted_table(bench: &mut Bench) -> io::Result<()> {
     println!();
-    println!("The same times, of the port's sync and of one whose counts are published. A look is entry_count, and published of the latter. The rows of calls have {PAIRS} plays for each repeat, and their ratio is the median of those of neighbouring plays. A maintenance comes once in 64 reads or writes at most.");
+    println!(
+        "The same times for the port's sync without and with published counts. A look calls entry_count, or published if the counts are published. The rows of \
+         calls have {PAIRS} plays of each side for each repeat; their ratio is the median of the ratios of neighbouring plays. A maintenance runs at most once \
+         in 64 reads or writes."
+    );
     println!();
     table::print_head(&[
         "what",
@@ -297,11 +301,11 @@ fn print_counted_table(bench: &mut Bench) -> io::Result<()> {
     Ok(())
 }
 
-/// Prints the tables. Says whether all rows of the first are right.
+/// Prints the tables. Returns `true` if all rows of the first are right.
 fn print_tables(program: &str, repeats: usize) -> io::Result<bool> {
     println!(
-        "Nanoseconds a call of a thread: the median of {repeats} repeats, in brackets the least and the greatest. A ratio is how many times as many calls the \
-         first side makes in a time as the second, by the medians. {}. A reading of the clock takes {:.1}.",
+        "Nanoseconds a call of a thread: the median of {repeats} repeats, in brackets the least and the greatest. A ratio is the first side's calls per \
+         second, divided by the second's, from the medians. {}. A reading of the clock takes {:.1}.",
         describe(),
         clock_nanos()
     );
@@ -350,7 +354,7 @@ fn main() -> ExitCode {
     let repeats = words
         .get(1)
         .map_or(Ok(REPEATS), |word| word.parse())
-        .expect("the number of repeats is no number");
+        .expect("the number of repeats isn't a number");
     assert!(repeats > 0, "there is nothing to repeat");
     match print_tables(program, repeats) {
         Ok(true) => ExitCode::SUCCESS,
