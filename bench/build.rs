@@ -1,4 +1,4 @@
-//! Links the port's static library, lets the program that counts bytes see what the port takes of `malloc`, and finds the original's sketch.
+//! Links the port's static library, redirects the allocations of the program `bytes`, and finds the source of the original's sketch.
 use std::env;
 use std::path::{Path, PathBuf};
 use std::process::Command;
@@ -8,7 +8,7 @@ fn folder_of(variable: &str) -> String {
     env::var(variable).unwrap_or_else(|_| panic!("{variable} is not set: build by bench/run"))
 }
 
-/// The file of the original's sketch, in the dependency that cargo has found.
+/// Returns the source file of the original's sketch, in the package that cargo found.
 fn original_sketch() -> PathBuf {
     println!("cargo:rerun-if-env-changed=MOKA_BENCH_CARGO_CONFIG");
     let mut cargo = Command::new(env::var_os("CARGO").unwrap_or("cargo".into()));
@@ -16,13 +16,11 @@ fn original_sketch() -> PathBuf {
     if let Some(config) = env::var_os("MOKA_BENCH_CARGO_CONFIG") {
         cargo.arg("--config").arg(config);
     }
-    let output = cargo
-        .output()
-        .expect("cargo can't be asked where the original is");
+    let output = cargo.output().expect("cargo can't be started");
     let told = String::from_utf8_lossy(&output.stdout);
     let manifest = manifest_of(&told, "mini-moka").unwrap_or_else(|| {
         panic!(
-            "cargo doesn't say where the original is: {}",
+            "cargo metadata doesn't name the original: {}",
             String::from_utf8_lossy(&output.stderr)
         )
     });
@@ -31,7 +29,7 @@ fn original_sketch() -> PathBuf {
     file
 }
 
-/// The manifest of a package, in what `cargo metadata` says.
+/// Returns the path of a package's manifest, from the output of `cargo metadata`.
 fn manifest_of<'a>(told: &'a str, package: &str) -> Option<&'a str> {
     let (_, of_package) = told.split_once(&format!("\"name\":\"{package}\",\"version\":"))?;
     let (_, path) = of_package.split_once("\"manifest_path\":\"")?;

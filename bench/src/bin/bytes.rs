@@ -154,6 +154,13 @@ unsafe impl GlobalAlloc for Counting {
         PRESENT.fetch_sub(layout.size(), Relaxed);
         unsafe { System.dealloc(block, layout) }
     }
+
+    // As the recorder does, this counts the new size alone: by default both blocks would count while one is copied.
+    unsafe fn realloc(&self, block: *mut u8, layout: Layout, size: usize) -> *mut u8 {
+        PRESENT.fetch_sub(layout.size(), Relaxed);
+        add(size);
+        unsafe { System.realloc(block, layout, size) }
+    }
 }
 
 #[global_allocator]

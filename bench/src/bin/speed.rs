@@ -52,6 +52,10 @@ fn print_trace(trace: &Trace, repeats: usize) {
 fn main() {
     keep_memory();
     let part = std::env::args().nth(1).unwrap_or("all".into());
+    if !["all", "zipf", "single", "hashers"].contains(&part.as_str()) {
+        eprintln!("usage: speed [zipf|single|hashers|all] [REPEATS]");
+        std::process::exit(2);
+    }
     let repeats = std::env::args().nth(2).map_or(REPEATS, |word| {
         word.parse().expect("the number of repeats isn't a number")
     });
