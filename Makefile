@@ -1,4 +1,4 @@
-# The library for C and Rust: `make` proves and builds it in library/, and `make install PREFIX=FOLDER` installs it with its headers.
+# Builds the library for C and Rust. `make` proves and builds it in library/; `make install PREFIX=FOLDER` also installs it with its headers.
 PREFIX ?= /usr/local
 
 .PHONY: library install

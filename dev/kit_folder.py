@@ -1,12 +1,12 @@
-"""A folder that stands in for the kit. Checks keep their results beside the kit, so a command of another folder starts without any."""
+"""A folder that stands in for the kit. Checks keep their results beside the kit, so commands of another folder start without results."""
 import shutil
 
-# The commands of the kit that find the others beside themselves.
+# Commands that look for the kit's others in their own folder, so they are copied, not linked.
 COMMANDS = ("rt", "rtlib.py")
 
 
 def stand_in(kit, room, prover=None):
-    """Makes the folder, with another prover where one is given, and answers its `rt`."""
+    """Makes the folder and returns its `rt`. If `prover` is given, it is the text of the folder's prover."""
     (room / "bin").mkdir(parents=True)
     for it in kit.iterdir():
         if it.name != "bin":

@@ -1,6 +1,6 @@
 /*
- * A table of logins: a token is good for half an hour after the login. It reads lines from its input, `login USER` and `who TOKEN` and
- * `logout TOKEN`, and answers each with a line.
+ * Keeps a table of logins: a token is valid for half an hour after the login. Reads the lines `login USER`, `who TOKEN` and `logout TOKEN` from standard input,
+ * and answers each with a line.
  */
 #include "mini_moka.h"
 #include <inttypes.h>
@@ -10,20 +10,20 @@
 
 #define SECOND UINT64_C(1000000000)
 
-/* The logins, user numbers by token, and the last token that was given out. */
+/* The users' numbers by token, and the last token issued. */
 struct logins {
     struct mini_moka users;
     uint64_t last_token;
 };
 
-/* The moment of a call. */
+/* Returns the current time in nanoseconds. */
 static uint64_t now(void) {
     struct timespec time;
     clock_gettime(CLOCK_MONOTONIC, &time);
     return (uint64_t)time.tv_sec * SECOND + (uint64_t)time.tv_nsec;
 }
 
-/* Opens a table of 100,000 logins at most. */
+/* Opens a table of at most 100,000 logins. */
 static uint32_t logins_open(struct logins *logins) {
     struct mini_moka_u64_settings settings = MINI_MOKA_U64_SETTINGS_INIT;
     settings.capacity = 100000;
@@ -31,7 +31,7 @@ static uint32_t logins_open(struct logins *logins) {
     return mini_moka_u64_open(&logins->users, &settings);
 }
 
-/* Answers a line: a token if a user logs in, and the user of a token. Real tokens are random; these are counted. */
+/* Prints the answer to a line. Tokens are counted here; a real program would issue random ones. */
 static void answer(struct logins *logins, const char *word, uint64_t number) {
     uint64_t user;
     if (strcmp(word, "login") == 0) {

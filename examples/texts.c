@@ -1,4 +1,4 @@
-/* A table of texts: the value of a key is good for half an hour. Moments are chosen by hand here; examples/logins.c reads a clock. */
+/* Caches a text for half an hour. The moments are constants here; examples/logins.c reads a clock. */
 #include "mini_moka.h"
 #include <stdio.h>
 

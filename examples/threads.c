@@ -1,6 +1,6 @@
 /*
- * Threads that share a cache: each session lives for ten minutes, and what leaves the cache is drained. It prints how many sessions were inserted, remain, and
- * were drained or lost.
+ * Shares a cache of sessions between four threads. A session lives for ten minutes, and the entries that leave the cache are drained. Prints the number of
+ * sessions that were inserted, that remain, and that were drained or lost.
  */
 #include "mini_moka_segments.h"
 #include <inttypes.h>
@@ -24,7 +24,7 @@ static uint64_t now(void) {
     return (uint64_t)time.tv_sec * SECOND + (uint64_t)time.tv_nsec;
 }
 
-/* Drains the entries that left. A program would write them to a store. */
+/* Drains the removed entries. A real program would write them to a store. */
 static void drain(struct worker *worker) {
     uint64_t key[2], value;
     size_t key_length, value_length;
@@ -33,7 +33,7 @@ static void drain(struct worker *worker) {
         worker->drained++;
 }
 
-/* Inserts sessions, whose keys are the numbers of the thread and of the session. */
+/* Inserts the sessions of a thread. A key is the number of the thread and that of the session. */
 static void *work(void *at) {
     struct worker *worker = at;
     for (uint64_t session = 0; session < SESSIONS; session++) {

@@ -1,34 +1,35 @@
 /*
- * mini-moka's cache for one thread, proved. Keys and values are bytes of any length, or numbers of 64 bits, which take no memory of their own.
- * docs/C_AND_RUST.md says how the library is built and linked.
+ * mini-moka's single-thread cache, proved. Keys and values are bytes of any length, or 64-bit numbers, which take no memory of their own.
+ * docs/C_AND_RUST.md says how to build and link the library.
  *
- * Moments and durations are nanoseconds. Moments count from any start that the program chooses, as with CLOCK_MONOTONIC; they may go backwards. Each call
- * returns a mini_moka_status, and none aborts. A call writes through a pointer only if it returns MINI_MOKA_DONE, and a length at MINI_MOKA_TOO_SHORT too.
+ * Moments and durations are in nanoseconds. Moments count from any start that the program chooses, as with CLOCK_MONOTONIC; they may go backwards. Each call
+ * returns a mini_moka_status, and none aborts. A call writes through a pointer only if it returns MINI_MOKA_DONE; with MINI_MOKA_TOO_SHORT it writes only
+ * lengths.
  *
- * A handle can keep the entries that leave its cache, for the program to drain: a write-back cache writes them to a store, and a cache of objects frees them.
- * The setting removed_room says how many; mini_moka_removed takes them out.
+ * A handle can queue the entries that leave its cache, for the program to drain. A write-back cache writes them to a store, and a cache of pointers frees their
+ * objects. The setting removed_room is the capacity of the queue; mini_moka_removed takes entries out.
  *
  * The size of a cache:
  *
  * - An update with a longer value may leave a weighed cache above its capacity. Then each insert, get, mini_moka_contains, mini_moka_remove and
  *   mini_moka_invalidate first evicts up to 100 entries, least recently used first, until the others fit. An update heavier than the whole capacity is
  *   stored, so these calls evict most entries and the update: remove its key instead. Any other cache never exceeds its capacity.
- * - A cache has at most 2,000,000,000 entries; then an insert gets MINI_MOKA_OUT_OF_MEMORY. An entry weighs at most UINT32_MAX, even if it has more bytes.
- * - An insert that finds the cache's memory full doubles it, and moves each entry, so a big cache pauses. A cache never grows if its
- *   initial_capacity is the most entries that it will have.
+ * - A cache has at most 2,000,000,000 entries; then an insert returns MINI_MOKA_OUT_OF_MEMORY. An entry weighs at most UINT32_MAX, even if it has more bytes.
+ * - An insert that finds the cache's memory full doubles it and moves each entry, so a big cache pauses. A cache never grows if its initial_capacity is the
+ *   maximum number of entries that it will have.
  *
- * A program keeps these rules, since no proof sees it:
+ * A program must keep these rules, which no proof checks:
  *
- * - A handle is all zeros at first, which is a closed one: struct mini_moka cache = {0}; From then on the program only passes its address on. It neither
- *   changes nor copies a handle, and closes it in the end.
- * - One call of a handle is made at a time. Threads that share one hold a lock for each call; mini_moka_segments.h has a cache that does so.
+ * - A handle starts as all zeros, which is a closed handle: struct mini_moka cache = {0}; From then on the program only passes its address. It neither changes
+ *   nor copies a handle, and finally closes it.
+ * - Only one call on a handle runs at a time. Threads that share one hold a lock during each call; mini_moka_segments.h has a cache that does so.
  * - No pointer is null, not even one to zero bytes.
- * - What a call writes to (the handle, a buffer, a length, a value, a count, a cause, statistics) overlaps nothing else that the call gets. So the two lengths
- *   of mini_moka_next and mini_moka_removed are two places. The key and the value of an insert, which are only read, may overlap each other. What is only
- *   written, as a buffer, needn't be initialised.
+ * - Memory that a call writes (the handle, a buffer, a length, a value, a count, a cause, statistics) overlaps no memory of another argument. So the two
+ *   lengths of mini_moka_next and mini_moka_removed are two variables. The key and the value of an insert, which are only read, may overlap each other. Memory
+ *   that is only written, as a buffer, needn't be initialised.
  * - The library uses malloc, realloc and free. A program that replaces them replaces all three, before it opens a handle.
- * - No call is made from a signal handler.
- * - A child of fork may use its copies of the handles, if no other thread was in a call of them at the fork.
+ * - A signal handler makes no call.
+ * - A child process of fork may use its copies of the handles, if no other thread was in a call on one of them at the fork.
  */
 #ifndef MINI_MOKA_H
 #define MINI_MOKA_H
@@ -44,29 +45,29 @@ extern "C" {
 /* The version of this header and of its library. */
 #define MINI_MOKA_VERSION "0.12.0"
 
-/* The capacity or the duration of a cache that has none. */
+/* The value of a capacity or a duration that sets no limit. */
 #define MINI_MOKA_UNLIMITED UINT64_MAX
 
 enum mini_moka_status {
     MINI_MOKA_DONE = 0,
-    MINI_MOKA_ABSENT = 1,        /* the call was made, and the key has no unexpired entry; or a walk has met each entry; or no removed entry is queued */
+    MINI_MOKA_ABSENT = 1,        /* the call was made: the key has no unexpired entry, a walk has visited each entry, or no removed entry is queued */
     MINI_MOKA_CLOSED = 2,        /* the handle is closed, and nothing was done */
-    MINI_MOKA_ALREADY_OPEN = 3,  /* the handle is open, and stays as it was */
+    MINI_MOKA_ALREADY_OPEN = 3,  /* the handle is open, and was not changed */
     MINI_MOKA_OUT_OF_MEMORY = 4, /* memory was refused, and no entry was written */
-    MINI_MOKA_OTHER_KIND = 5,    /* the handle keeps numbers and the call is one of bytes, or the other way round: nothing was done */
-    MINI_MOKA_TOO_SHORT = 6,     /* a buffer is shorter than what was found, whose length is written */
-    MINI_MOKA_CHANGED = 7,       /* no walk was begun, or a call that may change the cache has ended it */
-    MINI_MOKA_ZERO_DURATION = 8, /* a time to live or to idle is 0, so no entry would be found: nothing was opened. MINI_MOKA_UNLIMITED sets none */
-    MINI_MOKA_REJECTED = 9,      /* the call was made, and the full cache did not let the new entry in */
+    MINI_MOKA_OTHER_KIND = 5,    /* the handle has a cache of numbers and the call is for bytes, or the other way round: nothing was done */
+    MINI_MOKA_TOO_SHORT = 6,     /* a buffer is shorter than the key or the value found, whose length is written */
+    MINI_MOKA_CHANGED = 7,       /* no walk was begun, or a call that may change the cache ended it */
+    MINI_MOKA_ZERO_DURATION = 8, /* a time to live or to idle is 0, so no entry would be found: nothing was opened. For no duration use MINI_MOKA_UNLIMITED */
+    MINI_MOKA_REJECTED = 9,      /* the call was made, and the full cache did not admit the new entry */
 };
 
-/* Why an entry left a cache, or never entered it. */
+/* The cause for which an entry left a cache, or was not admitted. */
 enum mini_moka_cause {
-    MINI_MOKA_CAUSE_SIZE = 0,     /* the capacity: other entries are used more */
-    MINI_MOKA_CAUSE_EXPIRED = 1,  /* its time to live or to idle was over */
+    MINI_MOKA_CAUSE_SIZE = 0,     /* it was evicted for the capacity: other entries are used more */
+    MINI_MOKA_CAUSE_EXPIRED = 1,  /* its time to live or to idle had passed */
     MINI_MOKA_CAUSE_EXPLICIT = 2, /* a call removed it */
     MINI_MOKA_CAUSE_REPLACED = 3, /* an insert gave its key another value */
-    MINI_MOKA_CAUSE_REJECTED = 4, /* it was new, and the full cache did not let it in */
+    MINI_MOKA_CAUSE_REJECTED = 4, /* it was new, and the full cache did not admit it */
 };
 
 /* Returns true for each status but MINI_MOKA_DONE, MINI_MOKA_ABSENT and MINI_MOKA_REJECTED. */
@@ -74,7 +75,7 @@ static inline bool mini_moka_is_error(uint32_t status) {
     return status > MINI_MOKA_ABSENT && status != MINI_MOKA_REJECTED;
 }
 
-/* Returns the words of a status, for a message. */
+/* Returns the text of a status, for messages. */
 static inline const char *mini_moka_status_text(uint32_t status) {
     static const char *const texts[] = {
         "done",
@@ -101,17 +102,17 @@ struct mini_moka {
 
 /* Settings of a cache of bytes. MINI_MOKA_UNLIMITED sets no capacity, or no duration. A duration of 0 is refused. A cache of capacity 0 keeps nothing. */
 struct mini_moka_settings {
-    uint64_t capacity;       /* the most entries; or if is_weighed is set, the most bytes of keys and values */
-    uint64_t time_to_live;   /* how long an entry lives after it was last written */
-    uint64_t time_to_idle;   /* how long an entry lives after it was last read or written */
-    size_t initial_capacity; /* number of entries that fit from the start: up to there an insert is refused memory only for its value, or for a key of more
-                                than 24 bytes */
-    uint64_t seed[2];        /* the key of the hash: if strangers choose the cache's keys, 16 bytes that they can't know */
-    bool is_weighed;         /* true if an entry weighs its bytes of key and value, and not 1 */
-    size_t removed_room;     /* the most removed entries that are kept for mini_moka_removed: 0 keeps none */
+    uint64_t capacity;       /* maximum number of entries; if is_weighed is set, maximum bytes of keys and values */
+    uint64_t time_to_live;   /* nanoseconds that an entry lives after its last write */
+    uint64_t time_to_idle;   /* nanoseconds that an entry lives after its last read or write */
+    size_t initial_capacity; /* number of entries for which memory is reserved; up to it, an insert is refused memory only for its value, or for a key of
+                                more than 24 bytes */
+    uint64_t seed[2];        /* the key of the hash function: 16 secret bytes, if strangers choose the cache's keys */
+    bool is_weighed;         /* true if an entry weighs the bytes of its key and value instead of 1 */
+    size_t removed_room;     /* maximum number of removed entries that are queued for mini_moka_removed; 0 queues none */
 };
 
-/* Settings without limits. A program sets what it needs: struct mini_moka_settings settings = MINI_MOKA_SETTINGS_INIT; settings.capacity = 1000; */
+/* Settings without limits, to start from: struct mini_moka_settings settings = MINI_MOKA_SETTINGS_INIT; settings.capacity = 1000; */
 #define MINI_MOKA_SETTINGS_INIT {MINI_MOKA_UNLIMITED, MINI_MOKA_UNLIMITED, MINI_MOKA_UNLIMITED, 0, {0, 0}, false, 0}
 
 /*
@@ -121,28 +122,31 @@ struct mini_moka_settings {
 uint32_t mini_moka_open(struct mini_moka *handle, const struct mini_moka_settings *settings);
 
 /*
- * Puts a copy of the value at a copy of the key, so that the cache has this entry: MINI_MOKA_DONE. A new entry begins in a window, a hundredth of the
- * capacity, rounded down. If the window is full, one of its entries may leave for others used more (MINI_MOKA_CAUSE_SIZE). An entry that is too heavy for the
- * window, as any is with a capacity below 100, may be rejected in this call: MINI_MOKA_REJECTED, and the cache has no entry of the key.
+ * Inserts a copy of the value under a copy of the key. Returns MINI_MOKA_DONE if the cache now has the entry. A new entry begins in a window, a hundredth of
+ * the capacity, rounded down. If the window is full, one of its entries may be evicted for others that are used more (MINI_MOKA_CAUSE_SIZE). An entry that is
+ * too heavy for the window, as any is with a capacity below 100, may be rejected in this call. It then returns MINI_MOKA_REJECTED, and the cache has no entry
+ * of the key.
  */
 uint32_t mini_moka_insert(struct mini_moka *handle, const void *key, size_t key_length, const void *value, size_t value_length, uint64_t now);
 
 /*
- * Looks the key up, and makes its entry the most recently used one. The value is copied to the beginning of the buffer, and its length is written; if the
- * buffer is shorter, the answer is MINI_MOKA_TOO_SHORT, which counts as a hit too. (mini_moka_peek tells the length without counting.) Here and below memory
- * can be refused to a call of bytes only for a key of more than 24 bytes: it is copied into memory of the handle, which grows if it is shorter than the key.
+ * Looks up the key, and makes its entry the most recently used one. Copies the value to the beginning of the buffer, and writes its length. If the buffer is
+ * shorter, returns MINI_MOKA_TOO_SHORT and writes only the length, which counts as a hit too. (mini_moka_peek writes the length without counting.)
+ *
+ * This call and those of bytes below can be refused memory only for a key of more than 24 bytes. Such a key is copied into memory of the handle, which grows if
+ * it is shorter than the key.
  */
 uint32_t mini_moka_get(struct mini_moka *handle, const void *key, size_t key_length, uint64_t now, void *buffer, size_t buffer_length, size_t *length);
 
-/* Looks the key up as mini_moka_get does, but not as an access: nothing is counted, moved or removed. */
+/* Looks up the key as mini_moka_get does, but doesn't count as an access: it counts, moves and removes nothing. */
 uint32_t mini_moka_peek(struct mini_moka *handle, const void *key, size_t key_length, uint64_t now, void *buffer, size_t buffer_length, size_t *length);
 
 /* Returns MINI_MOKA_DONE if the key has an unexpired entry, else MINI_MOKA_ABSENT. It doesn't count as an access. */
 uint32_t mini_moka_contains(struct mini_moka *handle, const void *key, size_t key_length, uint64_t now);
 
 /*
- * Removes the entry of the key, and copies its value as mini_moka_get does; if the buffer is shorter, the entry stays. An expired entry leaves too, and the
- * answer is MINI_MOKA_ABSENT.
+ * Removes the entry of the key, and copies its value as mini_moka_get does. If the buffer is shorter, the entry stays. An expired entry is removed too, and the
+ * call returns MINI_MOKA_ABSENT.
  */
 uint32_t mini_moka_remove(struct mini_moka *handle, const void *key, size_t key_length, uint64_t now, void *buffer, size_t buffer_length, size_t *length);
 
@@ -151,18 +155,18 @@ uint32_t mini_moka_invalidate(struct mini_moka *handle, const void *key, size_t 
 
 /*
  * Copies the next entry of a walk (mini_moka_walk) to the beginnings of both buffers, and writes the lengths of its key and its value. If a buffer is
- * shorter, the answer is MINI_MOKA_TOO_SHORT, and the walk stays where it is, so that the call can be made again. It doesn't count as an access.
+ * shorter, returns MINI_MOKA_TOO_SHORT, and the walk stays at the entry, so that the call can be repeated. It doesn't count as an access.
  */
 uint32_t mini_moka_next(struct mini_moka *handle, uint64_t now, void *key, size_t key_room, void *value, size_t value_room, size_t *key_length,
                         size_t *value_length);
 
 /*
- * Drains the removed entry that left first: copies its key and its value to the beginnings of both buffers, and writes their lengths and a mini_moka_cause.
- * If a buffer is shorter, the answer is MINI_MOKA_TOO_SHORT, only the lengths are written, and the entry stays in front. The answer is MINI_MOKA_ABSENT if
- * there is none.
+ * Drains the removed entry that left first. Copies its key and its value to the beginnings of both buffers, and writes their lengths and a mini_moka_cause.
+ * If a buffer is shorter, returns MINI_MOKA_TOO_SHORT and writes only the lengths, and the entry stays at the front. If no entry is queued, returns
+ * MINI_MOKA_ABSENT.
  *
- * Each entry that leaves is queued, in the call in which it leaves, unless mini_moka_remove returns it. A replaced value comes with its key, and a rejected
- * entry as it was passed. If removed_room entries are queued, what leaves is dropped and counted: `lost` of the statistics. What is queued stays until it is
+ * Each entry that leaves is queued in the call in which it leaves, unless mini_moka_remove returns it. A replaced value is queued with its key, and a rejected
+ * entry as it was passed. If removed_room entries are queued, later ones are dropped and counted as `lost` in the statistics. A queued entry stays until it is
  * drained, or until the handle is closed.
  */
 uint32_t mini_moka_removed(struct mini_moka *handle, void *key, size_t key_room, void *value, size_t value_room, size_t *key_length, size_t *value_length,
@@ -170,22 +174,22 @@ uint32_t mini_moka_removed(struct mini_moka *handle, void *key, size_t key_room,
 
 /* ---- numbers */
 
-/* Settings of a cache of numbers, as those of bytes. */
+/* Settings of a cache of numbers. They work as those of bytes. */
 struct mini_moka_u64_settings {
-    uint64_t capacity;       /* the most entries */
-    uint64_t time_to_live;   /* how long an entry lives after it was last written */
-    uint64_t time_to_idle;   /* how long an entry lives after it was last read or written */
-    size_t initial_capacity; /* number of entries that fit from the start: up to there no insert is refused */
-    size_t removed_room;     /* the most removed entries that are kept for mini_moka_u64_removed: 0 keeps none */
+    uint64_t capacity;       /* maximum number of entries */
+    uint64_t time_to_live;   /* nanoseconds that an entry lives after its last write */
+    uint64_t time_to_idle;   /* nanoseconds that an entry lives after its last read or write */
+    size_t initial_capacity; /* number of entries for which memory is reserved; up to it, no insert is refused memory */
+    size_t removed_room;     /* maximum number of removed entries that are queued for mini_moka_u64_removed; 0 queues none */
 };
 
 /* Settings without limits. */
 #define MINI_MOKA_U64_SETTINGS_INIT {MINI_MOKA_UNLIMITED, MINI_MOKA_UNLIMITED, MINI_MOKA_UNLIMITED, 0, 0}
 
-/* Opens a closed handle with a new cache. The keys' hash has a fixed key: if strangers choose the keys, use a cache of bytes. */
+/* Opens a closed handle with a new cache. The hash function has a fixed key: if strangers choose the cache's keys, use a cache of bytes. */
 uint32_t mini_moka_u64_open(struct mini_moka *handle, const struct mini_moka_u64_settings *settings);
 
-/* These calls are those of bytes. */
+/* These calls work as those of bytes. */
 uint32_t mini_moka_u64_insert(struct mini_moka *handle, uint64_t key, uint64_t value, uint64_t now);
 uint32_t mini_moka_u64_get(struct mini_moka *handle, uint64_t key, uint64_t now, uint64_t *value);
 uint32_t mini_moka_u64_peek(struct mini_moka *handle, uint64_t key, uint64_t now, uint64_t *value);
@@ -196,15 +200,15 @@ uint32_t mini_moka_u64_next(struct mini_moka *handle, uint64_t now, uint64_t *ke
 uint32_t mini_moka_u64_removed(struct mini_moka *handle, uint64_t *key, uint64_t *value, uint32_t *cause);
 
 /*
- * Gets the value of the key, or inserts `otherwise` if there is none, and writes the value that it got or inserted. The answer is MINI_MOKA_DONE, even if the
- * new entry was rejected.
+ * Gets the value of the key, or inserts `otherwise` if there is none, and writes the value that it got or inserted. It returns MINI_MOKA_DONE even if the new
+ * entry was rejected.
  */
 uint32_t mini_moka_u64_get_or_insert(struct mini_moka *handle, uint64_t key, uint64_t otherwise, uint64_t now, uint64_t *value);
 
 /* ---- either kind */
 
 /*
- * Counts of the calls of a handle since it was opened, and of the entries that left. Each count stops at UINT64_MAX. Until then
+ * Counts of the calls on a handle since it was opened, and of the entries that left. Each count stops at UINT64_MAX. Until then
  * inserts - updates - rejections = evictions + expirations + removals + the number of entries.
  */
 struct mini_moka_statistics {
@@ -212,31 +216,31 @@ struct mini_moka_statistics {
     uint64_t misses;      /* gets that found none */
     uint64_t inserts;     /* inserts that were not refused memory: MINI_MOKA_DONE or MINI_MOKA_REJECTED */
     uint64_t updates;     /* inserts that gave a key another value */
-    uint64_t rejections;  /* new entries that the full cache did not let in */
-    uint64_t evictions;   /* entries that left for the capacity */
-    uint64_t expirations; /* expired entries that left */
+    uint64_t rejections;  /* new entries that the full cache did not admit */
+    uint64_t evictions;   /* entries that were evicted for the capacity */
+    uint64_t expirations; /* expired entries that were removed */
     uint64_t removals;    /* entries that a call removed */
-    uint64_t lost;        /* entries that left while the queue of removed entries was full; always 0 without one */
+    uint64_t lost;        /* entries that left while the queue of removed entries was full; always 0 without a queue */
 };
 
-/* Closes the handle and frees its cache. Closing a closed one returns MINI_MOKA_CLOSED. */
+/* Closes the handle and frees its cache. Returns MINI_MOKA_CLOSED if the handle is closed already. */
 uint32_t mini_moka_close(struct mini_moka *handle);
 
 /* Removes all entries. */
 uint32_t mini_moka_invalidate_all(struct mini_moka *handle);
 
-/* Counts the entries, including expired ones that no call has removed yet. */
+/* Writes the number of entries, including expired ones that no call has removed yet. */
 uint32_t mini_moka_count(struct mini_moka *handle, uint64_t *count);
 
 /* Writes the weight of the entries, at most UINT64_MAX. */
 uint32_t mini_moka_weight(struct mini_moka *handle, uint64_t *weight);
 
-/* Writes the counts of the calls. */
+/* Writes the counts of the calls and of the entries that left. */
 uint32_t mini_moka_statistics(struct mini_moka *handle, struct mini_moka_statistics *statistics);
 
 /*
- * Begins a walk through the unexpired entries, least recently used first, those of the window last. Each mini_moka_next of bytes, or mini_moka_u64_next of
- * numbers, writes one entry; after the last it returns MINI_MOKA_ABSENT. A program may peek within a walk, drain removed entries, and ask for the count, the
+ * Begins a walk over the unexpired entries, least recently used first, those of the window last. Each mini_moka_next of bytes, or mini_moka_u64_next of
+ * numbers, writes one entry; after the last it returns MINI_MOKA_ABSENT. During a walk a program may peek, drain removed entries, and get the count, the
  * weight and the statistics. Any other call may end the walk.
  */
 uint32_t mini_moka_walk(struct mini_moka *handle);

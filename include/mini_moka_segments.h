@@ -1,15 +1,15 @@
 /*
- * A cache of bytes that threads share: N segments, each a handle of mini_moka.h behind a mutex of pthreads. This header has all its code; a program links
- * libmini_moka.a and pthreads. The caches inside are proved. The hand-over between threads is tested: dev/c_library/run runs threads under ThreadSanitizer.
+ * A cache of bytes that threads share: N segments, each a handle of mini_moka.h behind a pthread mutex. All its code is in this header; a program links
+ * libmini_moka.a and pthreads. The caches inside are proved. The sharing between threads is tested: dev/c_library/run runs threads under ThreadSanitizer.
  *
- * A key belongs to one segment, which has its part of the capacity and an admission policy of its own. A call waits only for calls in the same segment. Calls
- * work as those of mini_moka.h, and return the same status. A new entry that weighs more than its segment's part of the capacity is rejected; an update to
- * such a weight may empty the segment (mini_moka.h, the size of a cache). Keys that strangers choose may all belong to one segment: then the capacity of the
- * others is not used. There is no walk.
+ * A key belongs to one segment, which has its part of the capacity and its own admission policy. A call waits only for calls in the same segment. Calls work as
+ * those of mini_moka.h, and return the same statuses. A new entry that weighs more than its segment's part of the capacity is rejected. An update to such a
+ * weight may empty the segment (mini_moka.h, the size of a cache). Keys that strangers choose may all belong to one segment: then the capacity of the others is
+ * not used. There is no walk.
  *
- * A program keeps these rules:
+ * A program must keep these rules:
  *
- * - A struct mini_moka_segments is all zeros at first. It is opened and closed by one thread, while no other is in a call. It may not be copied.
+ * - A struct mini_moka_segments starts as all zeros. One thread opens and closes it, while no other is in a call. The program never copies it.
  * - The rules of mini_moka.h on pointers, memory, signal handlers and fork hold here too.
  */
 #ifndef MINI_MOKA_SEGMENTS_H
@@ -25,17 +25,17 @@ extern "C" {
 #endif
 
 /*
- * The most segments that mini_moka_segments_open chooses, and the least capacity that it gives one, in entries and in bytes. With fewer entries a segment has
- * no window, and with fewer bytes only small entries fit in it, so more new entries are rejected.
+ * The maximum number of segments that mini_moka_segments_open chooses, and the least capacity of each then, in entries and in bytes. With fewer entries a
+ * segment has no window, and with fewer bytes only small entries fit in the window, so more new entries are rejected.
  */
 #define MINI_MOKA_SEGMENTS_MOST 16
 #define MINI_MOKA_SEGMENT_LEAST 100
 #define MINI_MOKA_SEGMENT_LEAST_BYTES (UINT64_C(1) << 20)
 
-/* Two cache lines of most processors, which fetch lines in pairs. */
+/* The bytes of two cache lines, since most processors fetch lines in pairs. */
 #define MINI_MOKA_SEGMENT_SIZE 128
 
-/* A segment fills its cache lines, so that threads in different segments don't share one. */
+/* A segment, which fills its cache lines, so that threads in different segments don't share one. */
 union mini_moka_segment {
     struct {
         pthread_mutex_t lock;
@@ -44,15 +44,15 @@ union mini_moka_segment {
     char lines[MINI_MOKA_SEGMENT_SIZE];
 };
 
-/* Its fields are internal. */
+/* A cache that threads share. Its fields are internal. */
 struct mini_moka_segments {
     union mini_moka_segment *segments;
-    void *block; /* the memory of the segments, which begin at its first cache line */
+    void *block; /* the allocation in which the segments begin, at its first multiple of MINI_MOKA_SEGMENT_SIZE */
     size_t count;
     uint64_t seed;
 };
 
-/* Mixes a word into a hash: both halves of the product of 64 by 64 bits. */
+/* Mixes a word into a hash, by the exclusive or of both halves of a product of 64 by 64 bits. */
 static inline uint64_t mini_moka_segments_mix(uint64_t hash, uint64_t word) {
     const uint64_t odd = UINT64_C(0x9E3779B97F4A7C15);
     uint64_t a = hash ^ word, low = (a & UINT32_MAX) * (odd & UINT32_MAX), middle = (a >> 32) * (odd & UINT32_MAX) + (low >> 32);
@@ -60,7 +60,7 @@ static inline uint64_t mini_moka_segments_mix(uint64_t hash, uint64_t word) {
     return (a * odd) ^ ((a >> 32) * (odd >> 32) + (middle >> 32) + (other >> 32));
 }
 
-/* Returns the number of the segment of a key. */
+/* Returns the index of a key's segment. */
 static inline size_t mini_moka_segments_at(const struct mini_moka_segments *all, const void *key, size_t length) {
     const unsigned char *bytes = (const unsigned char *)key;
     uint64_t hash = all->seed ^ length, word;
@@ -76,7 +76,7 @@ static inline size_t mini_moka_segments_at(const struct mini_moka_segments *all,
     return (size_t)((hash >> 32) * all->count >> 32);
 }
 
-/* Locks the segment of a key, and returns it. */
+/* Locks a key's segment, and returns it. */
 static inline union mini_moka_segment *mini_moka_segments_lock(struct mini_moka_segments *all, const void *key, size_t length) {
     union mini_moka_segment *segment = &all->segments[mini_moka_segments_at(all, key, length)];
     pthread_mutex_lock(&segment->in.lock);
@@ -88,7 +88,7 @@ static inline uint32_t mini_moka_segments_unlock(union mini_moka_segment *segmen
     return status;
 }
 
-/* Closes what was opened. No other thread may be in a call. */
+/* Closes the cache and frees it. No other thread may be in a call. */
 static inline uint32_t mini_moka_segments_close(struct mini_moka_segments *all) {
     if (all->segments == NULL)
         return MINI_MOKA_CLOSED;
@@ -103,15 +103,15 @@ static inline uint32_t mini_moka_segments_close(struct mini_moka_segments *all) 
     return MINI_MOKA_DONE;
 }
 
-/* Returns the part of a segment: the parts add up to the whole, and no two differ by more than 1. */
+/* Returns a segment's part of the whole. The parts add up to the whole, and no two differ by more than 1. Each part of MINI_MOKA_UNLIMITED is the whole. */
 static inline uint64_t mini_moka_segments_part(uint64_t whole, size_t count, size_t at) {
     return whole == MINI_MOKA_UNLIMITED ? whole : whole / count + (at < whole % count);
 }
 
 /*
- * Opens a cache of `count` segments. If that is 0, up to 16, each with a capacity of 100 entries or more, or of 1 MiB if bytes are weighed. Each has its
- * part of the capacity, of initial_capacity and of removed_room, which is rounded up. With more segments than the capacity some keep nothing. If a segment is
- * refused, nothing stays open.
+ * Opens a cache of `count` segments. If that is 0, chooses up to 16, each with a capacity of at least 100 entries, or 1 MiB if bytes are weighed; a smaller
+ * cache has one. Each segment has its part of the capacity, of initial_capacity and of removed_room, which is rounded up. With more segments than the capacity
+ * some keep nothing. If a segment can't be opened, nothing stays open.
  */
 static inline uint32_t mini_moka_segments_open(struct mini_moka_segments *all, const struct mini_moka_settings *settings, size_t count) {
     if (all->segments != NULL)
@@ -147,7 +147,7 @@ static inline uint32_t mini_moka_segments_open(struct mini_moka_segments *all, c
     return MINI_MOKA_DONE;
 }
 
-/* The calls at a key. Each returns MINI_MOKA_CLOSED before the cache is opened. */
+/* The calls with a key. Each returns MINI_MOKA_CLOSED if the cache isn't open. */
 static inline uint32_t mini_moka_segments_insert(struct mini_moka_segments *all, const void *key, size_t key_length, const void *value, size_t value_length,
                                                  uint64_t now) {
     if (all->segments == NULL)
@@ -194,7 +194,7 @@ static inline uint32_t mini_moka_segments_invalidate(struct mini_moka_segments *
     return mini_moka_segments_unlock(segment, mini_moka_invalidate(&segment->in.cache, key, key_length, now));
 }
 
-/* The calls on all segments, one after another: another thread may change a segment before the call comes to it or after. */
+/* The calls on all segments, one after another. Another thread may change a segment before the call reaches it or after. */
 static inline uint32_t mini_moka_segments_invalidate_all(struct mini_moka_segments *all) {
     if (all->segments == NULL)
         return MINI_MOKA_CLOSED;
@@ -206,8 +206,8 @@ static inline uint32_t mini_moka_segments_invalidate_all(struct mini_moka_segmen
 }
 
 /*
- * Drains a removed entry of the first segment that has one, as mini_moka_removed does; entries of one key come in the order in which they left. If other
- * threads make calls, a call after MINI_MOKA_TOO_SHORT may meet another entry.
+ * Drains a removed entry of the first segment that has one, as mini_moka_removed does. Entries of one key are drained in the order in which they left. If other
+ * threads make calls, a call after MINI_MOKA_TOO_SHORT may find another entry.
  */
 static inline uint32_t mini_moka_segments_removed(struct mini_moka_segments *all, void *key, size_t key_room, void *value, size_t value_room,
                                                   size_t *key_length, size_t *value_length, uint32_t *cause) {
@@ -221,12 +221,12 @@ static inline uint32_t mini_moka_segments_removed(struct mini_moka_segments *all
     return status;
 }
 
-/* Adds two counts, at most to UINT64_MAX. */
+/* Adds two counts. The sum is at most UINT64_MAX. */
 static inline uint64_t mini_moka_segments_add(uint64_t count, uint64_t other) {
     return other > UINT64_MAX - count ? UINT64_MAX : count + other;
 }
 
-/* Adds up what a call writes for each segment. */
+/* Adds up the numbers that a call writes for each segment. */
 static inline uint32_t mini_moka_segments_sum(struct mini_moka_segments *all, uint32_t (*call)(struct mini_moka *, uint64_t *), uint64_t *sum) {
     uint64_t whole = 0;
     if (all->segments == NULL)

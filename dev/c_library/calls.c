@@ -1,11 +1,11 @@
-/* Makes each call of include/mini_moka.h, and compares its status and what it writes. It names the line of each that differs, and fails then. */
+/* Tests the status and the output of each call of include/mini_moka.h. Prints each check that fails with its line, and exits with status 1 then. */
 #include "mini_moka.h"
 #include <stdio.h>
 #include <string.h>
 
 static int failures;
 
-/* A check that holds, or is named with its line. */
+/* Prints the condition with its line if it is false. */
 #define CHECK(holds) check((holds), #holds, __LINE__)
 
 static void check(bool holds, const char *what, int line) {
@@ -17,13 +17,13 @@ static void check(bool holds, const char *what, int line) {
 
 #define NONE MINI_MOKA_UNLIMITED
 
-/* What is written before a call, and stays where it isn't done. */
+/* BEFORE fills outputs before a call, and stays if the call doesn't write them. ROOM is the length of a buffer. */
 enum { BEFORE = 99, ROOM = 8 };
 
 static const struct mini_moka_settings BYTES = {10, NONE, NONE, 0, {1, 2}, false, 0};
 static const struct mini_moka_u64_settings NUMBERS = {10, NONE, NONE, 0, 0};
 
-/* The number that a count or a weight writes. */
+/* Returns the number that mini_moka_count or mini_moka_weight writes. */
 static uint64_t number_of(uint32_t (*call)(struct mini_moka *, uint64_t *), struct mini_moka *cache) {
     uint64_t number = BEFORE;
     CHECK(call(cache, &number) == MINI_MOKA_DONE);
@@ -83,7 +83,7 @@ static void bytes_come_and_go(void) {
     CHECK(mini_moka_close(&cache) == MINI_MOKA_DONE && mini_moka_close(&cache) == MINI_MOKA_CLOSED);
 }
 
-/* A value of nine bytes doesn't go into eight: its length is told, and nothing else is done but the look-up. */
+/* If a value doesn't fit in the buffer, a look-up writes only its length, and a removal leaves the entry. */
 static void long_values_stay(void) {
     struct mini_moka cache = {0};
     uint8_t buffer[ROOM] = {BEFORE};
@@ -99,7 +99,7 @@ static void long_values_stay(void) {
     CHECK(mini_moka_close(&cache) == MINI_MOKA_DONE);
 }
 
-/* Where it is weighed, 20 bytes are two entries of ten. */
+/* Two entries of ten bytes fill a weighed cache of 20. */
 static void bytes_are_weighed(void) {
     struct mini_moka cache = {0};
     struct mini_moka_settings weighed = BYTES;
@@ -114,14 +114,14 @@ static void bytes_are_weighed(void) {
     CHECK(mini_moka_close(&cache) == MINI_MOKA_DONE);
 }
 
-/* Returns true if nothing was counted. */
+/* Returns true if all statistics are 0. */
 static bool nothing_was_counted(struct mini_moka *cache) {
     struct mini_moka_statistics met, none;
     memset(&none, 0, sizeof none);
     return mini_moka_statistics(cache, &met) == MINI_MOKA_DONE && memcmp(&met, &none, sizeof met) == 0;
 }
 
-/* Two hits, a miss, two inserts, one of them an update, and an entry that expires. */
+/* Tests the statistics of two hits, a miss, two inserts, one of them an update, and an expired entry. */
 static void calls_are_counted(void) {
     struct mini_moka cache = {0};
     struct mini_moka_settings settings = BYTES;
@@ -140,7 +140,7 @@ static void calls_are_counted(void) {
     CHECK(mini_moka_close(&cache) == MINI_MOKA_DONE);
 }
 
-/* The key and the value that a walk comes to, as "key=value" behind what a text has, or the status. */
+/* Makes a step of a walk, and returns its status. If an entry is found, appends it to the text as "key=value ". */
 static uint32_t walk_on(struct mini_moka *cache, uint64_t now, char *text) {
     uint8_t key[ROOM], value[ROOM];
     size_t key_length = BEFORE, value_length = BEFORE;
@@ -152,7 +152,7 @@ static uint32_t walk_on(struct mini_moka *cache, uint64_t now, char *text) {
     return status;
 }
 
-/* Three entries, of which the first was used last. A walk meets them in order of use, and leaves out what is over; a change ends it. */
+/* A walk visits the unexpired entries in order of use, the most recently used last. A change ends it. */
 static void walks_meet_each_entry(void) {
     struct mini_moka cache = {0};
     struct mini_moka_settings settings = BYTES;
@@ -183,14 +183,14 @@ static void walks_meet_each_entry(void) {
 
 /* ---- removed entries */
 
-/* The number of removed entries that were lost. */
+/* Returns the number of removed entries that were lost. */
 static uint64_t lost(struct mini_moka *cache) {
     struct mini_moka_statistics met = {.lost = BEFORE};
     CHECK(mini_moka_statistics(cache, &met) == MINI_MOKA_DONE);
     return met.lost;
 }
 
-/* Whether a drain answers this, and if it is done has this text as "key=value" and this cause. */
+/* Returns true if a drain returns this status and, with MINI_MOKA_DONE, writes this entry as "key=value" and this cause. */
 static bool drains(struct mini_moka *cache, uint32_t status, const char *text, uint32_t cause) {
     uint8_t key[ROOM], value[ROOM];
     size_t key_length = BEFORE, value_length = BEFORE;
@@ -204,7 +204,7 @@ static bool drains(struct mini_moka *cache, uint32_t status, const char *text, u
     return strcmp(met, text) == 0 && why == cause;
 }
 
-/* An entry is drained for each cause, in the order in which they left; what a removal returns isn't queued. Draining doesn't end a walk. */
+/* Entries are drained in the order in which they left, with their causes. An entry that mini_moka_remove returns isn't queued. Draining doesn't end a walk. */
 static void removed_entries_are_drained(void) {
     struct mini_moka cache = {0};
     struct mini_moka_settings settings = BYTES;
@@ -235,7 +235,7 @@ static void removed_entries_are_drained(void) {
     CHECK(mini_moka_close(&cache) == MINI_MOKA_DONE);
 }
 
-/* An entry whose key or value is longer than its buffer stays in front, and its lengths are told. */
+/* A removed entry that is too long for a buffer stays at the front, and its lengths are written. */
 static void long_removed_entries_stay(void) {
     struct mini_moka cache = {0};
     struct mini_moka_settings settings = BYTES;
@@ -255,7 +255,7 @@ static void long_removed_entries_stay(void) {
     CHECK(mini_moka_close(&cache) == MINI_MOKA_DONE);
 }
 
-/* A full queue keeps what it has, and what leaves then is counted as lost. A handle without a queue counts nothing as lost. */
+/* A full queue keeps its entries, and later ones are counted as lost. Without a queue none is counted as lost. */
 static void full_queues_lose(void) {
     struct mini_moka cache = {0};
     struct mini_moka_u64_settings settings = NUMBERS;
@@ -308,7 +308,7 @@ static void numbers_come_and_go(void) {
     CHECK(mini_moka_close(&cache) == MINI_MOKA_DONE);
 }
 
-/* An entry is there until the end of its time to live, or of its time to idle after a get. */
+/* An entry lives until the end of its time to live, or of its time to idle after a get. */
 static void numbers_expire(void) {
     struct mini_moka cache = {0};
     uint64_t value = BEFORE;
@@ -329,7 +329,7 @@ static void numbers_expire(void) {
     CHECK(mini_moka_close(&cache) == MINI_MOKA_DONE);
 }
 
-/* A cache stays within its capacity, and two handles are two caches. A value whose key is rejected is written all the same. */
+/* A cache stays within its capacity, and two handles have separate caches. mini_moka_u64_get_or_insert writes the value even if its entry is rejected. */
 static void caches_are_bounded(void) {
     struct mini_moka first = {0}, second = {0};
     CHECK(mini_moka_u64_open(&first, &NUMBERS) == MINI_MOKA_DONE);
@@ -348,7 +348,7 @@ static void caches_are_bounded(void) {
     CHECK(mini_moka_close(&second) == MINI_MOKA_DONE);
 }
 
-/* A walk through numbers meets each that is unexpired, in order of use; a change ends it. */
+/* A walk visits the unexpired numbers in order of use. A change ends it. */
 static void walks_meet_each_number(void) {
     struct mini_moka cache = {0};
     struct mini_moka_u64_settings settings = NUMBERS;
@@ -367,7 +367,7 @@ static void walks_meet_each_number(void) {
     CHECK(mini_moka_close(&cache) == MINI_MOKA_DONE);
 }
 
-/* A hit and two misses, of which one inserts, two inserts in all, two entries that expire, and then one that is rejected and two that are removed. */
+/* Tests the statistics of a hit, two misses, two inserts and two expired entries, and then of a rejected entry and two removed ones. */
 static void calls_of_numbers_are_counted(void) {
     struct mini_moka cache = {0};
     struct mini_moka_u64_settings settings = NUMBERS;
@@ -390,7 +390,7 @@ static void calls_of_numbers_are_counted(void) {
 
 /* ---- settings and statuses */
 
-/* Settings that begin as the header's limit nothing, and a forgotten duration of 0 is refused. */
+/* The header's initial settings have no limits, and a duration of 0 is refused. */
 static void durations_of_zero_are_refused(void) {
     struct mini_moka cache = {0};
     struct mini_moka_settings bytes = MINI_MOKA_SETTINGS_INIT;
@@ -411,7 +411,7 @@ static void durations_of_zero_are_refused(void) {
     CHECK(mini_moka_u64_contains(&cache, 7, 0) == MINI_MOKA_ABSENT && mini_moka_close(&cache) == MINI_MOKA_DONE);
 }
 
-/* Each status has words of its own, and three are of calls that were made. */
+/* Each status has its own text, and three of them are no errors. */
 static void statuses_have_texts(void) {
     for (uint32_t status = 0; status <= MINI_MOKA_REJECTED + 1; status++) {
         CHECK(mini_moka_is_error(status) == (status != MINI_MOKA_DONE && status != MINI_MOKA_ABSENT && status != MINI_MOKA_REJECTED));
@@ -455,7 +455,7 @@ static void heavy_updates_empty_the_cache(void) {
     CHECK(mini_moka_close(&cache) == MINI_MOKA_DONE);
 }
 
-/* A full cache lets a new entry into its window if that can hold it. A look-up with a short buffer is a hit, and a peek isn't counted. */
+/* A full cache admits a new entry to its window if the entry fits there. A get with a short buffer is a hit, and a peek isn't counted. */
 static void full_caches_have_a_window(void) {
     struct mini_moka cache = {0};
     struct mini_moka_settings settings = BYTES;
@@ -480,7 +480,7 @@ static void full_caches_have_a_window(void) {
 
 /* ---- refusals */
 
-/* Each call of bytes on this handle has this status, and writes nothing. */
+/* Tests that each call of bytes returns this status and writes nothing. */
 static void bytes_answer(struct mini_moka *cache, uint32_t status) {
     char text[1] = "";
     CHECK(insert(cache, "a", "apple", 0) == status);
@@ -491,7 +491,7 @@ static void bytes_answer(struct mini_moka *cache, uint32_t status) {
     CHECK(drains(cache, status, NULL, 0));
 }
 
-/* And each call of numbers. */
+/* Tests that each call of numbers returns this status and writes nothing. */
 static void numbers_answer(struct mini_moka *cache, uint32_t status) {
     uint64_t key = BEFORE, value = BEFORE;
     uint32_t cause = BEFORE;
@@ -503,7 +503,7 @@ static void numbers_answer(struct mini_moka *cache, uint32_t status) {
     CHECK(mini_moka_u64_get_or_insert(cache, 7, 49, 0, &value) == status && value == BEFORE);
 }
 
-/* A closed handle answers that it is, one of the other kind too, and nothing is done. */
+/* A call on a closed handle, or on one of the other kind, returns the status for that and changes nothing. */
 static void calls_are_refused(void) {
     struct mini_moka cache = {0};
     struct mini_moka_statistics met = {.hits = BEFORE, .removals = BEFORE, .lost = BEFORE};
@@ -524,7 +524,7 @@ static void calls_are_refused(void) {
     CHECK(mini_moka_close(&cache) == MINI_MOKA_DONE);
 }
 
-/* More room than there is memory for is refused, and the handle stays closed. */
+/* If memory for initial_capacity or removed_room is refused, the handle stays closed. */
 static void too_much_room_is_refused(void) {
     struct mini_moka cache = {0};
     struct mini_moka_settings settings = BYTES;

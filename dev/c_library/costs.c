@@ -1,7 +1,7 @@
 /*
- * Prints what a cache of the library costs: bytes of memory an entry, once it is full, and the longest insert while it fills, in milliseconds of processor time,
- * with and without an initial_capacity. The argument is the number of entries. Each cache is filled five times, and the shortest of the five longest inserts
- * counts, since the system may interrupt one.
+ * Prints the cost of the library's caches: bytes per entry of a full cache, and the longest insert while it fills, with and without an initial_capacity. Times
+ * are in milliseconds of processor time. The argument is the number of entries. Each cache is filled five times, and the shortest of the five longest inserts
+ * counts, since the system may interrupt an insert.
  */
 #include "mini_moka.h"
 #include <inttypes.h>
@@ -13,7 +13,7 @@
 
 #define TIMES 5
 
-/* The memory that malloc has given out, with its own words. */
+/* Returns the bytes that malloc has allocated, with its own headers. */
 static uint64_t in_use(void) {
     struct mallinfo2 info = mallinfo2();
     return info.uordblks + info.hblkhd;
@@ -25,13 +25,13 @@ static uint64_t now(void) {
     return (uint64_t)time.tv_sec * UINT64_C(1000000000) + (uint64_t)time.tv_nsec;
 }
 
-/* What one filling costs. */
+/* The cost of filling a cache once. */
 struct cost {
     double bytes_an_entry;
     uint64_t longest;
 };
 
-/* Fills a cache with keys and values of these lengths, or with numbers if there is no length. */
+/* Fills a cache with keys and values of these lengths, or with numbers if key_length is 0. */
 static struct cost fill(uint64_t entries, size_t key_length, size_t value_length, bool reserves) {
     struct mini_moka cache = {0};
     struct mini_moka_settings bytes = MINI_MOKA_SETTINGS_INIT;
@@ -59,7 +59,7 @@ static struct cost fill(uint64_t entries, size_t key_length, size_t value_length
     return cost;
 }
 
-/* Prints a line for caches of one kind. */
+/* Prints the costs of one kind of cache. */
 static void print_costs(const char *kind, uint64_t entries, size_t key_length, size_t value_length) {
     struct cost grows = {0, UINT64_MAX}, reserves = {0, UINT64_MAX};
     for (int i = 0; i < TIMES; i++) {
@@ -69,7 +69,7 @@ static void print_costs(const char *kind, uint64_t entries, size_t key_length, s
         once = fill(entries, key_length, value_length, true);
         reserves.longest = once.longest < reserves.longest ? once.longest : reserves.longest;
     }
-    printf("%-44s %6.0f bytes an entry, longest insert %8.3f ms, with initial_capacity %8.3f ms\n", kind, grows.bytes_an_entry, (double)grows.longest / 1e6,
+    printf("%-44s %6.0f bytes per entry, longest insert %8.3f ms, with initial_capacity %8.3f ms\n", kind, grows.bytes_an_entry, (double)grows.longest / 1e6,
            (double)reserves.longest / 1e6);
 }
 

@@ -1,13 +1,13 @@
 /*
- * Random calls of include/mini_moka.h beside a plain model: fuzz CALLS SEED. Keys and values of bytes have 0 to 4096; now and then memory is refused in the
- * middle of a call. Keys, values and buffers adjoin each other, in blocks of just their length. It is linked with --wrap for malloc and realloc. It names the first
- * difference, and fails then.
+ * Compares random calls of include/mini_moka.h with a plain model: fuzz [CALLS [SEED]]. Keys and values are numbers, or have 0 to 4096 bytes. Now and then an
+ * allocation within a call is refused. Keys, values and buffers adjoin each other, in blocks of exactly their length. It is linked with --wrap for malloc and
+ * realloc. Prints the first difference, and exits with status 1 then.
  *
- * Without a capacity the model knows what each call has to answer. With one it doesn't know which entries have left, so a look-up may find nothing; what is
- * found has to be the value that was written last, and unexpired, and the capacity has to hold.
+ * Without a capacity the model knows the result of each call. With one it doesn't know which entries have left, so a look-up may find nothing. A value that is
+ * found must be the last one written, and unexpired, and the capacity must hold.
  *
- * If a cache queues what leaves, each entry that is drained has to be one that was inserted and hasn't left, for a cause that it can have. Each entry that was
- * inserted is there, or was drained once, returned by a removal, or lost. As long as none was lost, the model knows which entries have left.
+ * If a cache queues removed entries, each drained entry must have been inserted and not have left before, and its cause must be possible. Each inserted entry
+ * is in the cache, or was drained once, returned by a removal, or lost. As long as none was lost, the model knows which entries have left.
  */
 #include "mini_moka.h"
 #include <inttypes.h>
@@ -17,12 +17,12 @@
 
 enum { KEYS = 300, LONGEST = 4096, SHORT_KEY = 24, CALLS_OF_A_CACHE = 3000, CAUSES = 5, NO_PUT = -1 };
 
-/* ---- memory that is refused */
+/* ---- refused memory */
 
 void *__real_malloc(size_t size);
 void *__real_realloc(void *block, size_t size);
 
-static int allocations_left = -1; /* how many are made before one is refused, or -1 where none is */
+static int allocations_left = -1; /* number of allocations before the one that is refused, or -1 if none is */
 static bool was_refused;
 static uint64_t refusals;
 
@@ -42,7 +42,7 @@ void *__wrap_realloc(void *block, size_t size) {
     return refuses() ? NULL : __real_realloc(block, size);
 }
 
-/* ---- numbers that look random */
+/* ---- pseudorandom numbers */
 
 static uint64_t state;
 
@@ -62,19 +62,19 @@ static uint64_t below(uint64_t bound) {
 
 /* ---- the model */
 
-/* What is known of a key: its last write, if no call has ended it. */
+/* The model's knowledge of a key: its last write and last use, if no call has removed the entry. */
 struct known {
     bool is_there;
     uint64_t version, written, used;
-    bool may_remain; /* its entry is expired, and a call found none: cleanup removes expired entries in batches of a hundred, and a peek none */
+    bool may_remain; /* the entry is expired and a call found none, but it may remain: cleanup removes up to a hundred expired entries, and a peek none */
 };
 
-/* What a call put: another version of a key's value, until it has left. */
+/* An entry that a call inserted: one version of a key's value. */
 struct put {
     uint64_t version, written, used;
-    uint32_t status; /* of the call: a get or insert doesn't tell if its entry was rejected */
+    uint32_t status; /* of the call; a get-or-insert doesn't report that its entry was rejected */
     bool has_left, is_invalidated;
-    int next; /* of the same key */
+    int next; /* the next entry of the same key, or NO_PUT */
 };
 
 struct model {
@@ -83,9 +83,9 @@ struct model {
     uint64_t capacity, time_to_live, time_to_idle, now, versions;
     struct known keys[KEYS];
     uint64_t hits, misses, inserts, rejections;
-    size_t longest_key; /* of those that were looked up, for which the handle has memory */
+    size_t longest_key; /* length of the longest key looked up so far, for which the handle has memory */
     size_t removed_room;
-    bool is_eager; /* whether each look-up drains what left */
+    bool is_eager; /* true if each look-up drains the removed entries */
     struct put puts[CALLS_OF_A_CACHE];
     int put_count, first_put[KEYS], last_put[KEYS];
     uint64_t drained[CAUSES], returned, skipped;
@@ -114,7 +114,7 @@ static bool is_alive(const struct model *model, const struct known *key) {
     return key->is_there && !is_over(key->written, model->time_to_live, model->now) && !is_over(key->used, model->time_to_idle, model->now);
 }
 
-/* ---- keys and values: bytes that follow from numbers */
+/* ---- keys and values: bytes derived from numbers */
 
 static size_t fill(uint8_t *bytes, uint64_t number) {
     size_t length = mix(number) % 8 == 0 ? mix(number + 1) % (LONGEST + 1) : mix(number + 1) % 40;
@@ -123,7 +123,7 @@ static size_t fill(uint8_t *bytes, uint64_t number) {
     return length;
 }
 
-/* The bytes of a key: its number, so that keys differ, and more. */
+/* Writes the bytes of a key, and returns their length. They begin with the key's number, so that keys differ; key 0 is empty. */
 static size_t key_bytes(uint8_t *bytes, uint64_t number) {
     size_t length = fill(bytes, number * 1000003);
     if (number == 0)
@@ -139,7 +139,7 @@ static uint64_t value_number(uint64_t key, uint64_t version) {
 
 /* ---- calls, of either kind */
 
-/* A key in a block of its own with this many bytes right behind it, so that AddressSanitizer sees a byte that is read or written beside them. */
+/* Allocates a block of a key and `behind` bytes after it, so that AddressSanitizer finds an access outside of them. */
 static uint8_t *block_of(uint64_t key, size_t *key_length, size_t behind) {
     static uint8_t key_at[LONGEST];
     *key_length = key_bytes(key_at, key);
@@ -150,7 +150,7 @@ static uint8_t *block_of(uint64_t key, size_t *key_length, size_t behind) {
     return block;
 }
 
-/* The value adjoins the key. */
+/* Inserts a version of the key's value. The value adjoins the key in memory. */
 static uint32_t insert(struct model *model, uint64_t key, uint64_t version) {
     static uint8_t value_at[LONGEST];
     if (!model->is_bytes)
@@ -166,7 +166,7 @@ static uint32_t insert(struct model *model, uint64_t key, uint64_t version) {
 typedef uint32_t bytes_call(struct mini_moka *, const void *, size_t, uint64_t, void *, size_t, size_t *);
 typedef uint32_t numbers_call(struct mini_moka *, uint64_t, uint64_t, uint64_t *);
 
-/* A room for a value of this length: just that, more, or any, which may be too short. */
+/* Returns the length of a buffer for a value: its exact length, the longest one, or a random one, which may be too short. */
 static size_t some_room(size_t length) {
     switch (below(4)) {
     case 0: return below(LONGEST + 1);
@@ -175,22 +175,22 @@ static size_t some_room(size_t length) {
     }
 }
 
-/* A look-up, with what it finds compared. The buffer adjoins the key, and has not been written to. */
+/* Makes a look-up, and compares the value that it finds. The buffer adjoins the key, and is uninitialised. */
 static uint32_t look_up(struct model *model, bytes_call *bytes, numbers_call *numbers, uint64_t key) {
     static uint8_t wanted[LONGEST];
     uint64_t version = model->keys[key].version;
     if (!model->is_bytes) {
         uint64_t value = 0;
         uint32_t status = numbers(&model->cache, key, model->now, &value);
-        require(status != MINI_MOKA_DONE || value == value_number(key, version), "another value was found");
+        require(status != MINI_MOKA_DONE || value == value_number(key, version), "a wrong value was found");
         return status;
     }
     size_t key_length, length = SIZE_MAX, wanted_length = fill(wanted, value_number(key, version)), room = some_room(wanted_length);
     uint8_t *at = block_of(key, &key_length, room), *buffer = at + key_length;
     uint32_t status = bytes(&model->cache, at, key_length, model->now, buffer, room, &length);
-    require(status != MINI_MOKA_DONE || (length == wanted_length && length <= room && memcmp(buffer, wanted, length) == 0), "other bytes were found");
-    require(status != MINI_MOKA_TOO_SHORT || (length == wanted_length && length > room), "another length was told");
-    require(status == MINI_MOKA_DONE || status == MINI_MOKA_TOO_SHORT || length == SIZE_MAX, "a length was written");
+    require(status != MINI_MOKA_DONE || (length == wanted_length && length <= room && memcmp(buffer, wanted, length) == 0), "wrong bytes were found");
+    require(status != MINI_MOKA_TOO_SHORT || (length == wanted_length && length > room), "a wrong length was written");
+    require(status == MINI_MOKA_DONE || status == MINI_MOKA_TOO_SHORT || length == SIZE_MAX, "a length was written without a value");
     free(at);
     return status;
 }
@@ -211,10 +211,10 @@ static uint32_t invalidate(struct model *model, uint64_t key) {
 
 /* ---- entries that left */
 
-/* The statistics, which are always there. */
+/* Returns the statistics of the open cache. */
 static struct mini_moka_statistics statistics_of(struct model *model) {
     struct mini_moka_statistics met;
-    require(mini_moka_statistics(&model->cache, &met) == MINI_MOKA_DONE, "statistics are there");
+    require(mini_moka_statistics(&model->cache, &met) == MINI_MOKA_DONE, "mini_moka_statistics failed");
     return met;
 }
 
@@ -228,18 +228,18 @@ static void note_put(struct model *model, uint64_t key, uint64_t version, uint32
     model->last_put[key] = at;
 }
 
-/* The entry of a key was used. */
+/* Notes a use of the key's entry. */
 static void note_use(struct model *model, uint64_t key) {
     model->keys[key].used = model->puts[model->last_put[key]].used = model->now;
 }
 
-/* What was put at a key before was invalidated, if it was there. */
+/* Notes that the key's earlier entries may have left by an invalidation. */
 static void note_invalidation(struct model *model, uint64_t key) {
     for (int at = model->first_put[key]; at != NO_PUT; at = model->puts[at].next)
         model->puts[at].is_invalidated = true;
 }
 
-/* Whether what was put can have left for this cause. */
+/* Returns true if the entry can have left for this cause. */
 static bool can_leave(const struct model *model, const struct put *put, uint32_t cause) {
     if (put->status == MINI_MOKA_REJECTED || cause == MINI_MOKA_CAUSE_REJECTED)
         return cause == MINI_MOKA_CAUSE_REJECTED && (put->status == MINI_MOKA_REJECTED || model->capacity != MINI_MOKA_UNLIMITED);
@@ -252,7 +252,7 @@ static bool can_leave(const struct model *model, const struct put *put, uint32_t
     }
 }
 
-/* Whether what was put has this value: this number, or these bytes. */
+/* Returns true if the entry has this value: the number, or the bytes. */
 static bool has_value(const struct model *model, uint64_t key, const struct put *put, uint64_t number, const uint8_t *value, size_t length) {
     static uint8_t wanted[LONGEST];
     if (!model->is_bytes)
@@ -260,7 +260,7 @@ static bool has_value(const struct model *model, uint64_t key, const struct put 
     return fill(wanted, value_number(key, put->version)) == length && memcmp(wanted, value, length) == 0;
 }
 
-/* An entry was drained: the first of its key that can be it has left, and any before it was lost. */
+/* Notes a drained entry: the key's first entry that matches has left, and those before it were lost. */
 static void note_drained(struct model *model, uint64_t key, uint64_t number, const uint8_t *value, size_t length, uint32_t cause) {
     require(key < KEYS && cause < CAUSES, "an unknown entry was drained");
     for (int at = model->first_put[key]; at != NO_PUT; at = model->puts[at].next) {
@@ -276,10 +276,10 @@ static void note_drained(struct model *model, uint64_t key, uint64_t number, con
         }
         model->skipped++;
     }
-    differs("an entry was drained that wasn't put, that had left, or that can't leave for its cause");
+    differs("a drained entry was never inserted, had left before, or has an impossible cause");
 }
 
-/* Drains an entry, which takes no memory, and answers false if there is none. */
+/* Drains an entry, and returns false if none is queued. A drain must not allocate. */
 static bool drain(struct model *model) {
     static uint8_t key_at[LONGEST], value_at[LONGEST], wanted[LONGEST];
     uint64_t key = 0, value = 0;
@@ -294,34 +294,34 @@ static bool drain(struct model *model) {
             size_t first_key_length = key_length, first_value_length = value_length;
             require((key_length > key_room || value_length > value_room) && cause == CAUSES, "the buffers were long enough");
             status = mini_moka_removed(&model->cache, key_at, LONGEST, value_at, LONGEST, &key_length, &value_length, &cause);
-            require(key_length == first_key_length && value_length == first_value_length, "another entry came to the front");
+            require(key_length == first_key_length && value_length == first_value_length, "another entry was at the front after MINI_MOKA_TOO_SHORT");
         }
     } else {
         status = mini_moka_u64_removed(&model->cache, &key, &value, &cause);
     }
     allocations_left = left_before;
-    require(refusals == refusals_before, "a drain asked for memory");
-    require(status == MINI_MOKA_DONE || (status == MINI_MOKA_ABSENT && cause == CAUSES), "a drain wasn't made");
+    require(refusals == refusals_before, "a drain allocated memory");
+    require(status == MINI_MOKA_DONE || (status == MINI_MOKA_ABSENT && cause == CAUSES), "a drain failed");
     if (status == MINI_MOKA_ABSENT)
         return false;
-    require(model->removed_room > 0, "an entry was queued without room");
+    require(model->removed_room > 0, "an entry was queued without a queue");
     if (model->is_bytes) {
         memcpy(&key, key_at, key_length < 8 ? 0 : 8);
-        require(key < KEYS && key_bytes(wanted, key) == key_length && memcmp(wanted, key_at, key_length) == 0, "another key was drained");
+        require(key < KEYS && key_bytes(wanted, key) == key_length && memcmp(wanted, key_at, key_length) == 0, "a wrong key was drained");
     }
     note_drained(model, key, value, value_at, value_length, cause);
     return true;
 }
 
-/* Drains all, which is no more than there is room for. */
+/* Drains all removed entries, of which there are at most removed_room. */
 static void drain_all(struct model *model) {
     size_t count = 0;
     while (drain(model))
         count++;
-    require(count <= model->removed_room, "more was queued than there is room for");
+    require(count <= model->removed_room, "more than removed_room entries were queued");
 }
 
-/* Whether the model knows each entry that has left. It drains them. */
+/* Drains the removed entries if the cache is eager. Returns true if the model knows each entry that has left. */
 static bool knows_what_left(struct model *model) {
     if (model->removed_room == 0 || !model->is_eager)
         return false;
@@ -329,21 +329,21 @@ static bool knows_what_left(struct model *model) {
     return statistics_of(model).lost == 0;
 }
 
-/* ---- each call beside the model */
+/* ---- each call compared with the model */
 
 static bool is_found(uint32_t status) {
     return status == MINI_MOKA_DONE || status == MINI_MOKA_TOO_SHORT;
 }
 
-/* Returns true if the status is MINI_MOKA_OUT_OF_MEMORY, for which memory must have been refused. */
+/* Returns true if the status is MINI_MOKA_OUT_OF_MEMORY; then an allocation must have been refused. */
 static bool is_refused(uint32_t status) {
-    require(status != MINI_MOKA_OUT_OF_MEMORY || was_refused, "memory was there");
+    require(status != MINI_MOKA_OUT_OF_MEMORY || was_refused, "out of memory, but no allocation was refused");
     return status == MINI_MOKA_OUT_OF_MEMORY;
 }
 
-/* What a look-up tells of a key has to be what is known of it; an entry of a cache with a capacity may have left. */
+/* Compares the status of a look-up with what is known of the key. In a cache with a capacity the entry may have left. */
 static void meet(struct model *model, struct known *key, uint32_t status) {
-    require(is_found(status) || status == MINI_MOKA_ABSENT, "an unknown status");
+    require(is_found(status) || status == MINI_MOKA_ABSENT, "a look-up returned an unexpected status");
     bool is_known = knows_what_left(model) || model->capacity == MINI_MOKA_UNLIMITED;
     require(!is_found(status) || is_alive(model, key), "an entry was found that has left or is expired");
     require(is_found(status) || !is_alive(model, key) || !is_known, "an entry is missing");
@@ -353,12 +353,12 @@ static void meet(struct model *model, struct known *key, uint32_t status) {
     }
 }
 
-/* The same of a look-up of a key, which may ask for memory only where the key isn't a short one, and is longer than all before it. */
+/* Returns true if a look-up was refused memory. It may allocate only for a key that is not short and is longer than all before it. */
 static bool is_look_up_refused(struct model *model, uint64_t key, uint32_t status) {
     static uint8_t key_at[LONGEST];
     size_t length = model->is_bytes ? key_bytes(key_at, key) : 0;
     if (is_refused(status)) {
-        require(length > SHORT_KEY && length > model->longest_key, "a look-up asked for memory that it had");
+        require(length > SHORT_KEY && length > model->longest_key, "a look-up allocated memory that the handle had");
         return true;
     }
     if (length > model->longest_key)
@@ -375,15 +375,15 @@ static void play_insert(struct model *model, uint64_t key) {
     uint32_t status = insert(model, key, version);
     if (is_refused(status))
         return;
-    require(status == MINI_MOKA_DONE || (status == MINI_MOKA_REJECTED && model->capacity != MINI_MOKA_UNLIMITED), "an insert was not taken");
+    require(status == MINI_MOKA_DONE || (status == MINI_MOKA_REJECTED && model->capacity != MINI_MOKA_UNLIMITED), "an insert failed");
     model->inserts++;
     model->rejections += status == MINI_MOKA_REJECTED;
     note_put(model, key, version, status);
     write_down(model, &model->keys[key], version);
-    /* A peek removes nothing, so it finds the entry if that was let in. */
+    /* A peek removes nothing, so it finds the entry if the insert returned MINI_MOKA_DONE. */
     allocations_left = -1;
     uint32_t found = look_up(model, mini_moka_peek, mini_moka_u64_peek, key);
-    require(!is_look_up_refused(model, key, found) && is_found(found) == (status == MINI_MOKA_DONE), "another status of an insert");
+    require(!is_look_up_refused(model, key, found) && is_found(found) == (status == MINI_MOKA_DONE), "an insert returned a wrong status");
     model->keys[key].is_there = status == MINI_MOKA_DONE;
     model->keys[key].may_remain = false;
 }
@@ -424,7 +424,7 @@ static void play_invalidate(struct model *model, uint64_t key) {
     uint32_t status = invalidate(model, key);
     if (is_look_up_refused(model, key, status))
         return;
-    require(status == MINI_MOKA_DONE, "an invalidation was not made");
+    require(status == MINI_MOKA_DONE, "an invalidation failed");
     note_invalidation(model, key);
     model->keys[key].is_there = model->keys[key].may_remain = false;
 }
@@ -438,7 +438,7 @@ static void play_get_or_insert(struct model *model, uint64_t key) {
         meet(model, known, MINI_MOKA_ABSENT);
         return;
     }
-    require(status == MINI_MOKA_DONE, "a get or insert was not made");
+    require(status == MINI_MOKA_DONE, "a get-or-insert failed");
     if (is_alive(model, known) && value == value_number(key, known->version)) {
         model->hits++;
         note_use(model, key);
@@ -446,7 +446,7 @@ static void play_get_or_insert(struct model *model, uint64_t key) {
     }
     model->misses++;
     model->inserts++;
-    require(value == value_number(key, version), "another value was found or made");
+    require(value == value_number(key, version), "a wrong value was found or inserted");
     note_put(model, key, version, MINI_MOKA_DONE);
     meet(model, known, MINI_MOKA_ABSENT);
     model->versions = version;
@@ -456,7 +456,7 @@ static void play_get_or_insert(struct model *model, uint64_t key) {
     known->may_remain = false;
 }
 
-/* Once all is drained, each entry that was put is there, or was drained, returned or lost, and those of a cause are as many as the statistics say. */
+/* Drains all, and checks that each inserted entry remains, or was drained, returned or lost. Compares the drained entries of each cause with the statistics. */
 static void check_drained(struct model *model, const struct mini_moka_statistics *met, uint64_t count) {
     const uint64_t left[CAUSES] = {met->evictions, met->expirations, met->removals - model->returned, met->updates, met->rejections};
     uint64_t drained = 0;
@@ -467,53 +467,53 @@ static void check_drained(struct model *model, const struct mini_moka_statistics
     }
     for (size_t cause = 0; cause < CAUSES; cause++) {
         drained += model->drained[cause];
-        require(model->drained[cause] <= left[cause], "more was drained for a cause than left for it");
+        require(model->drained[cause] <= left[cause], "more entries were drained for a cause than left for it");
         require(model->drained[cause] == left[cause] || met->lost > 0, "an entry wasn't drained");
     }
-    require(met->inserts == count + drained + model->returned + met->lost, "an entry is neither there nor drained, returned or lost");
+    require(met->inserts == count + drained + model->returned + met->lost, "an entry neither remains nor was drained, returned or lost");
     require(model->skipped <= met->lost, "an entry was drained before one that left earlier");
-    require(met->lost == 0 || drained >= model->removed_room, "an entry was lost though there was room");
+    require(met->lost == 0 || drained >= model->removed_room, "an entry was lost before the queue was full");
 }
 
 static void play_counts(struct model *model) {
     uint64_t count = 0, weight = 0, alive = 0, there = 0;
-    require(mini_moka_count(&model->cache, &count) == MINI_MOKA_DONE && mini_moka_weight(&model->cache, &weight) == MINI_MOKA_DONE, "counts are there");
+    require(mini_moka_count(&model->cache, &count) == MINI_MOKA_DONE && mini_moka_weight(&model->cache, &weight) == MINI_MOKA_DONE, "a count or weight failed");
     for (size_t i = 0; i < KEYS; i++) {
         alive += is_alive(model, &model->keys[i]);
         there += model->keys[i].is_there || model->keys[i].may_remain;
     }
-    require(model->capacity != MINI_MOKA_UNLIMITED || (alive <= count && count <= there), "another count");
-    require(model->is_weighed || (weight == count && count <= model->capacity), "another weight, or more than the capacity");
+    require(model->capacity != MINI_MOKA_UNLIMITED || (alive <= count && count <= there), "a wrong count");
+    require(model->is_weighed || (weight == count && count <= model->capacity), "a wrong weight, or more entries than the capacity");
     struct mini_moka_statistics met = statistics_of(model);
-    require(met.hits == model->hits && met.misses == model->misses && met.inserts == model->inserts, "other statistics");
-    /* A get or insert doesn't tell that its entry was rejected. */
-    require(model->is_bytes ? met.rejections == model->rejections : met.rejections >= model->rejections, "another number of rejections");
-    require(met.inserts - met.updates - met.rejections == met.evictions + met.expirations + met.removals + count, "statistics that don't add up");
+    require(met.hits == model->hits && met.misses == model->misses && met.inserts == model->inserts, "wrong statistics");
+    /* A get-or-insert doesn't report that its entry was rejected. */
+    require(model->is_bytes ? met.rejections == model->rejections : met.rejections >= model->rejections, "a wrong number of rejections");
+    require(met.inserts - met.updates - met.rejections == met.evictions + met.expirations + met.removals + count, "the statistics don't add up");
     require(model->capacity != MINI_MOKA_UNLIMITED || met.evictions + met.rejections == 0, "evictions without a capacity");
     require(model->time_to_live != MINI_MOKA_UNLIMITED || model->time_to_idle != MINI_MOKA_UNLIMITED || met.expirations == 0, "expirations without a duration");
     check_drained(model, &met, count);
 }
 
-/* An insert that is refused memory doesn't end a walk. */
+/* Makes an insert that is refused memory. It doesn't end a walk. */
 static void refuse_insert(struct model *model) {
     static uint8_t key_at[LONGEST];
     size_t key_length = key_bytes(key_at, below(KEYS));
     int left_before = allocations_left;
     bool refused_before = was_refused;
     allocations_left = 0;
-    require(mini_moka_insert(&model->cache, key_at, key_length, key_at, LONGEST, model->now) == MINI_MOKA_OUT_OF_MEMORY, "no memory was asked for");
+    require(mini_moka_insert(&model->cache, key_at, key_length, key_at, LONGEST, model->now) == MINI_MOKA_OUT_OF_MEMORY, "an insert succeeded without memory");
     allocations_left = left_before;
     was_refused = refused_before;
 }
 
-/* Walks through all entries: each that is there is met once, with its value, and nothing else. A call that may change the cache ends a walk. */
+/* Walks through all entries: each unexpired one is visited once, with its value, and no other. A call that may change the cache ends the walk. */
 static void play_walk(struct model *model) {
     static uint8_t key[LONGEST], value[LONGEST], wanted_key[LONGEST], wanted[LONGEST];
     bool is_met[KEYS] = {false};
     size_t key_length, value_length, met = 0, alive = 0;
     bool needs_memory = false;
     uint32_t status;
-    require(mini_moka_walk(&model->cache) == MINI_MOKA_DONE, "a walk was not begun");
+    require(mini_moka_walk(&model->cache) == MINI_MOKA_DONE, "mini_moka_walk failed");
     do {
         size_t room = below(4) == 0 ? below(64) : LONGEST;
         if (below(16) == 0)
@@ -533,23 +533,23 @@ static void play_walk(struct model *model) {
         }
         if (status != MINI_MOKA_DONE)
             break;
-        require(!needs_memory || key_length > SHORT_KEY, "a step asked for memory for a short key");
+        require(!needs_memory || key_length > SHORT_KEY, "a step allocated memory for a short key");
         needs_memory = false;
         uint64_t number = 0;
         memcpy(&number, key, key_length < 8 ? 0 : 8);
-        require(number < KEYS && !is_met[number] && is_alive(model, &model->keys[number]), "an entry was met that isn't there, or twice");
+        require(number < KEYS && !is_met[number] && is_alive(model, &model->keys[number]), "a walk visited an entry that has left or is expired, or one twice");
         is_met[number] = true;
         met++;
-        require(key_length == key_bytes(wanted_key, number) && memcmp(key, wanted_key, key_length) == 0, "another key was met");
+        require(key_length == key_bytes(wanted_key, number) && memcmp(key, wanted_key, key_length) == 0, "a walk wrote a wrong key");
         size_t wanted_length = fill(wanted, value_number(number, model->keys[number].version));
-        require(value_length == wanted_length && memcmp(value, wanted, value_length) == 0, "another value was met");
+        require(value_length == wanted_length && memcmp(value, wanted, value_length) == 0, "a walk wrote a wrong value");
     } while (status == MINI_MOKA_DONE);
-    require(status == MINI_MOKA_ABSENT, "a walk has no end");
+    require(status == MINI_MOKA_ABSENT, "a walk ended with a wrong status");
     for (size_t i = 0; i < KEYS; i++)
         alive += is_alive(model, &model->keys[i]);
-    require(met == alive || model->capacity != MINI_MOKA_UNLIMITED, "an entry was not met");
-    require(!is_refused(contains(model, 0)), "the memory for a key was there");
-    require(mini_moka_next(&model->cache, model->now, key, LONGEST, value, LONGEST, &key_length, &value_length) == MINI_MOKA_CHANGED, "a walk went on");
+    require(met == alive || model->capacity != MINI_MOKA_UNLIMITED, "a walk missed an entry");
+    require(!is_refused(contains(model, 0)), "a look-up of an empty key was refused memory");
+    require(mini_moka_next(&model->cache, model->now, key, LONGEST, value, LONGEST, &key_length, &value_length) == MINI_MOKA_CHANGED, "a walk didn't end");
 }
 
 /* Walks through all numbers. */
@@ -557,29 +557,29 @@ static void play_number_walk(struct model *model) {
     bool is_met[KEYS] = {false};
     uint64_t key, value, met = 0, alive = 0;
     uint32_t status;
-    require(mini_moka_walk(&model->cache) == MINI_MOKA_DONE, "a walk was not begun");
+    require(mini_moka_walk(&model->cache) == MINI_MOKA_DONE, "mini_moka_walk failed");
     while ((status = mini_moka_u64_next(&model->cache, model->now, &key, &value)) == MINI_MOKA_DONE) {
-        require(key < KEYS && !is_met[key] && is_alive(model, &model->keys[key]), "an entry was met that isn't there, or twice");
-        require(value == value_number(key, model->keys[key].version), "another value was met");
+        require(key < KEYS && !is_met[key] && is_alive(model, &model->keys[key]), "a walk visited an entry that has left or is expired, or one twice");
+        require(value == value_number(key, model->keys[key].version), "a walk wrote a wrong value");
         is_met[key] = true;
         met++;
     }
-    require(status == MINI_MOKA_ABSENT, "a walk has no end");
+    require(status == MINI_MOKA_ABSENT, "a walk ended with a wrong status");
     for (size_t i = 0; i < KEYS; i++)
         alive += is_alive(model, &model->keys[i]);
-    require(met == alive || model->capacity != MINI_MOKA_UNLIMITED, "an entry was not met");
+    require(met == alive || model->capacity != MINI_MOKA_UNLIMITED, "a walk missed an entry");
     meet(model, &model->keys[0], contains(model, 0));
-    require(mini_moka_u64_next(&model->cache, model->now, &key, &value) == MINI_MOKA_CHANGED, "a walk went on");
+    require(mini_moka_u64_next(&model->cache, model->now, &key, &value) == MINI_MOKA_CHANGED, "a walk didn't end");
 }
 
 static void play_call(struct model *model) {
     uint64_t key = below(KEYS);
     unsigned dice = (unsigned)below(1000);
-    /* Which call is made below which throw of the dice, of a thousand. */
+    /* For each call, the upper bound of the dice, which are below 1000. */
     static const unsigned below_it[] = {340, 680, 740, 800, 850, 880, 950, 951, 968, 970, 1000};
     for (call = 0; dice >= below_it[call];)
         call++;
-    /* Bytes have no get or insert. */
+    /* Caches of bytes have no get-or-insert. */
     if (call == 6 && model->is_bytes)
         call = 1;
     calls_made++;
@@ -594,7 +594,7 @@ static void play_call(struct model *model) {
     case 5: play_invalidate(model, key); break;
     case 6: play_get_or_insert(model, key); break;
     case 7:
-        require(mini_moka_invalidate_all(&model->cache) == MINI_MOKA_DONE, "not all left");
+        require(mini_moka_invalidate_all(&model->cache) == MINI_MOKA_DONE, "mini_moka_invalidate_all failed");
         for (size_t i = 0; i < KEYS; i++) {
             model->keys[i].is_there = model->keys[i].may_remain = false;
             note_invalidation(model, i);
@@ -607,7 +607,7 @@ static void play_call(struct model *model) {
     allocations_left = -1;
 }
 
-/* Opens a cache of settings that are drawn, which may be refused memory. */
+/* Opens a cache with random settings. Returns false if it is refused memory. */
 static bool open_cache(struct model *model) {
     memset(model, 0, sizeof *model);
     model->is_bytes = below(4) != 0;
@@ -629,7 +629,7 @@ static bool open_cache(struct model *model) {
     allocations_left = below(4) == 0 ? (int)below(6) : -1;
     uint32_t status = model->is_bytes ? mini_moka_open(&model->cache, &bytes) : mini_moka_u64_open(&model->cache, &numbers);
     allocations_left = -1;
-    require(status == MINI_MOKA_DONE || is_refused(status), "a cache was not opened");
+    require(status == MINI_MOKA_DONE || is_refused(status), "a cache failed to open");
     return status == MINI_MOKA_DONE;
 }
 
@@ -647,8 +647,8 @@ int main(int count, char **words) {
         call = 8;
         if (below(2) == 0)
             play_counts(&model);
-        require(mini_moka_close(&model.cache) == MINI_MOKA_DONE, "a cache was not closed");
+        require(mini_moka_close(&model.cache) == MINI_MOKA_DONE, "a cache failed to close");
     }
-    printf("%" PRIu64 " calls of %" PRIu64 " caches, %" PRIu64 " requests refused: no difference\n", calls_made, caches, refusals);
+    printf("%" PRIu64 " calls of %" PRIu64 " caches, %" PRIu64 " allocations refused: no difference\n", calls_made, caches, refusals);
     return 0;
 }

@@ -1,7 +1,8 @@
 /*
- * Threads that share a cache of include/mini_moka_segments.h: segments [CALLS]. First one thread makes each call; then four make random calls at keys that they
- * share, a fifth counts, drains and clears. A value that is found or drained is one that was put at its key, and each entry that leaves is drained or lost. It
- * is run under ThreadSanitizer. It names what differs, and fails then.
+ * Tests a cache of include/mini_moka_segments.h that threads share: segments [CALLS]. First one thread makes each call. Then four threads make CALLS random
+ * calls each on common keys, while a fifth counts, drains and clears. A value that is found or drained must have been inserted at its key, and each entry that
+ * leaves must be returned, drained or lost. dev/c_library/run also runs it under ThreadSanitizer. Prints the first check that fails, and exits with status 1
+ * then.
  */
 #include "mini_moka_segments.h"
 #include <stdio.h>
@@ -10,7 +11,7 @@ enum { THREADS = 4, KEYS = 500, LONGEST = 48, ROOM = 64 };
 
 static int calls = 20000;
 
-/* A check that holds, or is named with its line and ends the program. */
+/* Prints the condition with its line and exits with status 1, if it is false. */
 #define CHECK(holds) check((holds), #holds, __LINE__)
 
 static void check(bool holds, const char *what, int line) {
@@ -26,7 +27,7 @@ static uint64_t number_of(struct mini_moka_segments *cache, uint32_t (*call)(str
     return number;
 }
 
-/* Each call, of one thread. */
+/* Tests each call in one thread. */
 static void calls_answer(void) {
     struct mini_moka_segments cache = {0};
     struct mini_moka_settings settings = MINI_MOKA_SETTINGS_INIT;
@@ -58,7 +59,7 @@ static void calls_answer(void) {
     CHECK(mini_moka_segments_close(&cache) == MINI_MOKA_DONE && mini_moka_segments_close(&cache) == MINI_MOKA_CLOSED);
 }
 
-/* Segments that are refused leave nothing open, and a small cache has one. */
+/* The number of segments follows from the capacity. If a segment can't be opened, none stays open. */
 static void segments_are_counted(void) {
     struct mini_moka_segments cache = {0};
     struct mini_moka_settings settings = MINI_MOKA_SETTINGS_INIT;
@@ -81,7 +82,7 @@ static void segments_are_counted(void) {
     CHECK(mini_moka_segments_open(&cache, &settings, 3) == MINI_MOKA_ZERO_DURATION && cache.segments == NULL);
 }
 
-/* The parts of the capacity are the whole, and keys go to each segment. */
+/* The parts of the capacity add up to the whole, and each segment gets keys. */
 static void capacity_is_spread(void) {
     struct mini_moka_segments cache = {0};
     struct mini_moka_settings settings = MINI_MOKA_SETTINGS_INIT;
@@ -99,7 +100,7 @@ static void capacity_is_spread(void) {
     CHECK(mini_moka_segments_close(&cache) == MINI_MOKA_DONE);
 }
 
-/* Each segment keeps a part of what left, which is rounded up. Each entry is drained once, or lost. */
+/* Each segment's queue has a part of removed_room, rounded up. Each removed entry is drained once, or lost. */
 static void removed_entries_are_drained(void) {
     struct mini_moka_segments cache = {0};
     struct mini_moka_settings settings = MINI_MOKA_SETTINGS_INIT;
@@ -134,7 +135,7 @@ static uint64_t next_number(uint64_t *state) {
     return number ^ (number >> 31);
 }
 
-/* A value of a key: the key, and then one byte again and again. */
+/* Writes a value of a key, and returns its length. The value is the key, followed by its low byte repeated. */
 static size_t fill(unsigned char *value, uint32_t key, size_t length) {
     memset(value, (int)(key & 255), length);
     memcpy(value, &key, sizeof key);
@@ -178,7 +179,7 @@ static void *make_calls(void *number) {
     return (void *)returned;
 }
 
-/* Drains what is there, and answers how much. */
+/* Drains the removed entries, and returns their number. */
 static uintptr_t drain(void) {
     unsigned char value[LONGEST];
     uint32_t key, cause;

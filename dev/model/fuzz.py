@@ -1,6 +1,9 @@
-"""fuzz.py --program P --seed N --count N --jobs J --mode all|unsync|core|recorded|sync|sketch [--malformed]
+"""Compares a program with the model on random scripts.
 
-Makes random scripts, runs `P < script`, and compares stdout and exit status with the model. The status is 1 if a script differs, or if none was compared.
+fuzz.py --program P --seed N --count N --jobs J --mode all|unsync|core|recorded|sync|sketch [--malformed]
+
+Runs `P < script`, and compares its output and exit status with the model's. Exits with status 1 if one differs, or if none is the same. Without --program it
+only makes the scripts.
 """
 import argparse
 import multiprocessing
@@ -35,7 +38,7 @@ def keys_of(r):
 
 
 def moments_of(r):
-    """A function that gives the next moment."""
+    """Returns a function that returns the next moment."""
     kind = r.randrange(10)
     state = [r.choice([0, 0, 0, 5, 100])]
     if kind < 2:
@@ -97,7 +100,7 @@ class Settings:
         if mode in ("core", "recorded") and r.random() < 0.15:
             self.tickets = r.choice([0, 1, 7, U64, U64 - 1, U64 - 2, U64 - 3, U64 - 5, U64 - 10, 2**63])
         self.mode = mode
-        # a limit that is small beside the charged weight would ask for a table of gigabytes
+        # large weights only with a large limit or none: with a small one the table would have gigabytes
         self.big_weights = self.weighed and (self.max is None or self.max >= U32 - 1) and r.random() < 0.6
         self.some_high = self.weighed and r.random() < 0.2
 
@@ -116,7 +119,7 @@ class Settings:
         return s
 
     def weight(self, r):
-        """The end of an insert line."""
+        """Returns the end of an insert line, which has the weight if there is one."""
         if not self.weighed:
             return ""
         if self.big_weights and r.random() < 0.3:
@@ -192,7 +195,7 @@ LARGER_LIMITS = [500, 2000, 5000, 12000, 30000, 10**6, U32, U32 + 1, 2**33, U64]
 
 
 class WindowScript:
-    """Limits from 100 on, where new rows first enter the window, and 99, where they don't."""
+    """A script with a limit of 100 or more, so that new rows first enter the window, or of 99, so that they don't."""
 
     def __init__(self, r):
         self.r = r
@@ -203,13 +206,13 @@ class WindowScript:
         self.lines = [self.s.first()]
         self.share = limit // 100
         self.main = limit - self.share
-        # weight of a row at which the rows of the fill reach about the limit
+        # weight of a row with which the rows of the fill weigh about the limit
         self.usual = max(1, min(U32, limit // max(self.filled, 3)))
         self.none = r.choice([0, 0, 0.05, 0.3, 0.8])
         self.heavy = r.choice([0, 0, 0.03, 0.15])
         self.near = r.choice([0, 0.1, 0.5])
         self.key = r.choice([lambda i: i, lambda i: 4 * i, lambda i: U64 - i, lambda i: (i * 0x9e3779b97f4a7c15) % 2**64])
-        self.known = []          # keys that were inserted, the last one last
+        self.known = []          # inserted keys, the latest last
         self.made_keys = 0
         self.texts = r.sample(TEXTS, r.randint(1, 5))
 
@@ -226,7 +229,7 @@ class WindowScript:
         self.jumps = r.choice([0, 0.01, 0.05])
 
     def now(self):
-        """The next moment: mostly the last one or the one behind it, sometimes one that is far, or that goes back."""
+        """Returns the next moment: mostly the last one or the one after it, sometimes a far or an earlier one."""
         r = self.r
         if r.random() < self.steps:
             self.t += r.choice([1, 1, 1, 2])
@@ -271,7 +274,7 @@ class WindowScript:
         return key
 
     def some(self):
-        """A key: of the last ones, of the first ones, or any; sometimes one that wasn't inserted yet."""
+        """Returns a key: one of the last, one of the first, or any; sometimes one not inserted yet."""
         r = self.r
         x = r.random()
         if not self.known or x < 0.04:
@@ -309,13 +312,13 @@ class WindowScript:
     def fill(self):
         r = self.r
         for _ in range(self.filled):
-            # rows that are used often, or asked for before they come
+            # rows that are used often, or looked up before they are inserted
             if r.random() < 0.03:
                 self.say("get %d" % self.some())
             self.new(asked=1 if r.random() < 0.03 else 0)
 
     def begin_half(self):
-        """About half of the limit is there, which asks for the sketch's table: a row that was asked for meanwhile comes in by it, or doesn't."""
+        """Fills about half of the limit, at which the sketch is turned on. Once it is on, a row that was looked up before may be admitted."""
         r = self.r
         most = self.s.max // 2
         small = r.randint(0, self.share)
@@ -331,7 +334,7 @@ class WindowScript:
         self.say("iter")
 
     def begin_sized(self):
-        """The table is asked for while most rows are in the window, and its length and its sample show in what is counted."""
+        """Turns the sketch on while most rows are in the window. The length and the sample size of its table show in later counts."""
         r = self.r
         heavy = self.new(weight=0)
         for _ in range(r.randint(100, 400)):
@@ -358,7 +361,7 @@ class WindowScript:
         self.insert(self.some())
 
     def do_heavy(self):
-        """An update, mostly of one of the last rows, and new rows behind it."""
+        """Makes a heavy update, often of the last row, and up to two calls after it."""
         r = self.r
         self.insert(self.some() if r.random() < 0.5 or not self.known else self.known[-1], self.heavy_weight())
         for _ in range(r.choice([0, 1, 2])):
@@ -371,7 +374,7 @@ class WindowScript:
         self.gets(self.some(), self.r.randint(2, 9))
 
     def do_sweep(self):
-        """Each of some rows is used."""
+        """Uses each row of a range of known keys."""
         if self.known:
             at = self.r.randrange(len(self.known))
             for key in self.known[at:at + self.r.randint(5, 120)]:
@@ -382,7 +385,7 @@ class WindowScript:
             self.new()
 
     def do_nothings(self):
-        """Rows of no weight, which wait in the window until something weighs too much."""
+        """Inserts rows of weight 0, which stay in the window until something is too heavy."""
         for _ in range(self.r.choice([1, 3, 10, 130])):
             self.new(weight=0)
 
@@ -408,7 +411,7 @@ class WindowScript:
         self.say("policy")
 
     def do_rivals(self):
-        """A row of the window is made heavy, and another as heavy comes, which was asked for before: both are candidates at once."""
+        """Makes a row of the window heavy, and inserts another heavy one, looked up before, so that both are candidates at once."""
         r = self.r
         some = [self.main // 3, self.main // 2 + 1, self.main - 1, self.main]
         self.new(weight=r.choice([0, 1]))
@@ -420,7 +423,7 @@ class WindowScript:
         self.say(r.choice(["iter", "count", "weight"]))
 
     def do_above(self):
-        """Main is above its limit, and the window is not: what the whole is too much by takes several candidates."""
+        """Puts main above its limit, but not the window, so that the excess of the whole takes several candidates."""
         r = self.r
         self.fresh()
         heavy = self.new(weight=min(U32, self.s.max // 2))
@@ -440,7 +443,7 @@ class WindowScript:
         self.new()
 
     def do_idle(self):
-        """Many rows of the window, or of main, are idle for too long at once."""
+        """Lets many rows of the window, or of main, expire by the time to idle at once."""
         r = self.r
         for _ in range(r.randint(90, 260)):
             self.new(weight=0)
@@ -450,7 +453,7 @@ class WindowScript:
             self.say("count")
 
     def fresh(self):
-        """Mostly an empty cache."""
+        """Clears the cache, mostly."""
         if self.r.random() < 0.8:
             self.say("clear")
 
@@ -459,14 +462,14 @@ class WindowScript:
             self.say("get %d" % key)
 
     def do_again(self):
-        """A key is removed and comes back."""
+        """Removes a key and inserts it again."""
         key = self.some()
         self.say("%s %d" % (self.r.choice(["invalidate", "remove"]), key))
         self.insert(key)
 
 
 def gen_unsync_hundred(r):
-    """Over 100 rows to expire or to trim."""
+    """Makes a script in which over 100 rows may expire or be trimmed at once."""
     n = r.randint(95, 260)
     s = Settings(r, "unsync", limit=r.choice([n, n, n + 5, n * 2, U64]), weighed=r.random() < 0.6)
     if r.random() < 0.5:
@@ -503,7 +506,7 @@ def gen_unsync_hundred(r):
 
 
 def gen_unsync_aging(r):
-    """Enough counts for the cache's sketch to age."""
+    """Makes a script with enough counts for the cache's sketch to age."""
     weighed = r.random() < 0.4
     limit = r.choice([1, 2, 3, 4, 8, 128, 129, 150, 170])
     s = Settings(r, "unsync", limit=limit, weighed=weighed, durations=False)
@@ -541,7 +544,7 @@ class CoreScript:
         self.lines.append("%d %s" % (self.now(), words))
 
     def caller(self):
-        """Mostly one whose hand is empty."""
+        """Returns a caller, mostly one without a pending operation."""
         free = [c for c in self.callers if c not in self.full]
         return self.r.choice(free) if free and self.r.random() < 0.9 else self.r.choice(self.callers)
 
@@ -614,7 +617,7 @@ class CoreScript:
                 self.say("begin")
                 self.turns(20)
             elif name == "crossed":
-                # map steps of one key by several callers, pushed in another order
+                # map steps of one key by several callers, which are pushed in another order
                 k = r.choice(self.keys)
                 some = r.sample(self.callers, r.randint(1, len(self.callers)))
                 for c in some:
@@ -628,7 +631,7 @@ class CoreScript:
                     if r.random() < 0.2:
                         self.turns(5)
             elif name == "contest":
-                # misses of a key make it likely to be admitted, with steps of others between the turns
+                # misses of a key, so that it is likely to be admitted, and steps of others between the turns
                 k = r.choice(self.keys)
                 for _ in range(r.randint(0, 5)):
                     self.push(self.get(None, k))
@@ -692,7 +695,7 @@ def gen_core(r):
 
 
 def gen_core_duel(r):
-    """Admissions and rejections with other callers' steps on victims and candidate between the turns."""
+    """Makes a script of admissions and rejections, with other callers' steps on victims and candidate between the turns."""
     n = r.randint(1, 6)
     weighed = r.random() < 0.6
     s = Settings(r, "core", limit=n if not weighed else r.choice([n, 2 * n, 5]), weighed=weighed)
@@ -754,7 +757,7 @@ def gen_core_duel(r):
 
 
 def gen_core_over(r):
-    """Weights that rise above the limit: evictions, over absent nodes and rows with an upsert outstanding."""
+    """Makes a script whose weights rise above the limit, so that evictions pass over absent nodes and rows with an outstanding upsert."""
     n = r.randint(2, 9)
     s = Settings(r, "core", limit=r.choice([n, n, 2 * n, n // 2, 0]), weighed=True)
     s.big_weights = False
@@ -805,7 +808,7 @@ def gen_core_over(r):
 
 
 class Live(CoreScript):
-    """A script whose maker runs the model beside it, so as to know where the maintenance is."""
+    """A script whose maker also runs the model, to know the phase of the maintenance."""
 
     def __init__(self, r, s):
         CoreScript.__init__(self, r, s)
@@ -849,7 +852,7 @@ class Live(CoreScript):
 
 
 def epilogue(c, t, shown):
-    """Everything expires in a maintenance that is seen turn by turn: the order's whole list is told."""
+    """Expires all rows in a maintenance that is played turn by turn, so that the replies show the whole order."""
     r = c.r
     if shown < r.random():
         return
@@ -870,7 +873,7 @@ def epilogue(c, t, shown):
 
 
 def gen_core_evicts(r):
-    """Charges that pass the limit, with pending upserts and removals on other rows."""
+    """Makes a script whose charges exceed the limit, with pending upserts and removals of other rows."""
     n = r.randint(2, 8)
     total = 2**n - 1
     s = Settings(r, "core", limit=r.choice([total, total + 2, total // 2 + 1]), weighed=True, durations=False)
@@ -925,7 +928,7 @@ def gen_core_evicts(r):
 
 
 def gen_core_passed(r):
-    """Scans that pass over absent nodes, victims that go before their removal, and the orders they leave."""
+    """Makes a script of scans that pass over absent nodes, of victims that leave before their removal, and of the resulting orders."""
     n = r.randint(2, 7)
     total = 2**n - 1
     s = Settings(r, "core", limit=r.choice([total, total, total + 1, total - 1]), weighed=True, durations=False)
@@ -1039,7 +1042,7 @@ def gen_core_rounds(r):
 
 
 def gen_core_orders(r):
-    """Rows of weights 1, 2, 4, 8 and so on: after a turn the charged weight tells which nodes there are."""
+    """Makes a script with row weights of 1, 2, 4, 8 and so on, so that the charged weight shows which nodes exist."""
     n = r.randint(2, 10)
     total = 2**n - 1
     s = Settings(r, "core", limit=r.choice([total, total, total // 2, total // 3, total + 3, total - 1]), weighed=True)
@@ -1129,7 +1132,7 @@ def gen_core_orders(r):
 
 
 def gen_core_clears(r):
-    """Invalidation moments that cross insert's and hits' moments."""
+    """Makes a script whose invalidations have moments before and after those of inserts and hits."""
     n = r.randint(1, 6)
     s = Settings(r, "core", limit=r.choice([100, 2**n, 2**n // 2]), weighed=True)
     s.big_weights = s.some_high = False
@@ -1173,7 +1176,7 @@ def gen_core_clears(r):
 
 
 def gen_core_absent(r):
-    """Many absent nodes: rows invalidated whose removals are not pushed, then scans, expiry and eviction."""
+    """Makes a script with many absent nodes, whose removals are not pushed yet, and then scans, expiry and eviction."""
     n = r.randint(4, 12)
     s = Settings(r, "core", limit=r.choice([n, n, n - 1, n // 2]), weighed=r.random() < 0.4)
     c = CoreScript(r, s)
@@ -1224,7 +1227,7 @@ def gen_core_absent(r):
 
 
 def gen_core_logs(r):
-    """Full logs and several rounds."""
+    """Makes a script with full logs, or with several rounds of a maintenance."""
     c = CoreScript(r, Settings(r, "core"))
     w = jitter(r, CORE)
 
@@ -1248,7 +1251,7 @@ def gen_core_logs(r):
         c.say(r.choice(["sync", "rest"]))
         c.end()
         return c.lines
-    # rounds: while the maintenance works on one round, enough for another is pushed
+    # rounds: during one round of the maintenance, enough operations for another are pushed
     if r.random() < 0.6:
         c.s.max = r.choice([None, 0, 2, 8, c.s.max])
         c.lines[0] = c.s.first()
@@ -1271,7 +1274,7 @@ def gen_core_logs(r):
 
 
 def gen_core_five_hundred(r):
-    """Passes that use their 500 turns."""
+    """Makes a script whose passes use up their 500 turns."""
     n = r.randint(490, 620)
     s = Settings(r, "core", limit=r.choice([n, 1000, n // 2]), weighed=True, durations=False)
     s.tickets = None
@@ -1312,7 +1315,7 @@ def gen_core_aging(r):
     c.callers = [1]
     c.now = lambda: 0
     if weighed and r.random() < 0.6:
-        # a charged weight above the limit when the sketch is turned on: a larger table
+        # a charged weight above the limit, so that the sketch is turned on with a larger table
         k = c.keys[0]
         c.lines += ["0 insert 1 %d v 0" % k, "0 push 1", "0 sync", "0 insert 1 %d v %d" % (k, limit * r.randint(100, 180)), "0 push 1", "0 sync"]
     many = r.choice([200, 400, 2000])
@@ -1374,7 +1377,7 @@ def gen_recorded(r):
 
 
 def gen_sync(r):
-    """A recorded script, which has the same calls, with lines that only the cache with locks has."""
+    """Makes a script of mode sync: a recorded one, and lines that only the cache with locks has."""
     lines = gen_recorded(r)
     words = lines[0].split(" ")
     if "tickets" in words:
@@ -1413,7 +1416,7 @@ def gen_recorded_aging(r):
 
 
 def gen_saturated(r, mode):
-    """Keys at 15 that only an aging brings apart: it is told when the sketch ages."""
+    """Makes a script with keys counted to 15, whose counts differ only after an aging, so that the replies show when the sketch ages."""
     weighed = r.random() < 0.5
     limit = r.choice([2, 2, 3, 3, 1]) if mode == "recorded" or weighed or r.random() < 0.4 else r.randint(128, 190)
     s = Settings(r, mode, limit=limit, weighed=weighed, durations=False)
@@ -1432,7 +1435,7 @@ def gen_saturated(r, mode):
     for k in fronts + [cand]:
         lines += ["0 get %d" % k] * 15
     if limit > 3 and mode == "unsync":
-        # the three are at the back now; bring them to the front
+        # the first three are at the back now; this brings them to the front
         lines += ["0 get %d" % k for k in range(3, limit)]
     lines += settle
     goal = r.choice([1250, 1400, 1900, 2600])
@@ -1548,7 +1551,7 @@ OTHERS = ["0 get 0", "0 get 1 0", "0 insert 0 a", "0 insert 1 0 a", "0 insert 0 
 
 
 def mutate(r, lines):
-    """Bytes of a script with one to three faults (that may turn out to be none)."""
+    """Returns the bytes of a script with one to three changes, which may turn out to be no faults."""
     lines = list(lines)
     if r.random() < 0.5:
         lines = lines[:r.randint(1, 30)]
@@ -1684,7 +1687,7 @@ def main():
     p.add_argument("--count", type=int, default=100)
     p.add_argument("--jobs", type=int, default=os.cpu_count())
     p.add_argument("--mode", default="all", choices=("all",) + MODES)
-    p.add_argument("--malformed", action="store_true", help="puts faults into all scripts, and not into one in eight")
+    p.add_argument("--malformed", action="store_true", help="put faults into all scripts, not only into one in eight")
     a = p.parse_args()
     modes = MODES if a.mode == "all" else (a.mode,)
     jobs = [(m, a.seed, i, a.malformed) for i in range(a.count) for m in modes]
@@ -1703,7 +1706,7 @@ def main():
         print("%s %s: %d" % (mode, what, n))
     same, differ = (sum(n for (_, what), n in results.items() if what == kind) for kind in ("same", "differs"))
     print("compared:", same + differ)
-    print("scripts that met:")
+    print("events seen:")
     for k, v in sorted(seen.items()):
         print("  %s: %d" % (k, v))
     return 1 if differ or a.program and not same else 0

@@ -1,6 +1,6 @@
-"""An independent model of what scripts reply: written from docs/SCRIPTS.md and the sentences of dev/definitions alone, not from the code.
+"""An independent model of the replies to scripts, written only from docs/SCRIPTS.md and the sentences of dev/definitions, not from the code.
 
-reply_text(script_bytes) -> (reply_bytes, status); status 0 done, 2 bad line.
+reply_text(script_bytes) -> (reply_bytes, status); the status is 0 if the script was played, and 2 if a line is bad.
 """
 import re
 from collections import Counter
@@ -9,12 +9,12 @@ U16 = 2**16 - 1
 U32 = 2**32 - 1
 U64 = 2**64 - 1
 
-SEEN = Counter()          # what a run met, for the fuzzer's report
-BIGGEST_TABLE = 2**22     # a longer table takes too much memory: Skip
+SEEN = Counter()          # events of a run, for the fuzzer's report
+BIGGEST_TABLE = 2**22     # words; a longer table takes too much memory: Skip
 
 
 class Skip(Exception):
-    """The script asks for a table that is too long to run."""
+    """The script needs a table that is too long for the model."""
 
 
 class Bad(Exception):
@@ -43,7 +43,7 @@ def text(word):
 
 
 def duration(word):
-    """Nanoseconds."""
+    """Returns a duration in nanoseconds."""
     if word.endswith(b"ns"):
         return number(word[:-2], U64)
     if word.endswith(b"s"):
@@ -144,12 +144,12 @@ def call_line(mode, options, line):
 
 
 def parse(data):
-    """(None, mode, options, calls) or (number of the first bad line, ...)."""
+    """Returns (None, mode, options, calls), or (number of the first bad line, None, None, None)."""
     if data == b"":
         return 1, None, None, None
     pieces = data.split(b"\n")
-    whole = pieces[:-1]          # each of these ended by a line feed
-    tail = pieces[-1]            # what stands behind the last line feed
+    whole = pieces[:-1]          # lines that end in a line feed
+    tail = pieces[-1]            # text after the last line feed
     mode = options = None
     calls = []
     for i, line in enumerate(whole):
@@ -178,10 +178,10 @@ def place_of(n, h, i):
 
 class Table:
     def __init__(self):
-        self.n = 0               # 0: off
+        self.n = 0               # number of words, 0 if the sketch is off
         self.sample = 0
         self.size = 0
-        self.c = {}              # (place, counter) -> number, 0 where absent
+        self.c = {}              # (place, counter) -> count, 0 if absent
 
     def cells(self, h):
         return [(place_of(self.n, h, i), 4 * (h % 4) + i) for i in range(4)]
@@ -235,7 +235,7 @@ def sketch_capacity(x):
 
 
 def turning_on(table, limit, weighed, count, weight):
-    """When a table is asked for, and of what capacity."""
+    """Turns the sketch on if the weight has reached half of the limit."""
     if limit is None or table.n != 0 or weight < limit // 2:
         return
     if not weighed:
@@ -313,7 +313,7 @@ def live_expired(o, row, t):
 # ---------------------------------------------------------------- unsync
 
 def front(q, f, x):
-    """The shortest beginning of q whose f sums to at least x; None if there is none."""
+    """Returns the shortest prefix of q whose f sums to at least x, or None if there is none."""
     total = 0
     for i in range(len(q) + 1):
         if total >= x:
@@ -327,15 +327,15 @@ def weight_of(rows):
     return sum(r.weight for r in rows)
 
 
-WINDOWED = 100               # from this limit on new rows first enter the window
+WINDOWED = 100               # the least limit with a window, which new rows enter first
 
 
 class Unsync:
     def __init__(self, o):
         self.o = o
         self.main = []           # in order of use
-        self.window = []         # in order of use; always empty where the limit is below 100, or none
-        self.writes = []         # order of writing: the rows of both (kept always, used with a time to live)
+        self.window = []         # in order of use; always empty if the limit is below 100, or if there is none
+        self.writes = []         # the rows of both in order of writing (kept always, used with a time to live)
         self.table = Table()
 
     def rows(self):
@@ -359,7 +359,7 @@ class Unsync:
         return None
 
     def used(self, r):
-        """To the back of its own list."""
+        """Moves the row to the back of its list."""
         rows = self.list_of(r)
         if rows is self.window:
             SEEN["unsync use in the window"] += 1
@@ -395,7 +395,7 @@ class Unsync:
                 if gone:
                     SEEN["unsync idle-expired in %s" % place] += 1
                 if any(idle_expired(self.o, r, now) for r in rows[len(gone):]):
-                    SEEN["unsync idle-expired behind a fresh one in %s" % place] += 1
+                    SEEN["unsync idle-expired after a fresh one in %s" % place] += 1
                 self.leave(gone[:100])
 
     def trim(self):
@@ -416,14 +416,14 @@ class Unsync:
         self.trim()
 
     def main_takes(self, limit, hash_, w, who):
-        """Returns True if main takes a row of this weight within the limit, if there is one. The victims leave."""
+        """Returns True if main admits a row of this weight. Then its victims leave."""
         if limit is None or weight_of(self.main) + w <= limit:
             return True
         if w > limit:
             SEEN["unsync %s rejected, above the limit" % who] += 1
             return False
         if weight_of(self.main) > limit:
-            SEEN["unsync %s asked where main is above its limit" % who] += 1
+            SEEN["unsync %s judged while main is above its limit" % who] += 1
         f = front(self.main, lambda r: r.weight, w)
         if f is None:
             SEEN["unsync %s without a front" % who] += 1
@@ -436,7 +436,7 @@ class Unsync:
         return False
 
     def enter(self, new):
-        """A new row comes to the back of the window, and what is too much there then is judged."""
+        """Adds a new row to the back of the window, and judges the rows that are then above the limits."""
         limit = self.o.max
         self.window.append(new)
         self.writes.append(new)
@@ -444,11 +444,11 @@ class Unsync:
         main_limit = limit - window_limit
         e = max(weight_of(self.window) - window_limit, self.weight() - limit)
         if e <= 0:
-            SEEN["unsync window has room"] += 1
+            SEEN["unsync window has capacity"] += 1
             return
         candidates = front(self.window, lambda r: r.weight, e)
         if candidates is None:
-            SEEN["unsync window does not reach what is too much"] += 1
+            SEEN["unsync window lighter than the excess"] += 1
             candidates = list(self.window)
         if len(candidates) > 1:
             SEEN["unsync candidates, several"] += 1
@@ -457,12 +457,12 @@ class Unsync:
         if new in candidates:
             SEEN["unsync new row is a candidate"] += 1
         if e > weight_of(self.window) - window_limit:
-            SEEN["unsync the whole weight is too much, and the window's less so"] += 1
+            SEEN["unsync excess of the whole above the excess of the window"] += 1
         came = []
         for c in candidates:
             if self.main_takes(main_limit, c.hash, c.weight, "candidate"):
                 if any(r not in self.main for r in came):
-                    SEEN["unsync candidate pushed out one of the same insert"] += 1
+                    SEEN["unsync candidate evicted one of the same insert"] += 1
                 self.window.remove(c)
                 self.main.append(c)
                 came.append(c)
@@ -580,7 +580,7 @@ class World:
         self.due = None
         self.next = [o.tickets] * 16
 
-    # -- what the definitions say of the world
+    # -- definitions about the world
 
     def charged(self):
         return sum(node.charge for node in self.access)
@@ -604,7 +604,7 @@ class World:
         return None
 
     def held(self):
-        """The operations outstanding in hands, write log and place."""
+        """Returns the outstanding operations, in hands, write log and place."""
         ops = list(self.hands.values()) + self.writes
         if self.place[0] == "apply":
             ops.append(self.place[3])
@@ -737,7 +737,7 @@ class World:
             self.written.append(ticket)
 
     def passed_to_back(self, passed):
-        """The passed-over nodes go to the back of the access order, in the order in which they stand there."""
+        """Moves the passed-over nodes to the back of the access order, and keeps their order."""
         for node in [node for node in self.access if node.ticket in passed]:
             self.access_to_back(node)
 
@@ -809,7 +809,7 @@ class World:
         return ("scan", r, n, candidate, [])
 
     def turn_scan(self, r, n, cand, seen):
-        """seen: a list of (ticket, weight, estimate) or (ticket, None, None) of the front nodes."""
+        """Scans one more node, or decides. `seen` has (ticket, weight, estimate), or (ticket, None, None), of each scanned node."""
         weights = sum(o[1] for o in seen if o[1] is not None)
         ests = sum(o[2] for o in seen if o[1] is not None)
         six = len(seen) >= 6 and all(o[1] is None for o in seen[-6:])
@@ -829,7 +829,7 @@ class World:
             if six and weights < cand["weight"] and ests <= cand["est"]:
                 SEEN["core six absent"] += 1
             elif end and weights < cand["weight"] and ests <= cand["est"]:
-                SEEN["core scan met the end of the order"] += 1
+                SEEN["core scan reached the end of the order"] += 1
             if passed:
                 SEEN["core rejected with passed-over"] += 1
             row = self.row_with(cand["ticket"])
@@ -1013,7 +1013,7 @@ class World:
             self.push_write(now)
         return answer
 
-    # -- what holds of each core, as far as a model without stored counts can test it
+    # -- invariants of each core that a model without stored counts can test
 
     def check_sound(self):
         tickets = [row.ticket for row in self.rows.values()]
@@ -1036,7 +1036,7 @@ class World:
             seen = [o[0] for o in self.place[4]]
             assert nodes[:len(seen)] == seen
         if self.place[0] == "removing":
-            # what was passed over stands in front of what is left of the scanned front
+            # the scanned nodes that are left to remove are still in the access order
             left = self.place[5]
             assert left and all(t in nodes for t in left)
         assert len(self.reads) <= LOG and len(self.writes) <= LOG
@@ -1089,7 +1089,7 @@ def run_core(o, calls):
 
 
 def run_whole(o, calls):
-    """Of the modes recorded and sync: by one caller, the cache with locks makes the same calls."""
+    """Plays the calls of mode recorded or sync. With one caller, the cache with locks makes the same calls."""
     w = World(o)
     out = ["ready"]
     for now, name, a in calls:

@@ -1,5 +1,5 @@
-//! Links the static library: that of a folder which `MINI_MOKA_LIB_DIR` names, or one that it
-//! builds from this repository.
+//! Links the static library: the one in the folder `MINI_MOKA_LIB_DIR`, or one that it builds from
+//! this repository.
 
 use std::env;
 use std::fs::{self, OpenOptions};
@@ -24,10 +24,10 @@ fn main() {
 
 /// Returns the folder that the variable names, which must have the archive.
 fn named(folder: &Path) -> PathBuf {
-    // The linker runs in another folder than this program, so the path is made absolute.
+    // The linker runs in another folder than this program, so it needs an absolute path.
     let folder = match folder.canonicalize() {
         Ok(found) => found,
-        Err(_) => fail(&format!("{FOLDER} names no folder: {}", folder.display())),
+        Err(_) => fail(&format!("{FOLDER} is not a folder: {}", folder.display())),
     };
     let archive = folder.join(ARCHIVE);
     if !archive.is_file() {
@@ -37,10 +37,10 @@ fn named(folder: &Path) -> PathBuf {
     folder
 }
 
-/// Proves and builds the library of this repository, and copies it to a folder of this package.
+/// Proves and builds the library of this repository, and copies it to the folder `OUT_DIR`.
 ///
-/// The repository's command writes a new archive each time, so this program can't be run again by
-/// a change of that one.
+/// `build_library` writes a new archive each time, so cargo doesn't watch that one: it would run
+/// this program in every build.
 fn built() -> PathBuf {
     let root = Path::new("../..");
     if !root.join("crates/mini_moka_c").is_dir() || !is_on_path("rt") {
@@ -54,19 +54,19 @@ fn built() -> PathBuf {
     let folder = PathBuf::from(env::var_os("OUT_DIR").unwrap_or_default());
     let archive = root.join("library").join(ARCHIVE);
     if let Err(error) = fs::copy(&archive, folder.join(ARCHIVE)) {
-        fail(&format!("./build_library left no {ARCHIVE}: {error}"));
+        fail(&format!("can't copy {ARCHIVE} of ./build_library: {error}"));
     }
     folder
 }
 
-/// Returns `true` if a folder of the path has a file of this name.
+/// Returns `true` if a folder of `PATH` has a file of this name.
 fn is_on_path(name: &str) -> bool {
     let path = env::var_os("PATH").unwrap_or_default();
     env::split_paths(&path).any(|folder| folder.join(name).is_file())
 }
 
-/// Makes cargo run this program again when a source of the library changes. What a build writes
-/// beside the sources of a crate is none.
+/// Makes cargo run this program again if a source of the library changes, but not for the outputs
+/// of builds beside the sources.
 fn watch(root: &Path) {
     let crates = fs::read_dir(root.join("crates")).into_iter().flatten();
     let folders = crates
@@ -78,7 +78,7 @@ fn watch(root: &Path) {
     }
 }
 
-/// Runs the repository's command that proves and builds the library, and shows how far it is.
+/// Runs `build_library`, which proves and builds the library, and shows its progress.
 fn build(root: &Path) {
     let run = root.canonicalize().and_then(|root| {
         let mut command = Command::new(root.join("build_library"));
@@ -91,14 +91,14 @@ fn build(root: &Path) {
     match run {
         Ok(status) if status.success() => {}
         Ok(status) => fail(&format!("./build_library failed: {status}")),
-        Err(error) => fail(&format!("./build_library can't be run: {error}")),
+        Err(error) => fail(&format!("can't run ./build_library: {error}")),
     }
 }
 
-/// Passes on the lines of the command, each as it comes.
+/// Prints each line of the command as it arrives.
 ///
-/// Cargo keeps what this program writes until it fails, or shows it with `-vv`. A build takes
-/// minutes, so the lines go to the terminal too, if there is one.
+/// Cargo shows the output of this program only if it fails, or with `-vv`. A build takes minutes,
+/// so the lines also go to the terminal, if there is one.
 fn show(said: impl Read) {
     let mut terminal = OpenOptions::new().write(true).open("/dev/tty").ok();
     for line in BufReader::new(said).lines().map_while(Result::ok) {
@@ -109,7 +109,7 @@ fn show(said: impl Read) {
     }
 }
 
-/// Ends the build with a sentence.
+/// Prints a sentence, and ends the build.
 fn fail(sentence: &str) -> ! {
     eprintln!("mini-moka-proved: {sentence}");
     exit(1);

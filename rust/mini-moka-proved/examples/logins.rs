@@ -1,5 +1,5 @@
-//! A table of logins: a token is good for half an hour after the login. It reads lines from its
-//! input, `login NAME`, `who TOKEN` and `logout TOKEN`, and answers each with a line.
+//! Keeps a table of logins: a token is valid for half an hour after the login. Reads the lines
+//! `login NAME`, `who TOKEN` and `logout TOKEN` from standard input, and answers each with a line.
 
 use mini_moka_proved::{BuildError, Cache, OutOfMemory};
 use std::error::Error;
@@ -8,14 +8,14 @@ use std::time::Duration;
 
 const HALF_AN_HOUR: Duration = Duration::from_secs(30 * 60);
 
-/// The logins, names by token, and the last token that was given out.
+/// The users' names by token, and the last token issued.
 struct Logins {
     names: Cache,
     last_token: u64,
 }
 
 impl Logins {
-    /// A table of 100,000 logins at most.
+    /// Creates a table of at most 100,000 logins.
     fn new() -> Result<Logins, BuildError> {
         let names = Cache::builder()
             .max_capacity(100_000)
@@ -25,7 +25,8 @@ impl Logins {
         Ok(Logins { names, last_token })
     }
 
-    /// Logs a user in, and returns the token. Real tokens are random; these are counted.
+    /// Logs a user in, and returns the token. Tokens are counted here; a real program would issue
+    /// random ones.
     fn log_in(&mut self, name: &str) -> Result<String, OutOfMemory> {
         self.last_token += 1;
         let token = self.last_token.to_string();
@@ -33,7 +34,7 @@ impl Logins {
         Ok(token)
     }
 
-    /// The name of the user who has the token.
+    /// Returns the name of the user who has the token.
     fn who(&mut self, token: &str) -> Option<String> {
         self.names.get(token).map(text)
     }
@@ -43,7 +44,7 @@ impl Logins {
         Ok(self.names.remove(token)?.map(text))
     }
 
-    /// Answers a line.
+    /// Returns the answer to a line, or the usage if it isn't a command.
     fn answer(&mut self, line: &str) -> Result<String, OutOfMemory> {
         let answer = match line.split_once(' ') {
             Some(("login", name)) => format!("token {}", self.log_in(name)?),

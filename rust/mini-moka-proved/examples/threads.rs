@@ -1,5 +1,6 @@
-//! Threads that share a cache: each session lives for ten minutes, and what leaves the cache is
-//! drained. It prints how many sessions were inserted, remain, and were drained or lost.
+//! Shares a cache of sessions between four threads. A session lives for ten minutes, and the
+//! entries that leave the cache are drained. Prints the number of sessions that were inserted, that
+//! remain, and that were drained or lost.
 
 use mini_moka_proved::sync::Cache;
 use std::thread;
@@ -8,13 +9,14 @@ use std::time::Duration;
 const THREADS: u64 = 4;
 const SESSIONS: u64 = 5000;
 
-/// Drains the entries that left, and counts them. A program would write them to a store.
+/// Drains the removed entries, and returns their number. A real program would write them to a
+/// store.
 fn drain(cache: &Cache) -> u64 {
     cache.removed().filter(|removed| removed.is_ok()).count() as u64
 }
 
-/// Inserts sessions, whose keys are the numbers of the thread and of the session. Returns the
-/// number of entries that it has drained.
+/// Inserts the sessions of a thread, and returns the number of entries that it has drained. A key
+/// is the number of the thread and that of the session.
 fn work(cache: &Cache, thread: u64) -> u64 {
     let mut drained = 0;
     for session in 0..SESSIONS {

@@ -10,7 +10,7 @@ use std::fmt;
 use std::hash::{BuildHasher, Hasher};
 use std::time::Duration;
 
-/// Builds a [`Cache`]. A cache has no limit that isn't set.
+/// Builds a [`Cache`]. A cache has only the limits that are set.
 ///
 /// ```
 /// use mini_moka_proved::Cache;
@@ -32,33 +32,33 @@ pub struct Builder {
 }
 
 impl Builder {
-    /// Sets the most entries, or with [`weigh_bytes`](Self::weigh_bytes) the most bytes. With 0 the
-    /// cache keeps nothing.
+    /// Sets the maximum number of entries, or with [`weigh_bytes`](Self::weigh_bytes) of bytes.
+    /// With 0 the cache keeps nothing.
     pub fn max_capacity(mut self, max_capacity: u64) -> Builder {
         self.limits.max_capacity = Some(max_capacity);
         self
     }
 
-    /// Makes the capacity count the bytes of keys and values, and not entries.
+    /// Makes the capacity count the bytes of keys and values instead of entries.
     ///
     /// An entry weighs at most `u32::MAX`. An update with a longer value may leave the cache above
-    /// its capacity. Then each insert, get, `contains_key`, `remove` and `invalidate` first evicts up
-    /// to 100 entries, least recently used first, until the others fit. An update that is heavier
-    /// than the whole capacity is stored, so these calls evict most entries and it: remove its key
-    /// instead.
+    /// its capacity. Then each insert, get, `contains_key`, `remove` and `invalidate` first evicts
+    /// up to 100 entries, least recently used first, until the others fit. An update that is
+    /// heavier than the whole capacity is stored, so these calls evict most entries and the update:
+    /// remove its key instead.
     pub fn weigh_bytes(mut self) -> Builder {
         self.weighs_bytes = true;
         self
     }
 
-    /// Sets how long an entry lives after it was last written. It is expired from the end of that
+    /// Sets the time that an entry lives after its last write. It is expired from the end of that
     /// time on.
     pub fn time_to_live(mut self, duration: Duration) -> Builder {
         self.limits.time_to_live = Some(duration);
         self
     }
 
-    /// Sets how long an entry lives after it was last read or written.
+    /// Sets the time that an entry lives after its last read or write.
     pub fn time_to_idle(mut self, duration: Duration) -> Builder {
         self.limits.time_to_idle = Some(duration);
         self
@@ -67,17 +67,19 @@ impl Builder {
     /// Reserves memory for `entries` entries from the start. Up to that number an insert is refused
     /// memory only for its value, or for a key of more than 24 bytes.
     ///
-    /// A cache that is full of entries doubles its memory within one insert, which takes time
-    /// linear in their number. It never doubles if `entries` is the most that it will have.
+    /// An insert that finds the cache's memory full doubles it, which takes time linear in the
+    /// number of entries. The memory never doubles if the cache has at most `entries` entries.
     pub fn initial_capacity(mut self, entries: usize) -> Builder {
         self.limits.initial_capacity = entries;
         self
     }
 
-    /// Keeps up to `entries` removed entries, for [`Cache::removed`] to drain. By default none is kept.
+    /// Queues up to `entries` removed entries, for [`Cache::removed`] to drain. By default none is
+    /// queued.
     ///
-    /// The memory for them is reserved when the cache is built, so that no call is refused memory for
-    /// them. If the queue is full, what leaves is dropped and counted: [`Statistics::lost`].
+    /// The memory for them is reserved when the cache is built, so no call is refused memory for
+    /// them. If the queue is full, entries that leave are dropped and counted:
+    /// [`Statistics::lost`].
     ///
     /// [`Statistics::lost`]: crate::Statistics::lost
     pub fn removed_room(mut self, entries: usize) -> Builder {
@@ -85,11 +87,11 @@ impl Builder {
         self
     }
 
-    /// Sets the key of the hash of the cache's keys.
+    /// Sets the key of the hash function.
     ///
-    /// Without one, each cache has a random key, made by std's
-    /// [`RandomState`](std::collections::hash_map::RandomState). Someone who knows the key can
-    /// choose keys of one hash, which makes the cache slow. A fixed one makes runs repeatable.
+    /// By default each cache has a random one, made by std's
+    /// [`RandomState`](std::collections::hash_map::RandomState). If it is known, cache keys can be
+    /// chosen to have the same hash, which makes the cache slow. A fixed one makes runs repeatable.
     pub fn seed(mut self, seed: [u8; 16]) -> Builder {
         self.seed = Some(seed);
         self
@@ -97,9 +99,10 @@ impl Builder {
 
     /// Makes the cache read a coarse clock, which costs less than a precise one.
     ///
-    /// With a time to live or to idle each call reads the clock, which nearly doubles its time. The
-    /// coarse clock is that of the kernel's timer, and stays behind by one tick of it at most, 1 to
-    /// 10 ms; so an entry may live that much longer. It is used on 64-bit Linux.
+    /// With a time to live or to idle each call reads the clock, which nearly doubles the call's
+    /// time. The coarse clock is that of the kernel's timer, and lags by at most one tick of it, 1
+    /// to 10 ms, so an entry may live that much longer. It is used on 64-bit Linux; elsewhere the
+    /// cache reads a precise clock.
     ///
     /// ```
     /// use mini_moka_proved::Cache;
@@ -123,7 +126,7 @@ impl Builder {
     /// # Errors
     ///
     /// [`BuildError::ZeroDuration`] if a duration is 0, and [`BuildError::DurationTooLong`] if one
-    /// has 2^64 - 1 nanoseconds or more. [`BuildError::OutOfMemory`] if memory is refused, or if the
+    /// is 2^64 - 1 nanoseconds or more. [`BuildError::OutOfMemory`] if memory is refused, or if the
     /// initial capacity is above the 2,000,000,000 entries that a cache can have.
     pub fn build(self) -> Result<Cache, BuildError> {
         self.build_with(self.clock())
@@ -149,7 +152,8 @@ impl Builder {
         self.limits.clock()
     }
 
-    /// Returns a number to pick segments by, which the seed fixes if one is set.
+    /// Returns the seed of the hash that picks segments. It follows from the cache's seed if one is
+    /// set.
     pub(crate) fn segment_seed(&self) -> u64 {
         self.seed.map_or_else(random_word, |seed| {
             let [low, high] = words(seed);
@@ -157,7 +161,7 @@ impl Builder {
         })
     }
 
-    /// Returns the capacity in units of what a segment should have at least: 100 entries, or 1 MiB.
+    /// Returns the capacity divided by the least capacity of a segment: 100 entries, or 1 MiB.
     pub(crate) fn least_segments(&self) -> Option<u64> {
         let least = if self.weighs_bytes { 1 << 20 } else { 100 };
         self.limits.max_capacity.map(|capacity| capacity / least)
@@ -168,10 +172,10 @@ impl Builder {
         let part = |whole: u64| whole / count + u64::from(at < whole % count);
         let mut builder = self.clone();
         builder.limits.max_capacity = self.limits.max_capacity.map(part);
-        // A part of a `usize` is no greater than it.
+        // A part of a `usize` fits in a `usize`.
         builder.limits.initial_capacity = part(self.limits.initial_capacity as u64) as usize;
         let room = self.limits.removed_room as u64;
-        // Rounded up, so that each segment keeps what leaves if one does.
+        // Rounded up, so that each segment has a queue if the cache has one.
         builder.limits.removed_room = (room / count + u64::from(room % count > 0)) as usize;
         builder
     }
@@ -187,7 +191,7 @@ impl fmt::Debug for Builder {
     }
 }
 
-/// Builds a [`NumberCache`]. A cache has no limit that isn't set.
+/// Builds a [`NumberCache`]. A cache has only the limits that are set.
 #[derive(Clone, Default)]
 #[must_use]
 pub struct NumberBuilder {
@@ -195,36 +199,38 @@ pub struct NumberBuilder {
 }
 
 impl NumberBuilder {
-    /// Sets the most entries.
+    /// Sets the maximum number of entries.
     pub fn max_capacity(mut self, max_capacity: u64) -> NumberBuilder {
         self.limits.max_capacity = Some(max_capacity);
         self
     }
 
-    /// Sets how long an entry lives after it was last written. It is expired from the end of that
+    /// Sets the time that an entry lives after its last write. It is expired from the end of that
     /// time on.
     pub fn time_to_live(mut self, duration: Duration) -> NumberBuilder {
         self.limits.time_to_live = Some(duration);
         self
     }
 
-    /// Sets how long an entry lives after it was last read or written.
+    /// Sets the time that an entry lives after its last read or write.
     pub fn time_to_idle(mut self, duration: Duration) -> NumberBuilder {
         self.limits.time_to_idle = Some(duration);
         self
     }
 
-    /// Reserves memory for so many entries from the start, as [`Builder::initial_capacity`] does.
-    /// Up to there no insert is refused.
+    /// Reserves memory for `entries` entries from the start, as [`Builder::initial_capacity`] does.
+    /// Up to that number no insert is refused memory.
     pub fn initial_capacity(mut self, entries: usize) -> NumberBuilder {
         self.limits.initial_capacity = entries;
         self
     }
 
-    /// Keeps up to so many entries that leave, for [`NumberCache::removed`] to drain. Without it none is kept.
+    /// Queues up to `entries` removed entries, for [`NumberCache::removed`] to drain. By default
+    /// none is queued.
     ///
-    /// The memory for them is reserved when the cache is built, so that no call is refused memory for
-    /// them. If the queue is full, what leaves is dropped and counted: [`Statistics::lost`].
+    /// The memory for them is reserved when the cache is built, so no call is refused memory for
+    /// them. If the queue is full, entries that leave are dropped and counted:
+    /// [`Statistics::lost`].
     ///
     /// [`Statistics::lost`]: crate::Statistics::lost
     pub fn removed_room(mut self, entries: usize) -> NumberBuilder {
@@ -279,7 +285,8 @@ impl Limits {
         })
     }
 
-    /// Starts a clock for a new cache. Without a duration no result depends on moments.
+    /// Starts a clock for a new cache. Without a duration it stands still, since no result depends
+    /// on moments.
     fn clock(&self) -> Clock {
         if self.time_to_live.is_none() && self.time_to_idle.is_none() {
             Clock::standing()
@@ -304,7 +311,7 @@ impl Limits {
     }
 }
 
-/// Converts a duration to the library's, in nanoseconds.
+/// Converts a duration to the library's nanoseconds.
 fn limit(duration: Option<Duration>) -> Result<u64, BuildError> {
     let duration = match duration {
         Some(set) => set,
@@ -317,7 +324,7 @@ fn limit(duration: Option<Duration>) -> Result<u64, BuildError> {
     }
 }
 
-/// Converts a seed to the library's.
+/// Converts a seed to the library's words.
 fn words(seed: [u8; 16]) -> [u64; 2] {
     let seed = u128::from_le_bytes(seed);
     [seed as u64, (seed >> 64) as u64]
@@ -328,8 +335,8 @@ fn random_words() -> [u64; 2] {
     [random_word(), random_word()]
 }
 
-/// Returns a random word. Each of std's random hash states has keys of its own, and so another hash
-/// of nothing.
+/// Returns a random word: the hash of no bytes by a new `RandomState`, each of which has its own
+/// keys.
 fn random_word() -> u64 {
     RandomState::new().build_hasher().finish()
 }

@@ -8,13 +8,13 @@ use std::fmt;
 use std::iter::FusedIterator;
 use std::time::Duration;
 
-/// The longest value, in bytes, that [`Cache::get`] looks up once.
+/// The length in bytes of the longest value that [`Cache::get`] looks up only once.
 const SHORT: usize = 256;
 
-/// A cache for one thread whose keys and values are bytes of any length.
+/// A single-thread cache whose keys and values are bytes of any length.
 ///
-/// It takes anything that is read as bytes, as `&str`, `String`, `Vec<u8>` and arrays. It keeps
-/// copies, and returns copies.
+/// It takes anything that implements `AsRef<[u8]>`, such as `&str`, `String`, `Vec<u8>` and arrays.
+/// It stores copies, and returns copies.
 ///
 /// ```
 /// use mini_moka_proved::Cache;
@@ -30,18 +30,19 @@ const SHORT: usize = 256;
 /// # Size
 ///
 /// A full cache admits an entry only if its estimated frequency exceeds the sum of its victims',
-/// which are the least recently used entries. From a capacity of 100 on, a hundredth of it is a
-/// window. A new entry that fits begins there. It is judged when it leaves, and if it isn't
-/// admitted then, it is evicted. A new entry that doesn't fit in the window is judged at once, and
-/// may be rejected: [`Inserted::Rejected`].
+/// which are the least recently used entries. With a capacity of 100 or more, a hundredth of it is
+/// a window. A new entry that fits begins there. When it leaves the window, it is admitted or
+/// evicted. A new entry that doesn't fit in the window is admitted or rejected at once:
+/// [`Inserted::Rejected`].
 ///
 /// # Moments
 ///
-/// A call reads the cache's clock, which starts when the cache is built; without durations it
-/// always says zero, and isn't read. [`Builder::coarse_clock`] makes reading it cheap. Each call
-/// that needs a moment has a second form, whose name ends in `_at`, that takes it as a duration
-/// since that start. A moment may be before an earlier call's. One of 2^64 nanoseconds or more
-/// counts as 2^64 - 1.
+/// A call reads the cache's clock, which starts when the cache is built. Without durations the
+/// clock is always at zero, and isn't read. [`Builder::coarse_clock`] makes reading it cheap.
+///
+/// Each call that needs a moment has a second form, whose name ends in `_at`. It takes the moment
+/// as a duration since the clock's start. A moment may be before that of an earlier call. A moment
+/// of 2^64 nanoseconds or more counts as 2^64 - 1.
 ///
 /// ```
 /// use mini_moka_proved::Cache;
@@ -57,22 +58,25 @@ const SHORT: usize = 256;
 ///
 /// # Memory
 ///
-/// No call aborts or panics if memory is refused. `get`, `peek` and `contains_key` answer then as if
-/// the key had no entry; [`try_get`](Self::try_get) tells the two apart. Other calls that need
-/// memory return [`OutOfMemory`].
+/// No call aborts or panics if memory is refused. `get`, `peek` and `contains_key` then return the
+/// result for a key without an entry; [`try_get`](Self::try_get) distinguishes the two. Other calls
+/// that need memory return [`OutOfMemory`].
 ///
 /// # Cost
 ///
-/// A call at a key takes constant time on average, plus copying the key and the value. All but
-/// [`peek`](Self::peek) first remove expired entries, a few hundred at most. A key of up to 24
-/// bytes lies in its entry, and looking it up asks for no memory but that of the value's copy. A
-/// look-up copies a longer key into memory that the cache keeps, which grows if it is shorter than
-/// the key. An insert into a cache whose memory is full takes time linear in the number of entries,
-/// unless [`Builder::initial_capacity`] reserved enough. So does dropping a cache.
+/// A call with a key takes constant time on average, plus the time to copy the key and the value.
+/// All but [`peek`](Self::peek) first remove expired entries, a few hundred at most.
+///
+/// A key of up to 24 bytes is stored in its entry, and looking it up allocates only the value's
+/// copy. A look-up copies a longer key into memory that the cache keeps, which grows if it is
+/// shorter than the key.
+///
+/// An insert into a cache whose memory is full takes time linear in the number of entries, unless
+/// [`Builder::initial_capacity`] reserved enough. Dropping a cache takes linear time too.
 ///
 /// # Threads
 ///
-/// A cache may go to another thread. It is not `Sync`: threads share a [`sync::Cache`].
+/// A cache may move to another thread. It is not `Sync`: threads share a [`sync::Cache`].
 ///
 /// [`sync::Cache`]: crate::sync::Cache
 ///
@@ -88,7 +92,7 @@ const SHORT: usize = 256;
 pub struct Cache {
     handle: Handle<Bytes>,
     clock: Clock,
-    // Its capacity is `SHORT` bytes.
+    // The buffer of `get`. Its capacity is `SHORT` bytes.
     short: Vec<u8>,
 }
 
@@ -100,7 +104,7 @@ impl Cache {
     /// [`OutOfMemory`] if memory is refused.
     pub fn new(max_capacity: u64) -> Result<Cache, OutOfMemory> {
         let built = Cache::builder().max_capacity(max_capacity).build();
-        // Without a duration nothing else is refused.
+        // Without a duration there is no other error.
         built.map_err(|_| OutOfMemory)
     }
 
@@ -117,26 +121,27 @@ impl Cache {
         })
     }
 
-    /// Returns the moment of the cache's clock. It is always zero if the cache has no duration.
+    /// Returns the current moment of the cache's clock. It is always zero if the cache has no
+    /// duration.
     pub fn now(&self) -> Duration {
         self.clock.elapsed()
     }
 
-    /// Looks the key up, and returns a copy of its value.
+    /// Looks up the key, and returns a copy of its value.
     ///
     /// The key is counted, found or not, and its entry becomes the most recently used one. A value
-    /// of more than 256 bytes is looked up twice, which is counted once.
+    /// of more than 256 bytes is looked up twice, but counted once.
     pub fn get(&mut self, key: impl AsRef<[u8]>) -> Option<Vec<u8>> {
         self.get_at(key, self.now())
     }
 
-    /// Looks the key up as [`get`](Self::get) does, at a moment.
+    /// Looks up the key as [`get`](Self::get) does, at the moment `now`.
     pub fn get_at(&mut self, key: impl AsRef<[u8]>, now: Duration) -> Option<Vec<u8>> {
         self.try_get_at(key, now).ok().flatten()
     }
 
-    /// Looks the key up as [`get`](Self::get) does, and tells a key without an entry from one for
-    /// which memory was refused.
+    /// Looks up the key as [`get`](Self::get) does, and distinguishes a key without an entry from
+    /// refused memory.
     ///
     /// ```
     /// use mini_moka_proved::{Cache, OutOfMemory};
@@ -158,7 +163,7 @@ impl Cache {
         self.try_get_at(key, self.now())
     }
 
-    /// Looks the key up as [`try_get`](Self::try_get) does, at a moment.
+    /// Looks up the key as [`try_get`](Self::try_get) does, at the moment `now`.
     ///
     /// # Errors
     ///
@@ -171,12 +176,12 @@ impl Cache {
         self.found(key.as_ref(), nanoseconds(now))
     }
 
-    /// Looks the key up as [`get`](Self::get) does, writes its value to `buffer`, and returns
+    /// Looks up the key as [`get`](Self::get) does, and writes its value to `buffer`. Returns
     /// `true` if there is one.
     ///
-    /// It replaces what the buffer had; if no value is found, the buffer is empty. It allocates
-    /// only if its capacity is less than the value's length, and the value is looked up twice then,
-    /// which is counted once.
+    /// The value replaces the contents of the buffer; if none is found, the buffer is empty. The
+    /// buffer is reallocated only if its capacity is less than the value's length. The value is
+    /// then looked up twice, but counted once.
     ///
     /// ```
     /// use mini_moka_proved::Cache;
@@ -200,7 +205,7 @@ impl Cache {
         self.get_into_at(key, buffer, self.now())
     }
 
-    /// Looks the key up as [`get_into`](Self::get_into) does, at a moment.
+    /// Looks up the key as [`get_into`](Self::get_into) does, at the moment `now`.
     ///
     /// # Errors
     ///
@@ -214,13 +219,13 @@ impl Cache {
         self.found_into(key.as_ref(), buffer, nanoseconds(now))
     }
 
-    /// Looks the key up and returns a copy of its value. It doesn't count as an access: nothing is
-    /// counted, moved or removed. A value that isn't empty is looked up twice.
+    /// Looks up the key, and returns a copy of its value. It doesn't count as an access: it counts,
+    /// moves and removes nothing. A value that isn't empty is looked up twice.
     pub fn peek(&self, key: impl AsRef<[u8]>) -> Option<Vec<u8>> {
         self.peek_at(key, self.now())
     }
 
-    /// Looks the key up as [`peek`](Self::peek) does, at a moment.
+    /// Looks up the key as [`peek`](Self::peek) does, at the moment `now`.
     pub fn peek_at(&self, key: impl AsRef<[u8]>, now: Duration) -> Option<Vec<u8>> {
         let (key, moment) = (key.as_ref(), nanoseconds(now));
         filled(Vec::new(), |value| self.handle.peek(key, moment, value))
@@ -233,14 +238,15 @@ impl Cache {
         self.contains_key_at(key, self.now())
     }
 
-    /// Looks the key up as [`contains_key`](Self::contains_key) does, at a moment.
+    /// Looks up the key as [`contains_key`](Self::contains_key) does, at the moment `now`.
     pub fn contains_key_at(&mut self, key: impl AsRef<[u8]>, now: Duration) -> bool {
         let found = self.handle.contains(key.as_ref(), nanoseconds(now));
         found.unwrap_or(false)
     }
 
-    /// Looks the key up as [`get`](Self::get) does, and inserts what `make` returns if there is
-    /// nothing. It returns the value that the key had, or that of `make`, even if that was rejected.
+    /// Looks up the key as [`get`](Self::get) does, and inserts the value that `make` returns if
+    /// the key has none. Returns the key's value, or that of `make`, even if its entry was
+    /// rejected.
     ///
     /// The new entry's time to live begins when `make` has returned.
     ///
@@ -255,8 +261,8 @@ impl Cache {
     ///
     /// # Errors
     ///
-    /// [`OutOfMemory`] if the look-up is refused memory: then `make` isn't called. Or if the insert
-    /// is refused memory: then the value is dropped.
+    /// [`OutOfMemory`] if the look-up is refused memory; then `make` isn't called. Also if the
+    /// insert is refused memory; then the value is dropped.
     pub fn get_or_insert_with(
         &mut self,
         key: impl AsRef<[u8]>,
@@ -271,8 +277,8 @@ impl Cache {
         Ok(value)
     }
 
-    /// Looks the key up as [`get_or_insert_with`](Self::get_or_insert_with) does, at a moment, which
-    /// is that of the insert too.
+    /// Looks up the key as [`get_or_insert_with`](Self::get_or_insert_with) does, at the moment
+    /// `now`, which is also that of the insert.
     ///
     /// # Errors
     ///
@@ -292,8 +298,8 @@ impl Cache {
         Ok(value)
     }
 
-    /// Puts a copy of the value at a copy of the key. If the cache is full, a new entry that doesn't
-    /// fit in the window may be rejected: [`Inserted::Rejected`].
+    /// Inserts a copy of the value under a copy of the key. If the cache is full, a new entry that
+    /// doesn't fit in the window may be rejected: [`Inserted::Rejected`].
     ///
     /// ```
     /// use mini_moka_proved::{Cache, Inserted};
@@ -306,7 +312,7 @@ impl Cache {
     ///
     /// # Errors
     ///
-    /// [`OutOfMemory`] if memory for the copies or for an entry is refused. Then no entry was
+    /// [`OutOfMemory`] if memory for the copies or for an entry is refused. Then no entry is
     /// written.
     pub fn insert(
         &mut self,
@@ -316,7 +322,8 @@ impl Cache {
         self.insert_at(key, value, self.now())
     }
 
-    /// Puts a copy of the value at a copy of the key as [`insert`](Self::insert) does, at a moment.
+    /// Inserts copies of the key and the value as [`insert`](Self::insert) does, at the moment
+    /// `now`.
     ///
     /// # Errors
     ///
@@ -341,7 +348,7 @@ impl Cache {
         self.remove_at(key, self.now())
     }
 
-    /// Removes the entry of the key as [`remove`](Self::remove) does, at a moment.
+    /// Removes the entry of the key as [`remove`](Self::remove) does, at the moment `now`.
     ///
     /// # Errors
     ///
@@ -352,12 +359,12 @@ impl Cache {
         now: Duration,
     ) -> Result<Option<Vec<u8>>, OutOfMemory> {
         let (key, moment) = (key.as_ref(), nanoseconds(now));
-        // A first call without a buffer leaves the entry, so a value for which memory is refused is
-        // not lost.
+        // The first call has no buffer and leaves the entry, so a value is not lost if memory for
+        // it is refused.
         filled(Vec::new(), |value| self.handle.remove(key, moment, value))
     }
 
-    /// Removes the entry of the key, if there is one, and returns nothing.
+    /// Removes the entry of the key, if there is one, without returning its value.
     ///
     /// # Errors
     ///
@@ -366,7 +373,7 @@ impl Cache {
         self.invalidate_at(key, self.now())
     }
 
-    /// Removes the entry of the key as [`invalidate`](Self::invalidate) does, at a moment.
+    /// Removes the entry of the key as [`invalidate`](Self::invalidate) does, at the moment `now`.
     ///
     /// # Errors
     ///
@@ -379,16 +386,17 @@ impl Cache {
         self.handle.invalidate(key.as_ref(), nanoseconds(now))
     }
 
-    /// Removes all entries. It takes time linear in their number.
+    /// Removes all entries, in time linear in their number.
     pub fn clear(&mut self) {
         self.handle.clear();
     }
 
-    /// Returns an iterator over copies of the unexpired entries, as pairs of key and value: the
-    /// least recently used one first, and those of the window last. It doesn't count as an access,
-    /// and removes none.
+    /// Returns an iterator over copies of the unexpired entries, as pairs of key and value. The
+    /// least recently used one comes first, and those of the window last. It doesn't count as an
+    /// access, and removes none.
     ///
-    /// A pair can be refused memory; then the next one is that pair again.
+    /// If memory for a pair is refused, the iterator yields an error, and tries that pair again
+    /// next.
     ///
     /// ```
     /// use mini_moka_proved::Cache;
@@ -409,7 +417,7 @@ impl Cache {
         self.iter_at(self.now())
     }
 
-    /// Returns an iterator as [`iter`](Self::iter) does, at a moment.
+    /// Returns an iterator as [`iter`](Self::iter) does, at the moment `now`.
     pub fn iter_at(&mut self, now: Duration) -> Iter<'_> {
         self.handle.begin_walk();
         Iter {
@@ -418,11 +426,12 @@ impl Cache {
         }
     }
 
-    /// Returns an iterator that drains the entries that left, the first one first. What it doesn't
-    /// come to stays in the queue. Without [`Builder::removed_room`] it yields nothing.
+    /// Returns an iterator that drains the removed entries, in the order in which they left.
+    /// Entries that it doesn't reach stay in the queue. Without [`Builder::removed_room`] it yields
+    /// nothing.
     ///
     /// An entry is queued within the call in which it leaves, unless [`remove`](Self::remove)
-    /// returns it. A replaced value comes with its key, and a rejected entry as it was handed in.
+    /// returns it. A replaced value is queued with its key, and a rejected entry as it was passed.
     ///
     /// ```
     /// use mini_moka_proved::{Cache, Cause};
@@ -454,23 +463,23 @@ impl Cache {
         self.len() == 0
     }
 
-    /// Returns the weight of the entries, at most `u64::MAX`: their number, or the bytes of their
-    /// keys and values if the cache weighs bytes. It takes constant time.
+    /// Returns the weight of the entries, at most `u64::MAX`: their number, or, if the cache weighs
+    /// bytes, the bytes of their keys and values. It takes constant time.
     pub fn weighted_size(&self) -> u64 {
         self.handle.weighted_size()
     }
 
-    /// Returns the counts of the calls since the cache was built.
+    /// Returns the counts of the calls, and of the entries that left, since the cache was built.
     pub fn statistics(&self) -> Statistics {
         self.handle.statistics()
     }
 
-    /// Makes a get, and returns the value in memory of its own.
+    /// Makes a get, and returns the value in a new vector.
     fn found(&mut self, key: &[u8], moment: u64) -> Result<Option<Vec<u8>>, OutOfMemory> {
         match self.handle.get(key, moment, &mut self.short)? {
             Look::Copied => Ok(Some(copy_of(&self.short)?)),
             Look::Absent => Ok(None),
-            // The get is made and counted, so a look-up that isn't counted fetches the value.
+            // The get was counted already, so a peek fetches the value.
             Look::TooLong(length) => filled(with_room(length)?, |value| {
                 self.handle.peek(key, moment, value)
             }),
@@ -487,7 +496,7 @@ impl Cache {
         match self.handle.get(key, moment, buffer)? {
             Look::Copied => Ok(true),
             Look::Absent => Ok(false),
-            // As above.
+            // As in `found`.
             Look::TooLong(length) => {
                 buffer.try_reserve_exact(length)?;
                 fill(buffer, |buffer| self.handle.peek(key, moment, buffer))
@@ -496,9 +505,9 @@ impl Cache {
     }
 }
 
-/// An iterator over copies of a cache's unexpired entries, by [`Cache::iter`].
+/// An iterator over copies of a cache's unexpired entries, created by [`Cache::iter`].
 ///
-/// A step takes constant time on average for each entry that it passes, and the time of copying.
+/// A step takes constant time on average for each entry that it passes, plus the time to copy.
 #[derive(Debug)]
 pub struct Iter<'a> {
     // Borrowed as a whole, so that no call ends the walk.
@@ -519,7 +528,7 @@ impl Iterator for Iter<'_> {
     }
 
     fn size_hint(&self) -> (usize, Option<usize>) {
-        // A refused pair comes again, so there is no upper bound.
+        // A refused pair is tried again, so there is no upper bound.
         (0, None)
     }
 }
@@ -527,7 +536,7 @@ impl Iterator for Iter<'_> {
 impl FusedIterator for Iter<'_> {}
 
 impl Iter<'_> {
-    /// Copies the next pair, if there is one, to vectors that grow as it needs.
+    /// Copies the next pair to the vectors, which grow as needed. Returns `false` if there is none.
     fn step(&mut self, key: &mut Vec<u8>, value: &mut Vec<u8>) -> Result<bool, OutOfMemory> {
         loop {
             match self.cache.handle.step(self.moment, key, value)? {
@@ -545,9 +554,9 @@ impl Iter<'_> {
     }
 }
 
-/// An iterator that drains the entries that left a cache, by [`Cache::removed`].
+/// An iterator that drains the removed entries of a cache, created by [`Cache::removed`].
 ///
-/// If memory is refused for the copy of an entry, the next step comes to it again.
+/// If memory for the copy of an entry is refused, the next step tries that entry again.
 #[derive(Debug)]
 pub struct RemovedIter<'a> {
     cache: &'a mut Cache,
@@ -592,7 +601,7 @@ impl fmt::Debug for Cache {
     }
 }
 
-/// Creates an empty vector with a capacity of so many bytes.
+/// Creates an empty vector with a capacity of at least `bytes` bytes.
 fn with_room(bytes: usize) -> Result<Vec<u8>, OutOfMemory> {
     let mut room = Vec::new();
     room.try_reserve_exact(bytes)?;
@@ -605,7 +614,7 @@ fn copy_of(bytes: &[u8]) -> Result<Vec<u8>, OutOfMemory> {
     Ok(copy)
 }
 
-/// Makes a look-up, again if the vector is too short for what it finds.
+/// Makes a look-up, and repeats it if the vector is too short for the value.
 fn filled(
     mut value: Vec<u8>,
     look: impl Fn(&mut Vec<u8>) -> Result<Look, OutOfMemory>,
@@ -613,7 +622,7 @@ fn filled(
     Ok(fill(&mut value, look)?.then_some(value))
 }
 
-/// Makes a look-up as `filled` does, in a buffer. Returns `true` if it finds something.
+/// Makes a look-up as `filled` does, into a buffer. Returns `true` if it finds a value.
 fn fill(
     buffer: &mut Vec<u8>,
     look: impl Fn(&mut Vec<u8>) -> Result<Look, OutOfMemory>,

@@ -7,28 +7,29 @@ use std::time::{Duration, Instant};
 pub(crate) enum Clock {
     Standing,
     Running(Instant),
-    // Since the start of the system's coarse clock.
+    // The reading of the system's coarse clock at the start.
     Coarse(Duration),
 }
 
 impl Clock {
-    /// A clock that starts now.
+    /// Starts a precise clock.
     pub(crate) fn running() -> Clock {
         Clock::Running(Instant::now())
     }
 
-    /// A clock that starts now, costs less to read, and stays behind by some milliseconds. It is a
-    /// precise one if the system has no other.
+    /// Starts a clock that costs less to read, and lags by some milliseconds. It is precise if the
+    /// system has no coarse clock.
     pub(crate) fn coarse() -> Clock {
         coarse::now().map_or_else(Clock::running, Clock::Coarse)
     }
 
-    /// A clock that always says 0, for a cache without durations. Reading it costs nothing.
+    /// Returns a clock that always reads 0, for a cache without durations. Reading it costs
+    /// nothing.
     pub(crate) fn standing() -> Clock {
         Clock::Standing
     }
 
-    /// Returns how long it has run.
+    /// Returns the time since the clock's start.
     pub(crate) fn elapsed(self) -> Duration {
         match self {
             Clock::Standing => Duration::ZERO,
@@ -38,7 +39,7 @@ impl Clock {
     }
 }
 
-/// Returns the nanoseconds of a moment that is this long after the start, at most `u64::MAX`.
+/// Converts a moment to nanoseconds since the start, at most `u64::MAX`.
 pub(crate) fn nanoseconds(moment: Duration) -> u64 {
     u64::try_from(moment.as_nanos()).unwrap_or(u64::MAX)
 }
@@ -65,13 +66,13 @@ mod coarse {
         fn clock_gettime(clock: c_int, time: *mut TimeSpec) -> c_int;
     }
 
-    /// Reads the clock, if there is one.
+    /// Reads the clock. Returns `None` if the system has none.
     pub(super) fn now() -> Option<Duration> {
         let mut time = TimeSpec {
             seconds: 0,
             nanoseconds: 0,
         };
-        // SAFETY: `time` is a variable of this function, laid out as the C library's struct.
+        // SAFETY: `time` is a local variable with the layout of the C library's struct.
         let status = unsafe { clock_gettime(MONOTONIC_COARSE, &mut time) };
         if status != 0 {
             return None;
@@ -86,7 +87,7 @@ mod coarse {
 
 #[cfg(not(all(target_os = "linux", target_pointer_width = "64")))]
 mod coarse {
-    //! No coarse clock.
+    //! Systems without a coarse clock.
 
     use std::time::Duration;
 

@@ -4,7 +4,7 @@ use std::collections::TryReserveError;
 use std::error::Error;
 use std::fmt;
 
-/// Memory was refused, and no entry was written.
+/// The error of a call that was refused memory. No entry was written.
 #[derive(Clone, Copy, Debug, PartialEq, Eq)]
 pub struct OutOfMemory;
 
@@ -22,13 +22,13 @@ impl From<TryReserveError> for OutOfMemory {
     }
 }
 
-/// The reason why a cache could not be built.
+/// The reason that a cache could not be built.
 #[derive(Clone, Copy, Debug, PartialEq, Eq)]
 #[non_exhaustive]
 pub enum BuildError {
     /// A duration is 0, so no entry would be found.
     ZeroDuration,
-    /// A duration has 2^64 - 1 nanoseconds or more, which are 584 years.
+    /// A duration is 2^64 - 1 nanoseconds or more, which is 584 years.
     DurationTooLong,
     /// Memory was refused.
     OutOfMemory,
@@ -39,7 +39,7 @@ impl fmt::Display for BuildError {
         match self {
             BuildError::ZeroDuration => f.write_str("a duration is 0"),
             BuildError::DurationTooLong => {
-                f.write_str("a duration has 2^64 - 1 nanoseconds or more")
+                f.write_str("a duration is 2^64 - 1 nanoseconds or more")
             }
             BuildError::OutOfMemory => OutOfMemory.fmt(f),
         }

@@ -1,11 +1,11 @@
 //! The library's calls, and handles on its caches.
 //!
-//! What is declared here repeats `include/mini_moka.h`, whose rules the comments cite:
+//! The declarations repeat `include/mini_moka.h`. The comments cite its rules:
 //!
-//! - *Pointers.* A call reads and writes behind its pointers, within the lengths that are passed,
+//! - *Pointers.* A call reads and writes through its pointers, within the lengths that are passed,
 //!   and keeps none of them. None may be null.
-//! - *Handles.* A handle is all zeros at first. The program neither changes nor copies it, and
-//!   makes one call of it at a time.
+//! - *Handles.* A handle starts as all zeros. The program neither changes nor copies it, and makes
+//!   one call on it at a time.
 
 use crate::error::OutOfMemory;
 use std::cell::UnsafeCell;
@@ -13,12 +13,12 @@ use std::marker::PhantomData;
 use std::os::raw::c_void;
 use std::ptr::null_mut;
 
-/// The capacity or the duration of a cache that has none.
+/// The library's value for no capacity or no duration.
 pub(crate) const UNLIMITED: u64 = u64::MAX;
 
-// The statuses of calls. The header's others are those of a closed handle, of an open one that is
-// opened, of one of the other kind, of an ended walk, and of a duration of 0. This module meets
-// none of them.
+// The statuses of calls. The header's others are for a closed handle, an open one that is opened
+// again, one of the other kind, an ended walk and a duration of 0. No call of this module returns
+// one of them.
 const DONE: u32 = 0;
 const ABSENT: u32 = 1;
 const OUT_OF_MEMORY: u32 = 4;
@@ -55,10 +55,10 @@ pub(crate) struct NumberSettings {
 }
 
 // The header's `struct mini_moka_statistics`.
-/// Counts of the calls of a cache since it was built, and of the entries that left. Each stays at
-/// `u64::MAX` once it has reached that.
+/// Counts of the calls on a cache since it was built, and of the entries that left. Each count
+/// stops at `u64::MAX`.
 ///
-/// Until then `inserts - updates - rejections` is `evictions + expirations + removals` plus the
+/// Until then `inserts - updates - rejections` equals `evictions + expirations + removals` plus the
 /// number of entries.
 #[repr(C)]
 #[derive(Clone, Copy, Debug, Default, PartialEq, Eq)]
@@ -67,15 +67,15 @@ pub struct Statistics {
     pub hits: u64,
     /// Gets that found none.
     pub misses: u64,
-    /// Inserts that were not refused memory: of new entries, let in or not, and updates.
+    /// Inserts that were not refused memory: of new entries, admitted or not, and updates.
     pub inserts: u64,
     /// Inserts that gave a key another value.
     pub updates: u64,
-    /// New entries that the full cache did not let in.
+    /// New entries that the full cache did not admit.
     pub rejections: u64,
-    /// Entries that left for the capacity.
+    /// Entries that were evicted for the capacity.
     pub evictions: u64,
-    /// Expired entries that left.
+    /// Expired entries that were removed.
     pub expirations: u64,
     /// Entries that a call removed.
     pub removals: u64,
@@ -83,23 +83,23 @@ pub struct Statistics {
     pub lost: u64,
 }
 
-/// Why an entry left a cache, or never entered it.
+/// The cause for which an entry left a cache, or was not admitted.
 #[derive(Clone, Copy, Debug, PartialEq, Eq, Hash)]
 pub enum Cause {
-    /// The capacity: other entries are used more.
+    /// It was evicted for the capacity: other entries are used more.
     Size,
-    /// Its time to live or to idle was over.
+    /// Its time to live or to idle had passed.
     Expired,
     /// A call removed it.
     Explicit,
     /// An insert gave its key another value.
     Replaced,
-    /// It was new, and the full cache did not let it in.
+    /// It was new, and the full cache did not admit it.
     Rejected,
 }
 
 impl Cause {
-    /// Reads the header's `enum mini_moka_cause`.
+    /// Converts a number of the header's `enum mini_moka_cause`.
     fn of(number: u32) -> Cause {
         match number {
             0 => Cause::Size,
@@ -112,24 +112,24 @@ impl Cause {
     }
 }
 
-/// An entry that left a cache, or never entered it.
+/// An entry that left a cache, or was not admitted.
 #[derive(Clone, Debug, PartialEq, Eq, Hash)]
 pub struct Removed<T> {
     /// Its key.
     pub key: T,
     /// Its value.
     pub value: T,
-    /// Why it left.
+    /// The cause for which it left.
     pub cause: Cause,
 }
 
-/// The answer of an insert.
+/// The result of an insert.
 #[derive(Clone, Copy, Debug, PartialEq, Eq, Hash)]
 pub enum Inserted {
     /// The value is in the cache.
     Stored,
-    /// The cache was full, and the new key is used less than the entries that would have had to
-    /// leave for it. The cache has no entry of the key.
+    /// The full cache did not admit the new entry: it is too heavy, or used no more than the
+    /// entries that it would have evicted. The cache has no entry of the key.
     Rejected,
 }
 
@@ -148,7 +148,7 @@ type LookUp = unsafe extern "C" fn(
 type NumberLookUp =
     unsafe extern "C" fn(handle: *mut RawHandle, key: u64, now: u64, value: *mut u64) -> u32;
 
-/// A call that says a number of a cache of either kind.
+/// A call that writes a number, on a cache of either kind.
 type Count = unsafe extern "C" fn(handle: *mut RawHandle, count: *mut u64) -> u32;
 
 extern "C" {
@@ -251,28 +251,28 @@ extern "C" {
     fn mini_moka_walk(handle: *mut RawHandle) -> u32;
 }
 
-/// The kind of a handle that keeps a cache of bytes.
+/// The kind of a handle with a cache of bytes.
 pub(crate) enum Bytes {}
 
-/// The kind of a handle that keeps a cache of numbers.
+/// The kind of a handle with a cache of numbers.
 pub(crate) enum Numbers {}
 
-/// A handle of the library, which is open from the moment it is answered until it is dropped.
+/// A handle of the library, which is open from its return by `open` until it is dropped.
 ///
-/// The library's handle stays at one address, in a vector of one: a `Box` would abort if memory
-/// is refused. The cell lets the library change it in calls that take `&self`, and keeps a `Handle`
-/// from being shared by threads; so there is one call of it at a time.
+/// The library's handle stays at one address, in a vector of one: a `Box` would abort if memory is
+/// refused. The cell lets the library change it in calls that take `&self`. It also keeps threads
+/// from sharing a `Handle`, so there is one call on it at a time.
 pub(crate) struct Handle<Kind> {
     place: Vec<UnsafeCell<RawHandle>>,
     kind: PhantomData<Kind>,
 }
 
-// SAFETY: the cache belongs to its handle alone, and the library keeps nothing by thread: its handle
-// is proved to be `Send`. The header allows calls by several threads if there is one at a time.
+// SAFETY: the cache belongs to its handle alone, and the library keeps no thread-local state: its
+// handle is proved to be `Send`. The header allows calls by several threads, one at a time.
 unsafe impl<Kind> Send for Handle<Kind> {}
 
 impl<Kind> Handle<Kind> {
-    /// A handle that keeps nothing yet.
+    /// Creates a closed handle.
     fn closed() -> Result<Handle<Kind>, OutOfMemory> {
         let mut place = Vec::new();
         place.try_reserve_exact(1)?;
@@ -301,8 +301,8 @@ impl<Kind> Handle<Kind> {
 
     fn count(&self, call: Count) -> u64 {
         let mut count = 0;
-        // SAFETY: `at` leads to a handle as the rule wants it, which this `Handle` owns, and
-        // `count` is a variable of this function.
+        // SAFETY: `at` points to a handle that keeps the rules, which this `Handle` owns, and
+        // `count` is a local variable.
         let status = unsafe { call(self.at(), &mut count) };
         expect_done(status);
         count
@@ -310,26 +310,26 @@ impl<Kind> Handle<Kind> {
 
     /// Removes all entries.
     pub(crate) fn clear(&self) {
-        // SAFETY: `at` leads to a handle as the rule wants it, and there is no other pointer.
+        // SAFETY: `at` points to a handle that keeps the rules, and there is no other pointer.
         let status = unsafe { mini_moka_invalidate_all(self.at()) };
         expect_done(status);
     }
 }
 
 impl<Kind> Handle<Kind> {
-    /// Begins a walk through the unexpired entries. Each call that may change the cache ends it,
+    /// Begins a walk over the unexpired entries. Each call that may change the cache ends it,
     /// unless it is refused memory.
     pub(crate) fn begin_walk(&self) {
-        // SAFETY: `at` leads to a handle as the rule wants it, and there is no other pointer.
+        // SAFETY: `at` points to a handle that keeps the rules, and there is no other pointer.
         let status = unsafe { mini_moka_walk(self.at()) };
         expect_done(status);
     }
 
-    /// Returns the counts of the calls.
+    /// Returns the counts of the calls and of the entries that left.
     pub(crate) fn statistics(&self) -> Statistics {
         let mut statistics = Statistics::default();
-        // SAFETY: `at` leads to a handle as the rule wants it, and `statistics` is a variable of
-        // this function, laid out as the header's struct.
+        // SAFETY: `at` points to a handle that keeps the rules, and `statistics` is a local
+        // variable with the layout of the header's struct.
         let status = unsafe { mini_moka_statistics(self.at(), &mut statistics) };
         expect_done(status);
         statistics
@@ -338,15 +338,15 @@ impl<Kind> Handle<Kind> {
 
 impl<Kind> Drop for Handle<Kind> {
     fn drop(&mut self) {
-        // SAFETY: `at` leads to a handle as the rule wants it, closed or open, and no call comes
-        // after this one.
+        // SAFETY: `at` points to a handle that keeps the rules, closed or open, and this call is
+        // the last one on it.
         unsafe { mini_moka_close(self.at()) };
     }
 }
 
-/// What a look-up of bytes found.
+/// The result of a look-up of bytes.
 pub(crate) enum Look {
-    /// A value, which is what the buffer has now.
+    /// A value, which is now in the buffer.
     Copied,
     /// No unexpired entry. The buffer is empty.
     Absent,
@@ -354,25 +354,25 @@ pub(crate) enum Look {
     TooLong(usize),
 }
 
-/// What a step of a walk came to.
+/// The result of a step of a walk.
 pub(crate) enum Step {
-    /// An entry, whose key and value the buffers have now.
+    /// An entry, whose key and value are now in the buffers.
     Copied,
-    /// No entry: each was met. The buffers are empty.
+    /// No entry: the walk has visited each one. The buffers are empty.
     Ended,
-    /// An entry with a key and a value of these lengths, for which a buffer has no room. Both are
-    /// empty, and the walk stays where it is.
+    /// An entry with a key and a value of these lengths, of which at least one exceeds its buffer's
+    /// capacity. Both buffers are empty, and the walk stays at the entry.
     TooLong { key: usize, value: usize },
 }
 
-/// What a drain came to.
+/// The result of a drain.
 pub(crate) enum Drained {
-    /// An entry that left for this cause, whose key and value the buffers have now.
+    /// An entry that left for this cause, whose key and value are now in the buffers.
     Copied(Cause),
     /// No entry. The buffers are empty.
     Empty,
-    /// An entry with a key and a value of these lengths, for which a buffer has no room. Both are
-    /// empty, and the entry stays in front.
+    /// An entry with a key and a value of these lengths, of which at least one exceeds its buffer's
+    /// capacity. Both buffers are empty, and the entry stays at the front.
     TooLong { key: usize, value: usize },
 }
 
@@ -380,22 +380,22 @@ impl Handle<Bytes> {
     /// Opens a handle with a new cache of bytes.
     pub(crate) fn open(settings: &Settings) -> Result<Handle<Bytes>, OutOfMemory> {
         let handle = Handle::<Bytes>::closed()?;
-        // SAFETY: `at` leads to a handle of zeros, which `handle` owns, and `settings` to a
-        // struct that is laid out as the header's.
+        // SAFETY: `at` points to a handle of zeros, which `handle` owns, and `settings` to a struct
+        // with the layout of the header's.
         let status = unsafe { mini_moka_open(handle.at(), settings) };
         written(status)?;
         Ok(handle)
     }
 
-    /// Puts a copy of the value at a copy of the key.
+    /// Inserts a copy of the value under a copy of the key.
     pub(crate) fn insert(
         &self,
         key: &[u8],
         value: &[u8],
         now: u64,
     ) -> Result<Inserted, OutOfMemory> {
-        // SAFETY: `at` leads to a handle as the rule wants it. Both slices have as many bytes as
-        // are passed on, their pointers are never null, and the library only reads them.
+        // SAFETY: `at` points to a handle that keeps the rules. Both slices have the lengths that
+        // are passed, their pointers are never null, and the library only reads them.
         let status = unsafe {
             mini_moka_insert(
                 self.at(),
@@ -409,7 +409,7 @@ impl Handle<Bytes> {
         inserted(status)
     }
 
-    /// Looks the key up, which counts as an access.
+    /// Looks up the key, which counts as an access.
     pub(crate) fn get(
         &self,
         key: &[u8],
@@ -419,7 +419,7 @@ impl Handle<Bytes> {
         self.look_up(mini_moka_get, key, now, buffer)
     }
 
-    /// Looks the key up, which doesn't count as an access.
+    /// Looks up the key, which doesn't count as an access.
     pub(crate) fn peek(
         &self,
         key: &[u8],
@@ -439,7 +439,7 @@ impl Handle<Bytes> {
         self.look_up(mini_moka_remove, key, now, buffer)
     }
 
-    /// Makes the call, and lets it write to all that the vector has room for.
+    /// Makes the call, and lets it write to the vector's whole capacity.
     fn look_up(
         &self,
         call: LookUp,
@@ -449,9 +449,9 @@ impl Handle<Bytes> {
     ) -> Result<Look, OutOfMemory> {
         buffer.clear();
         let mut length = 0;
-        // SAFETY: `at` leads to a handle as the rule wants it. The slice has as many bytes as are
-        // passed on, and the vector owns as many as its capacity, which the library only writes.
-        // Neither pointer is ever null, and `length` is a variable of this function.
+        // SAFETY: `at` points to a handle that keeps the rules. The slice has the length that is
+        // passed, and the vector owns as many bytes as its capacity, which the library only writes.
+        // Neither pointer is ever null, and `length` is a local variable.
         let status = unsafe {
             call(
                 self.at(),
@@ -465,8 +465,8 @@ impl Handle<Bytes> {
         };
         match status {
             DONE => {
-                // SAFETY: the library has written the first `length` bytes of the vector's room,
-                // and answers `DONE` only if the room has that many.
+                // SAFETY: the library has written the first `length` bytes of the vector's
+                // capacity, and returns `DONE` only if the capacity has that many.
                 unsafe { buffer.set_len(length) };
                 Ok(Look::Copied)
             }
@@ -479,8 +479,8 @@ impl Handle<Bytes> {
 
     /// Returns `true` if the key has an unexpired entry.
     pub(crate) fn contains(&self, key: &[u8], now: u64) -> Result<bool, OutOfMemory> {
-        // SAFETY: `at` leads to a handle as the rule wants it. The slice has as many bytes as are
-        // passed on, its pointer is never null, and the library only reads it.
+        // SAFETY: `at` points to a handle that keeps the rules. The slice has the length that is
+        // passed, its pointer is never null, and the library only reads it.
         let status = unsafe { mini_moka_contains(self.at(), key.as_ptr().cast(), key.len(), now) };
         match status {
             DONE => Ok(true),
@@ -498,7 +498,7 @@ impl Handle<Bytes> {
         written(status)
     }
 
-    /// Makes a step of the walk, and lets it write to all that both vectors have room for.
+    /// Makes a step of the walk, and lets it write to the whole capacities of both vectors.
     pub(crate) fn step(
         &self,
         now: u64,
@@ -508,9 +508,9 @@ impl Handle<Bytes> {
         key.clear();
         value.clear();
         let (mut key_length, mut value_length) = (0, 0);
-        // SAFETY: `at` leads to a handle as the rule wants it. Each vector owns as many bytes as
+        // SAFETY: `at` points to a handle that keeps the rules. Each vector owns as many bytes as
         // its capacity, which the library only writes, and its pointer is never null. Both lengths
-        // are variables of this function.
+        // are local variables.
         let status = unsafe {
             mini_moka_next(
                 self.at(),
@@ -525,8 +525,8 @@ impl Handle<Bytes> {
         };
         match status {
             DONE => {
-                // SAFETY: the library has written the first bytes of each vector's room, as many
-                // as it tells, and answers `DONE` only if both rooms have that many.
+                // SAFETY: the library has written the first `key_length` and `value_length` bytes
+                // of the capacities, and returns `DONE` only if the capacities have that many.
                 unsafe {
                     key.set_len(key_length);
                     value.set_len(value_length);
@@ -543,12 +543,12 @@ impl Handle<Bytes> {
         }
     }
 
-    /// Drains a removed entry, and lets it write to all that both vectors have room for.
+    /// Drains a removed entry, and lets the call write to the whole capacities of both vectors.
     pub(crate) fn drain(&self, key: &mut Vec<u8>, value: &mut Vec<u8>) -> Drained {
         key.clear();
         value.clear();
         let (mut key_length, mut value_length, mut cause) = (0, 0, 0);
-        // SAFETY: as in `step`, and the cause is a variable of this function too.
+        // SAFETY: as in `step`, and the cause is a local variable too.
         let status = unsafe {
             mini_moka_removed(
                 self.at(),
@@ -584,26 +584,26 @@ impl Handle<Numbers> {
     /// Opens a handle with a new cache of numbers.
     pub(crate) fn open(settings: &NumberSettings) -> Result<Handle<Numbers>, OutOfMemory> {
         let handle = Handle::<Numbers>::closed()?;
-        // SAFETY: `at` leads to a handle of zeros, which `handle` owns, and `settings` to a
-        // struct that is laid out as the header's.
+        // SAFETY: `at` points to a handle of zeros, which `handle` owns, and `settings` to a struct
+        // with the layout of the header's.
         let status = unsafe { mini_moka_u64_open(handle.at(), settings) };
         written(status)?;
         Ok(handle)
     }
 
-    /// Puts the value at the key.
+    /// Inserts the value under the key.
     pub(crate) fn insert(&self, key: u64, value: u64, now: u64) -> Result<Inserted, OutOfMemory> {
-        // SAFETY: `at` leads to a handle as the rule wants it, and there is no other pointer.
+        // SAFETY: `at` points to a handle that keeps the rules, and there is no other pointer.
         let status = unsafe { mini_moka_u64_insert(self.at(), key, value, now) };
         inserted(status)
     }
 
-    /// Looks the key up, which counts as an access.
+    /// Looks up the key, which counts as an access.
     pub(crate) fn get(&self, key: u64, now: u64) -> Option<u64> {
         self.look_up(mini_moka_u64_get, key, now)
     }
 
-    /// Looks the key up, which doesn't count as an access.
+    /// Looks up the key, which doesn't count as an access.
     pub(crate) fn peek(&self, key: u64, now: u64) -> Option<u64> {
         self.look_up(mini_moka_u64_peek, key, now)
     }
@@ -615,22 +615,21 @@ impl Handle<Numbers> {
 
     fn look_up(&self, call: NumberLookUp, key: u64, now: u64) -> Option<u64> {
         let mut value = 0;
-        // SAFETY: `at` leads to a handle as the rule wants it, and `value` is a variable of this
-        // function.
+        // SAFETY: `at` points to a handle that keeps the rules, and `value` is a local variable.
         let status = unsafe { call(self.at(), key, now, &mut value) };
         is_there(status).then_some(value)
     }
 
     /// Returns `true` if the key has an unexpired entry.
     pub(crate) fn contains(&self, key: u64, now: u64) -> bool {
-        // SAFETY: `at` leads to a handle as the rule wants it, and there is no other pointer.
+        // SAFETY: `at` points to a handle that keeps the rules, and there is no other pointer.
         let status = unsafe { mini_moka_u64_contains(self.at(), key, now) };
         is_there(status)
     }
 
     /// Removes the entry of the key, if there is one.
     pub(crate) fn invalidate(&self, key: u64, now: u64) {
-        // SAFETY: `at` leads to a handle as the rule wants it, and there is no other pointer.
+        // SAFETY: `at` points to a handle that keeps the rules, and there is no other pointer.
         let status = unsafe { mini_moka_u64_invalidate(self.at(), key, now) };
         expect_done(status);
     }
@@ -638,8 +637,8 @@ impl Handle<Numbers> {
     /// Makes a step of the walk, and returns the next entry.
     pub(crate) fn step(&self, now: u64) -> Option<(u64, u64)> {
         let (mut key, mut value) = (0, 0);
-        // SAFETY: `at` leads to a handle as the rule wants it, and `key` and `value` are variables
-        // of this function.
+        // SAFETY: `at` points to a handle that keeps the rules, and `key` and `value` are local
+        // variables.
         let status = unsafe { mini_moka_u64_next(self.at(), now, &mut key, &mut value) };
         is_there(status).then_some((key, value))
     }
@@ -647,8 +646,8 @@ impl Handle<Numbers> {
     /// Drains a removed entry.
     pub(crate) fn drain(&self) -> Option<Removed<u64>> {
         let (mut key, mut value, mut cause) = (0, 0, 0);
-        // SAFETY: `at` leads to a handle as the rule wants it, and `key`, `value` and `cause` are
-        // variables of this function.
+        // SAFETY: `at` points to a handle that keeps the rules, and `key`, `value` and `cause` are
+        // local variables.
         let status = unsafe { mini_moka_u64_removed(self.at(), &mut key, &mut value, &mut cause) };
         is_there(status).then(|| Removed {
             key,
@@ -657,7 +656,7 @@ impl Handle<Numbers> {
         })
     }
 
-    /// Looks the key up, and inserts `otherwise` if that finds nothing.
+    /// Looks up the key, and inserts `otherwise` if it has no value.
     pub(crate) fn get_or_insert(
         &self,
         key: u64,
@@ -665,8 +664,7 @@ impl Handle<Numbers> {
         now: u64,
     ) -> Result<u64, OutOfMemory> {
         let mut value = 0;
-        // SAFETY: `at` leads to a handle as the rule wants it, and `value` is a variable of this
-        // function.
+        // SAFETY: `at` points to a handle that keeps the rules, and `value` is a local variable.
         let status =
             unsafe { mini_moka_u64_get_or_insert(self.at(), key, otherwise, now, &mut value) };
         written(status)?;
@@ -674,7 +672,7 @@ impl Handle<Numbers> {
     }
 }
 
-/// Reads the status of a call that may be refused memory.
+/// Converts the status of a call that may be refused memory.
 fn written(status: u32) -> Result<(), OutOfMemory> {
     match status {
         DONE => Ok(()),
@@ -683,7 +681,7 @@ fn written(status: u32) -> Result<(), OutOfMemory> {
     }
 }
 
-/// Reads the status of an insert.
+/// Converts the status of an insert.
 fn inserted(status: u32) -> Result<Inserted, OutOfMemory> {
     if status == REJECTED {
         return Ok(Inserted::Rejected);
@@ -691,7 +689,7 @@ fn inserted(status: u32) -> Result<Inserted, OutOfMemory> {
     written(status).map(|()| Inserted::Stored)
 }
 
-/// Reads the status of a look-up that takes no memory.
+/// Converts the status of a call that allocates nothing. Returns `true` if it found an entry.
 fn is_there(status: u32) -> bool {
     match status {
         DONE => true,
@@ -700,7 +698,7 @@ fn is_there(status: u32) -> bool {
     }
 }
 
-/// Reads the status of a call that is always made.
+/// Panics if the status isn't `DONE`, for a call that is never refused.
 fn expect_done(status: u32) {
     if status != DONE {
         unexpected(status);
@@ -709,5 +707,5 @@ fn expect_done(status: u32) {
 
 /// Panics at a status that the header rules out.
 fn unexpected(status: u32) -> ! {
-    panic!("libmini_moka.a isn't the library of this package's header: a call answers {status}")
+    panic!("libmini_moka.a doesn't match this package's header: a call returned {status}")
 }

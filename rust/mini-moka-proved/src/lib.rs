@@ -1,8 +1,8 @@
-//! mini-moka's cache, proved, by its static library.
+//! mini-moka's cache, proved: a safe wrapper of its static library.
 //!
 //! A [`Cache`] keeps bytes, and a [`NumberCache`] numbers, for one thread; threads share a
-//! [`sync::Cache`]. A cache is bounded by a number of entries or of bytes, and its entries expire by
-//! a time to live, by a time to idle, or not at all.
+//! [`sync::Cache`]. A cache is bounded by a number of entries or of bytes, and its entries expire
+//! by a time to live, by a time to idle, or not at all.
 //!
 //! ```
 //! use mini_moka_proved::Cache;
@@ -19,9 +19,9 @@
 //! # Ok::<(), Box<dyn std::error::Error>>(())
 //! ```
 //!
-//! The calls of the library are proved; this package, which makes them, is tested. That threads may
-//! share a cache is tested too, under ThreadSanitizer, which also watches the library. The `unsafe` of
-//! this package is in two modules: `handle`, and the coarse clock in `clock`.
+//! The calls of the library are proved; this package, which makes them, is tested. Sharing a cache
+//! between threads is tested too, under ThreadSanitizer, which also checks the library. The
+//! `unsafe` of this package is in two modules: `handle`, and the coarse clock in `clock`.
 
 #![deny(missing_docs, unsafe_code)]
 

@@ -8,14 +8,14 @@ use std::fmt;
 use std::iter::FusedIterator;
 use std::time::Duration;
 
-/// A cache for one thread whose keys and values are numbers of 64 bits.
+/// A single-thread cache whose keys and values are 64-bit numbers.
 ///
-/// It is the [`Cache`](crate::Cache) of bytes for numbers, which take no memory of their own.
-/// Sizes, moments, threads and cost are as there, but nothing is copied. No look-up takes memory,
-/// so only inserts can be refused memory.
+/// It works as the [`Cache`](crate::Cache) of bytes: size, moments, threads and cost are as there.
+/// Numbers take no memory of their own, and nothing is copied. No look-up allocates, so only
+/// inserts can be refused memory.
 ///
-/// The keys' hash has a fixed key. If strangers choose the keys, they can choose ones of one hash,
-/// which makes the cache slow: use a `Cache` with a random seed then.
+/// The hash function has a fixed key. If strangers choose the cache's keys, they can choose ones
+/// with the same hash, which makes the cache slow. Use a `Cache` with a random seed then.
 ///
 /// ```
 /// use mini_moka_proved::NumberCache;
@@ -41,7 +41,7 @@ impl NumberCache {
     /// [`OutOfMemory`] if memory is refused.
     pub fn new(max_capacity: u64) -> Result<NumberCache, OutOfMemory> {
         let built = NumberCache::builder().max_capacity(max_capacity).build();
-        // Without a duration nothing else is refused.
+        // Without a duration there is no other error.
         built.map_err(|_| OutOfMemory)
     }
 
@@ -58,28 +58,30 @@ impl NumberCache {
         Ok(NumberCache { handle, clock })
     }
 
-    /// Returns the moment of the cache's clock. It is always zero if the cache has no duration.
+    /// Returns the current moment of the cache's clock. It is always zero if the cache has no
+    /// duration.
     pub fn now(&self) -> Duration {
         self.clock.elapsed()
     }
 
-    /// Looks the key up, and returns its value. The key is counted, found or not, and its entry
+    /// Looks up the key, and returns its value. The key is counted, found or not, and its entry
     /// becomes the most recently used one.
     pub fn get(&mut self, key: u64) -> Option<u64> {
         self.get_at(key, self.now())
     }
 
-    /// Looks the key up as [`get`](Self::get) does, at a moment.
+    /// Looks up the key as [`get`](Self::get) does, at the moment `now`.
     pub fn get_at(&mut self, key: u64, now: Duration) -> Option<u64> {
         self.handle.get(key, nanoseconds(now))
     }
 
-    /// Looks the key up. It doesn't count as an access: nothing is counted, moved or removed.
+    /// Looks up the key, and returns its value. It doesn't count as an access: it counts, moves and
+    /// removes nothing.
     pub fn peek(&self, key: u64) -> Option<u64> {
         self.peek_at(key, self.now())
     }
 
-    /// Looks the key up as [`peek`](Self::peek) does, at a moment.
+    /// Looks up the key as [`peek`](Self::peek) does, at the moment `now`.
     pub fn peek_at(&self, key: u64, now: Duration) -> Option<u64> {
         self.handle.peek(key, nanoseconds(now))
     }
@@ -89,13 +91,13 @@ impl NumberCache {
         self.contains_key_at(key, self.now())
     }
 
-    /// Looks the key up as [`contains_key`](Self::contains_key) does, at a moment.
+    /// Looks up the key as [`contains_key`](Self::contains_key) does, at the moment `now`.
     pub fn contains_key_at(&mut self, key: u64, now: Duration) -> bool {
         self.handle.contains(key, nanoseconds(now))
     }
 
-    /// Looks the key up as [`get`](Self::get) does, and inserts `otherwise` if there is nothing. It
-    /// returns the value that the key had, or `otherwise`, even if that was rejected.
+    /// Looks up the key as [`get`](Self::get) does, and inserts `otherwise` if the key has no
+    /// value. Returns the key's value, or `otherwise`, even if its entry was rejected.
     ///
     /// # Errors
     ///
@@ -104,7 +106,7 @@ impl NumberCache {
         self.get_or_insert_at(key, otherwise, self.now())
     }
 
-    /// Looks the key up as [`get_or_insert`](Self::get_or_insert) does, at a moment.
+    /// Looks up the key as [`get_or_insert`](Self::get_or_insert) does, at the moment `now`.
     ///
     /// # Errors
     ///
@@ -118,14 +120,15 @@ impl NumberCache {
         self.handle.get_or_insert(key, otherwise, nanoseconds(now))
     }
 
-    /// Looks the key up as [`get`](Self::get) does, and inserts what `make` returns if there is
-    /// nothing. It returns the value that the key had, or that of `make`, even if that was rejected.
+    /// Looks up the key as [`get`](Self::get) does, and inserts the value that `make` returns if
+    /// the key has none. Returns the key's value, or that of `make`, even if its entry was
+    /// rejected.
     ///
     /// The new entry's time to live begins when `make` has returned.
     ///
     /// # Errors
     ///
-    /// [`OutOfMemory`] if the insert is refused memory. Then no entry was written.
+    /// [`OutOfMemory`] if the insert is refused memory. Then no entry is written.
     pub fn get_or_insert_with(
         &mut self,
         key: u64,
@@ -139,8 +142,8 @@ impl NumberCache {
         Ok(value)
     }
 
-    /// Looks the key up as [`get_or_insert_with`](Self::get_or_insert_with) does, at a moment, which
-    /// is that of the insert too.
+    /// Looks up the key as [`get_or_insert_with`](Self::get_or_insert_with) does, at the moment
+    /// `now`, which is also that of the insert.
     ///
     /// # Errors
     ///
@@ -159,17 +162,17 @@ impl NumberCache {
         Ok(value)
     }
 
-    /// Puts the value at the key. If the cache is full and its capacity is below 100, so that it has
-    /// no window, a new entry may be rejected: [`Inserted::Rejected`].
+    /// Inserts the value under the key. If the cache is full and its capacity is below 100, so that
+    /// it has no window, a new entry may be rejected: [`Inserted::Rejected`].
     ///
     /// # Errors
     ///
-    /// [`OutOfMemory`] if memory is refused. Then no entry was written.
+    /// [`OutOfMemory`] if memory is refused. Then no entry is written.
     pub fn insert(&mut self, key: u64, value: u64) -> Result<Inserted, OutOfMemory> {
         self.insert_at(key, value, self.now())
     }
 
-    /// Puts the value at the key as [`insert`](Self::insert) does, at a moment.
+    /// Inserts the value under the key as [`insert`](Self::insert) does, at the moment `now`.
     ///
     /// # Errors
     ///
@@ -187,49 +190,49 @@ impl NumberCache {
     ///
     /// # Errors
     ///
-    /// None: a removal takes no memory. It returns a `Result` as
+    /// None: a removal allocates nothing. It returns a `Result` as
     /// [`Cache::remove`](crate::Cache::remove) does.
     pub fn remove(&mut self, key: u64) -> Result<Option<u64>, OutOfMemory> {
         self.remove_at(key, self.now())
     }
 
-    /// Removes the entry of the key as [`remove`](Self::remove) does, at a moment.
+    /// Removes the entry of the key as [`remove`](Self::remove) does, at the moment `now`.
     ///
     /// # Errors
     ///
-    /// None, as there.
+    /// None: a removal allocates nothing.
     pub fn remove_at(&mut self, key: u64, now: Duration) -> Result<Option<u64>, OutOfMemory> {
         Ok(self.handle.remove(key, nanoseconds(now)))
     }
 
-    /// Removes the entry of the key, if there is one, and returns nothing.
+    /// Removes the entry of the key, if there is one, without returning its value.
     ///
     /// # Errors
     ///
-    /// None: a removal takes no memory. It returns a `Result` as
+    /// None: a removal allocates nothing. It returns a `Result` as
     /// [`Cache::invalidate`](crate::Cache::invalidate) does.
     pub fn invalidate(&mut self, key: u64) -> Result<(), OutOfMemory> {
         self.invalidate_at(key, self.now())
     }
 
-    /// Removes the entry of the key as [`invalidate`](Self::invalidate) does, at a moment.
+    /// Removes the entry of the key as [`invalidate`](Self::invalidate) does, at the moment `now`.
     ///
     /// # Errors
     ///
-    /// None, as there.
+    /// None: a removal allocates nothing.
     pub fn invalidate_at(&mut self, key: u64, now: Duration) -> Result<(), OutOfMemory> {
         self.handle.invalidate(key, nanoseconds(now));
         Ok(())
     }
 
-    /// Removes all entries. It takes time linear in their number.
+    /// Removes all entries, in time linear in their number.
     pub fn clear(&mut self) {
         self.handle.clear();
     }
 
-    /// Returns an iterator over the unexpired entries, as pairs of key and value: the least recently
-    /// used one first, and those of the window last. It doesn't count as an access, and removes
-    /// none.
+    /// Returns an iterator over the unexpired entries, as pairs of key and value. The least
+    /// recently used one comes first, and those of the window last. It doesn't count as an access,
+    /// and removes none.
     ///
     /// ```
     /// use mini_moka_proved::NumberCache;
@@ -246,7 +249,7 @@ impl NumberCache {
         self.iter_at(self.now())
     }
 
-    /// Returns an iterator as [`iter`](Self::iter) does, at a moment.
+    /// Returns an iterator as [`iter`](Self::iter) does, at the moment `now`.
     pub fn iter_at(&mut self, now: Duration) -> NumberIter<'_> {
         self.handle.begin_walk();
         NumberIter {
@@ -255,7 +258,7 @@ impl NumberCache {
         }
     }
 
-    /// Returns an iterator that drains the entries that left, as [`Cache::removed`] does.
+    /// Returns an iterator that drains the removed entries, as [`Cache::removed`] does.
     ///
     /// [`Cache::removed`]: crate::Cache::removed
     ///
@@ -290,7 +293,7 @@ impl NumberCache {
         self.handle.weighted_size()
     }
 
-    /// Returns the counts of the calls since the cache was built.
+    /// Returns the counts of the calls, and of the entries that left, since the cache was built.
     ///
     /// ```
     /// use mini_moka_proved::NumberCache;
@@ -307,7 +310,7 @@ impl NumberCache {
     }
 }
 
-/// An iterator over a cache's unexpired entries, by [`NumberCache::iter`].
+/// An iterator over a cache's unexpired entries, created by [`NumberCache::iter`].
 ///
 /// A step takes constant time on average for each entry that it passes.
 #[derive(Debug)]
@@ -331,7 +334,7 @@ impl Iterator for NumberIter<'_> {
 
 impl FusedIterator for NumberIter<'_> {}
 
-/// An iterator that drains the entries that left a cache, by [`NumberCache::removed`].
+/// An iterator that drains the removed entries of a cache, created by [`NumberCache::removed`].
 #[derive(Debug)]
 pub struct NumberRemovedIter<'a> {
     cache: &'a mut NumberCache,

@@ -1,7 +1,7 @@
-//! A cache that threads share: segments, each a [`crate::Cache`] behind a lock of its own.
+//! A cache that threads share: segments, each a [`crate::Cache`] behind its own lock.
 //!
-//! The caches inside are proved. The hand-over between threads is tested: by this package's tests,
-//! and by its example `threads` under ThreadSanitizer, which also watches the library.
+//! The caches inside are proved. The sharing between threads is tested: by this package's tests,
+//! and by its example `threads` under ThreadSanitizer, which also checks the library.
 
 use crate::builder;
 use crate::clock::Clock;
@@ -12,12 +12,12 @@ use std::iter::FusedIterator;
 use std::sync::{Arc, Mutex, MutexGuard, PoisonError};
 use std::time::Duration;
 
-/// The most segments of a cache for which no number is set.
+/// The maximum number of segments of a cache for which no number is set.
 const MOST_SEGMENTS: u64 = 16;
 
 /// A cache that threads share, whose keys and values are bytes of any length.
 ///
-/// A clone is another handle on the same cache. It keeps copies, and returns copies.
+/// A clone is another handle on the same cache. The cache stores copies, and returns copies.
 ///
 /// ```
 /// use mini_moka_proved::sync::Cache;
@@ -39,16 +39,19 @@ const MOST_SEGMENTS: u64 = 16;
 ///
 /// # Segments
 ///
-/// A key belongs to one segment, which has its part of the capacity and an admission policy of its
-/// own. A call waits only for calls in the same segment. If keys are unevenly spread, one segment
-/// rejects entries while another has capacity left.
+/// A key belongs to one segment, which has its part of the capacity and its own admission policy. A
+/// call waits only for calls in the same segment. If keys are unevenly spread, one segment rejects
+/// entries while another has capacity left.
 ///
 /// # Calls
 ///
-/// Calls are those of [`crate::Cache`], by `&self`. A call at a key is one step: another thread sees
-/// the cache before it or after it. Calls on all segments, as [`len`](Self::len), take one segment
-/// after another. All segments read one clock. Each call that needs a moment has a second form, whose
-/// name ends in `_at`, that takes it as a duration since that clock's start.
+/// The calls are those of [`crate::Cache`], on `&self`. A call with a key is one step: another
+/// thread sees the cache before it or after it. Only
+/// [`get_or_insert_with`](Self::get_or_insert_with) is two steps, a look-up and an insert. Calls on
+/// all segments, as [`len`](Self::len), lock one segment after another.
+///
+/// All segments read one clock. Each call that needs a moment has a second form, whose name ends in
+/// `_at`. It takes the moment as a duration since the clock's start.
 ///
 /// # Memory
 ///
@@ -63,7 +66,7 @@ struct Shared {
     clock: Clock,
 }
 
-/// A segment fills its cache lines, so that threads in different segments don't share one.
+/// A segment, which fills its cache lines, so that threads in different segments don't share one.
 #[repr(align(128))]
 struct Segment {
     cache: Mutex<crate::Cache>,
@@ -77,7 +80,7 @@ impl Cache {
     /// [`OutOfMemory`] if memory is refused.
     pub fn new(max_capacity: u64) -> Result<Cache, OutOfMemory> {
         let built = Cache::builder().max_capacity(max_capacity).build();
-        // Without a duration nothing else is refused.
+        // Without a duration there is no other error.
         built.map_err(|_| OutOfMemory)
     }
 
@@ -86,21 +89,21 @@ impl Cache {
         Builder::default()
     }
 
-    /// Looks the key up, and returns a copy of its value.
+    /// Looks up the key, and returns a copy of its value.
     ///
     /// The key is counted, found or not, and its entry becomes the most recently used one of its
-    /// segment. If memory is refused, it answers as if the key had no entry.
+    /// segment. If memory is refused, it returns `None`.
     pub fn get(&self, key: impl AsRef<[u8]>) -> Option<Vec<u8>> {
         self.get_at(key, self.now())
     }
 
-    /// Looks the key up as [`get`](Self::get) does, at a moment.
+    /// Looks up the key as [`get`](Self::get) does, at the moment `now`.
     pub fn get_at(&self, key: impl AsRef<[u8]>, now: Duration) -> Option<Vec<u8>> {
         self.try_get_at(key, now).ok().flatten()
     }
 
-    /// Looks the key up as [`get`](Self::get) does, and tells a key without an entry from one for
-    /// which memory was refused.
+    /// Looks up the key as [`get`](Self::get) does, and distinguishes a key without an entry from
+    /// refused memory.
     ///
     /// # Errors
     ///
@@ -109,7 +112,7 @@ impl Cache {
         self.try_get_at(key, self.now())
     }
 
-    /// Looks the key up as [`try_get`](Self::try_get) does, at a moment.
+    /// Looks up the key as [`try_get`](Self::try_get) does, at the moment `now`.
     ///
     /// # Errors
     ///
@@ -123,7 +126,7 @@ impl Cache {
         self.segment(key).try_get_at(key, now)
     }
 
-    /// Looks the key up as [`get`](Self::get) does, writes its value to `buffer`, and returns
+    /// Looks up the key as [`get`](Self::get) does, and writes its value to `buffer`. Returns
     /// `true` if there is one. If no value is found, the buffer is empty.
     ///
     /// ```
@@ -148,7 +151,7 @@ impl Cache {
         self.get_into_at(key, buffer, self.now())
     }
 
-    /// Looks the key up as [`get_into`](Self::get_into) does, at a moment.
+    /// Looks up the key as [`get_into`](Self::get_into) does, at the moment `now`.
     ///
     /// # Errors
     ///
@@ -163,12 +166,12 @@ impl Cache {
         self.segment(key).get_into_at(key, buffer, now)
     }
 
-    /// Looks the key up and returns a copy of its value. It doesn't count as an access.
+    /// Looks up the key, and returns a copy of its value. It doesn't count as an access.
     pub fn peek(&self, key: impl AsRef<[u8]>) -> Option<Vec<u8>> {
         self.peek_at(key, self.now())
     }
 
-    /// Looks the key up as [`peek`](Self::peek) does, at a moment.
+    /// Looks up the key as [`peek`](Self::peek) does, at the moment `now`.
     pub fn peek_at(&self, key: impl AsRef<[u8]>, now: Duration) -> Option<Vec<u8>> {
         let key = key.as_ref();
         self.segment(key).peek_at(key, now)
@@ -179,16 +182,17 @@ impl Cache {
         self.contains_key_at(key, self.now())
     }
 
-    /// Looks the key up as [`contains_key`](Self::contains_key) does, at a moment.
+    /// Looks up the key as [`contains_key`](Self::contains_key) does, at the moment `now`.
     pub fn contains_key_at(&self, key: impl AsRef<[u8]>, now: Duration) -> bool {
         let key = key.as_ref();
         self.segment(key).contains_key_at(key, now)
     }
 
-    /// Looks the key up as [`get`](Self::get) does, and inserts what `make` returns if there is
-    /// nothing. It returns the value that the key had, or that of `make`, even if that was rejected.
+    /// Looks up the key as [`get`](Self::get) does, and inserts the value that `make` returns if
+    /// the key has none. Returns the key's value, or that of `make`, even if its entry was
+    /// rejected.
     ///
-    /// No lock is held while `make` runs. So it may call the cache, and two threads may both make a
+    /// No lock is held while `make` runs, so it may call the cache. Two threads may both make a
     /// value for one key; the later insert stays.
     ///
     /// ```
@@ -217,8 +221,8 @@ impl Cache {
         Ok(value)
     }
 
-    /// Looks the key up as [`get_or_insert_with`](Self::get_or_insert_with) does, at a moment, which
-    /// is that of the insert too.
+    /// Looks up the key as [`get_or_insert_with`](Self::get_or_insert_with) does, at the moment
+    /// `now`, which is also that of the insert.
     ///
     /// # Errors
     ///
@@ -238,8 +242,8 @@ impl Cache {
         Ok(value)
     }
 
-    /// Puts a copy of the value at a copy of the key. If the segment is full, a new entry that doesn't
-    /// fit in its window may be rejected: [`Inserted::Rejected`].
+    /// Inserts a copy of the value under a copy of the key. If the segment is full, a new entry
+    /// that doesn't fit in its window may be rejected: [`Inserted::Rejected`].
     ///
     /// # Errors
     ///
@@ -252,7 +256,8 @@ impl Cache {
         self.insert_at(key, value, self.now())
     }
 
-    /// Puts a copy of the value at a copy of the key as [`insert`](Self::insert) does, at a moment.
+    /// Inserts copies of the key and the value as [`insert`](Self::insert) does, at the moment
+    /// `now`.
     ///
     /// # Errors
     ///
@@ -276,7 +281,7 @@ impl Cache {
         self.remove_at(key, self.now())
     }
 
-    /// Removes the entry of the key as [`remove`](Self::remove) does, at a moment.
+    /// Removes the entry of the key as [`remove`](Self::remove) does, at the moment `now`.
     ///
     /// # Errors
     ///
@@ -290,7 +295,7 @@ impl Cache {
         self.segment(key).remove_at(key, now)
     }
 
-    /// Removes the entry of the key, if there is one, and returns nothing.
+    /// Removes the entry of the key, if there is one, without returning its value.
     ///
     /// # Errors
     ///
@@ -299,7 +304,7 @@ impl Cache {
         self.invalidate_at(key, self.now())
     }
 
-    /// Removes the entry of the key as [`invalidate`](Self::invalidate) does, at a moment.
+    /// Removes the entry of the key as [`invalidate`](Self::invalidate) does, at the moment `now`.
     ///
     /// # Errors
     ///
@@ -309,19 +314,20 @@ impl Cache {
         self.segment(key).invalidate_at(key, now)
     }
 
-    /// Removes all entries, of one segment after another.
+    /// Removes all entries, one segment after another.
     pub fn clear(&self) {
         for segment in &self.shared.segments {
             segment.lock().clear();
         }
     }
 
-    /// Returns an iterator over copies of the unexpired entries, as pairs of key and value, of one
+    /// Returns an iterator over copies of the unexpired entries, as pairs of key and value, one
     /// segment after another. It doesn't count as an access, and removes none.
     ///
-    /// A segment's entries are copied when the iterator comes to it, under its lock. So another
-    /// thread is never kept waiting for the rest of the iteration, and each key comes once at most. If
-    /// memory for the copies of a segment is refused, the next step copies it again.
+    /// When the iterator reaches a segment, it copies the segment's entries under its lock. So no
+    /// thread waits for the rest of the iteration, and each key comes once at most. If memory for
+    /// the copies of a segment is refused, the iterator yields an error, and tries that segment
+    /// again next.
     ///
     /// ```
     /// use mini_moka_proved::sync::Cache;
@@ -338,7 +344,7 @@ impl Cache {
         self.iter_at(self.now())
     }
 
-    /// Returns an iterator as [`iter`](Self::iter) does, at a moment.
+    /// Returns an iterator as [`iter`](Self::iter) does, at the moment `now`.
     pub fn iter_at(&self, now: Duration) -> Iter<'_> {
         Iter {
             left: &self.shared.segments,
@@ -347,11 +353,11 @@ impl Cache {
         }
     }
 
-    /// Returns an iterator that drains the entries that left, as [`crate::Cache::removed`] does, of
-    /// one segment after another. Those of one key come in the order in which they left.
+    /// Returns an iterator that drains the removed entries, as [`crate::Cache::removed`] does, one
+    /// segment after another. Those of one key come in the order in which they left.
     ///
-    /// A step locks a segment only while it copies an entry. Threads that drain at once share the
-    /// entries.
+    /// A step locks a segment only while it copies an entry. Threads that drain at the same time
+    /// share the entries.
     ///
     /// ```
     /// use mini_moka_proved::sync::Cache;
@@ -389,7 +395,7 @@ impl Cache {
             .fold(0, u64::saturating_add)
     }
 
-    /// Returns the counts of the calls since the cache was built.
+    /// Returns the counts of the calls, and of the entries that left, since the cache was built.
     pub fn statistics(&self) -> Statistics {
         let segments = self.shared.segments.iter();
         segments.map(|segment| segment.lock().statistics()).fold(
@@ -413,7 +419,8 @@ impl Cache {
         self.shared.segments.len()
     }
 
-    /// Returns the moment of the cache's clock. It is always zero if the cache has no duration.
+    /// Returns the current moment of the cache's clock. It is always zero if the cache has no
+    /// duration.
     pub fn now(&self) -> Duration {
         self.shared.clock.elapsed()
     }
@@ -427,14 +434,15 @@ impl Cache {
 }
 
 impl Segment {
-    /// Locks the cache. A call that panicked in another thread left it whole.
+    /// Locks the cache, even if a thread panicked while it held the lock: its call left the cache
+    /// intact.
     #[cfg(not(mini_moka_watched))]
     fn lock(&self) -> MutexGuard<'_, crate::Cache> {
         self.cache.lock().unwrap_or_else(PoisonError::into_inner)
     }
 
-    /// Locks the cache for ThreadSanitizer, which doesn't see a thread that waits within std, since
-    /// std isn't compiled for it.
+    /// Locks the cache without a wait inside std, which ThreadSanitizer wouldn't see, since std
+    /// isn't compiled for it.
     #[cfg(mini_moka_watched)]
     fn lock(&self) -> MutexGuard<'_, crate::Cache> {
         use std::sync::TryLockError;
@@ -462,7 +470,7 @@ impl Segment {
 /// A pair of a key and its value.
 type Pair = (Vec<u8>, Vec<u8>);
 
-/// An iterator over copies of the unexpired entries of a cache that threads share, by
+/// An iterator over copies of the unexpired entries of a cache that threads share, created by
 /// [`Cache::iter`].
 pub struct Iter<'a> {
     // The segments that haven't been copied.
@@ -491,7 +499,7 @@ impl Iterator for Iter<'_> {
     }
 
     fn size_hint(&self) -> (usize, Option<usize>) {
-        // A refused segment comes again, so there is no upper bound.
+        // A refused segment is tried again, so there is no upper bound.
         (self.copied.len(), None)
     }
 }
@@ -506,12 +514,12 @@ impl fmt::Debug for Iter<'_> {
     }
 }
 
-/// An iterator that drains the entries that left a cache that threads share, by
+/// An iterator that drains the removed entries of a cache that threads share, created by
 /// [`Cache::removed`].
 ///
-/// If memory is refused for the copy of an entry, the next step comes to it again.
+/// If memory for the copy of an entry is refused, the next step tries that entry again.
 pub struct RemovedIter<'a> {
-    // The segments that haven't been found empty.
+    // The segments that may still have removed entries.
     left: &'a [Segment],
 }
 
@@ -568,7 +576,7 @@ impl fmt::Debug for Cache {
 }
 
 /// Hashes a key by products of its words, to pick a segment. Keys that strangers choose may all
-/// belong to one segment, which makes that one busy, and no slower.
+/// belong to one segment, which is then busy, but no slower.
 fn hash(seed: u64, key: &[u8]) -> u64 {
     let mut hash = seed ^ key.len() as u64;
     for word in key.chunks(8) {
@@ -580,7 +588,7 @@ fn hash(seed: u64, key: &[u8]) -> u64 {
     hash
 }
 
-/// Builds a [`Cache`] that threads share. A cache has no limit that isn't set.
+/// Builds a [`Cache`] that threads share. A cache has only the limits that are set.
 ///
 /// ```
 /// use mini_moka_proved::sync::Cache;
@@ -602,50 +610,50 @@ pub struct Builder {
 }
 
 impl Builder {
-    /// Sets the most entries, or with [`weigh_bytes`](Self::weigh_bytes) the most bytes. The parts
-    /// of the segments are the whole.
+    /// Sets the maximum number of entries, or with [`weigh_bytes`](Self::weigh_bytes) of bytes. The
+    /// parts of the segments add up to it.
     pub fn max_capacity(mut self, max_capacity: u64) -> Builder {
         self.whole = self.whole.max_capacity(max_capacity);
         self
     }
 
-    /// Makes the capacity count the bytes of keys and values, and not entries.
+    /// Makes the capacity count the bytes of keys and values instead of entries.
     ///
-    /// A new entry that weighs more than its segment's part of the capacity is rejected. An update to
-    /// such a weight may empty the segment, as [`crate::Builder::weigh_bytes`] says.
+    /// A new entry that weighs more than its segment's part of the capacity is rejected. An update
+    /// to such a weight may empty the segment, as [`crate::Builder::weigh_bytes`] says.
     pub fn weigh_bytes(mut self) -> Builder {
         self.whole = self.whole.weigh_bytes();
         self
     }
 
-    /// Sets how long an entry lives after it was last written. It is expired from the end of that
+    /// Sets the time that an entry lives after its last write. It is expired from the end of that
     /// time on.
     pub fn time_to_live(mut self, duration: Duration) -> Builder {
         self.whole = self.whole.time_to_live(duration);
         self
     }
 
-    /// Sets how long an entry lives after it was last read or written.
+    /// Sets the time that an entry lives after its last read or write.
     pub fn time_to_idle(mut self, duration: Duration) -> Builder {
         self.whole = self.whole.time_to_idle(duration);
         self
     }
 
-    /// Reserves memory for so many entries from the start, as
+    /// Reserves memory for `entries` entries from the start, as
     /// [`crate::Builder::initial_capacity`] does.
     pub fn initial_capacity(mut self, entries: usize) -> Builder {
         self.whole = self.whole.initial_capacity(entries);
         self
     }
 
-    /// Sets the key of the hash of the cache's keys, as [`crate::Builder::seed`] does.
+    /// Sets the key of the hash function, as [`crate::Builder::seed`] does.
     pub fn seed(mut self, seed: [u8; 16]) -> Builder {
         self.whole = self.whole.seed(seed);
         self
     }
 
-    /// Keeps up to so many entries that leave, for [`Cache::removed`] to drain. Each segment has an
-    /// equal part of them, rounded up.
+    /// Queues up to `entries` removed entries, for [`Cache::removed`] to drain. Each segment queues
+    /// an equal part of them, rounded up.
     pub fn removed_room(mut self, entries: usize) -> Builder {
         self.whole = self.whole.removed_room(entries);
         self
@@ -657,12 +665,12 @@ impl Builder {
         self
     }
 
-    /// Sets the number of segments, from 1 to 65,536; a number outside becomes the nearer of the two.
-    /// With more segments than the capacity some keep nothing.
+    /// Sets the number of segments, clamped to the range from 1 to 65,536. With more segments than
+    /// the capacity some keep nothing.
     ///
-    /// By default a cache has 16, or fewer, so that each has a capacity of 100 entries, or of 1 MiB
-    /// if bytes are weighed. A smaller segment has no window, or one that fits only small entries, so
-    /// more new entries are rejected.
+    /// By default a cache has 16 segments, or fewer, so that each has a capacity of at least 100
+    /// entries, or 1 MiB if bytes are weighed. A smaller cache has one segment. A smaller segment
+    /// has no window, or one that fits only small entries, so more new entries are rejected.
     pub fn segments(mut self, segments: usize) -> Builder {
         self.segments = Some(segments.clamp(1, 1 << 16));
         self
@@ -681,7 +689,7 @@ impl Builder {
             .map_err(OutOfMemory::from)?;
         for at in 0..count {
             let part = self.whole.part(count as u64, at as u64);
-            // A segment is passed the moment of the clock that all share.
+            // Calls pass the moment of the shared clock, so a segment needs no clock.
             segments.push(Segment {
                 cache: Mutex::new(part.build_with(Clock::standing())?),
             });

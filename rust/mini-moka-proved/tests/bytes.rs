@@ -1,4 +1,4 @@
-//! The cache of bytes, call by call.
+//! Tests each call of the cache of bytes.
 
 use mini_moka_proved::{BuildError, Cache, Cause, Inserted, Removed, Statistics};
 use std::thread::sleep;
@@ -8,12 +8,12 @@ const SECOND: Duration = Duration::from_secs(1);
 const NANOSECOND: Duration = Duration::from_nanos(1);
 const START: Duration = Duration::ZERO;
 
-/// A cache without limits.
+/// Creates a cache without limits.
 fn unlimited() -> Cache {
     Cache::builder().build().unwrap()
 }
 
-/// `length` bytes that differ.
+/// Returns `length` varying bytes.
 fn bytes(length: usize) -> Vec<u8> {
     (0..length).map(|at| (at * 7 + at / 251) as u8).collect()
 }
@@ -236,7 +236,7 @@ fn statistics_count_gets_and_inserts_and_what_leaves() {
     assert!(cache.get_at([9], SECOND).is_none());
     assert!(cache.peek_at([1], SECOND).is_some());
     assert!(cache.remove_at([1], SECOND).unwrap().is_some());
-    // Two are left, and expire.
+    // The two remaining entries expire.
     assert!(!cache.contains_key_at([0], 10 * SECOND));
     let expected = Statistics {
         hits: 2,
@@ -273,7 +273,7 @@ fn statistics_count_what_leaves_by_cause() {
     assert_eq!(cache.statistics(), expected);
 }
 
-/// Drains what left, as "key=value cause".
+/// Drains the removed entries, and returns them as "key=value cause".
 fn drained(cache: &mut Cache) -> Vec<String> {
     let text = |bytes| String::from_utf8(bytes).unwrap();
     let removed = cache.removed().map(Result::unwrap);
@@ -393,7 +393,7 @@ fn a_cache_goes_on_after_a_panic_of_make() {
     let mut cache = unlimited();
     cache.insert(b"other", b"value").unwrap();
     let panicked = std::panic::catch_unwind(std::panic::AssertUnwindSafe(|| {
-        cache.get_or_insert_with(b"key", || panic!("as it should"))
+        cache.get_or_insert_with(b"key", || panic!("a test panic"))
     }));
     assert!(panicked.is_err());
     assert_eq!(cache.get(b"other"), Some(b"value".to_vec()));
@@ -438,7 +438,7 @@ fn a_cache_shows_its_counts() {
     assert_eq!(shown, "Cache { len: 1, weighted_size: 1, .. }");
 }
 
-/// The pairs of an iterator at a moment, as texts.
+/// Returns the pairs of an iterator at a moment, as texts.
 fn pairs(cache: &mut Cache, now: Duration) -> Vec<String> {
     cache
         .iter_at(now)

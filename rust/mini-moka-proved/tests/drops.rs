@@ -1,4 +1,4 @@
-//! What a cache takes is freed with it.
+//! Tests that dropping a cache frees its memory.
 
 #![cfg(target_os = "linux")]
 
@@ -7,7 +7,7 @@ use std::fs;
 
 const MIB: usize = 1 << 20;
 
-/// The memory of this process that is in use, in bytes.
+/// Returns the resident memory of this process, in bytes.
 fn resident() -> usize {
     let status = fs::read_to_string("/proc/self/status").unwrap();
     let line = status.lines().find(|line| line.starts_with("VmRSS:"));
@@ -15,7 +15,7 @@ fn resident() -> usize {
     number.unwrap().parse::<usize>().unwrap() * 1024
 }
 
-/// A cache with a value of 1 MiB, and more than 1 MiB of small entries.
+/// Fills and drops a cache with a value of 1 MiB and 1000 small entries, and a cache of numbers.
 fn fill() {
     let mut bytes = Cache::builder().build().unwrap();
     bytes.insert(b"key", vec![1; MIB]).unwrap();
@@ -37,5 +37,5 @@ fn a_dropped_cache_frees_what_it_has() {
         fill();
     }
     let after = resident();
-    assert!(after < before + 32 * MIB, "{before} bytes became {after}");
+    assert!(after < before + 32 * MIB, "{before} bytes grew to {after}");
 }

@@ -1,4 +1,4 @@
-//! Random calls beside a map that does the same.
+//! Compares random calls with those of a map.
 
 use mini_moka_proved::{Cache, Inserted, NumberCache};
 use std::collections::HashMap;
@@ -9,7 +9,7 @@ const KEYS: u64 = 400;
 const TIME_TO_LIVE: u64 = 3000;
 const TIME_TO_IDLE: u64 = 1000;
 
-/// Numbers that look random: splitmix64.
+/// Pseudorandom numbers, by splitmix64.
 struct Random(u64);
 
 impl Random {
@@ -24,14 +24,14 @@ impl Random {
         self.next() % limit
     }
 
-    /// A key of 0 to 39 bytes, of which there are `KEYS`.
+    /// Returns one of at most `KEYS` keys, of 0 to 39 bytes.
     fn key(&mut self) -> Vec<u8> {
         let key = self.below(KEYS);
         let length = (key % 40) as usize;
         key.to_le_bytes().into_iter().cycle().take(length).collect()
     }
 
-    /// A value of up to 599 bytes, so that some are too long for a first look-up.
+    /// Returns a value of up to 599 bytes, so that some are too long for a first look-up.
     fn value(&mut self) -> Vec<u8> {
         let length = self.below(600) as usize;
         let byte = self.next() as u8;
@@ -39,7 +39,7 @@ impl Random {
     }
 }
 
-/// A value, and when it was last written and last used.
+/// A value, and the moments of its last write and its last use.
 #[derive(Clone)]
 struct Entry {
     value: Vec<u8>,
@@ -88,7 +88,7 @@ impl Model {
     }
 }
 
-/// Makes one call on both, and compares what they answer.
+/// Makes one call on both, and compares the results.
 fn compare_a_call(random: &mut Random, cache: &mut Cache, model: &mut Model, nanoseconds: u64) {
     let now = Duration::from_nanos(nanoseconds);
     let key = random.key();

@@ -1,4 +1,4 @@
-//! The cache of numbers, call by call.
+//! Tests each call of the cache of numbers.
 
 use mini_moka_proved::{BuildError, Cause, Inserted, NumberCache, Removed, Statistics};
 use std::time::Duration;
@@ -171,7 +171,7 @@ fn an_iterator_gives_unexpired_pairs_in_order_of_use() {
     assert_eq!(sum, 3 + 1 + 4);
 }
 
-/// The squares of 1 and 2.
+/// Creates a cache of the squares of 1 and 2.
 fn unlimited_squares() -> NumberCache {
     let mut cache = unlimited();
     cache.insert(1, 1).unwrap();

@@ -1,18 +1,18 @@
-//! What calls do where Rust's allocator refuses them memory.
+//! Tests calls that Rust's allocator refuses memory.
 
 use mini_moka_proved::{sync, BuildError, Cache, OutOfMemory};
 use std::alloc::{GlobalAlloc, Layout, System};
 use std::cell::Cell;
 use std::ptr::null_mut;
 
-/// The system's allocator, which refuses a thread what is above its limit.
+/// The system's allocator, which refuses a thread each allocation above its limit.
 struct Limited;
 
 thread_local! {
     static LIMIT: Cell<usize> = const { Cell::new(usize::MAX) };
 }
 
-// SAFETY: each call is the system allocator's, or refuses.
+// SAFETY: each call is the system allocator's, or returns null.
 unsafe impl GlobalAlloc for Limited {
     unsafe fn alloc(&self, layout: Layout) -> *mut u8 {
         if layout.size() > LIMIT.with(Cell::get) {
@@ -44,7 +44,7 @@ fn limited<T>(limit: usize, call: impl FnOnce() -> T) -> T {
     answer
 }
 
-/// A cache with a value of 1000 bytes, and one of 10.
+/// Creates a cache with a value of 1000 bytes and one of 10.
 fn filled() -> Cache {
     let mut cache = Cache::builder().build().unwrap();
     cache.insert(b"long", [1; 1000]).unwrap();

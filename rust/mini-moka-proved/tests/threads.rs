@@ -1,4 +1,4 @@
-//! Caches that threads share, by segments or behind one lock, and one that goes from thread to
+//! Tests caches that threads share, in segments or behind one lock, and one that moves to another
 //! thread.
 
 use mini_moka_proved::{sync, BuildError, Cache, Cause, NumberCache};
@@ -54,7 +54,7 @@ fn a_cache_is_used_and_dropped_by_another_thread() {
     assert_eq!(found, Some(49));
 }
 
-/// A shared cache of so many segments.
+/// Builds a shared cache, and returns its number of segments.
 fn segments(builder: sync::Builder) -> usize {
     builder.build().unwrap().segments()
 }
@@ -164,7 +164,7 @@ fn a_value_that_panics_harms_no_segment() {
     cache.insert("other", "value").unwrap();
     let other = cache.clone();
     let panicked =
-        thread::spawn(move || other.get_or_insert_with("key", || panic!("as it should")));
+        thread::spawn(move || other.get_or_insert_with("key", || panic!("a test panic")));
     assert!(panicked.join().is_err());
     assert_eq!(cache.get("other"), Some(b"value".to_vec()));
     assert_eq!(
@@ -175,7 +175,7 @@ fn a_value_that_panics_harms_no_segment() {
     );
 }
 
-/// A shared cache's keys at a moment, in order.
+/// Returns a shared cache's keys at a moment, sorted.
 fn keys_at(cache: &sync::Cache, now: Duration) -> Vec<u8> {
     let pairs = cache.iter_at(now).map(|pair| pair.unwrap());
     let mut keys: Vec<u8> = pairs.map(|(key, _)| key[0]).collect();
@@ -257,7 +257,7 @@ fn threads_drain_each_entry_once() {
     keys.dedup();
     assert_eq!(keys.len(), 1000);
     assert_eq!(cache.statistics().lost, 0);
-    // Each segment has room for one.
+    // Each segment queues one entry.
     let cache = sync::Cache::builder().segments(4).removed_room(3).build();
     let cache = cache.unwrap();
     for key in 0..100u8 {
