@@ -63,6 +63,14 @@ impl Repeats {
         median_of(&self.times())
     }
 
+    /// Returns `true` if all repeats have the same hits and the same sum of values.
+    fn are_alike(&self) -> bool {
+        let outcome = |played: &Played| (played.hits, played.sum);
+        self.0
+            .windows(2)
+            .all(|pair| outcome(&pair[0]) == outcome(&pair[1]))
+    }
+
     /// Returns the median ratio of each play's time to that of the other side's neighbouring play.
     fn ratio_in_pairs(&self, other: &Repeats) -> f64 {
         let pairs = self.0.iter().zip(&other.0);
@@ -152,7 +160,14 @@ impl Bench {
         );
         cells.push(table::number(free));
         table::print_row(&cells);
-        Ok(is_right(&all, threads))
+        let fault = fault_of(&all, threads);
+        if let Some(fault) = fault {
+            eprintln!(
+                "threads: {} gets of 100, {threads} threads: {fault}",
+                mix.gets
+            );
+        }
+        Ok(fault.is_none())
     }
 
     /// Prints the cost of publishing for the calls of `threads` threads.
@@ -254,20 +269,18 @@ fn print_turning_table(bench: &mut Bench) -> io::Result<()> {
     Ok(())
 }
 
-/// Returns `true` if no side has more entries than its capacity. If one thread plays alone, so that the order of calls is fixed, both single-thread caches must
-/// also have the same hits and the same sum of values.
-fn is_right(all: &[Repeats; 5], threads: usize) -> bool {
+/// Returns the fault of a row, if there is one. No side may have more entries than its capacity. With one thread the order of calls is fixed, so the repeats of
+/// a single-thread cache must be alike.
+fn fault_of(all: &[Repeats; 5], threads: usize) -> Option<&'static str> {
     let [_, _, _, original, port] = all;
-    let is_within = all
-        .iter()
-        .flat_map(|repeats| &repeats.0)
-        .all(|played| played.entries <= CAPACITY);
-    let are_same = original
-        .0
-        .iter()
-        .zip(&port.0)
-        .all(|(one, other)| one.hits == other.hits && one.sum == other.sum);
-    is_within && (threads > 1 || are_same)
+    let mut plays = all.iter().flat_map(|repeats| &repeats.0);
+    if plays.any(|played| played.entries > CAPACITY) {
+        return Some("a side has more entries than its capacity");
+    }
+    if threads == 1 && !(original.are_alike() && port.are_alike()) {
+        return Some("the repeats of a single-thread cache differ");
+    }
+    None
 }
 
 /// Prints the second table: the port's `sync` with and without published counts.
