@@ -87,7 +87,7 @@ static inline const char *mini_moka_status_text(uint32_t status) {
         "a buffer is too short",
         "no walk was begun, or a change has ended it",
         "a time to live or to idle is 0",
-        "the new entry was not let in",
+        "the new entry was not admitted",
     };
     return status < sizeof texts / sizeof *texts ? texts[status] : "an unknown status";
 }

@@ -419,7 +419,7 @@ static void statuses_have_texts(void) {
             CHECK(strcmp(mini_moka_status_text(status), mini_moka_status_text(other)) != 0);
     }
     CHECK(strcmp(mini_moka_status_text(MINI_MOKA_ZERO_DURATION), "a time to live or to idle is 0") == 0);
-    CHECK(strcmp(mini_moka_status_text(MINI_MOKA_REJECTED), "the new entry was not let in") == 0);
+    CHECK(strcmp(mini_moka_status_text(MINI_MOKA_REJECTED), "the new entry was not admitted") == 0);
     CHECK(strcmp(mini_moka_status_text(UINT32_MAX), "an unknown status") == 0);
 }
 
