@@ -7,6 +7,8 @@ const LEFT: f64 = 50.0;
 const RIGHT: f64 = 20.0;
 const TOP: f64 = 35.0;
 const BOTTOM: f64 = 35.0;
+/// Height of a line of the legend.
+const LINE: f64 = 24.0;
 
 /// A trace's name, and its lines: for each side the hit ratios, in percent, at each capacity.
 pub struct Panel {
@@ -51,25 +53,45 @@ fn panel(panel: &Panel, capacities: &[&str], colours: &[&str], left: f64, top: f
     out
 }
 
+/// Draws the legend from a height on, in lines within the width. Returns it with the height of its last line.
+fn legend(sides: &[(&str, &str)], width: f64, top: f64) -> (String, f64) {
+    let mut out = String::new();
+    let (mut x, mut y) = (LEFT, top);
+    for (name, colour) in sides {
+        let length = 40.0 + 7.0 * name.len() as f64;
+        if x + length > width {
+            (x, y) = (LEFT, y + LINE);
+        }
+        out += &format!(
+            "<rect x=\"{x:.0}\" y=\"{:.0}\" width=\"14\" height=\"4\" fill=\"{colour}\"/>\n",
+            y - 6.0
+        );
+        out += &text(x + 20.0, y, "start", name);
+        x += length;
+    }
+    (out, y)
+}
+
 /// Draws the panels, two in a row, and a legend. Each side has a name and a colour.
 pub fn plot(panels: &[Panel], capacities: &[&str], sides: &[(&str, &str)]) -> String {
     let colours: Vec<&str> = sides.iter().map(|side| side.1).collect();
     let rows = panels.len().div_ceil(COLUMNS) as f64;
-    let (width, height) = (WIDTH * COLUMNS as f64, HEIGHT * rows + 40.0);
+    let width = WIDTH * COLUMNS as f64;
+    let (legend, last_line) = legend(sides, width, HEIGHT * rows + LINE);
+    let height = last_line + 16.0;
     let mut out = format!(
         "<svg xmlns=\"http://www.w3.org/2000/svg\" width=\"{width}\" height=\"{height}\" font-family=\"sans-serif\" font-size=\"12\">\n\
          <rect width=\"100%\" height=\"100%\" fill=\"white\"/>\n"
     );
     for (index, each) in panels.iter().enumerate() {
         let (column, row) = (index % COLUMNS, index / COLUMNS);
-        out += &panel(each, capacities, &colours, WIDTH * column as f64, HEIGHT * row as f64);
+        out += &panel(
+            each,
+            capacities,
+            &colours,
+            WIDTH * column as f64,
+            HEIGHT * row as f64,
+        );
     }
-    let mut x = LEFT;
-    for (name, colour) in sides {
-        let y = height - 16.0;
-        out += &format!("<rect x=\"{x:.0}\" y=\"{:.0}\" width=\"14\" height=\"4\" fill=\"{colour}\"/>\n", y - 6.0);
-        out += &text(x + 20.0, y, "start", name);
-        x += 40.0 + 7.0 * name.len() as f64;
-    }
-    out + "</svg>\n"
+    out + &legend + "</svg>\n"
 }

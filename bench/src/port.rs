@@ -117,7 +117,9 @@ pub enum AgingLoad {
 
 /// Ages a new table of these words `agings` times, from a size of `u32::MAX`. Returns a sum of the sizes that depends on their order.
 pub fn age(load: AgingLoad, words: &[u64], agings: usize) -> u64 {
-    answer(|sum| unsafe { bench_trace_aging(load as u32, words.as_ptr(), words.len(), agings, sum) })
+    answer(|sum| unsafe {
+        bench_trace_aging(load as u32, words.as_ptr(), words.len(), agings, sum)
+    })
 }
 
 /// Plays a load on a new list with capacity for `nodes` nodes.
