@@ -2,7 +2,7 @@
 ghost use Rattle.std.specs.Prelude.{◌≡◌, ⊤, false, true};
 ghost use Rattle.moka_unsync_model.specs.declared.constants.TheConstants.{EVICTION_BATCH_SIZE};
 ghost use Rattle.moka_unsync_model.specs.Cleanup.{after_eviction, after_expiry, after_idle_expiry, after_live_expiry, after_cleanup, is_expired};
-ghost use Rattle.moka_unsync_model.specs.Told.{TellsCleanup, TellsWhatLeft};
+ghost use Rattle.moka_unsync_model.specs.Told.{TellsCleanup, TellsWhatLeft, cause_at};
 ghost use Rattle.moka_unsync_model.specs.declared.listener.Cause.TheVariants.{Expired, Size};
 ghost use Rattle.moka_store.specs.Store.{Continues, contents_of, entries_of, is_of, those_of};
 ghost use Rattle.moka_unsync.specs.Turns.{IsTurn, after_idle_of};
@@ -84,6 +84,22 @@ impl Bounds {
         ensures { result ≡ is_expired self.now now entry.now }
     {
         self.expires && is_expired(&self.limits, entry, now)
+    }
+
+    /// Returns the cause for which an entry leaves: that it is past a duration, or else the other one.
+    #[inline(always)]
+    pub(crate) fn cause_at<K: Drop, V: Drop>(
+        &self,
+        entry: &Entry<K, V>,
+        now: Instant,
+        other: Cause,
+    ) -> Cause
+        ensures { result ≡ cause_at self.now now entry.now other }
+    {
+        if self.is_expired(entry, now) {
+            return Cause::Expired;
+        }
+        other
     }
 }
 

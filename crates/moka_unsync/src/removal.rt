@@ -13,24 +13,6 @@ use moka_unsync_model::entry::Entry;
 use moka_unsync_model::listener::{Cause, Listener};
 use std::alloc::Allocator;
 
-/// Removes the entry of the key, if there is one. The hash is the key's.
-pub(crate) fn remove_notifying<
-    K: Eq + Drop,
-    V: Drop,
-    A: Allocator + Clone + Drop,
-    L: Listener<K, V>,
->(store: &mut Store<K, V, A>, key: &K, hash: u64, listener: &mut L)
-    requires { HasHash K.eq store.old key.now hash }
-    ensures step { contents_of store.new ≡ without K.eq (contents_of store.old) key.now }
-    ensures kept { Continues store.old store.new }
-    ensures told { TellsWhatLeft L.hears Explicit (λ e. K.eq key.now e.key ≡ true) (entries_of store.old) (entries_of store.new)
-        listener.old listener.new }
-{
-    if let Some(Entry { key, value, .. }) = remove(store, key, hash) {
-        listener.removed(key, value, Cause::Explicit);
-    }
-}
-
 /// Takes out the entry of the key, expired or not, if there is one. The hash is the key's.
 pub(crate) fn remove<K: Eq + Drop, V: Drop, A: Allocator + Clone + Drop>(
     store: &mut Store<K, V, A>,

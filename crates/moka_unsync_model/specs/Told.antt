@@ -1,5 +1,5 @@
 -- What a listener is told of: the entries that leave in a call, each with its cause.
-use Rattle.std.specs.Prelude.{◌≡◌, ℕ, zero, suc, ◌<◌, ◌+◌, ◌-◌, ◌^◌, Bool, true, false, List, [], ◌∷◌, ◌++◌, All, length, map, min, Option, Some, None}
+use Rattle.std.specs.Prelude.{◌≡◌, ℕ, zero, suc, ◌<◌, ◌+◌, ◌-◌, ◌^◌, Bool, true, false, List, [], ◌∷◌, ◌++◌, All, length, map, min, Option, Some, None, if◌then◌else◌}
 use Rattle.std.specs.List.Sorted.{IsPermutation}
 use Rattle.moka_common.specs.Policy.{Policy}
 use Rattle.moka_unsync_model.specs.Contents.{Contents, total_weight}
@@ -31,6 +31,10 @@ module _ {L K V : Type 0} (hears : L → K → V → Cause → L → Type 0) (ca
     pub each : IsPermutation (unplaced were) (unplaced are ++ unplaced told)
     pub reason : All Reason told
 
+-- the cause for which an entry leaves at a moment: that its time has passed, or else this one
+abbrev pub cause_at : {K V : Type 0} → Policy → ℕ → Entry K V → Cause → Cause
+cause_at policy now e other = if is_expired policy now e then cause.Expired else other
+
 -- a weight is above a limit
 abbrev pub IsAbove : Option ℕ → ℕ → Type 0
 IsAbove None weight = ⊥
@@ -41,6 +45,11 @@ module _ {L K V : Type 0} (hears : L → K → V → Cause → L → Type 0) whe
   abbrev pub TellsIf : Bool → Entry K V → L → L → Type 0
   TellsIf true e before after = hears before e.key e.value cause.Expired after
   TellsIf false e before after = after ≡ before
+
+  -- it was told of the entry that a call took out, if there was one: as expired, if it was, or else for this cause
+  abbrev pub TellsTaken : Policy → ℕ → Cause → Option (Entry K V) → L → L → Type 0
+  TellsTaken policy now other None before after = after ≡ before
+  TellsTaken policy now other (Some e) before after = hears before e.key e.value (cause_at policy now e other) after
 
   -- it was told of the entry that a call found, if that was expired
   abbrev pub TellsExpired : Policy → ℕ → Option (Entry K V) → L → L → Type 0

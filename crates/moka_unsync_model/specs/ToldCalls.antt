@@ -1,16 +1,16 @@
 -- What a listener is told of in each call.
-use Rattle.std.specs.Prelude.{◌≡◌, ℕ, true, Option, Some, None, is_some}
+use Rattle.std.specs.Prelude.{ℕ, Option, Some, None, is_some}
 use Rattle.moka_common.specs.Keys.{Keys}
 use Rattle.moka_unsync_model.specs.declared.entry.Entry.{Entry}
 use Rattle.moka_unsync_model.specs.declared.listener.Cause.{Cause}
 use Rattle.moka_unsync_model.specs.declared.listener.Cause.TheVariants as cause
 use Rattle.moka_unsync_model.specs.declared.shares.PartLimits.{PartLimits}
 use Rattle.moka_unsync_model.specs.CacheState.{CacheState, windowed}
-use Rattle.moka_unsync_model.specs.Contents.{Contents, entries_without, entry_at}
+use Rattle.moka_unsync_model.specs.Contents.{Contents, entry_at}
 use Rattle.moka_unsync_model.specs.Insert.{new_entry}
 use Rattle.moka_unsync_model.specs.Lookup.{after_get}
 use Rattle.moka_unsync_model.specs.Shares.{main_limit}
-use Rattle.moka_unsync_model.specs.Told.{TellsExpired, TellsPut, TellsCleanup, TellsWhatLeft}
+use Rattle.moka_unsync_model.specs.Told.{TellsExpired, TellsPut, TellsCleanup, TellsTaken, cause_at}
 use Rattle.moka_unsync_model.specs.Cleanup.{after_cleanup}
 
 -- how much main may weigh, if there is a limit
@@ -27,11 +27,11 @@ module _ {L K V S W : Type 0} (hears : L → K → V → Cause → L → Type 0)
   abbrev pub TellsLook : L → L → Type 0
   TellsLook before after = TellsCleanup hears keys.eq old.settings.policy now old.contents before after
 
-  -- an invalidation tells of that, and of the entry of its key
+  -- an invalidation tells of that, and of the entry of its key: as removed, or as expired if it was
   pub record TellsInvalidate (key : K) (before after : L) : Type 0 where
     pub between : L
     pub cleanup : TellsLook before between
-    pub left : TellsWhatLeft hears cause.Explicit (λ e. keys.eq key e.key ≡ true) kept.entries (entries_without keys.eq key kept.entries) between after
+    pub taken : TellsTaken hears old.settings.policy now cause.Explicit (entry_at keys.eq key kept.entries) between after
 
   -- a removal tells of that, and of the entry of its key only if it doesn't return the value
   pub record TellsRemove (key : K) (before after : L) : Type 0 where
@@ -39,9 +39,10 @@ module _ {L K V S W : Type 0} (hears : L → K → V → Cause → L → Type 0)
     pub cleanup : TellsLook before between
     pub found : TellsExpired hears old.settings.policy now (entry_at keys.eq key kept.entries) between after
 
-  -- the entry that is put replaces a value, or is new: then entries may give way to it, or it is not let in
+  -- the entry that is put replaces a value, which is told as expired if it was, or is new: then entries may give way to it, or it is not let in
   abbrev pub TellsNew : Option (Entry K V) → K → V → CacheState K V S W → L → L → Type 0
-  TellsNew (Some there) key value new before after = hears before key there.value cause.Replaced after
+  TellsNew (Some there) key value new before after =
+      hears before key there.value (cause_at old.settings.policy now there cause.Replaced) after
   TellsNew None key value new before after =
       (weight : ℕ) × TellsPut hears (main_max (windowed old) old.settings.policy.max_capacity) (is_some (entry_at keys.eq key new.contents.entries))
       (new_entry keys old.settings.hash_state key value weight now) kept.entries new.contents.entries before after

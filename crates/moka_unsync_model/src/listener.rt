@@ -7,11 +7,11 @@ ghost use Rattle.moka_unsync_model.specs.Told.{StatisticsCount, counted};
 pub enum Cause {
     /// The cache had no room for it.
     Size,
-    /// Its time to live or its time to idle had passed.
+    /// Its time to live or its time to idle had passed. So is one that an insert replaces or a call of its key removes.
     Expired,
-    /// A call removed it.
+    /// A call removed it, before its time had passed or without a moment.
     Explicit,
-    /// An insert gave its key another value.
+    /// An insert gave its key another value, before its time had passed.
     Replaced,
     /// It was new, and the admission policy did not let it in.
     Rejected,

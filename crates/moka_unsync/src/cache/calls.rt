@@ -11,7 +11,7 @@ ghost use Rattle.moka_unsync_model.specs.declared.listener.Cause.TheVariants.{Ex
 
 use crate::admission::{admit, insert_into_window};
 use crate::cache::Cache;
-use crate::removal::{clear, remove, remove_notifying, remove_where};
+use crate::removal::{clear, remove, remove_where};
 use moka_common::error::InsertError;
 use moka_common::time::Instant;
 use moka_common::weigh::Weigh;
@@ -140,7 +140,7 @@ impl<
         self.invalidate_notifying(key, hash, now, &mut NoListener);
     }
 
-    /// Removes the entry of the key, as `invalidate_hashed` does. The listener gets what leaves.
+    /// Removes the entry of the key, as `invalidate_hashed` does. The listener gets what leaves, the entry of the key as removed or as expired.
     pub fn invalidate_notifying<L: Listener<K, V>>(
         &mut self,
         key: &K,
@@ -153,7 +153,11 @@ impl<
         ensures told { TellsInvalidate L.hears (keys_by K.Hash S.BuildHasher S.Hasher.Hasher) self.old now key.now listener.old listener.new }
     {
         self.bounds.clean_up(&mut self.store, now, listener);
-        remove_notifying(&mut self.store, key, hash, listener);
+        if let Some(entry) = remove(&mut self.store, key, hash) {
+            let cause = self.bounds.cause_at(&entry, now, Cause::Explicit);
+            let Entry { key, value, .. } = entry;
+            listener.removed(key, value, cause);
+        }
     }
 
     /// Removes the entry of the key, if there is one, and returns its value, unless it is expired. The value is moved out, so it needs no `Clone`.
@@ -291,7 +295,8 @@ impl<
         self.insert_notifying(key, hash, value, now, &mut NoListener)
     }
 
-    /// Puts the value at the key, as `insert_hashed` does. If it replaces a value, the listener gets the old value with the new key.
+    /// Puts the value at the key, as `insert_hashed` does. If it replaces a value, the listener gets the old value with the new key, as replaced or, if the
+    /// value was past a duration, as expired.
     pub fn insert_notifying<L: Listener<K, V>>(
         &mut self,
         key: K,
@@ -325,8 +330,11 @@ impl<
         };
         match self.store.find(&entry.key, entry.hash) {
             Some(id) => {
+                let cause = self
+                    .bounds
+                    .cause_at(self.store.get(id), now, Cause::Replaced);
                 let (key, value) = self.store.update(id, self.room, entry);
-                listener.removed(key, value, Cause::Replaced);
+                listener.removed(key, value, cause);
             }
             None => match &self.windowed {
                 Some(limits) => {
