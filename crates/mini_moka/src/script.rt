@@ -8,6 +8,7 @@ pub use moka_grammar::line::{
     SketchLine, Span,
 };
 pub use moka_grammar::parser::{ParseError, parse};
+pub use moka_grammar::reason::{BadLine, reason};
 pub use moka_grammar::streams::{
     Fault, FromRead, FromWrite, ReadError, Sink, Source, read_all, write_all,
 };

@@ -1,13 +1,14 @@
 -- What an insert answers, by what its listener gets.
-use Rattle.std.proofs.Common.{◌≡◌, ◌∙◌, ℕ, Bool, List, [], ◌∷◌, Option, None, Some, ap, is_some, refl, sym, true, false}
+use Rattle.std.proofs.Common.{◌≡◌, ◌∙◌, ℕ, Bool, List, [], ◌∷◌, Option, None, Some, ap, if◌then◌else◌, is_some, refl, sym, true, false}
 use Rattle.std.specs.Cmp.{IsEquivalence, nat_eq_equiv}
 use Rattle.std.specs.Cmp.Lexicographic.{nat_list_eq_equiv}
 use Rattle.moka_common.specs.Keys.{Keys}
 use Rattle.moka_common.specs.Policy.{Policy}
 use Rattle.moka_unsync_model.specs.CacheState.{CacheState, room_of, windowed}
+use Rattle.moka_unsync_model.specs.Cleanup.{is_expired}
 use Rattle.moka_unsync_model.specs.Contents.{Contents, entry_at}
 use Rattle.moka_unsync_model.specs.Insert.{IsInserted, after_put, new_entry}
-use Rattle.moka_unsync_model.specs.Told.{HearsAll, TellsPut, TellsCleanup}
+use Rattle.moka_unsync_model.specs.Told.{HearsAll, TellsPut, TellsCleanup, cause_at}
 use Rattle.moka_unsync_model.specs.ToldCalls.{TellsInsert, TellsNew, kept, main_max}
 use Rattle.moka_unsync_model.specs.declared.entry.Entry.{Entry}
 use Rattle.moka_unsync_model.specs.declared.listener.Cause.{Cause}
@@ -38,6 +39,11 @@ module _ {K V S W : Type 0} (keys : Keys K S) (laws : IsEquivalence keys.eq) whe
       somewhere (entry_at keys.eq put.key (after_put keys.eq cache (Some known) put refused).contents.entries)
       (λ none. using-stands keys laws put.key known (room_of cache) (record put { key = known.key; hash = known.hash; part = known.part }) cache.contents own
       none)
+
+-- an update doesn't change the answer, whether or not the entry was expired
+updated : (is_late : Bool) (inserted : Inserted) → heard (if is_late then cause.Expired else cause.Replaced) inserted ≡ inserted
+updated true inserted = refl
+updated false inserted = refl
 
 module _ {K V L : Type 0} (hears : L → K → V → Cause → L → Type 0) (answer : L → Inserted)
     (turns : (a b : L) (key : K) (value : V) (cause : Cause) → hears a key value cause b → answer b ≡ heard cause (answer a)) where
@@ -78,13 +84,14 @@ module _ {K V S W : Type 0} (keys : Keys K S) (laws : IsEquivalence keys.eq) {L 
           put-told hears answer turns (main_max (windowed old) old.settings.policy.max_capacity) (is_some (entry_at keys.eq key new.contents.entries))
           (new_entry keys old.settings.hash_state key value put.0 now) (kept hears keys old now).entries new.contents.entries t.between b before put.1
       by (Some there) is heard-it =
-          turns t.between b key there.value cause.Replaced heard-it
+          turns t.between b key there.value (cause_at old.settings.policy now there cause.Replaced) heard-it
+          ∙ (updated (is_expired old.settings.policy now there) (answer t.between)
           ∙ (before
           ∙ sym (ap inserted_of
           (ap (λ c. is_some (entry_at keys.eq key c.contents.entries)) inserted.step
           ∙ put-stands keys laws (record old { weigher = inserted.weigher; capacity = inserted.capacity; contents = kept hears keys old now })
           (entry_at keys.eq key (kept hears keys old now).entries) (new_entry keys old.settings.hash_state key value inserted.weight now) there
-          inserted.refused refl is)))
+          inserted.refused refl is))))
 
 -- an insert of bytes answers so
 pub bytes_answered : (old new : ByteCacheState) (key value : List ℕ) (now : ℕ) (before after : Leaving (List ℕ) (List ℕ)) → before.inserted ≡ Stored

@@ -7,7 +7,7 @@ use Rattle.moka_common.specs.Keys.{Keys}
 use Rattle.moka_common.specs.Policy.{Policy}
 use Rattle.moka_unsync_model.specs.CacheState.{CacheState}
 use Rattle.moka_unsync_model.specs.Contents.{Contents, entry_at}
-use Rattle.moka_unsync_model.specs.Told.{HearsAll, TellsExpired, TellsIf, TellsPut, TellsCleanup, TellsWhatLeft}
+use Rattle.moka_unsync_model.specs.Told.{HearsAll, TellsExpired, TellsIf, TellsPut, TellsCleanup, TellsTaken, TellsWhatLeft, cause_at}
 use Rattle.moka_unsync_model.specs.ToldCalls.{TellsInsert, TellsInvalidate, TellsLook, TellsNew, TellsRemove, kept}
 use Rattle.moka_unsync_model.specs.Cleanup.{is_expired}
 use Rattle.moka_unsync_model.specs.declared.entry.Entry.{Entry}
@@ -47,6 +47,12 @@ module _ {K V L Q : Type 0} (hears : L → K → V → Cause → L → Type 0) (
   put-gotten limit false new were are a b t =
       (part t.0, left-gotten cause.Size were are a t.0 t.1, turns t.0 b new.key new.value cause.Rejected t.2, t.3)
 
+  -- an entry that was taken out
+  taken-gotten : (policy : Policy) (now : ℕ) (other : Cause) (o : Option (Entry K V)) (a b : L) → TellsTaken hears policy now other o a b
+      → TellsTaken gets policy now other o (part a) (part b)
+  taken-gotten policy now other None a b is = ap part is
+  taken-gotten policy now other (Some e) a b heard = turns a b e.key e.value (cause_at policy now e other) heard
+
   -- an entry that is expired
   expired-gotten : (policy : Policy) (now : ℕ) (o : Option (Entry K V)) (a b : L) → TellsExpired hears policy now o a b
       → TellsExpired gets policy now o (part a) (part b)
@@ -62,7 +68,8 @@ module _ {K V L Q : Type 0} (hears : L → K → V → Cause → L → Type 0) (
     new-gotten : (o : Option (Entry K V)) (key : K) (value : V) (new : CacheState K V S W) (a b : L) → TellsNew hears keys old now o key value new a b
         → TellsNew gets keys old now o key value new (part a) (part b)
     new-gotten None key value new a b put = (put.0, put-gotten _ _ _ _ _ a b put.1)
-    new-gotten (Some there) key value new a b heard = turns a b key there.value cause.Replaced heard
+    new-gotten (Some there) key value new a b heard =
+        turns a b key there.value (cause_at old.settings.policy now there cause.Replaced) heard
 
 -- a queue gets what its listener gets
 turned : {K V : Type 0} (a b : Leaving K V) (key : K) (value : V) (cause : Cause) → hears_leaving a key value cause b
@@ -88,7 +95,7 @@ module _ {K V S W : Type 0} (keys : Keys K S) (old : CacheState K V S W) (now : 
   invalidation_queued key t = record {
     between = t.between.removed;
     cleanup = cleanup-gotten hears_leaving queues (λ l. l.removed) turned keys.eq old.settings.policy now old.contents a t.between t.cleanup;
-    left = left-gotten hears_leaving queues (λ l. l.removed) turned cause.Explicit _ _ t.between b t.left;
+    taken = taken-gotten hears_leaving queues (λ l. l.removed) turned old.settings.policy now cause.Explicit _ t.between b t.taken;
   }
 
   -- of a removal

@@ -4,18 +4,19 @@ use Rattle.std.proofs.lemmas.List.{length-append, length-map}
 use Rattle.std.proofs.lemmas.List.Sorted.{length_permutation}
 use Rattle.std.specs.List.Sorted.{IsPermutation}
 use Rattle.moka_common.specs.Keys.{Keys}
+use Rattle.moka_common.specs.Policy.{Policy}
 use Rattle.moka_unsync_model.specs.CacheState.{CacheState, windowed}
-use Rattle.moka_unsync_model.specs.Contents.{entries_without, entry_at}
+use Rattle.moka_unsync_model.specs.Contents.{entry_at}
 use Rattle.moka_unsync_model.specs.Insert.{new_entry}
 use Rattle.moka_unsync_model.specs.Lookup.{found_by_get}
-use Rattle.moka_unsync_model.specs.Told.{HearsAll, TellsExpired, TellsIf, TellsPut, TellsWhatLeft, partless, unplaced}
+use Rattle.moka_unsync_model.specs.Told.{HearsAll, TellsExpired, TellsIf, TellsPut, TellsTaken, TellsWhatLeft, cause_at, partless, unplaced}
 use Rattle.moka_unsync_model.specs.ToldCalls.{TellsInsert, TellsInvalidate, TellsLook, TellsNew, TellsRemove, kept, main_max}
 use Rattle.moka_unsync_model.specs.Cleanup.{after_expiry, after_cleanup, is_expired, unexpired}
 use Rattle.moka_unsync_model.specs.declared.entry.Entry.{Entry}
 use Rattle.moka_unsync_model.specs.declared.listener.Cause.{Cause}
 use Rattle.moka_unsync_model.specs.declared.listener.Cause.TheVariants as cause
 use Rattle.mini_moka_c.specs.Removed.{hears_leaving}
-use Rattle.mini_moka_c.specs.Statistics.{with_found, with_left, with_one, with_put, with_insertion, with_insert, with_invalidation, with_removal, with_remove, with_cleanup}
+use Rattle.mini_moka_c.specs.Statistics.{with_found, with_left, with_one, with_put, with_insertion, with_insert, with_removal, with_remove, with_cleanup}
 use Rattle.mini_moka_c.specs.declared.removed.Leaving.{Leaving}
 use Rattle.mini_moka_c.specs.declared.statistics.Statistics.{Statistics}
 
@@ -64,11 +65,12 @@ module _ {K V L : Type 0} (hears : L → K → V → Cause → L → Type 0) (co
       each-counted c t.told a b t.heard ∙ ap (λ n. with_left n c (counts a)) (fewer were are t.told t.each)
 
   -- and what a put leaves
-  put-counted : (limit : Option ℕ) (stays : Bool) (new : Entry K V) (were are : List (Entry K V)) (a b : L) → TellsPut hears limit stays new were are a b
-      → counts b ≡ with_put false stays (length were) (length are) (counts a)
-  put-counted limit true new were are a b t =
+  put-counted : (policy : Policy) (now : ℕ) (limit : Option ℕ) (stays : Bool) (new : Entry K V) (were are : List (Entry K V)) (a b : L)
+      → TellsPut hears limit stays new were are a b
+      → counts b ≡ with_put {K = K} {V = V} policy now None stays (length were) (length are) (counts a)
+  put-counted policy now limit true new were are a b t =
       each-counted cause.Size t.told a b t.heard ∙ ap (λ n. with_left n cause.Size (counts a)) (fewer-new new were are t.told t.each)
-  put-counted limit false new were are a b t =
+  put-counted policy now limit false new were are a b t =
       turns t.0 b new.key new.value cause.Rejected t.2 ∙ ap (with_one cause.Rejected) (left-counted cause.Size were are a t.0 t.1)
 
 module _ {K V S W : Type 0} (keys : Keys K S) {L : Type 0} (hears : L → K → V → Cause → L → Type 0) (counts : L → Statistics)
@@ -87,25 +89,28 @@ module _ {K V S W : Type 0} (keys : Keys K S) {L : Type 0} (hears : L → K → 
   pub insert-counted : (key : K) (value : V) (new : CacheState K V S W) (a b : L) → TellsInsert hears keys old now key value new a b
       → with_insert (counts b) ≡ with_insertion keys old now key new (counts a)
   insert-counted key value new a b t = ap with_insert (by (entry_at keys.eq key (kept hears keys old now).entries) t.put ∙
-      ap (with_put (is_some (entry_at keys.eq key (kept hears keys old now).entries)) (is_some (entry_at keys.eq key new.contents.entries))
+      ap (with_put old.settings.policy now (entry_at keys.eq key (kept hears keys old now).entries) (is_some (entry_at keys.eq key new.contents.entries))
       (length (kept hears keys old now).entries) (length new.contents.entries)) (look-counted a t.between t.cleanup))
     where
       by : (o : Option (Entry K V)) → TellsNew hears keys old now o key value new t.between b
-          → counts b ≡ with_put (is_some o) (is_some (entry_at keys.eq key new.contents.entries)) (length (kept hears keys old now).entries)
+          → counts b ≡ with_put old.settings.policy now o (is_some (entry_at keys.eq key new.contents.entries)) (length (kept hears keys old now).entries)
           (length new.contents.entries) (counts t.between)
       by None put =
-          put-counted hears counts turns (main_max (windowed old) old.settings.policy.max_capacity) (is_some (entry_at keys.eq key new.contents.entries))
+          put-counted hears counts turns old.settings.policy now (main_max (windowed old) old.settings.policy.max_capacity) (is_some (entry_at keys.eq key new.contents.entries))
           (new_entry keys old.settings.hash_state key value put.0 now) (kept hears keys old now).entries new.contents.entries t.between b put.1
-      by (Some there) heard-it = turns t.between b key there.value cause.Replaced heard-it
+      by (Some there) heard-it = turns t.between b key there.value (cause_at old.settings.policy now there cause.Replaced) heard-it
 
   -- an invalidation counts that, and the entry of its key
   pub invalidation-counted : (key : K) (a b : L) → TellsInvalidate hears keys old now key a b
-      → counts b ≡ with_invalidation keys old now key (counts a)
+      → counts b ≡ with_remove keys old now key (counts a)
   invalidation-counted key a b t =
-      let were = (kept hears keys old now).entries in
-      let are = entries_without keys.eq key were in
-      left-counted hears counts turns cause.Explicit were are t.between b t.left
-      ∙ ap (with_left (length were - length are) cause.Explicit) (look-counted a t.between t.cleanup)
+      let o = entry_at keys.eq key (kept hears keys old now).entries in
+      by o t.taken ∙ ap (with_found old.settings.policy now o) (look-counted a t.between t.cleanup)
+    where
+      by : (o : Option (Entry K V)) → TellsTaken hears old.settings.policy now cause.Explicit o t.between b
+          → counts b ≡ with_found old.settings.policy now o (counts t.between)
+      by None is = ap counts is
+      by (Some e) heard-it = turns t.between b e.key e.value (cause_at old.settings.policy now e cause.Explicit) heard-it
 
   -- a removal counts an expired entry, and then the one that it returns is counted
   pub removal-counted : (key : K) (a b : L) → TellsRemove hears keys old now key a b
@@ -147,7 +152,7 @@ module _ {K V S W : Type 0} (keys : Keys K S) (old : CacheState K V S W) (now : 
       value new a b
 
   pub invalidation_counted : (key : K) → TellsInvalidate hears_leaving keys old now key a b
-      → b.statistics ≡ with_invalidation keys old now key a.statistics
+      → b.statistics ≡ with_remove keys old now key a.statistics
   invalidation_counted key =
       invalidation-counted keys hears_leaving (λ (l : Leaving K V). l.statistics) (λ a b key value cause is. ap (λ (l : Leaving K V). l.statistics) is) old now
       key a b

@@ -15,7 +15,7 @@ use Rattle.mini_moka_c.specs.declared.steps.Walk.TheVariants.{Ended}
 use Rattle.mini_moka_c.specs.declared.steps.Step.TheVariants as step
 use Rattle.mini_moka_c.specs.Walk.{BytePair, IsLong, fitting, met_after, next_pair, step_of, walk_after}
 use Rattle.mini_moka_c.specs.Removed.{QueuesTaken, queues}
-use Rattle.mini_moka_c.specs.Statistics.{with_get, with_insertion, with_invalidation, with_taken, with_cleanup}
+use Rattle.mini_moka_c.specs.Statistics.{with_get, with_insertion, with_remove, with_taken, with_cleanup}
 use Rattle.mini_moka_c.specs.declared.constants.TheConstants.{ABSENT, CHANGED, DONE, OUT_OF_MEMORY, TOO_SHORT}
 use Rattle.mini_moka_c.specs.Calls.{TellsLength, TellsTruth}
 
@@ -79,7 +79,7 @@ TellsBytesRemove key now buffer status filled written old new =
 abbrev pub TellsInvalidate : List ℕ → ℕ → ℕ → ByteCache → ByteCache → Type 0
 TellsInvalidate key now status old new =
     ((status ≡ DONE) × (new.cache ≡ after_invalidate byte_keys old.cache key now)
-    × (new.leaving.statistics ≡ with_invalidation byte_keys old.cache now key old.leaving.statistics)
+    × (new.leaving.statistics ≡ with_remove byte_keys old.cache now key old.leaving.statistics)
     × told.TellsInvalidate queues byte_keys old.cache now key old.leaving.removed new.leaving.removed × (new.walk ≡ Ended))
     ⊎ TellsLongRefused key status old new
 

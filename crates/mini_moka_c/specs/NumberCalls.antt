@@ -16,7 +16,7 @@ use Rattle.mini_moka_c.specs.Inserted.{inserted_of, status_of}
 use Rattle.mini_moka_c.specs.NumberKeys.{number_keys}
 use Rattle.mini_moka_c.specs.NumberWalk.{met_after, next_pair, step_of, walk_after}
 use Rattle.mini_moka_c.specs.Removed.{queues}
-use Rattle.mini_moka_c.specs.Statistics.{with_get, with_insertion, with_invalidation, with_remove, with_cleanup}
+use Rattle.mini_moka_c.specs.Statistics.{with_get, with_insertion, with_remove, with_cleanup}
 
 -- what a weigher of numbers answers
 abbrev pub weighs_one : {W : Type 0} → W → ℕ → ℕ → ℕ → W → Type 0
@@ -45,7 +45,7 @@ pub record IsNumberGet (key now : ℕ) (found : Option ℕ) (old new : NumberCac
 -- the entry of the key left, is counted and queued
 pub record IsNumberInvalidation (key now : ℕ) (old new : NumberCache) : Type 0 where
   pub step : new ≡ record old { cache = after_invalidate number_keys old.cache key now; leaving = new.leaving; walk = Ended }
-  pub counts : new.leaving.statistics ≡ with_invalidation number_keys old.cache now key old.leaving.statistics
+  pub counts : new.leaving.statistics ≡ with_remove number_keys old.cache now key old.leaving.statistics
   pub removed : told.TellsInvalidate queues number_keys old.cache now key old.leaving.removed new.leaving.removed
 
 -- the entry of the key was taken, and is counted; it is queued only if it is expired

@@ -2,6 +2,7 @@
 use Rattle.std.specs.Prelude.{◌≡◌, ◌≤◌, ◌==◌, ℕ, Bool, true, false, ◌||◌, Option, Some, None, if◌then◌else◌}
 use Rattle.moka_common.specs.Policy.{Policy}
 use Rattle.moka_common.specs.Settings.{live_nanos, idle_nanos}
+use Rattle.moka_unsync.specs.Builder.{reserved}
 use Rattle.moka_unsync.specs.CacheState.{new_cache}
 use Rattle.moka_unsync.specs.Shares.{default_shares}
 use Rattle.mini_moka_c.specs.declared.cache.ByteCache.{ByteCache}
@@ -30,7 +31,7 @@ pub record HasLimits (policy : Policy) (capacity live idle : ℕ) : Type 0 where
 abbrev pub has_zero_duration : ℕ → ℕ → Bool
 has_zero_duration live idle = live == 0 || idle == 0
 
--- the cache is a new one of the settings, with no entry and no weigher, and at least the room that was asked for; nothing was counted or
+-- the cache is a new one of the settings, with no entry and no weigher, and at least the capacity that is reserved; nothing was counted or
 -- removed, and no walk was begun
 pub record IsNumbersNew (settings : NumberSettings) (numbers : NumberCache) : Type 0 where
   pub limits : HasLimits numbers.cache.settings.policy settings.capacity settings.time_to_live settings.time_to_idle
@@ -39,7 +40,7 @@ pub record IsNumbersNew (settings : NumberSettings) (numbers : NumberCache) : Ty
     policy = numbers.cache.settings.policy;
     is_weighed = false;
   }) default_shares numbers.cache.weigher numbers.cache.capacity
-  pub room : settings.initial_capacity ≤ numbers.cache.capacity
+  pub room : reserved settings.initial_capacity ≤ numbers.cache.capacity
   pub counts : numbers.leaving.statistics ≡ no_statistics
   pub removed : numbers.leaving.removed ≡ empty_queue settings.removed_room
   pub walk : numbers.walk ≡ Ended
@@ -52,7 +53,7 @@ pub record IsBytesNew (settings : ByteSettings) (bytes : ByteCache) : Type 0 whe
     policy = bytes.cache.settings.policy;
     is_weighed = settings.is_weighed;
   }) default_shares (if settings.is_weighed then weight.Bytes else weight.Entry) bytes.cache.capacity
-  pub room : settings.initial_capacity ≤ bytes.cache.capacity
+  pub room : reserved settings.initial_capacity ≤ bytes.cache.capacity
   pub counts : bytes.leaving.statistics ≡ no_statistics
   pub removed : bytes.leaving.removed ≡ empty_queue settings.removed_room
   pub walk : bytes.walk ≡ Ended

@@ -1,12 +1,12 @@
 -- What a contract sees of the counts of calls, and of the entries that leave.
-use Rattle.std.specs.Prelude.{ℕ, zero, suc, ◌+◌, ◌-◌, ◌^◌, Bool, true, false, Option, Some, None, is_some, length, min, if◌then◌else◌}
+use Rattle.std.specs.Prelude.{ℕ, zero, suc, ◌+◌, ◌-◌, ◌^◌, Bool, true, false, Option, Some, None, is_some, length, min}
 use Rattle.moka_common.specs.Keys.{Keys}
 use Rattle.moka_common.specs.Policy.{Policy}
 use Rattle.moka_unsync_model.specs.CacheState.{CacheState}
 use Rattle.moka_unsync_model.specs.Contents.{entry_at}
-use Rattle.moka_unsync_model.specs.Invalidate.{after_invalidate}
 use Rattle.moka_unsync_model.specs.Lookup.{after_look}
-use Rattle.moka_unsync_model.specs.Cleanup.{after_expiry, is_expired}
+use Rattle.moka_unsync_model.specs.Cleanup.{after_expiry}
+use Rattle.moka_unsync_model.specs.Told.{cause_at}
 use Rattle.moka_unsync_model.specs.declared.entry.Entry.{Entry}
 use Rattle.moka_unsync_model.specs.declared.listener.Cause.{Cause}
 use Rattle.moka_unsync_model.specs.declared.listener.Cause.TheVariants as cause
@@ -51,13 +51,14 @@ with_removal false counts = counts
 -- the counts once an entry that was found is removed, if there is one: an expired one counts as such
 abbrev pub with_found : {K V : Type 0} → Policy → ℕ → Option (Entry K V) → Statistics → Statistics
 with_found policy now None counts = counts
-with_found policy now (Some e) counts = with_one (if is_expired policy now e then cause.Expired else cause.Explicit) counts
+with_found policy now (Some e) counts = with_one (cause_at policy now e cause.Explicit) counts
 
--- the counts once an entry was put in a cache of so many, which has so many then: its key had an entry or not, and has one or not
-abbrev pub with_put : Bool → Bool → ℕ → ℕ → Statistics → Statistics
-with_put true stands before after counts = with_one cause.Replaced counts
-with_put false true before after counts = with_left (before + 1 - after) cause.Size counts
-with_put false false before after counts = with_one cause.Rejected (with_left (before - after) cause.Size counts)
+-- the counts once an entry was put in a cache of so many, which has so many then: its key had an entry, which may have been expired, or had none and has one
+-- or not
+abbrev pub with_put : {K V : Type 0} → Policy → ℕ → Option (Entry K V) → Bool → ℕ → ℕ → Statistics → Statistics
+with_put policy now (Some there) stands before after counts = with_one (cause_at policy now there cause.Replaced) counts
+with_put policy now None true before after counts = with_left (before + 1 - after) cause.Size counts
+with_put policy now None false before after counts = with_one cause.Rejected (with_left (before - after) cause.Size counts)
 
 module _ {K V S W : Type 0} (keys : Keys K S) (old : CacheState K V S W) (now : ℕ) where
   -- the counts once cleanup removed expired entries, and then entries above the limit
@@ -71,10 +72,10 @@ module _ {K V S W : Type 0} (keys : Keys K S) (old : CacheState K V S W) (now : 
   abbrev pub with_insertion : K → CacheState K V S W → Statistics → Statistics
   with_insertion key new counts =
       let kept = (after_look keys old now).contents.entries in
-      with_insert (with_put (is_some (entry_at keys.eq key kept)) (is_some (entry_at keys.eq key new.contents.entries)) (length kept)
+      with_insert (with_put old.settings.policy now (entry_at keys.eq key kept) (is_some (entry_at keys.eq key new.contents.entries)) (length kept)
       (length new.contents.entries) (with_cleanup counts))
 
-  -- the counts once the entry of a key was removed
+  -- the counts once the entry of a key was removed or invalidated
   abbrev pub with_remove : K → Statistics → Statistics
   with_remove key counts =
       with_found old.settings.policy now (entry_at keys.eq key (after_look keys old now).contents.entries) (with_cleanup counts)
@@ -83,12 +84,6 @@ module _ {K V S W : Type 0} (keys : Keys K S) (old : CacheState K V S W) (now : 
   abbrev pub with_taken : Bool → K → Statistics → Statistics
   with_taken true key counts = counts
   with_taken false key counts = with_remove key counts
-
-  -- the counts once a key was invalidated
-  abbrev pub with_invalidation : K → Statistics → Statistics
-  with_invalidation key counts =
-      with_left (length (after_look keys old now).contents.entries - length (after_invalidate keys old key now).contents.entries) cause.Explicit
-      (with_cleanup counts)
 
 -- the counts once all entries were removed
 abbrev pub with_clearing : {K V S W : Type 0} → CacheState K V S W → Statistics → Statistics

@@ -16,7 +16,7 @@ ghost use Rattle.mini_moka_c.specs.Drain.{drained_by, drained_of, pair_of};
 ghost use Rattle.mini_moka_c.specs.Removed.{QueuesTaken, oldest, queues};
 ghost use Rattle.mini_moka_c.specs.Walk.{IsLong, fitting, met_after, next_pair, step_of, walk_after};
 ghost use Rattle.mini_moka_c.specs.declared.steps.Walk.TheVariants.{AtStart, Ended};
-ghost use Rattle.mini_moka_c.specs.Statistics.{no_statistics, with_clearing, with_get, with_insertion, with_invalidation, with_taken, with_cleanup};
+ghost use Rattle.mini_moka_c.specs.Statistics.{no_statistics, with_clearing, with_get, with_insertion, with_remove, with_taken, with_cleanup};
 
 use crate::inserted::Inserted;
 use crate::key::{Key, SHORT_KEY};
@@ -213,7 +213,7 @@ impl ByteCache {
         ensures step { OnOk result (self.new.cache ≡ after_invalidate byte_keys self.old.cache key.now now) }
         ensures walk { OnOk result (self.new.walk ≡ Ended) }
         ensures refused { OnErr result (self.new ≡ self.old) }
-        ensures counts { OnOk result (self.new.leaving.statistics ≡ with_invalidation byte_keys self.old.cache now key.now self.old.leaving.statistics) }
+        ensures counts { OnOk result (self.new.leaving.statistics ≡ with_remove byte_keys self.old.cache now key.now self.old.leaving.statistics) }
         ensures removed { OnOk result (TellsInvalidate queues byte_keys self.old.cache now key.now self.old.leaving.removed self.new.leaving.removed) }
         ensures short { OnErr result (SHORT_KEY < length key.now) }
     {

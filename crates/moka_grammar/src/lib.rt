@@ -4,6 +4,7 @@
 pub mod laws;
 pub mod line;
 pub mod parser;
+pub mod reason;
 pub mod streams;
 pub mod text;
 mod words;

@@ -7,6 +7,7 @@ use Rattle.std.proofs.lemmas.Nat.{div-add-mod'}
 use mathlib.Core.Option.{some}
 use lib.ListN.{get_elem?}
 use Rattle.moka_common.specs.Keys.{Keys}
+use Rattle.moka_unsync.specs.Builder.{reserved}
 use Rattle.moka_unsync_model.specs.CacheState.{CacheState, new_cache}
 use Rattle.moka_segments.proofs.Rules.{at_end}
 use Rattle.moka_segments.specs.declared.plan.Plan.{Plan}
@@ -45,7 +46,7 @@ shares limit count any = high limit count count (let m = mod-lt limit any in ome
 module _ {K V S W : Type 0} (keys : Keys K S) (weighs : W → K → V → ℕ → W → Type 0) (rules : Rules K V) (ready : W → Type 0) where
   -- one more cache
   pub one_more_cache : (plan : Plan S) (caches : List (CacheState K V S W)) (x : CacheState K V S W) (i : ℕ) (weigher : W) → AreCaches keys weighs rules plan ready caches
-      → length caches ≡ i → x ≡ new_cache (settings_of plan i) plan.shares weigher x.capacity → share plan.initial_capacity plan.count i ≤ x.capacity → ready weigher → AreCaches keys weighs rules plan ready (caches ++ x ∷ [])
+      → length caches ≡ i → x ≡ new_cache (settings_of plan i) plan.shares weigher x.capacity → reserved (share plan.initial_capacity plan.count i) ≤ x.capacity → ready weigher → AreCaches keys weighs rules plan ready (caches ++ x ∷ [])
   one_more_cache plan caches x i weigher all here new room is_ready j y there =
       ⊎_elim
       (λ (was : get_elem? caches j ≡ some y). all j y was)

@@ -1,6 +1,7 @@
 -- The history of a segment: the visits to it, the last one first, and the calls that each visit made, the last one first too.
 use Rattle.std.specs.Prelude.{◌≡◌, ◌==◌, ◌≤◌, ℕ, false, List, [], ◌∷◌, ◌++◌, Option, option_map}
 use Rattle.moka_common.specs.Keys.{Keys}
+use Rattle.moka_unsync.specs.Builder.{reserved}
 use Rattle.moka_unsync_model.specs.CacheState.{CacheState, new_cache}
 use Rattle.moka_unsync_model.specs.Step.{Request, Get, Peek, ContainsKey, Insert, Invalidate, Remove}
 use Rattle.moka_unsync_model.specs.History.{Exchange, Leads, Transition, chosen_keys, is_invalidated, is_written, last_write}
@@ -71,7 +72,7 @@ module _ {K V S W : Type 0} (keys : Keys K S) (weighs : W → K → V → ℕ �
   pub record IsLedBy (plan : Plan S) (i : ℕ) (log : Log K V S W) (cache : CacheState K V S W) : Type 0 where
     pub weigher : W
     pub capacity : ℕ
-    pub room : share plan.initial_capacity plan.count i ≤ capacity
+    pub room : reserved (share plan.initial_capacity plan.count i) ≤ capacity
     pub led : Leads keys weighs (new_cache (settings_of plan i) plan.shares weigher capacity) (calls log) cache
     pub own : Every (λ call. IsOfSegment keys plan i call.request) (calls log)
     pub ruled : Every (λ visit. Every (λ call. IsPermitted rules visit.0 call.request) visit.1) log

@@ -18,7 +18,7 @@ use Rattle.moka_unsync_model.specs.CacheState.{CacheState, windowed}
 use Rattle.moka_unsync_model.specs.Contents.{Contents, entries_without, entry_at, main_of, total_weight, window_of, with_latest}
 use Rattle.moka_unsync_model.specs.Insert.{new_entry}
 use Rattle.moka_unsync_model.specs.ToldCalls.{TellsInsert, TellsNew, main_max}
-use Rattle.moka_unsync_model.specs.Told.{IsAbove, TellsPut, TellsCleanup, TellsWhatLeft, partless, unplaced}
+use Rattle.moka_unsync_model.specs.Told.{IsAbove, TellsPut, TellsCleanup, TellsWhatLeft, cause_at, partless, unplaced}
 use Rattle.moka_unsync_model.specs.Cleanup.{after_expiry, after_cleanup, is_expired}
 use Rattle.moka_unsync_model.proofs.ToldLemmas.{also_for, also_there, latest_among, moved_among, one_left, passing_among, then_left, unplaced_same}
 use Rattle.moka_unsync_model.proofs.WindowLemmas.{total-split}
@@ -180,7 +180,8 @@ module _ {L K V S W : Type 0} (hears : L → K → V → Cause → L → Type 0)
     (were : Contents K V) (before between after : L) (cleanup : were ≡ after_cleanup keys.eq old.settings.policy now old.contents)
     (told : TellsCleanup hears keys.eq old.settings.policy now old.contents before between) where
   -- at a key that is there the old value leaves
-  pub update_told : (there : Entry K V) → entry_at keys.eq key were.entries ≡ Some there → hears between key there.value Replaced after
+  pub update_told : (there : Entry K V) → entry_at keys.eq key were.entries ≡ Some there
+      → hears between key there.value (cause_at old.settings.policy now there Replaced) after
       → TellsInsert hears keys old now key value new before after
   update_told there found heard =
       record {

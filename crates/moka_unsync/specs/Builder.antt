@@ -1,5 +1,5 @@
 -- What a contract sees of a builder: what was set.
-use Rattle.std.specs.Prelude.{◌≡◌, ◌≤◌, ℕ, Bool, false, nat_lt, if◌then◌else◌, Option, Some, None, unwrap_or}
+use Rattle.std.specs.Prelude.{◌≡◌, ◌≤◌, ◌==◌, ◌+◌, ℕ, Bool, false, nat_lt, if◌then◌else◌, Option, Some, None, unwrap_or}
 use Rattle.moka_common.specs.declared.error.BuildError.{BuildError}
 use Rattle.moka_common.specs.declared.error.BuildError.TheVariants.{OutOfMemory, ProtectedShareTooLarge, WindowShareTooLarge}
 use Rattle.moka_common.specs.Policy.{Policy}
@@ -39,10 +39,14 @@ abbrev pub refusal_of : {W : Type 0} → Builder W → BuildError
 refusal_of builder =
     unwrap_or (duration_fault (live_nanos builder.policy) (idle_nanos builder.policy)) (unwrap_or (share_fault builder.shares) OutOfMemory)
 
--- what was set is legal, and it is a new cache of that, with at least the room that was asked for
+-- the entries for which memory is reserved: one more than the initial capacity, if there is one
+abbrev pub reserved : ℕ → ℕ
+reserved initial_capacity = if initial_capacity == 0 then 0 else initial_capacity + 1
+
+-- what was set is legal, and it is a new cache of that, with at least the capacity that is reserved
 pub record IsBuilt {K V S W : Type 0} (builder : Builder W) (hash_state : S) (cache : CacheState K V S W) : Type 0 where
   pub legal : duration_fault (live_nanos builder.policy) (idle_nanos builder.policy) ≡ None
   pub shared : share_fault builder.shares ≡ None
   pub built : cache ≡ new_cache (record { hash_state = hash_state; policy = builder.policy; is_weighed = builder.is_weighed })
       builder.shares builder.weigher cache.capacity
-  pub room : builder.initial_capacity ≤ cache.capacity
+  pub room : reserved builder.initial_capacity ≤ cache.capacity

@@ -1,5 +1,5 @@
 -- How the parts of a cache are tied. No public clause cites this module.
-use Rattle.std.specs.Prelude.{◌≡◌, ◌-◌, ◌^◌, ◌||◌, ℕ, Bool, false, All, is_some, unwrap_or, Option, Some, None}
+use Rattle.std.specs.Prelude.{◌≡◌, ◌+◌, ◌-◌, ◌^◌, ◌||◌, ℕ, Bool, true, false, All, is_some, min, unwrap_or, Option, Some, None}
 use Rattle.moka_common.specs.Keys.{Keys}
 use Rattle.moka_common.specs.Policy.{Policy}
 use Rattle.moka_common.specs.Settings.{keeps_writes}
@@ -17,6 +17,11 @@ use Rattle.moka_store.specs.Store.{Store, entries_of}
 pub record IsBounded (policy : Policy) (expires : Bool) (max_weight : ℕ) : Type 0 where
   pub expiring : expires ≡ (is_some policy.time_to_live || is_some policy.time_to_idle)
   pub limited : max_weight ≡ unwrap_or policy.max_capacity (2 ^ 64 - 1)
+
+-- the most entries that a store may have use for: one above the limit, if each weighs 1
+abbrev pub most_entries : Policy → Bool → ℕ
+most_entries policy true = 2 ^ 64 - 1
+most_entries policy false = min (unwrap_or policy.max_capacity (2 ^ 64 - 1) + 1) (2 ^ 64 - 1)
 
 -- each entry has the hash of its key, the writes are kept where there is a time to live, without a window all entries are of main, and what was computed of
 -- the shares is right

@@ -99,8 +99,8 @@ impl<K, V, W: Drop, A: Allocator + Clone + Drop> CacheBuilder<K, V, W, A> {
         }
     }
 
-    /// Sets the number of entries for which memory is reserved at the start. While there are fewer, no insert is refused. Room for more is made as they come.
-    /// Without a weigher, room for one more than the limit is always enough.
+    /// Sets the number of entries for which memory is reserved at the start, with one more place for the insert into a full cache. While the cache has at most
+    /// that many entries it doesn't grow, and no insert is refused. So without a weigher a cache with its limit as initial capacity never grows.
     pub fn initial_capacity(self, initial_capacity: usize) -> Self
         ensures { result ≡ record self { initial_capacity = initial_capacity } }
     {

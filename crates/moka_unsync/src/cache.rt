@@ -4,7 +4,8 @@ ghost use Rattle.std.specs.Prelude.{IfErr, IfOk, option_copied, option_map};
 ghost use Rattle.std.specs.Map.Iter.{deref_pair};
 ghost use Rattle.moka_common.specs.Keys.{keys_by};
 ghost use Rattle.moka_common.specs.Settings.{keeps_writes};
-ghost use Rattle.moka_unsync.specs.Builder.{new_builder};
+ghost use Rattle.moka_unsync.specs.Builder.{new_builder, reserved};
+ghost use Rattle.moka_unsync.specs.Cached.{most_entries};
 ghost use Rattle.moka_unsync_model.specs.CacheState.{new_cache};
 ghost use Rattle.moka_unsync_model.specs.Contents.{entry_at, weighted_size};
 ghost use Rattle.moka_unsync_model.specs.Lookup.{found_by_peek};
@@ -110,7 +111,7 @@ pub(crate) struct Parts<S: Drop, W: Drop> {
 /// one after another. All else in a call takes constant time for each entry that it adds, removes or asks about, which with weights may be all of the
 /// window. Only building and inserting allocate. An insert
 /// within the cache's capacity allocates at most the sketch's table, and can't be refused. Beyond it the cache doubles its capacity, without a weigher
-/// up to one above the limit, and rebuilds the index. So a cache without a weigher whose `initial_capacity` is above its limit refuses no insert. A
+/// up to one above the limit, and rebuilds the index. So a cache without a weigher whose `initial_capacity` is at least its limit refuses no insert. A
 /// cache has at most 2,000,000,000 entries.
 ///
 /// # What differs from mini-moka
@@ -231,9 +232,9 @@ impl<
         ensures new { IfOk result (λ cache. cache ≡ new_cache
             (record { hash_state = parts.hash_state; policy = parts.policy; is_weighed = parts.is_weighed })
             parts.shares parts.weigher cache.capacity) }
-        ensures room { IfOk result (λ cache. parts.initial_capacity ≤ cache.capacity) }
+        ensures room { IfOk result (λ cache. reserved parts.initial_capacity ≤ cache.capacity) }
     {
-        let store = empty_store(&alloc, parts.policy, parts.initial_capacity)?;
+        let store = empty_store(&alloc, parts.policy, reserved(parts.initial_capacity)?)?;
         Ok(Cache {
             hash_state: parts.hash_state,
             bounds: Bounds::new(parts.policy),
@@ -367,8 +368,21 @@ impl<
     }
 }
 
+/// Returns the number of entries for which a new store reserves memory: one more than the initial capacity, for the insert into a full cache, which is stored
+/// before another entry leaves. Without an initial capacity nothing is reserved.
+fn reserved(initial_capacity: usize) -> Result<usize, OutOfMemory>
+    ensures { IfOk result (λ entries. entries ≡ reserved initial_capacity) }
+{
+    if initial_capacity == 0 {
+        return Ok(0);
+    }
+    initial_capacity.checked_add(1).ok_or(OutOfMemory)
+}
+
 /// Returns the largest useful capacity of a store: the limit plus one candidate, or `usize::MAX` if entries have weights or there is no limit.
-fn max_entries(policy: Policy, is_weighed: bool) -> usize {
+fn max_entries(policy: Policy, is_weighed: bool) -> usize
+    ensures { result ≡ most_entries policy is_weighed }
+{
     if is_weighed {
         return usize::MAX;
     }

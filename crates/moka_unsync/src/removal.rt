@@ -3,15 +3,36 @@ ghost use Rattle.std.specs.Prelude.{◌≡◌, ◌++◌, ⊤, Bool, List, option
 ghost use Rattle.std.specs.List.Sorted.{IsPermutation};
 ghost use Rattle.moka_unsync_model.specs.Contents.{after_leaving, entry_at, entry_keys, no_contents, without};
 ghost use Rattle.moka_unsync_model.specs.Invalidate.{AnswersInTurn, chosen};
-ghost use Rattle.moka_unsync_model.specs.Told.{TellsWhatLeft};
+ghost use Rattle.moka_unsync_model.specs.Told.{TellsTaken, TellsWhatLeft};
 ghost use Rattle.moka_unsync_model.specs.declared.listener.Cause.TheVariants.{Explicit};
 ghost use Rattle.moka_store.specs.Store.{Continues, HasHash, contents_of, entries_of};
 
+use crate::cleanup::Bounds;
 use crate::leaving::leave;
+use moka_common::time::Instant;
 use moka_store::store::Store;
 use moka_unsync_model::entry::Entry;
 use moka_unsync_model::listener::{Cause, Listener};
 use std::alloc::Allocator;
+
+/// Removes the entry of the key, if there is one, and gives it to the listener: as expired, if it is, or else as removed. The hash is the key's.
+pub(crate) fn remove_notifying<
+    K: Eq + Drop,
+    V: Drop,
+    A: Allocator + Clone + Drop,
+    L: Listener<K, V>,
+>(store: &mut Store<K, V, A>, bounds: &Bounds, key: &K, hash: u64, now: Instant, listener: &mut L)
+    requires { HasHash K.eq store.old key.now hash }
+    ensures step { contents_of store.new ≡ without K.eq (contents_of store.old) key.now }
+    ensures kept { Continues store.old store.new }
+    ensures told { TellsTaken L.hears bounds.now now Explicit (entry_at K.eq key.now (entries_of store.old)) listener.old listener.new }
+{
+    if let Some(entry) = remove(store, key, hash) {
+        let cause = bounds.cause_at(&entry, now, Cause::Explicit);
+        let Entry { key, value, .. } = entry;
+        listener.removed(key, value, cause);
+    }
+}
 
 /// Takes out the entry of the key, expired or not, if there is one. The hash is the key's.
 pub(crate) fn remove<K: Eq + Drop, V: Drop, A: Allocator + Clone + Drop>(

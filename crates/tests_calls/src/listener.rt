@@ -78,6 +78,35 @@ fn a_listener_counts_each_entry_that_leaves(rt: HostRuntime) -> Result<(), Fail>
     Ok(())
 }
 
+// The first write is of a later moment, so the other entries are expired at 15 and stay until calls come to them. The last insert replaces a live value.
+#[test]
+fn an_entry_that_was_expired_leaves_as_such(rt: HostRuntime) -> Result<(), Fail> {
+    let builder = Cache::builder(rt.alloc()).time_to_live(Duration::from_nanos(10));
+    let mut cache = builder.eviction_listener(Statistics::default()).build()?;
+    cache.insert(0u64, 0u64, at(20))?;
+    for key in 1..4u64 {
+        cache.insert(key, key, at(5))?;
+    }
+    assert_eq!(rt;
+        (cache.cache().entry_count(), digits(cache.listener())),
+        (4, 0)
+    );
+    cache.insert(1, 7, at(15))?;
+    cache.invalidate(&2, at(15));
+    assert_eq!(rt; cache.remove(&3, at(15)), None);
+    assert_eq!(rt;
+        (cache.cache().entry_count(), digits(cache.listener())),
+        (2, 3000)
+    );
+    cache.insert(1, 8, at(15))?;
+    cache.invalidate(&0, at(15));
+    assert_eq!(rt;
+        (cache.cache().entry_count(), digits(cache.listener())),
+        (1, 3110)
+    );
+    Ok(())
+}
+
 // With a hash state of its own. The first count is of the second value, the next one of the removal alone.
 #[test]
 fn a_listener_can_be_changed_between_calls(rt: HostRuntime) -> Result<(), Fail> {

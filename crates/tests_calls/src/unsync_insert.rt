@@ -174,14 +174,58 @@ fn taken_without_memory(heap: &Heap, limit: u64, room: usize) -> Option<u64> {
     Some(taken)
 }
 
-// Above a limit of ten no insert takes memory. Without one the 41st key would be the 21st entry.
+// With the limit as initial capacity no insert takes memory. Without a limit the 43rd key would be the 22nd entry.
 #[test]
 fn room_from_the_start_is_for_as_many_entries(rt: HostRuntime) -> Result<(), Fail> {
     let heap = RefusingHeap::new(rt.alloc(), rt.alloc(), Refusals::Never)?;
     let taken = [
-        taken_without_memory(&heap, 10, 11),
+        taken_without_memory(&heap, 10, 10),
         taken_without_memory(&heap, u64::MAX, 20),
     ];
-    assert_eq!(rt; taken, [Some(1000), Some(40)]);
+    assert_eq!(rt; taken, [Some(1000), Some(42)]);
+    Ok(())
+}
+
+/// Returns the bytes that a cache with a limit of a thousand holds once three thousand keys were inserted.
+fn held_when_full(heap: &Heap, room: usize) -> Option<u64> {
+    let mut cache: Cache<u64, u64, FixedState, UnitWeight, _> = CacheBuilder::new(heap, 1000)
+        .initial_capacity(room)
+        .build()
+        .ok()?;
+    for key in 0..3000u64 {
+        cache.insert(key, 1, start()).ok()?;
+    }
+    Some(heap.held_bytes())
+}
+
+// A cache that grows stops at its limit and one more.
+#[test]
+fn a_grown_cache_takes_no_more_memory_than_its_limit_needs(rt: HostRuntime) -> Result<(), Fail> {
+    let heap = RefusingHeap::new(rt.alloc(), rt.alloc(), Refusals::Never)?;
+    let grown = held_when_full(&heap, 0);
+    let reserved = held_when_full(&heap, 1000);
+    assert!(rt; grown.is_some());
+    assert_eq!(rt; grown, reserved);
+    Ok(())
+}
+
+/// Returns how often a cache asks for memory as it takes four thousand entries that weigh nothing.
+fn requests_of_weightless(heap: &Heap) -> Option<u64> {
+    let builder = CacheBuilder::new(heap, 10).weigher(|_: &u64, _: &u64| 0u32);
+    let mut cache = builder.build().ok()?;
+    for key in 0..4000u64 {
+        cache.insert(key, 1, start()).ok()?;
+    }
+    Some(heap.asked())
+}
+
+// A cache of weights may have more entries than its limit, so it doubles beyond it too.
+#[test]
+fn a_weighed_cache_doubles_its_memory_beyond_its_limit(rt: HostRuntime) -> Result<(), Fail> {
+    let heap = RefusingHeap::new(rt.alloc(), rt.alloc(), Refusals::Never)?;
+    let Some(requests) = requests_of_weightless(&heap) else {
+        return Err("an insert is refused")?;
+    };
+    assert!(rt; requests < 60, "{requests} requests");
     Ok(())
 }

@@ -11,7 +11,7 @@ ghost use Rattle.moka_unsync_model.specs.declared.listener.Cause.TheVariants.{Ex
 
 use crate::admission::{admit, insert_into_window};
 use crate::cache::Cache;
-use crate::removal::{clear, remove, remove_where};
+use crate::removal::{clear, remove, remove_notifying, remove_where};
 use moka_common::error::InsertError;
 use moka_common::time::Instant;
 use moka_common::weigh::Weigh;
@@ -153,11 +153,7 @@ impl<
         ensures told { TellsInvalidate L.hears (keys_by K.Hash S.BuildHasher S.Hasher.Hasher) self.old now key.now listener.old listener.new }
     {
         self.bounds.clean_up(&mut self.store, now, listener);
-        if let Some(entry) = remove(&mut self.store, key, hash) {
-            let cause = self.bounds.cause_at(&entry, now, Cause::Explicit);
-            let Entry { key, value, .. } = entry;
-            listener.removed(key, value, cause);
-        }
+        remove_notifying(&mut self.store, &self.bounds, key, hash, now, listener);
     }
 
     /// Removes the entry of the key, if there is one, and returns its value, unless it is expired. The value is moved out, so it needs no `Clone`.

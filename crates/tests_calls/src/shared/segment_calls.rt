@@ -133,6 +133,24 @@ fn owned<R: Wait>(rt: &R, alloc: Global) -> Result<(Option<u64>, usize), Fail> {
     Ok((reader.get(rt, &1, now)?, cache.num_segments()))
 }
 
+/// An entry that is looked at until it is idle. A look that were a `get` too would renew it.
+fn looked_at<R: Wait>(rt: &R, alloc: Global) -> Result<[bool; 5], Fail> {
+    let cache = Numbers::builder(alloc)
+        .num_segments(2)
+        .time_to_idle(Duration::from_nanos(10))
+        .build()?;
+    cache.insert(rt, 1, 10, Instant::from_nanos(0))?;
+    let before = Instant::from_nanos(9);
+    let found = [
+        cache.peek(rt, &1, before)? == Some(10),
+        cache.contains_key(rt, &1, before),
+        cache.iter(rt, alloc, before)?.len() == 1,
+        cache.entry_count(rt) == 1,
+        cache.get(rt, &1, Instant::from_nanos(10))?.is_none(),
+    ];
+    Ok(found)
+}
+
 fn refusal(alloc: Global, count: usize, seconds: u64) -> Option<BuildError> {
     let builder = Numbers::builder(alloc)
         .num_segments(count)
@@ -173,6 +191,12 @@ fn a_value_is_made_once(rt: HostRuntime) -> Result<(), Fail> {
 #[test]
 fn a_predicate_chooses(rt: HostRuntime) -> Result<(), Fail> {
     assert_eq!(rt; chosen(&rt, rt.alloc())?, (60, false, true));
+    Ok(())
+}
+
+#[test]
+fn a_look_is_no_access(rt: HostRuntime) -> Result<(), Fail> {
+    assert_eq!(rt; looked_at(&rt, rt.alloc())?, [true; 5]);
     Ok(())
 }
 

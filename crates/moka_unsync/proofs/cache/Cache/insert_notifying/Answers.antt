@@ -17,7 +17,7 @@ use Rattle.moka_unsync.proofs.CachedLemmas.{IsCached-put, IsCached-room, IsCache
 use Rattle.moka_unsync.proofs.InsertLemmas.{insert_drops, insert_stays, insert_updates, kept, put_main, stays_main}
 use Rattle.moka_unsync_model.specs.declared.listener.Cause.TheVariants.{Replaced}
 use Rattle.moka_unsync_model.specs.Shares.{main_limit}
-use Rattle.moka_unsync_model.specs.Told.{TellsPut, TellsCleanup}
+use Rattle.moka_unsync_model.specs.Told.{TellsPut, TellsCleanup, cause_at}
 use Rattle.moka_unsync_model.specs.ToldCalls.{TellsInsert, main_max}
 use Rattle.moka_unsync_model.proofs.EnteringLemmas.{stands-arrived}
 use Rattle.moka_unsync.proofs.LeavingLemmas.{put_told, update_told}
@@ -401,11 +401,16 @@ returns-in-Some-clause-told g c =
     let found = (c.in-Some.ensures {u = tt}).found in
     let left : c.update-key.result.1 ≡ found.0.value =
     ap (λ o. unwrap_or o c.update-key.result.1) (sym c.update-key.ensures.value ∙ ap (λ o. option_map (λ e. e.value) o) found.1) in
+    let cause : c.cause_at-cause.result ≡ cause_at c.self.inside.bounds c.args.now found.0 Replaced =
+    c.cause_at-cause.ensures
+    ∙ ap (λ e. cause_at c.self.inside.bounds c.args.now e Replaced) (ap (λ o. unwrap_or o found.0) (sym c.get.ensures ∙ found.1)) in
     rw (← c.self.view_is)
     (update_told hears keys (its_start g at) _ c.args.now c.args.key c.args.value (contents_of c.clean_up.new.store) c.args.listener.now
     c.clean_up.new.listener c.removed.new.self (its_contents g at) (its_cleanup g at) found.0 found.2
-    (subst (λ v. hears c.clean_up.new.listener c.args.key v Replaced c.removed.new.self) left
-    (subst (λ k. hears c.clean_up.new.listener k c.update-key.result.1 Replaced c.removed.new.self) c.update-key.ensures.key c.removed.ensures)))
+    (subst (λ x. hears c.clean_up.new.listener c.args.key found.0.value x c.removed.new.self) cause
+    (subst (λ v. hears c.clean_up.new.listener c.args.key v c.cause_at-cause.result c.removed.new.self) left
+    (subst (λ k. hears c.clean_up.new.listener k c.update-key.result.1 c.cause_at-cause.result c.removed.new.self) c.update-key.ensures.key
+    c.removed.ensures))))
 
 pub returns-then-insert_into_window-clause-told : goal.returns-then-insert_into_window-clause-told
 returns-then-insert_into_window-clause-told g c =
