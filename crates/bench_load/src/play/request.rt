@@ -7,13 +7,15 @@ pub enum Call {
     Get(u64),
     /// `insert KEY`
     Insert(u64),
+    /// `read KEY`: a look-up, and an insert if it finds nothing.
+    Read(u64),
     /// `count`: how many entries were counted last. Nothing is made of it.
     Count,
     /// `sync`: a whole maintenance, where the cache has one. Nothing is made of it.
     Sync,
 }
 
-/// Which cache threads share.
+/// Which cache is played on.
 #[derive(Clone, Copy, Debug, PartialEq, Eq)]
 pub enum Kind {
     /// `sync`: the cache that is made for it.
@@ -24,6 +26,10 @@ pub enum Kind {
     Unsync,
     /// `segments`: the cache of segments.
     Segments,
+    /// `alone`: the cache for one thread, without a lock, for the calls of one thread.
+    Alone,
+    /// `core`: the core of the cache for threads, by whole calls of one thread.
+    Core,
 }
 
 /// One line of input.
@@ -31,13 +37,17 @@ pub enum Kind {
 pub enum Request {
     /// `capacity NUMBER`: how many entries the caches have at most that are made from here on. Before the first such line they have no limit.
     Capacity(u64),
+    /// `durations SECONDS`: the time to live and the time to idle of the caches that are made from here on. Before the first such line they have none.
+    Durations(u64),
+    /// `clock on` or `clock off`: each call of the plays from here on reads the clock, or all calls of a play have one moment, as at first.
+    Clock(bool),
     /// `thread`: the calls that follow are those of one more thread. The calls that come before the first thread's fill each new cache.
     Thread,
     /// `clear`: there are no threads. What fills a new cache stays.
     Clear,
     /// A call, of the thread that came last.
     Call(Call),
-    /// `play sync`, `play counted`, `play unsync` or `play segments`: a new cache is made and filled, and then all threads make their calls on it.
+    /// `play` and the name of a kind: a new cache is made and filled, and then all threads make their calls on it.
     Play(Kind),
     /// `nanos`: how long the last play took.
     Nanos,
@@ -70,7 +80,10 @@ fn with_word(name: &str, word: &str) -> Option<Request> {
     match name {
         "get" => Some(Request::Call(Call::Get(number_of(word)?))),
         "insert" => Some(Request::Call(Call::Insert(number_of(word)?))),
+        "read" => Some(Request::Call(Call::Read(number_of(word)?))),
         "capacity" => Some(Request::Capacity(number_of(word)?)),
+        "durations" => Some(Request::Durations(number_of(word)?)),
+        "clock" => Some(Request::Clock(is_on(word)?)),
         "play" => Some(Request::Play(kind_of(word)?)),
         _ => None,
     }
@@ -80,12 +93,22 @@ fn number_of(word: &str) -> Option<u64> {
     word.parse::<u64>().ok()
 }
 
+fn is_on(word: &str) -> Option<bool> {
+    match word {
+        "on" => Some(true),
+        "off" => Some(false),
+        _ => None,
+    }
+}
+
 fn kind_of(word: &str) -> Option<Kind> {
     match word {
         "sync" => Some(Kind::Sync),
         "counted" => Some(Kind::Counted),
         "unsync" => Some(Kind::Unsync),
         "segments" => Some(Kind::Segments),
+        "alone" => Some(Kind::Alone),
+        "core" => Some(Kind::Core),
         _ => None,
     }
 }

@@ -1,6 +1,7 @@
-// The caches that are played on, as threads share them. All calls are of one moment, so that none of them reads a clock.
+// The caches that are played on, as threads share them.
 use crate::play::error::PlayError;
 use crate::play::hasher::MultiplyState;
+use crate::play::settings::Settings;
 use moka_common::time::Instant;
 use moka_common::weigh::UnitWeight;
 use moka_guards::counts::CountPass;
@@ -15,36 +16,52 @@ use std::alloc::{AllocError, Global};
 use std::marker::Model;
 use std::sync::{Arc, Mutex, Wait};
 
-/// A cache as threads share it.
-pub(crate) trait Side: Sized + Drop {
-    /// Returns the same cache, for another thread.
-    fn another(&mut self) -> Result<Self, AllocError>;
-
-    /// A copy of the value of a key.
-    fn look<R: Wait>(&mut self, rt: &R, key: u64) -> Result<Option<u64>, PlayError>;
+/// A cache that calls are played on.
+pub(crate) trait Called: Sized + Drop {
+    /// Returns a copy of the value of a key.
+    fn look<R: Wait>(&mut self, rt: &R, key: u64, now: Instant) -> Result<Option<u64>, PlayError>;
 
     /// Inserts a key with itself for its value.
-    fn put<R: Wait>(&mut self, rt: &R, key: u64) -> Result<(), PlayError>;
+    fn put<R: Wait>(&mut self, rt: &R, key: u64, now: Instant) -> Result<(), PlayError>;
 
     /// Returns the entry count of the last maintenance.
     fn count<R: Wait>(&mut self, rt: &R) -> u64;
 
     /// Returns the number of entries after all delayed work is done.
-    fn entries<R: Wait>(&mut self, rt: &R) -> u64;
+    fn entries<R: Wait>(&mut self, rt: &R, now: Instant) -> u64;
 }
 
-/// The moment of all calls.
-fn moment() -> Instant {
-    Instant::from_nanos(0)
+/// A cache as threads share it.
+pub(crate) trait Side: Called {
+    /// Returns the same cache, for another thread.
+    fn another(&mut self) -> Result<Self, AllocError>;
 }
 
-/// The builder of a cache for threads with this limit.
-fn sync_builder(alloc: Global, capacity: Option<u64>) -> SyncBuilder<u64, u64> {
-    let builder = SyncBuilder::default(alloc);
-    match capacity {
-        Some(capacity) => builder.max_capacity(capacity),
-        None => builder,
+/// Returns the builder of a cache for threads with these limits.
+fn sync_builder(alloc: Global, settings: Settings) -> SyncBuilder<u64, u64> {
+    let mut builder = SyncBuilder::default(alloc);
+    if let Some(capacity) = settings.capacity {
+        builder = builder.max_capacity(capacity);
     }
+    if let Some(duration) = settings.durations {
+        builder = builder.time_to_live(duration).time_to_idle(duration);
+    }
+    builder
+}
+
+/// Builds a cache for one thread with these limits.
+pub(crate) fn unsync_cache(
+    alloc: Global,
+    settings: Settings,
+) -> Result<UnsyncCache<u64, u64, MultiplyState>, PlayError> {
+    let mut builder = UnsyncBuilder::default(alloc);
+    if let Some(capacity) = settings.capacity {
+        builder = builder.max_capacity(capacity);
+    }
+    if let Some(duration) = settings.durations {
+        builder = builder.time_to_live(duration).time_to_idle(duration);
+    }
+    Ok(builder.build_with_hasher(MultiplyState)?)
 }
 
 /// The cache that is made for threads.
@@ -54,9 +71,29 @@ pub(crate) struct Shared {
 }
 
 impl Shared {
-    pub(crate) fn new(alloc: Global, capacity: Option<u64>) -> Result<Shared, PlayError> {
-        let cache = sync_builder(alloc, capacity).build_with_hasher(MultiplyState)?;
+    pub(crate) fn new(alloc: Global, settings: Settings) -> Result<Shared, PlayError> {
+        let cache = sync_builder(alloc, settings).build_with_hasher(MultiplyState)?;
         Ok(Shared { cache })
+    }
+}
+
+impl Called for Shared {
+    fn look<R: Wait>(&mut self, rt: &R, key: u64, now: Instant) -> Result<Option<u64>, PlayError> {
+        Ok(self.cache.get(rt, &key, now)?)
+    }
+
+    fn put<R: Wait>(&mut self, rt: &R, key: u64, now: Instant) -> Result<(), PlayError> {
+        self.cache.insert(rt, key, key, now)?;
+        Ok(())
+    }
+
+    fn count<R: Wait>(&mut self, _rt: &R) -> u64 {
+        self.cache.entry_count()
+    }
+
+    fn entries<R: Wait>(&mut self, rt: &R, now: Instant) -> u64 {
+        self.cache.sync(rt, now);
+        self.cache.entry_count()
     }
 }
 
@@ -65,24 +102,6 @@ impl Side for Shared {
         Ok(Shared {
             cache: self.cache.clone()?,
         })
-    }
-
-    fn look<R: Wait>(&mut self, rt: &R, key: u64) -> Result<Option<u64>, PlayError> {
-        Ok(self.cache.get(rt, &key, moment())?)
-    }
-
-    fn put<R: Wait>(&mut self, rt: &R, key: u64) -> Result<(), PlayError> {
-        self.cache.insert(rt, key, key, moment())?;
-        Ok(())
-    }
-
-    fn count<R: Wait>(&mut self, _rt: &R) -> u64 {
-        self.cache.entry_count()
-    }
-
-    fn entries<R: Wait>(&mut self, rt: &R) -> u64 {
-        self.cache.sync(rt, moment());
-        self.cache.entry_count()
     }
 }
 
@@ -105,9 +124,29 @@ impl Model for Counted {
 }
 
 impl Counted {
-    pub(crate) fn new(alloc: Global, capacity: Option<u64>) -> Result<Counted, PlayError> {
-        let (cache, pass) = sync_builder(alloc, capacity).build_counted(MultiplyState)?;
+    pub(crate) fn new(alloc: Global, settings: Settings) -> Result<Counted, PlayError> {
+        let (cache, pass) = sync_builder(alloc, settings).build_counted(MultiplyState)?;
         Ok(Counted { cache, pass })
+    }
+}
+
+impl Called for Counted {
+    fn look<R: Wait>(&mut self, rt: &R, key: u64, now: Instant) -> Result<Option<u64>, PlayError> {
+        Ok(self.cache.get(rt, &key, now)?)
+    }
+
+    fn put<R: Wait>(&mut self, rt: &R, key: u64, now: Instant) -> Result<(), PlayError> {
+        self.cache.insert(rt, key, key, now)?;
+        Ok(())
+    }
+
+    fn count<R: Wait>(&mut self, rt: &R) -> u64 {
+        self.cache.published(rt, &mut self.pass).count
+    }
+
+    fn entries<R: Wait>(&mut self, rt: &R, now: Instant) -> u64 {
+        self.cache.sync(rt, now);
+        self.cache.entry_count()
     }
 }
 
@@ -116,24 +155,6 @@ impl Side for Counted {
         let cache = self.cache.clone()?;
         let pass = self.cache.split_pass(&mut self.pass);
         Ok(Counted { cache, pass })
-    }
-
-    fn look<R: Wait>(&mut self, rt: &R, key: u64) -> Result<Option<u64>, PlayError> {
-        Ok(self.cache.get(rt, &key, moment())?)
-    }
-
-    fn put<R: Wait>(&mut self, rt: &R, key: u64) -> Result<(), PlayError> {
-        self.cache.insert(rt, key, key, moment())?;
-        Ok(())
-    }
-
-    fn count<R: Wait>(&mut self, rt: &R) -> u64 {
-        self.cache.published(rt, &mut self.pass).count
-    }
-
-    fn entries<R: Wait>(&mut self, rt: &R) -> u64 {
-        self.cache.sync(rt, moment());
-        self.cache.entry_count()
     }
 }
 
@@ -144,15 +165,34 @@ pub(crate) struct Locked {
 }
 
 impl Locked {
-    pub(crate) fn new(alloc: Global, capacity: Option<u64>) -> Result<Locked, PlayError> {
-        let mut builder = UnsyncBuilder::default(alloc);
-        if let Some(capacity) = capacity {
-            builder = builder.max_capacity(capacity);
-        }
-        let cache = builder.build_with_hasher(MultiplyState)?;
+    pub(crate) fn new(alloc: Global, settings: Settings) -> Result<Locked, PlayError> {
+        let cache = unsync_cache(alloc, settings)?;
         Ok(Locked {
             cache: Arc::new(alloc, Mutex::new(cache))?,
         })
+    }
+}
+
+impl Called for Locked {
+    fn look<R: Wait>(&mut self, rt: &R, key: u64, now: Instant) -> Result<Option<u64>, PlayError> {
+        let mut cache = self.cache.lock(rt);
+        let found = cache.get(&key, now).copied();
+        Ok(found)
+    }
+
+    fn put<R: Wait>(&mut self, rt: &R, key: u64, now: Instant) -> Result<(), PlayError> {
+        let mut cache = self.cache.lock(rt);
+        cache.insert(key, key, now)?;
+        Ok(())
+    }
+
+    fn count<R: Wait>(&mut self, rt: &R) -> u64 {
+        let cache = self.cache.lock(rt);
+        cache.entry_count()
+    }
+
+    fn entries<R: Wait>(&mut self, rt: &R, _now: Instant) -> u64 {
+        self.count(rt)
     }
 }
 
@@ -161,27 +201,6 @@ impl Side for Locked {
         Ok(Locked {
             cache: self.cache.clone()?,
         })
-    }
-
-    fn look<R: Wait>(&mut self, rt: &R, key: u64) -> Result<Option<u64>, PlayError> {
-        let mut cache = self.cache.lock(rt);
-        let found = cache.get(&key, moment()).copied();
-        Ok(found)
-    }
-
-    fn put<R: Wait>(&mut self, rt: &R, key: u64) -> Result<(), PlayError> {
-        let mut cache = self.cache.lock(rt);
-        cache.insert(key, key, moment())?;
-        Ok(())
-    }
-
-    fn count<R: Wait>(&mut self, rt: &R) -> u64 {
-        self.entries(rt)
-    }
-
-    fn entries<R: Wait>(&mut self, rt: &R) -> u64 {
-        let cache = self.cache.lock(rt);
-        cache.entry_count()
     }
 }
 
@@ -193,14 +212,36 @@ pub(crate) struct Segmented {
 }
 
 impl Segmented {
-    pub(crate) fn new(alloc: Global, capacity: Option<u64>) -> Result<Segmented, PlayError> {
+    pub(crate) fn new(alloc: Global, settings: Settings) -> Result<Segmented, PlayError> {
         let mut builder = SegmentedCache::<u64, u64>::builder(alloc);
-        if let Some(capacity) = capacity {
+        if let Some(capacity) = settings.capacity {
             builder = builder.max_capacity(capacity);
+        }
+        if let Some(duration) = settings.durations {
+            builder = builder.time_to_live(duration).time_to_idle(duration);
         }
         let cache = builder.build_with_hasher(MultiplyState)?;
         let session = cache.session()?;
         Ok(Segmented { cache, session })
+    }
+}
+
+impl Called for Segmented {
+    fn look<R: Wait>(&mut self, rt: &R, key: u64, now: Instant) -> Result<Option<u64>, PlayError> {
+        Ok(self.session.get(rt, &key, now)?)
+    }
+
+    fn put<R: Wait>(&mut self, rt: &R, key: u64, now: Instant) -> Result<(), PlayError> {
+        self.session.insert(rt, key, key, now)?;
+        Ok(())
+    }
+
+    fn count<R: Wait>(&mut self, rt: &R) -> u64 {
+        self.session.entry_count(rt)
+    }
+
+    fn entries<R: Wait>(&mut self, rt: &R, _now: Instant) -> u64 {
+        self.count(rt)
     }
 }
 
@@ -211,22 +252,5 @@ impl Side for Segmented {
             return Err(AllocError);
         };
         Ok(Segmented { cache, session })
-    }
-
-    fn look<R: Wait>(&mut self, rt: &R, key: u64) -> Result<Option<u64>, PlayError> {
-        Ok(self.session.get(rt, &key, moment())?)
-    }
-
-    fn put<R: Wait>(&mut self, rt: &R, key: u64) -> Result<(), PlayError> {
-        self.session.insert(rt, key, key, moment())?;
-        Ok(())
-    }
-
-    fn count<R: Wait>(&mut self, rt: &R) -> u64 {
-        self.entries(rt)
-    }
-
-    fn entries<R: Wait>(&mut self, rt: &R) -> u64 {
-        self.session.entry_count(rt)
     }
 }

@@ -2,8 +2,9 @@
 ghost use Rattle.std.specs.Prelude.{◌≡◌, ◌+◌, ◌≤◌, length, IfOk};
 
 use crate::play::error::PlayError;
+use crate::play::moments::Moments;
 use crate::play::request::Call;
-use crate::play::side::Side;
+use crate::play::side::Called;
 use std::sync::{Barrier, Wait};
 use std::thread::JoinHandle;
 use std::time::{Clock, Instant};
@@ -65,43 +66,56 @@ impl Played {
 pub(crate) type Playing = JoinHandle<Result<(Vec<Call>, Played), PlayError>>;
 
 /// Waits until all threads are there, and makes the calls.
-pub(crate) fn play_thread<S: Side, R: Wait + Clock>(
+pub(crate) fn play_thread<C: Called, M: Moments, R: Wait + Clock>(
     rt: &R,
-    side: &mut S,
+    cache: &mut C,
+    moments: M,
     together: &Barrier,
     calls: Vec<Call>,
 ) -> Result<(Vec<Call>, Played), PlayError> {
     let _ = together.wait(rt);
-    let begun = Instant::now(rt)?;
-    let found = play_calls(rt, side, &calls)?;
-    let ended = Instant::now(rt)?;
-    let played = Played {
-        found,
-        begun,
-        ended,
-    };
+    let played = play_timed(rt, cache, moments, &calls)?;
     Ok((calls, played))
 }
 
-/// Makes the calls in turn.
-pub(crate) fn play_calls<S: Side, R: Wait>(
+/// Makes the calls in turn, and reads the clock before and after them.
+pub(crate) fn play_timed<C: Called, M: Moments, R: Wait + Clock>(
     rt: &R,
-    side: &mut S,
+    cache: &mut C,
+    moments: M,
+    calls: &[Call],
+) -> Result<Played, PlayError> {
+    let begun = Instant::now(rt)?;
+    let found = play_calls(rt, cache, moments, calls)?;
+    let ended = Instant::now(rt)?;
+    Ok(Played {
+        found,
+        begun,
+        ended,
+    })
+}
+
+/// Makes the calls in turn.
+pub(crate) fn play_calls<C: Called, M: Moments, R: Wait + Clock>(
+    rt: &R,
+    cache: &mut C,
+    moments: M,
     calls: &[Call],
 ) -> Result<Found, PlayError>
     ensures { IfOk result (λ found. found.hits ≤ length calls.now) }
 {
     let mut found = Found::nothing();
     for call in calls {
-        play_call(rt, side, *call, &mut found)?;
+        play_call(rt, cache, moments, *call, &mut found)?;
     }
     Ok(found)
 }
 
-/// Makes one call.
-fn play_call<S: Side, R: Wait>(
+/// Makes one call, or the two of a look-up that inserts what it misses.
+fn play_call<C: Called, M: Moments, R: Wait + Clock>(
     rt: &R,
-    side: &mut S,
+    cache: &mut C,
+    moments: M,
     call: Call,
     found: &mut Found,
 ) -> Result<(), PlayError>
@@ -109,17 +123,39 @@ fn play_call<S: Side, R: Wait>(
 {
     match call {
         Call::Get(key) => {
-            if let Some(value) = side.look(rt, key)? {
-                found.add(value);
+            is_found(rt, cache, moments, key, found)?;
+        }
+        Call::Insert(key) => cache.put(rt, key, moments.next(rt)?)?,
+        Call::Read(key) => {
+            if !is_found(rt, cache, moments, key, found)? {
+                cache.put(rt, key, moments.next(rt)?)?;
             }
         }
-        Call::Insert(key) => side.put(rt, key)?,
         Call::Count => {
-            let _ = side.count(rt);
+            let _ = cache.count(rt);
         }
         Call::Sync => {
-            let _ = side.entries(rt);
+            let _ = cache.entries(rt, moments.next(rt)?);
         }
     }
     Ok(())
+}
+
+/// Looks a key up, notes its value, and returns `true` if it was found.
+fn is_found<C: Called, M: Moments, R: Wait + Clock>(
+    rt: &R,
+    cache: &mut C,
+    moments: M,
+    key: u64,
+    found: &mut Found,
+) -> Result<bool, PlayError>
+    ensures hits { found.new.hits ≤ found.old.hits + 1 }
+{
+    match cache.look(rt, key, moments.next(rt)?)? {
+        Some(value) => {
+            found.add(value);
+            Ok(true)
+        }
+        None => Ok(false),
+    }
 }
