@@ -1,6 +1,8 @@
-//! Plays the port's shared caches by the program `bench_load`, since the static library has no threads. bench/README.md explains its lines.
+//! Plays the port's caches by the program `bench_load`, since the static library has neither threads nor a clock. bench/README.md explains its lines.
+use crate::port::Outcome;
 use crate::thread_loads::Call;
 use crate::thread_sides::Played;
+use crate::traces::{Operation, Trace, GET, GET_AND_INSERT, INSERT, READ_THROUGH};
 use std::io::{self, BufRead, BufReader, BufWriter, Write};
 use std::process::{Child, ChildStdin, ChildStdout, Command, Stdio};
 
@@ -15,6 +17,10 @@ pub enum Kind {
     Unsync,
     /// `sync::SegmentedCache`.
     Segments,
+    /// `unsync::Cache`, by one caller.
+    Alone,
+    /// The core of `sync::Cache`, by one caller.
+    Core,
 }
 
 /// Writes the requests that set the capacity and the filling of new caches.
@@ -43,6 +49,71 @@ fn write_calls(requests: &mut impl Write, calls: &[Call]) -> io::Result<()> {
         }
     }
     Ok(())
+}
+
+/// Writes the requests that set the limits, the filling and the calls of a trace. Returns `false` if `bench_load` can't play it.
+fn write_trace(requests: &mut impl Write, trace: &Trace) -> io::Result<bool> {
+    let settings = &trace.settings;
+    let is_known = |operation: &Operation| {
+        [GET, INSERT, READ_THROUGH, GET_AND_INSERT].contains(&operation.kind)
+    };
+    let has_others = settings.is_weighed || settings.is_std_hashed;
+    if has_others || !trace.operations.iter().all(is_known) {
+        return Ok(false);
+    }
+    writeln!(requests, "capacity {}", settings.capacity)?;
+    if settings.has_durations() {
+        writeln!(
+            requests,
+            "durations {}",
+            settings.time_to_live / NANOS_A_SECOND
+        )?;
+    }
+    for (number, operation) in trace.operations.iter().enumerate() {
+        if number == trace.filling {
+            writeln!(requests, "thread")?;
+        }
+        let key = operation.key;
+        match operation.kind {
+            GET => writeln!(requests, "get {key}")?,
+            INSERT => writeln!(requests, "insert {key}")?,
+            READ_THROUGH => writeln!(requests, "read {key}")?,
+            _ => writeln!(requests, "get {key}\ninsert {key}")?,
+        }
+    }
+    Ok(true)
+}
+
+const NANOS_A_SECOND: u64 = 1_000_000_000;
+
+/// A `bench_load` that plays one trace by one caller, each of whose calls reads the clock.
+pub struct Clocked {
+    program: PlayProgram,
+    kind: Kind,
+}
+
+impl Clocked {
+    /// Starts the program with the trace, or returns `None` if the program can't play it.
+    pub fn start(path: &str, kind: Kind, trace: &Trace) -> io::Result<Option<Clocked>> {
+        let mut program = PlayProgram::start(path)?;
+        if !write_trace(&mut program.requests, trace)? {
+            return Ok(None);
+        }
+        writeln!(program.requests, "clock on")?;
+        Ok(Some(Clocked { program, kind }))
+    }
+
+    /// Plays the trace on a new cache. Returns the nanoseconds of the calls after the filling, and the outcome.
+    pub fn play(&mut self) -> io::Result<(f64, Outcome)> {
+        let played = self.program.play(self.kind)?;
+        let outcome = Outcome {
+            hits: played.hits,
+            checksum: played.sum,
+            entries: played.entries,
+            weight: played.entries,
+        };
+        Ok((played.nanos as f64, outcome))
+    }
 }
 
 /// A running `bench_load`.
@@ -86,6 +157,15 @@ impl PlayProgram {
         self.requests.flush()
     }
 
+    /// Makes the calls of later plays read the clock, or makes all calls of a play have one moment.
+    pub fn set_clock(&mut self, is_read: bool) -> io::Result<()> {
+        writeln!(
+            self.requests,
+            "clock {}",
+            if is_read { "on" } else { "off" }
+        )
+    }
+
     /// Plays the lists on a new cache.
     pub fn play(&mut self, kind: Kind) -> io::Result<Played> {
         let [hits, sum, entries] = self.ask(
@@ -94,6 +174,8 @@ impl PlayProgram {
                 Kind::Counted => "play counted",
                 Kind::Unsync => "play unsync",
                 Kind::Segments => "play segments",
+                Kind::Alone => "play alone",
+                Kind::Core => "play core",
             },
             ["hits", "sum", "entries"],
         )?;

@@ -1,9 +1,11 @@
 //! Times whole traces.
+use crate::play_program::Clocked;
 use crate::port::{self, Outcome};
 use crate::rust_sides::{self, Side};
 use crate::traces::{Operation, Settings, Trace};
 use std::collections::hash_map::RandomState;
 use std::hint::black_box;
+use std::io;
 use std::time::Instant;
 
 /// Plays operations on a new cache, and returns the nanoseconds and the outcome.
@@ -59,6 +61,11 @@ impl Least {
         }
     }
 
+    fn add(&mut self, (nanos, outcome): (f64, Outcome)) {
+        self.whole = self.whole.min(nanos);
+        self.outcome = outcome;
+    }
+
     pub fn a_call(&self, trace: &Trace) -> f64 {
         let filling = if trace.filling == 0 {
             0.0
@@ -71,28 +78,54 @@ impl Least {
 
 /// Times the sides in turn, repeat by repeat.
 pub fn measure(trace: &Trace, players: &[Option<Player>], repeats: usize) -> Vec<Option<Least>> {
-    let mut least: Vec<Option<Least>> = players
-        .iter()
-        .map(|player| player.map(|_| Least::new()))
-        .collect();
+    let mut least: Vec<Option<Least>> = least_of(players);
     for _ in 0..repeats {
-        for (player, least) in players.iter().zip(&mut least) {
-            let (Some(player), Some(least)) = (player, least) else {
-                continue;
-            };
-            if trace.filling > 0 {
-                let (nanos, _) = player(&trace.settings, &trace.operations[..trace.filling]);
-                least.filling = least.filling.min(nanos);
-            }
-            let (nanos, outcome) = player(&trace.settings, &trace.operations);
-            least.whole = least.whole.min(nanos);
-            least.outcome = outcome;
-        }
+        play_once(trace, players, &mut least);
     }
     least
 }
 
-/// Returns the nanoseconds of a clock reading. The original reads the clock once or twice a call if a duration is set. The port is given its moments.
+/// Times the sides in turn, repeat by repeat, and in each turn also the port's with a clock, if it can play the trace. That side comes last in the result.
+pub fn measure_with_clock(
+    trace: &Trace,
+    players: &[Option<Player>],
+    mut clocked: Option<Clocked>,
+    repeats: usize,
+) -> io::Result<Vec<Option<Least>>> {
+    let mut least = least_of(players);
+    let mut by_clock = clocked.as_ref().map(|_| Least::new());
+    for _ in 0..repeats {
+        play_once(trace, players, &mut least);
+        if let (Some(clocked), Some(by_clock)) = (&mut clocked, &mut by_clock) {
+            // It times the calls after the filling alone.
+            by_clock.filling = 0.0;
+            by_clock.add(clocked.play()?);
+        }
+    }
+    least.push(by_clock);
+    Ok(least)
+}
+
+fn least_of(players: &[Option<Player>]) -> Vec<Option<Least>> {
+    let least = |player: &Option<Player>| player.map(|_| Least::new());
+    players.iter().map(least).collect()
+}
+
+/// Plays the trace, and its filling alone, once on each side.
+fn play_once(trace: &Trace, players: &[Option<Player>], least: &mut [Option<Least>]) {
+    for (player, least) in players.iter().zip(least) {
+        let (Some(player), Some(least)) = (player, least) else {
+            continue;
+        };
+        if trace.filling > 0 {
+            let (nanos, _) = player(&trace.settings, &trace.operations[..trace.filling]);
+            least.filling = least.filling.min(nanos);
+        }
+        least.add(player(&trace.settings, &trace.operations));
+    }
+}
+
+/// Returns the nanoseconds of a clock reading.
 pub fn clock_nanos() -> f64 {
     let readings = 1_000_000;
     let start = Instant::now();

@@ -22,16 +22,22 @@ const PAIRS: usize = 8;
 #[derive(Clone, Copy, PartialEq, Eq)]
 enum Side {
     Port,
+    /// `Port`, each of whose calls reads the clock, as those of `Original` do.
+    ClockedPort,
     Segments,
+    /// `Segments`, each of whose calls reads the clock.
+    ClockedSegments,
     Counted,
     Original,
     LockedOriginal,
     LockedPort,
 }
 
-const SIDES: [Side; 5] = [
+const SIDES: [Side; 7] = [
     Side::Port,
+    Side::ClockedPort,
     Side::Segments,
+    Side::ClockedSegments,
     Side::Original,
     Side::LockedOriginal,
     Side::LockedPort,
@@ -107,9 +113,11 @@ fn median_of(sorted: &[f64]) -> f64 {
 impl Bench {
     fn play(&mut self, side: Side, lists: &[Vec<Call>]) -> io::Result<Played> {
         let settings = Settings::with_capacity(CAPACITY);
+        let is_clocked = matches!(side, Side::ClockedPort | Side::ClockedSegments);
+        self.program.set_clock(is_clocked)?;
         match side {
-            Side::Port => self.program.play(Kind::Sync),
-            Side::Segments => self.program.play(Kind::Segments),
+            Side::Port | Side::ClockedPort => self.program.play(Kind::Sync),
+            Side::Segments | Side::ClockedSegments => self.program.play(Kind::Segments),
             Side::Counted => self.program.play(Kind::Counted),
             Side::LockedPort => self.program.play(Kind::Unsync),
             Side::Original => Ok(play(&shared_original(&settings), &self.filling, lists)),
@@ -143,7 +151,7 @@ impl Bench {
         let watch = Watch::start(&[process::id(), self.program.process()]);
         let all = self.measure(SIDES, &mix.lists[..threads], self.repeats)?;
         let free = watch.free();
-        let [port, segments, others @ ..] = &all;
+        let [port, clocked_port, segments, clocked_segments, others @ ..] = &all;
         let mut cells = vec![mix.gets.to_string(), threads.to_string()];
         cells.extend(all.iter().map(Repeats::text));
         for side in [port, segments] {
@@ -152,6 +160,9 @@ impl Bench {
                     .iter()
                     .map(|other| table::ratio(other.median(), side.median())),
             );
+        }
+        for side in [clocked_port, clocked_segments] {
+            cells.push(table::ratio(others[0].median(), side.median()));
         }
         cells.push(table::ratio(port.median(), segments.median()));
         cells.extend(
@@ -271,8 +282,8 @@ fn print_turning_table(bench: &mut Bench) -> io::Result<()> {
 
 /// Returns the fault of a row, if there is one. No side may have more entries than its capacity. With one thread the order of calls is fixed, so the repeats of
 /// a single-thread cache must be alike.
-fn fault_of(all: &[Repeats; 5], threads: usize) -> Option<&'static str> {
-    let [_, _, _, original, port] = all;
+fn fault_of(all: &[Repeats; 7], threads: usize) -> Option<&'static str> {
+    let [.., original, port] = all;
     let mut plays = all.iter().flat_map(|repeats| &repeats.0);
     if plays.any(|played| played.entries > CAPACITY) {
         return Some("a side has more entries than its capacity");
@@ -318,14 +329,17 @@ fn print_counted_table(bench: &mut Bench) -> io::Result<()> {
 fn print_tables(program: &str, repeats: usize) -> io::Result<bool> {
     println!(
         "Nanoseconds a call of a thread: the median of {repeats} repeats, in brackets the least and the greatest. A ratio is the first side's calls per \
-         second, divided by the second's, from the medians. {}. A reading of the clock takes {:.1}.",
+         second, divided by the second's, from the medians. With a clock, each call of the port reads it, as those of mini-moka's sync do; the other sides of the \
+         port have one moment. {}. A reading of the clock takes {:.1}.",
         describe(),
         clock_nanos()
     );
     println!();
     let names = [
         "port, sync",
+        "port, sync, with a clock",
         "port, segments",
+        "port, segments, with a clock",
         "mini-moka, sync",
         "mini-moka, unsync in a lock",
         "port, unsync in a lock",
@@ -333,7 +347,10 @@ fn print_tables(program: &str, repeats: usize) -> io::Result<bool> {
     let mut head = vec!["gets of 100".to_string(), "threads".into()];
     head.extend(names.map(String::from));
     for side in ["sync", "segments"] {
-        head.extend(names[2..].iter().map(|name| format!("{side} to {name}")));
+        head.extend(names[4..].iter().map(|name| format!("{side} to {name}")));
+    }
+    for side in ["sync", "segments"] {
+        head.push(format!("{side} with a clock to {}", names[4]));
     }
     head.push("segments to port, sync".into());
     head.extend(names.map(|name| format!("hits, {name}")));
