@@ -1681,7 +1681,7 @@ def one(job):
 
 
 def main():
-    p = argparse.ArgumentParser()
+    p = argparse.ArgumentParser(description=__doc__, formatter_class=argparse.RawDescriptionHelpFormatter)
     p.add_argument("--program")
     p.add_argument("--seed", type=int, default=1)
     p.add_argument("--count", type=int, default=100)

@@ -1141,6 +1141,10 @@ def reply_text(data):
 
 if __name__ == "__main__":
     import sys
+    if sys.argv[1:]:
+        is_help = sys.argv[1:] in (["--help"], ["-h"])
+        print("usage: python3 dev/model/model.py < SCRIPT", file=sys.stdout if is_help else sys.stderr)
+        sys.exit(0 if is_help else 2)
     text_, status = reply_text(sys.stdin.buffer.read())
     sys.stdout.buffer.write(text_)
     sys.exit(status)
