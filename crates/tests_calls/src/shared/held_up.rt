@@ -16,8 +16,8 @@ use std::test::Fail;
 use std::thread::{Builder, Threads, sleep};
 use std::time::Duration;
 
-/// How often a thread looks at a flag before it goes on without it.
-const LOOKS: u64 = 1_000_000;
+/// How often a thread looks at a flag before it goes on without it: for most of a minute, however busy the machine is.
+const LOOKS: u64 = 100_000_000;
 
 /// Waits for a flag, for a while.
 fn wait_for(flag: &AtomicBool) {

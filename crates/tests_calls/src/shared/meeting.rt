@@ -3,20 +3,20 @@ ghost use Rattle.std.specs.Prelude.{⊤};
 
 use crate::hashers::OwnState;
 use crate::shared::all_are_well;
+use crossbeam_utils::Backoff;
 use moka_common::time::Instant;
 use moka_shard::rule::AnyPair;
 use moka_sync::builder::CacheBuilder;
 use moka_sync::cache::{Cache, ConcurrentCacheExt};
 use moka_sync_model::weigh::WeighShared;
 use std::alloc::Global;
-use std::hint::spin_loop;
 use std::sync::atomic::{AtomicBool, Ordering};
 use std::sync::{Arc, Barrier, Wait};
 use std::test::Fail;
 use std::thread::{Builder, Threads};
 
-/// How often a weigher looks for the other one.
-const LOOKS: u32 = 10_000_000;
+/// How often a weigher looks for the other one: for most of a minute, however busy the machine is.
+const LOOKS: u32 = 100_000_000;
 
 /// A weigher of two keys, which is asked behind the locks of their shards. It answers 2 where it has met the weigher of the other key, and else 1.
 #[derive(Drop)]
@@ -37,11 +37,12 @@ impl WeighShared<u64, u64> for Meeting {
             (&self.second, &self.first)
         };
         own.store(true, Ordering::SeqCst);
+        let backoff = Backoff::new();
         for _ in 0..LOOKS {
             if other.load(Ordering::SeqCst) {
                 return 2;
             }
-            spin_loop();
+            backoff.snooze();
         }
         1
     }
