@@ -268,7 +268,8 @@ impl Cache {
         value: impl AsRef<[u8]>,
         now: Duration,
     ) -> Result<Inserted, OutOfMemory> {
-        let key = key.as_ref();
+        // Both are called before the lock is taken: they may call the cache.
+        let (key, value) = (key.as_ref(), value.as_ref());
         self.segment(key).insert_at(key, value, now)
     }
 

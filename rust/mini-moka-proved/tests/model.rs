@@ -1,5 +1,8 @@
 //! Compares random calls with those of a map.
 
+mod common;
+
+use common::Random;
 use mini_moka_proved::{Cache, Inserted, NumberCache};
 use std::collections::HashMap;
 use std::time::Duration;
@@ -9,34 +12,18 @@ const KEYS: u64 = 400;
 const TIME_TO_LIVE: u64 = 3000;
 const TIME_TO_IDLE: u64 = 1000;
 
-/// Pseudorandom numbers, by splitmix64.
-struct Random(u64);
+/// Returns one of at most `KEYS` keys, of 0 to 39 bytes.
+fn some_key(random: &mut Random) -> Vec<u8> {
+    let key = random.below(KEYS);
+    let length = (key % 40) as usize;
+    key.to_le_bytes().into_iter().cycle().take(length).collect()
+}
 
-impl Random {
-    fn next(&mut self) -> u64 {
-        self.0 = self.0.wrapping_add(0x9e37_79b9_7f4a_7c15);
-        let mixed = (self.0 ^ (self.0 >> 30)).wrapping_mul(0xbf58_476d_1ce4_e5b9);
-        let mixed = (mixed ^ (mixed >> 27)).wrapping_mul(0x94d0_49bb_1331_11eb);
-        mixed ^ (mixed >> 31)
-    }
-
-    fn below(&mut self, limit: u64) -> u64 {
-        self.next() % limit
-    }
-
-    /// Returns one of at most `KEYS` keys, of 0 to 39 bytes.
-    fn key(&mut self) -> Vec<u8> {
-        let key = self.below(KEYS);
-        let length = (key % 40) as usize;
-        key.to_le_bytes().into_iter().cycle().take(length).collect()
-    }
-
-    /// Returns a value of up to 599 bytes, so that some are too long for a first look-up.
-    fn value(&mut self) -> Vec<u8> {
-        let length = self.below(600) as usize;
-        let byte = self.next() as u8;
-        vec![byte; length]
-    }
+/// Returns a value of up to 599 bytes, so that some are too long for a first look-up.
+fn some_value(random: &mut Random) -> Vec<u8> {
+    let length = random.below(600) as usize;
+    let byte = random.next() as u8;
+    vec![byte; length]
 }
 
 /// A value, and the moments of its last write and its last use.
@@ -91,16 +78,16 @@ impl Model {
 /// Makes one call on both, and compares the results.
 fn compare_a_call(random: &mut Random, cache: &mut Cache, model: &mut Model, nanoseconds: u64) {
     let now = Duration::from_nanos(nanoseconds);
-    let key = random.key();
+    let key = some_key(random);
     match random.below(10) {
         0..=2 => {
-            let value = random.value();
+            let value = some_value(random);
             assert_eq!(cache.insert_at(&key, &value, now), Ok(Inserted::Stored));
             model.insert(&key, &value, nanoseconds);
         }
         3 | 4 => assert_eq!(cache.get_at(&key, now), model.get(&key, nanoseconds)),
         5 => {
-            let mut buffer = random.value();
+            let mut buffer = some_value(random);
             let found = cache.get_into_at(&key, &mut buffer, now).unwrap();
             assert_eq!(found.then_some(buffer), model.get(&key, nanoseconds));
         }
@@ -110,7 +97,7 @@ fn compare_a_call(random: &mut Random, cache: &mut Cache, model: &mut Model, nan
             assert_eq!(cache.contains_key_at(&key, now), is_there);
         }
         8 => {
-            let value = random.value();
+            let value = some_value(random);
             let found = cache.get_or_insert_with_at(&key, || value.clone(), now);
             let known = model.get(&key, nanoseconds);
             if known.is_none() {
@@ -170,7 +157,7 @@ fn a_full_cache_finds_nothing_but_what_was_last_written() {
         let mut map = HashMap::new();
         let mut found = 0;
         for _ in 0..CALLS / 4 {
-            let (key, value) = (random.below(KEYS).to_le_bytes(), random.value());
+            let (key, value) = (random.below(KEYS).to_le_bytes(), some_value(&mut random));
             if let Some(known) = cache.get(key) {
                 assert_eq!(map.get(&key), Some(&known));
                 found += 1;

@@ -1,10 +1,10 @@
 //! Tests each call of the cache of numbers.
 
-use mini_moka_proved::{BuildError, Cause, Inserted, NumberCache, Removed, Statistics};
-use std::time::Duration;
+mod common;
 
-const SECOND: Duration = Duration::from_secs(1);
-const NANOSECOND: Duration = Duration::from_nanos(1);
+use common::{NANOSECOND, SECOND};
+use mini_moka_proved::{Cause, Inserted, NumberCache, Removed, Statistics};
+use std::time::Duration;
 
 fn unlimited() -> NumberCache {
     NumberCache::builder().build().unwrap()
@@ -128,14 +128,6 @@ fn what_leaves_is_drained() {
 }
 
 #[test]
-fn what_cannot_be_built_is_refused() {
-    let built = NumberCache::builder().time_to_live(Duration::MAX).build();
-    assert_eq!(built.unwrap_err(), BuildError::DurationTooLong);
-    let built = NumberCache::builder().initial_capacity(usize::MAX).build();
-    assert_eq!(built.unwrap_err(), BuildError::OutOfMemory);
-}
-
-#[test]
 fn a_new_cache_has_its_capacity_and_shows_its_count() {
     let mut cache = NumberCache::new(150).unwrap();
     assert!(cache.is_empty());
@@ -201,22 +193,4 @@ fn statistics_count_gets_and_inserts_and_what_leaves() {
         ..Statistics::default()
     };
     assert_eq!(cache.statistics(), expected);
-}
-
-#[test]
-fn a_duration_of_zero_is_refused() {
-    let live = NumberCache::builder().time_to_live(Duration::ZERO).build();
-    assert_eq!(live.unwrap_err(), BuildError::ZeroDuration);
-    let idle = NumberCache::builder().time_to_idle(Duration::ZERO).build();
-    assert_eq!(idle.unwrap_err(), BuildError::ZeroDuration);
-}
-
-#[test]
-fn a_builder_shows_its_limits() {
-    let builder = NumberCache::builder().max_capacity(10).coarse_clock();
-    assert_eq!(
-        format!("{builder:?}"),
-        "NumberBuilder { max_capacity: Some(10), time_to_live: None, time_to_idle: None, \
-         initial_capacity: 0, removed_room: 0, coarse_clock: true }"
-    );
 }
