@@ -1,31 +1,32 @@
 /*
- * Tests a cache of include/mini_moka_segments.h that threads share: segments [CALLS]. First one thread makes each call. Then four threads make CALLS random
- * calls each on common keys, while a fifth counts, drains and clears. A value that is found or drained must have been inserted at its key, and each entry that
- * leaves must be returned, drained or lost. dev/c_library/run also runs it under ThreadSanitizer. Prints the first check that fails, and exits with status 1
- * then.
+ * Tests a cache of include/mini_moka_segments.h in one thread: each call, and a cache of one segment compared with a plain handle. It is linked with --wrap for
+ * malloc and realloc. Prints the first check that fails, and exits with status 1 then.
  */
-#include "mini_moka_segments.h"
-#include <stdio.h>
+#include "segments.h"
 
-enum { THREADS = 4, KEYS = 500, LONGEST = 48, ROOM = 64 };
+enum { ROOM = 64 };
 
-static int calls = 20000;
+/* ---- the bytes that the library allocates */
 
-/* Prints the condition with its line and exits with status 1, if it is false. */
-#define CHECK(holds) check((holds), #holds, __LINE__)
+void *__real_malloc(size_t size);
+void *__real_realloc(void *block, size_t size);
 
-static void check(bool holds, const char *what, int line) {
-    if (!holds) {
-        fprintf(stderr, "line %d: %s\n", line, what);
-        exit(1);
-    }
+static bool is_counting;
+static size_t allocated;
+
+void *__wrap_malloc(size_t size) {
+    if (is_counting)
+        allocated += size;
+    return __real_malloc(size);
 }
 
-static uint64_t number_of(struct mini_moka_segments *cache, uint32_t (*call)(struct mini_moka_segments *, uint64_t *)) {
-    uint64_t number = 0;
-    CHECK(call(cache, &number) == MINI_MOKA_DONE);
-    return number;
+void *__wrap_realloc(void *block, size_t size) {
+    if (is_counting)
+        allocated += size;
+    return __real_realloc(block, size);
 }
+
+/* ---- one thread */
 
 /* Tests each call in one thread. */
 static void calls_answer(void) {
@@ -125,113 +126,186 @@ static void removed_entries_are_drained(void) {
     CHECK(mini_moka_segments_close(&cache) == MINI_MOKA_DONE);
 }
 
-/* ---- threads */
-
-static struct mini_moka_segments shared;
-
-static uint64_t next_number(uint64_t *state) {
-    uint64_t number = *state += UINT64_C(0x9e3779b97f4a7c15);
-    number = (number ^ (number >> 30)) * UINT64_C(0xbf58476d1ce4e5b9);
-    return number ^ (number >> 31);
+/* Returns true if two results of a call are equal: the statuses, and the values if one is found. */
+static bool are_equal(uint32_t status, const char *found, size_t length, uint32_t other_status, const char *other, size_t other_length) {
+    bool is_found = status == MINI_MOKA_DONE;
+    return status == other_status && length == other_length && (!is_found || memcmp(found, other, length) == 0);
 }
 
-/* Writes a value of a key, and returns its length. The value is the key, followed by its low byte repeated. */
-static size_t fill(unsigned char *value, uint32_t key, size_t length) {
-    memset(value, (int)(key & 255), length);
-    memcpy(value, &key, sizeof key);
-    return length;
+/* Makes a random call with a key on a cache of one segment and on a plain handle. Both must answer alike. */
+static void compare_a_call(struct mini_moka_segments *all, struct mini_moka *one, uint64_t *state, uint64_t now) {
+    char key = (char)('a' + next_number(state) % 7), a[ROOM], b[ROOM];
+    size_t length = 0, other = 0, room = next_number(state) % 8 + 2, size = next_number(state) % 6;
+    uint32_t status, other_status;
+    switch (next_number(state) % 12) {
+    case 0:
+        status = mini_moka_segments_remove(all, &key, 1, now, a, room, &length);
+        other_status = mini_moka_remove(one, &key, 1, now, b, room, &other);
+        break;
+    case 1:
+        status = mini_moka_segments_invalidate(all, &key, 1, now);
+        other_status = mini_moka_invalidate(one, &key, 1, now);
+        break;
+    case 2: case 3:
+        status = mini_moka_segments_get(all, &key, 1, now, a, room, &length);
+        other_status = mini_moka_get(one, &key, 1, now, b, room, &other);
+        break;
+    case 4:
+        status = mini_moka_segments_peek(all, &key, 1, now, a, room, &length);
+        other_status = mini_moka_peek(one, &key, 1, now, b, room, &other);
+        break;
+    case 5:
+        status = mini_moka_segments_contains(all, &key, 1, now);
+        other_status = mini_moka_contains(one, &key, 1, now);
+        break;
+    default:
+        memset(a, (int)(now & 127), ROOM);
+        status = mini_moka_segments_insert(all, &key, 1, a, size, now);
+        other_status = mini_moka_insert(one, &key, 1, a, size, now);
+        length = 0;
+    }
+    CHECK(are_equal(status, a, length, other_status, b, other));
 }
 
-static void look(uint32_t key, uint32_t status, const unsigned char *found, size_t length) {
-    unsigned char wanted[LONGEST];
-    CHECK(status == MINI_MOKA_DONE || status == MINI_MOKA_ABSENT);
-    CHECK(status != MINI_MOKA_DONE || (length >= 8 && length <= LONGEST && memcmp(found, wanted, fill(wanted, key, length)) == 0));
+/* Drains an entry of both, and returns false if none is queued. */
+static bool drains_alike(struct mini_moka_segments *all, struct mini_moka *one) {
+    char key, value[ROOM], other_key, other_value[ROOM];
+    size_t key_length = 0, length = 0, other_key_length = 0, other = 0;
+    uint32_t cause = 0, other_cause = 0;
+    uint32_t status = mini_moka_segments_removed(all, &key, 1, value, ROOM, &key_length, &length, &cause);
+    uint32_t other_status = mini_moka_removed(one, &other_key, 1, other_value, ROOM, &other_key_length, &other, &other_cause);
+    CHECK(are_equal(status, value, length, other_status, other_value, other));
+    CHECK(cause == other_cause && key_length == other_key_length && (status != MINI_MOKA_DONE || key == other_key));
+    return status == MINI_MOKA_DONE;
 }
 
-static void *make_calls(void *number) {
-    uint64_t state = (uint64_t)(uintptr_t)number;
-    unsigned char value[LONGEST], buffer[ROOM];
-    size_t length = 0;
-    uintptr_t returned = 0;
-    for (int i = 0; i < calls; i++) {
-        uint32_t key = (uint32_t)(next_number(&state) % KEYS), status;
-        uint64_t now = (uint64_t)i;
-        switch (next_number(&state) % 8) {
-        case 0: case 1: case 2:
-            status = mini_moka_segments_insert(&shared, &key, sizeof key, value, fill(value, key, 8 + next_number(&state) % (LONGEST - 8)), now);
-            CHECK(status == MINI_MOKA_DONE || status == MINI_MOKA_REJECTED);
-            break;
-        case 3:
-            status = mini_moka_segments_remove(&shared, &key, sizeof key, now, buffer, ROOM, &length);
-            look(key, status, buffer, length);
-            returned += status == MINI_MOKA_DONE;
-            break;
-        case 4: CHECK(!mini_moka_is_error(mini_moka_segments_contains(&shared, &key, sizeof key, now))); break;
-        case 5:
-            status = mini_moka_segments_peek(&shared, &key, sizeof key, now, buffer, ROOM, &length);
-            look(key, status, buffer, length);
-            break;
-        default:
-            status = mini_moka_segments_get(&shared, &key, sizeof key, now, buffer, ROOM, &length);
-            look(key, status, buffer, length);
+/* Checks that each count is positive, and that no two are equal, so that none can stand for another. */
+static void counts_differ(const struct mini_moka_statistics *met) {
+    const uint64_t counts[] = {met->hits,      met->misses,      met->inserts,  met->updates, met->rejections,
+                               met->evictions, met->expirations, met->removals, met->lost};
+    for (size_t i = 0; i < sizeof counts / sizeof *counts; i++) {
+        CHECK(counts[i] > 0);
+        for (size_t j = 0; j < i; j++)
+            CHECK(counts[i] != counts[j]);
+    }
+}
+
+/* A cache of one segment works as a plain handle with the same settings, in each call that takes a moment: with either duration, weighed or not. */
+static void one_segment_is_a_cache(void) {
+    uint64_t state = 1, number;
+    for (int round = 0; round < 8; round++) {
+        struct mini_moka_segments all = {0};
+        struct mini_moka one = {0};
+        struct mini_moka_statistics met, other;
+        bool is_weighed = round % 2 == 1;
+        struct mini_moka_settings settings = {is_weighed ? 20 : 3, 20, 12, 0, {7, 8}, is_weighed, 9};
+        if (round / 2 == 1)
+            settings.time_to_live = MINI_MOKA_UNLIMITED;
+        else if (round / 2 == 2)
+            settings.time_to_idle = MINI_MOKA_UNLIMITED;
+        CHECK(mini_moka_segments_open(&all, &settings, 1) == MINI_MOKA_DONE && mini_moka_open(&one, &settings) == MINI_MOKA_DONE);
+        for (uint64_t now = 0; now < 3000; now++) {
+            compare_a_call(&all, &one, &state, now);
+            if (now % 40 == 0)
+                while (drains_alike(&all, &one)) {
+                }
+            CHECK(mini_moka_weight(&one, &number) == MINI_MOKA_DONE && number == number_of(&all, mini_moka_segments_weight));
+            CHECK(mini_moka_count(&one, &number) == MINI_MOKA_DONE && number == number_of(&all, mini_moka_segments_count));
         }
+        CHECK(mini_moka_segments_statistics(&all, &met) == MINI_MOKA_DONE && mini_moka_statistics(&one, &other) == MINI_MOKA_DONE);
+        counts_differ(&met);
+        CHECK(memcmp(&met, &other, sizeof met) == 0);
+        CHECK(mini_moka_segments_close(&all) == MINI_MOKA_DONE && mini_moka_close(&one) == MINI_MOKA_DONE);
     }
-    return (void *)returned;
 }
 
-/* Drains the removed entries, and returns their number. */
-static uintptr_t drain(void) {
-    unsigned char value[LONGEST];
-    uint32_t key, cause;
-    size_t key_length, value_length;
-    uintptr_t drained = 0;
-    while (mini_moka_segments_removed(&shared, &key, sizeof key, value, LONGEST, &key_length, &value_length, &cause) == MINI_MOKA_DONE) {
-        CHECK(key_length == sizeof key && key < KEYS && cause <= MINI_MOKA_CAUSE_REJECTED);
-        look(key, MINI_MOKA_DONE, value, value_length);
-        drained++;
-    }
-    return drained;
+/* Adds the counts of a segment. */
+static void add(struct mini_moka_statistics *sum, const struct mini_moka_statistics *part) {
+    sum->hits += part->hits, sum->misses += part->misses, sum->inserts += part->inserts;
+    sum->updates += part->updates, sum->rejections += part->rejections, sum->evictions += part->evictions;
+    sum->expirations += part->expirations, sum->removals += part->removals, sum->lost += part->lost;
 }
 
-static void *count_and_clear(void *unused) {
-    struct mini_moka_statistics met;
-    uintptr_t drained = (uintptr_t)unused;
-    for (int i = 0; i < calls / 100; i++) {
-        CHECK(number_of(&shared, mini_moka_segments_count) <= 310 && mini_moka_segments_statistics(&shared, &met) == MINI_MOKA_DONE);
-        drained += drain();
-        if (i % 16 == 15)
-            CHECK(mini_moka_segments_invalidate_all(&shared) == MINI_MOKA_DONE);
+/* The weight, the number of entries and each count are the sums of the segments'. */
+static void statistics_are_added(void) {
+    struct mini_moka_segments cache = {0};
+    struct mini_moka_settings settings = {60, 40, MINI_MOKA_UNLIMITED, 0, {1, 2}, true, 9};
+    struct mini_moka_statistics met, part, sum;
+    uint64_t state = 1, entries = 0, weight = 0, number;
+    size_t length;
+    char buffer[ROOM] = {0};
+    memset(&sum, 0, sizeof sum);
+    CHECK(mini_moka_segments_open(&cache, &settings, 3) == MINI_MOKA_DONE);
+    for (uint64_t now = 0; now < 3000; now++) {
+        uint64_t key = next_number(&state) % 20, dice = next_number(&state) % 8;
+        if (dice == 0)
+            CHECK(mini_moka_segments_invalidate(&cache, &key, 1, now) == MINI_MOKA_DONE);
+        else if (dice < 3)
+            CHECK(!mini_moka_is_error(mini_moka_segments_get(&cache, &key, 1, now, buffer, ROOM, &length)));
+        else
+            CHECK(!mini_moka_is_error(mini_moka_segments_insert(&cache, &key, 1, buffer, next_number(&state) % 9, now)));
     }
-    return (void *)drained;
+    for (size_t i = 0; i < cache.count; i++) {
+        struct mini_moka *segment = &cache.segments[i].in.cache;
+        CHECK(mini_moka_statistics(segment, &part) == MINI_MOKA_DONE);
+        add(&sum, &part);
+        CHECK(mini_moka_count(segment, &number) == MINI_MOKA_DONE && (entries += number) > 0);
+        CHECK(mini_moka_weight(segment, &number) == MINI_MOKA_DONE && (weight += number) > 0);
+    }
+    CHECK(entries == number_of(&cache, mini_moka_segments_count) && weight == number_of(&cache, mini_moka_segments_weight) && weight != entries);
+    CHECK(mini_moka_segments_statistics(&cache, &met) == MINI_MOKA_DONE && memcmp(&met, &sum, sizeof met) == 0);
+    counts_differ(&met);
+    CHECK(mini_moka_segments_close(&cache) == MINI_MOKA_DONE);
 }
 
-static void threads_share(void) {
-    pthread_t threads[THREADS + 1];
-    struct mini_moka_settings settings = {310, 1000, 500, 0, {3, 4}, false, 400};
-    struct mini_moka_statistics met;
-    uint64_t gone = 0;
-    CHECK(mini_moka_segments_open(&shared, &settings, 4) == MINI_MOKA_DONE);
-    for (int i = 0; i < THREADS; i++)
-        CHECK(pthread_create(&threads[i], NULL, make_calls, (void *)(uintptr_t)(i + 1)) == 0);
-    CHECK(pthread_create(&threads[THREADS], NULL, count_and_clear, NULL) == 0);
-    for (int i = 0; i <= THREADS; i++) {
-        void *count;
-        CHECK(pthread_join(threads[i], &count) == 0);
-        gone += (uintptr_t)count;
+/* The numbers of entries of the segments, after 100 inserts, follow from the seed. */
+static void the_seed_picks_the_segments(void) {
+    uint64_t parts[3][8];
+    for (int round = 0; round < 3; round++) {
+        struct mini_moka_segments cache = {0};
+        struct mini_moka_settings settings = MINI_MOKA_SETTINGS_INIT;
+        settings.seed[0] = round == 2 ? 1 : 5;
+        settings.seed[1] = 6;
+        CHECK(mini_moka_segments_open(&cache, &settings, 8) == MINI_MOKA_DONE);
+        for (unsigned char key = 0; key < 100; key++)
+            CHECK(mini_moka_segments_insert(&cache, &key, 1, &key, 1, 0) == MINI_MOKA_DONE);
+        for (size_t i = 0; i < 8; i++)
+            CHECK(mini_moka_count(&cache.segments[i].in.cache, &parts[round][i]) == MINI_MOKA_DONE);
+        CHECK(mini_moka_segments_close(&cache) == MINI_MOKA_DONE);
     }
-    gone += drain();
-    CHECK(mini_moka_segments_statistics(&shared, &met) == MINI_MOKA_DONE);
-    CHECK(met.inserts == number_of(&shared, mini_moka_segments_count) + gone + met.lost && gone > 0);
-    CHECK(mini_moka_segments_close(&shared) == MINI_MOKA_DONE);
+    CHECK(memcmp(parts[0], parts[1], sizeof parts[0]) == 0 && memcmp(parts[0], parts[2], sizeof parts[0]) != 0);
 }
 
-int main(int count, char **words) {
-    if (count > 1)
-        calls = atoi(words[1]);
+/* Returns the bytes that the library allocates for a cache of this number of segments. */
+static size_t reserved(size_t entries, size_t count) {
+    struct mini_moka_segments cache = {0};
+    struct mini_moka_settings settings = MINI_MOKA_SETTINGS_INIT;
+    settings.initial_capacity = entries;
+    allocated = 0;
+    is_counting = true;
+    CHECK(mini_moka_segments_open(&cache, &settings, count) == MINI_MOKA_DONE);
+    is_counting = false;
+    CHECK(mini_moka_segments_close(&cache) == MINI_MOKA_DONE);
+    return allocated;
+}
+
+/* The segments together reserve about what one does. */
+static void initial_capacity_is_spread(void) {
+    size_t one = reserved(10000, 1), none = reserved(0, 16);
+    for (size_t count = 2; count <= 16; count *= 2) {
+        size_t all = reserved(10000, count);
+        CHECK(one > 10000 * 40 && all > one / 2 && all < 2 * one + none);
+    }
+}
+
+int main(void) {
     calls_answer();
     segments_are_counted();
     capacity_is_spread();
     removed_entries_are_drained();
-    threads_share();
+    one_segment_is_a_cache();
+    statistics_are_added();
+    the_seed_picks_the_segments();
+    initial_capacity_is_spread();
     return 0;
 }

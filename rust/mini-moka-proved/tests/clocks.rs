@@ -151,22 +151,25 @@ fn a_made_value_lives_from_when_it_was_made() {
     let mut bytes = Cache::builder().time_to_live(HOUR).build().unwrap();
     let mut numbers = NumberCache::builder().time_to_live(HOUR).build().unwrap();
     let shared = sync::Cache::builder().time_to_live(HOUR).build().unwrap();
-    let before = (bytes.now(), numbers.now(), shared.now());
     let make = || {
         sleep(NAP);
         b"value".to_vec()
     };
+    // An entry that was written before `make` is expired at the end.
+    let end = |before| before + HOUR + NAP / 2;
+    let before = bytes.now();
     bytes.get_or_insert_with("key", make).unwrap();
+    assert!(bytes.contains_key_at("key", end(before)));
+    let before = shared.now();
     shared.get_or_insert_with("key", make).unwrap();
-    let before_number = numbers.now();
+    assert!(shared.contains_key_at("key", end(before)));
+    let before = numbers.now();
     let made = numbers.get_or_insert_with(7, || {
         sleep(NAP);
         49
     });
     assert_eq!(made, Ok(49));
-    assert!(bytes.contains_key_at("key", before.0 + HOUR + NAP / 2));
-    assert!(shared.contains_key_at("key", before.2 + HOUR + NAP / 2));
-    assert!(numbers.contains_key_at(7, before_number + HOUR + NAP / 2));
+    assert!(numbers.contains_key_at(7, end(before)));
 }
 
 #[test]
