@@ -3,11 +3,13 @@
  * allocation within a call is refused. Keys, values and buffers adjoin each other, in blocks of exactly their length. It is linked with --wrap for malloc and
  * realloc. Prints the first difference, and exits with status 1 then.
  *
- * Without a capacity the model knows the result of each call. With one it doesn't know which entries have left, so a look-up may find nothing. A value that is
- * found must be the last one written, and unexpired, and the capacity must hold.
+ * Without a capacity the model knows the result of each call, as long as no moment is before an earlier one. With one it doesn't know which entries have left,
+ * so a look-up may find nothing. A value that is found must be the last one written, and unexpired, and the capacity must hold. In some caches moments go back;
+ * then a live entry that was expired before may have left.
  *
- * If a cache queues removed entries, each drained entry must have been inserted and not have left before, and its cause must be possible. Each inserted entry
- * is in the cache, or was drained once, returned by a removal, or lost. As long as none was lost, the model knows which entries have left.
+ * If a cache queues removed entries, each drained entry must have been inserted and not have left before. Its cause must be the one that the model knows: an
+ * entry that a call of its key replaces or removes leaves as replaced or removed while it is live, and else as expired. Each inserted entry is in the cache, or
+ * was drained once, returned by a removal, or lost. As long as none was lost, the model knows which entries have left.
  */
 #include "mini_moka.h"
 #include <inttypes.h>
@@ -66,14 +68,15 @@ static uint64_t below(uint64_t bound) {
 struct known {
     bool is_there;
     uint64_t version, written, used;
-    bool may_remain; /* the entry is expired and a call found none, but it may remain: cleanup removes up to a hundred expired entries, and a peek none */
+    bool may_have_left; /* a call was made while the entry was expired, and may have removed it */
 };
 
 /* An entry that a call inserted: one version of a key's value. */
 struct put {
     uint64_t version, written, used;
     uint32_t status; /* of the call; a get-or-insert doesn't report that its entry was rejected */
-    bool has_left, is_invalidated;
+    bool has_left, was_expired; /* was_expired is set if a call that removes expired entries was made while the entry was expired */
+    uint32_t ended; /* the cause for which a call of the key, or one that removes all, ended the entry if it was still there, or CAUSES */
     int next; /* the next entry of the same key, or NO_PUT */
 };
 
@@ -82,7 +85,9 @@ struct model {
     bool is_bytes, is_weighed;
     uint64_t capacity, time_to_live, time_to_idle, now, versions;
     struct known keys[KEYS];
+    bool goes_back, is_swept; /* is_swept is set if the model has noted what is expired now */
     uint64_t hits, misses, inserts, rejections;
+    uint64_t updates, removals; /* the most that there can be: those of entries that are live if they haven't left */
     size_t longest_key; /* length of the longest key looked up so far, for which the handle has memory */
     size_t removed_room;
     bool is_eager; /* true if each look-up drains the removed entries */
@@ -110,8 +115,17 @@ static bool is_over(uint64_t since, uint64_t duration, uint64_t now) {
     return duration != MINI_MOKA_UNLIMITED && since + duration <= now;
 }
 
+static bool is_expired(const struct model *model, uint64_t written, uint64_t used) {
+    return is_over(written, model->time_to_live, model->now) || is_over(used, model->time_to_idle, model->now);
+}
+
 static bool is_alive(const struct model *model, const struct known *key) {
-    return key->is_there && !is_over(key->written, model->time_to_live, model->now) && !is_over(key->used, model->time_to_idle, model->now);
+    return key->is_there && !is_expired(model, key->written, key->used);
+}
+
+/* Returns true if a cache without a capacity must have the entry. */
+static bool is_surely_alive(const struct model *model, const struct known *key) {
+    return is_alive(model, key) && !key->may_have_left;
 }
 
 /* ---- keys and values: bytes derived from numbers */
@@ -220,7 +234,7 @@ static struct mini_moka_statistics statistics_of(struct model *model) {
 
 static void note_put(struct model *model, uint64_t key, uint64_t version, uint32_t status) {
     int at = model->put_count++;
-    model->puts[at] = (struct put){version, model->now, model->now, status, false, false, NO_PUT};
+    model->puts[at] = (struct put){version, model->now, model->now, status, false, false, CAUSES, NO_PUT};
     if (model->first_put[key] == NO_PUT)
         model->first_put[key] = at;
     else
@@ -233,22 +247,33 @@ static void note_use(struct model *model, uint64_t key) {
     model->keys[key].used = model->puts[model->last_put[key]].used = model->now;
 }
 
-/* Notes that the key's earlier entries may have left by an invalidation. */
-static void note_invalidation(struct model *model, uint64_t key) {
-    for (int at = model->first_put[key]; at != NO_PUT; at = model->puts[at].next)
-        model->puts[at].is_invalidated = true;
+/* Notes that a call ended the key's last entry, if it was still there: for this cause, or as expired if it has a moment. */
+static void note_end(struct model *model, uint64_t key, uint32_t cause, bool has_moment) {
+    if (model->last_put[key] == NO_PUT)
+        return;
+    struct put *put = &model->puts[model->last_put[key]];
+    if (put->ended == CAUSES)
+        put->ended = has_moment && is_expired(model, put->written, put->used) ? MINI_MOKA_CAUSE_EXPIRED : cause;
 }
 
-/* Returns true if the entry can have left for this cause. */
+/* Notes which entries are expired now, for a call that may remove them. */
+static void sweep(struct model *model) {
+    for (size_t i = 0; i < KEYS && !model->is_swept; i++) {
+        struct put *put = model->last_put[i] == NO_PUT ? NULL : &model->puts[model->last_put[i]];
+        if (put != NULL && put->ended == CAUSES && is_expired(model, put->written, put->used))
+            put->was_expired = model->keys[i].may_have_left = true;
+    }
+    model->is_swept = true;
+}
+
+/* Returns true if the entry can have left for this cause. Only an eviction, or a rejection that isn't reported, can't be told. */
 static bool can_leave(const struct model *model, const struct put *put, uint32_t cause) {
     if (put->status == MINI_MOKA_REJECTED || cause == MINI_MOKA_CAUSE_REJECTED)
-        return cause == MINI_MOKA_CAUSE_REJECTED && (put->status == MINI_MOKA_REJECTED || model->capacity != MINI_MOKA_UNLIMITED);
+        return cause == MINI_MOKA_CAUSE_REJECTED && (put->status == MINI_MOKA_REJECTED || (!model->is_bytes && model->capacity != MINI_MOKA_UNLIMITED));
     switch (cause) {
     case MINI_MOKA_CAUSE_SIZE: return model->capacity != MINI_MOKA_UNLIMITED;
-    case MINI_MOKA_CAUSE_EXPIRED: return is_over(put->written, model->time_to_live, model->now) || is_over(put->used, model->time_to_idle, model->now);
-    case MINI_MOKA_CAUSE_EXPLICIT: return put->is_invalidated;
-    case MINI_MOKA_CAUSE_REPLACED: return put->next != NO_PUT;
-    default: return false;
+    case MINI_MOKA_CAUSE_EXPIRED: return put->was_expired || put->ended == MINI_MOKA_CAUSE_EXPIRED;
+    default: return put->ended == cause;
     }
 }
 
@@ -271,7 +296,7 @@ static void note_drained(struct model *model, uint64_t key, uint64_t number, con
         if (can_leave(model, put, cause) && has_value(model, key, put, number, value, length)) {
             model->drained[cause]++;
             if (put->version == model->keys[key].version)
-                model->keys[key].is_there = model->keys[key].may_remain = false;
+                model->keys[key].is_there = false;
             return;
         }
         model->skipped++;
@@ -344,13 +369,14 @@ static bool is_refused(uint32_t status) {
 /* Compares the status of a look-up with what is known of the key. In a cache with a capacity the entry may have left. */
 static void meet(struct model *model, struct known *key, uint32_t status) {
     require(is_found(status) || status == MINI_MOKA_ABSENT, "a look-up returned an unexpected status");
-    bool is_known = knows_what_left(model) || model->capacity == MINI_MOKA_UNLIMITED;
+    bool is_known = knows_what_left(model) || (model->capacity == MINI_MOKA_UNLIMITED && !key->may_have_left);
     require(!is_found(status) || is_alive(model, key), "an entry was found that has left or is expired");
     require(is_found(status) || !is_alive(model, key) || !is_known, "an entry is missing");
-    if (!is_found(status)) {
-        key->may_remain |= key->is_there && !is_alive(model, key);
+    /* An entry that is found hasn't left. A live one that isn't found has, and an expired one may remain. */
+    if (is_found(status))
+        key->may_have_left = false;
+    else if (is_alive(model, key))
         key->is_there = false;
-    }
 }
 
 /* Returns true if a look-up was refused memory. It may allocate only for a key that is not short and is longer than all before it. */
@@ -378,6 +404,10 @@ static void play_insert(struct model *model, uint64_t key) {
     require(status == MINI_MOKA_DONE || (status == MINI_MOKA_REJECTED && model->capacity != MINI_MOKA_UNLIMITED), "an insert failed");
     model->inserts++;
     model->rejections += status == MINI_MOKA_REJECTED;
+    if (status == MINI_MOKA_DONE) {
+        model->updates += is_alive(model, &model->keys[key]);
+        note_end(model, key, MINI_MOKA_CAUSE_REPLACED, true);
+    }
     note_put(model, key, version, status);
     write_down(model, &model->keys[key], version);
     /* A peek removes nothing, so it finds the entry if the insert returned MINI_MOKA_DONE. */
@@ -385,7 +415,6 @@ static void play_insert(struct model *model, uint64_t key) {
     uint32_t found = look_up(model, mini_moka_peek, mini_moka_u64_peek, key);
     require(!is_look_up_refused(model, key, found) && is_found(found) == (status == MINI_MOKA_DONE), "an insert returned a wrong status");
     model->keys[key].is_there = status == MINI_MOKA_DONE;
-    model->keys[key].may_remain = false;
 }
 
 static void play_look_up(struct model *model, uint64_t key) {
@@ -412,12 +441,16 @@ static void play_remove(struct model *model, uint64_t key) {
     uint32_t status = look_up(model, mini_moka_remove, mini_moka_u64_remove, key);
     if (is_look_up_refused(model, key, status))
         return;
+    /* A value that is returned isn't queued, but one that is expired is removed too. */
+    if (status == MINI_MOKA_ABSENT && !is_alive(model, &model->keys[key]))
+        note_end(model, key, CAUSES, true);
     meet(model, &model->keys[key], status);
     if (status == MINI_MOKA_DONE) {
-        model->keys[key].is_there = model->keys[key].may_remain = false;
         model->puts[model->last_put[key]].has_left = true;
         model->returned++;
     }
+    if (status != MINI_MOKA_TOO_SHORT)
+        model->keys[key].is_there = false;
 }
 
 static void play_invalidate(struct model *model, uint64_t key) {
@@ -425,8 +458,21 @@ static void play_invalidate(struct model *model, uint64_t key) {
     if (is_look_up_refused(model, key, status))
         return;
     require(status == MINI_MOKA_DONE, "an invalidation failed");
-    note_invalidation(model, key);
-    model->keys[key].is_there = model->keys[key].may_remain = false;
+    model->removals += is_alive(model, &model->keys[key]);
+    note_end(model, key, MINI_MOKA_CAUSE_EXPLICIT, true);
+    model->keys[key].is_there = false;
+}
+
+/* Removes all entries. The call has no moment, so none leaves as expired. */
+static void play_invalidate_all(struct model *model) {
+    uint64_t count = 0;
+    require(mini_moka_count(&model->cache, &count) == MINI_MOKA_DONE, "a count failed");
+    require(mini_moka_invalidate_all(&model->cache) == MINI_MOKA_DONE, "mini_moka_invalidate_all failed");
+    model->removals += count;
+    for (uint64_t key = 0; key < KEYS; key++) {
+        note_end(model, key, MINI_MOKA_CAUSE_EXPLICIT, false);
+        model->keys[key].is_there = false;
+    }
 }
 
 static void play_get_or_insert(struct model *model, uint64_t key) {
@@ -447,13 +493,14 @@ static void play_get_or_insert(struct model *model, uint64_t key) {
     model->misses++;
     model->inserts++;
     require(value == value_number(key, version), "a wrong value was found or inserted");
+    /* A live entry would have been found, so only an expired one can be replaced. */
+    note_end(model, key, CAUSES, true);
     note_put(model, key, version, MINI_MOKA_DONE);
     meet(model, known, MINI_MOKA_ABSENT);
     model->versions = version;
     bool has_left = model->puts[model->last_put[key]].has_left;
     write_down(model, known, version);
     known->is_there = !has_left;
-    known->may_remain = false;
 }
 
 /* Drains all, and checks that each inserted entry remains, or was drained, returned or lost. Compares the drained entries of each cause with the statistics. */
@@ -479,8 +526,8 @@ static void play_counts(struct model *model) {
     uint64_t count = 0, weight = 0, alive = 0, there = 0;
     require(mini_moka_count(&model->cache, &count) == MINI_MOKA_DONE && mini_moka_weight(&model->cache, &weight) == MINI_MOKA_DONE, "a count or weight failed");
     for (size_t i = 0; i < KEYS; i++) {
-        alive += is_alive(model, &model->keys[i]);
-        there += model->keys[i].is_there || model->keys[i].may_remain;
+        alive += is_surely_alive(model, &model->keys[i]);
+        there += model->keys[i].is_there;
     }
     require(model->capacity != MINI_MOKA_UNLIMITED || (alive <= count && count <= there), "a wrong count");
     require(model->is_weighed || (weight == count && count <= model->capacity), "a wrong weight, or more entries than the capacity");
@@ -489,6 +536,10 @@ static void play_counts(struct model *model) {
     /* A get-or-insert doesn't report that its entry was rejected. */
     require(model->is_bytes ? met.rejections == model->rejections : met.rejections >= model->rejections, "a wrong number of rejections");
     require(met.inserts - met.updates - met.rejections == met.evictions + met.expirations + met.removals + count, "the statistics don't add up");
+    bool is_exact = model->capacity == MINI_MOKA_UNLIMITED && !model->goes_back;
+    require(met.updates <= model->updates && (met.updates == model->updates || !is_exact), "a wrong number of updates");
+    uint64_t most = model->removals + model->returned;
+    require(met.removals <= most && (met.removals == most || !is_exact), "a wrong number of removals");
     require(model->capacity != MINI_MOKA_UNLIMITED || met.evictions + met.rejections == 0, "evictions without a capacity");
     require(model->time_to_live != MINI_MOKA_UNLIMITED || model->time_to_idle != MINI_MOKA_UNLIMITED || met.expirations == 0, "expirations without a duration");
     check_drained(model, &met, count);
@@ -546,8 +597,8 @@ static void play_walk(struct model *model) {
     } while (status == MINI_MOKA_DONE);
     require(status == MINI_MOKA_ABSENT, "a walk ended with a wrong status");
     for (size_t i = 0; i < KEYS; i++)
-        alive += is_alive(model, &model->keys[i]);
-    require(met == alive || model->capacity != MINI_MOKA_UNLIMITED, "a walk missed an entry");
+        alive += is_surely_alive(model, &model->keys[i]);
+    require(met >= alive || model->capacity != MINI_MOKA_UNLIMITED, "a walk missed an entry");
     require(!is_refused(contains(model, 0)), "a look-up of an empty key was refused memory");
     require(mini_moka_next(&model->cache, model->now, key, LONGEST, value, LONGEST, &key_length, &value_length) == MINI_MOKA_CHANGED, "a walk didn't end");
 }
@@ -566,8 +617,8 @@ static void play_number_walk(struct model *model) {
     }
     require(status == MINI_MOKA_ABSENT, "a walk ended with a wrong status");
     for (size_t i = 0; i < KEYS; i++)
-        alive += is_alive(model, &model->keys[i]);
-    require(met == alive || model->capacity != MINI_MOKA_UNLIMITED, "a walk missed an entry");
+        alive += is_surely_alive(model, &model->keys[i]);
+    require(met >= alive || model->capacity != MINI_MOKA_UNLIMITED, "a walk missed an entry");
     meet(model, &model->keys[0], contains(model, 0));
     require(mini_moka_u64_next(&model->cache, model->now, &key, &value) == MINI_MOKA_CHANGED, "a walk didn't end");
 }
@@ -583,7 +634,15 @@ static void play_call(struct model *model) {
     if (call == 6 && model->is_bytes)
         call = 1;
     calls_made++;
-    model->now += below(8) == 0 ? below(50) : 0;
+    if (below(8) == 0) {
+        model->now += below(50);
+        if (model->goes_back && below(8) == 0)
+            model->now -= below(1000) % (model->now + 1);
+        model->is_swept = false;
+    }
+    /* A peek, a drain, and counts remove nothing. */
+    if (call != 2 && call != 7 && call != 8 && call != 10)
+        sweep(model);
     was_refused = false;
     allocations_left = below(16) == 0 ? (int)below(3) : -1;
     switch (call) {
@@ -593,13 +652,7 @@ static void play_call(struct model *model) {
     case 4: play_remove(model, key); break;
     case 5: play_invalidate(model, key); break;
     case 6: play_get_or_insert(model, key); break;
-    case 7:
-        require(mini_moka_invalidate_all(&model->cache) == MINI_MOKA_DONE, "mini_moka_invalidate_all failed");
-        for (size_t i = 0; i < KEYS; i++) {
-            model->keys[i].is_there = model->keys[i].may_remain = false;
-            note_invalidation(model, i);
-        }
-        break;
+    case 7: play_invalidate_all(model); break;
     case 8: play_counts(model); break;
     case 9: model->is_bytes ? play_walk(model) : play_number_walk(model); break;
     case 10: drain(model); break;
@@ -618,6 +671,7 @@ static bool open_cache(struct model *model) {
     size_t room = below(2) == 0 ? 0 : below(KEYS);
     model->removed_room = below(3) == 0 ? 0 : below(2) == 0 ? 1 + below(8) : 1 + below(2 * KEYS);
     model->is_eager = below(2) == 0;
+    model->goes_back = below(3) == 0;
     for (size_t i = 0; i < KEYS; i++)
         model->first_put[i] = model->last_put[i] = NO_PUT;
     struct mini_moka_settings bytes = {
