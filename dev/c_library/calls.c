@@ -278,6 +278,51 @@ static void full_queues_lose(void) {
     CHECK(lost(&cache) == 0 && mini_moka_close(&cache) == MINI_MOKA_DONE);
 }
 
+/* An entry that is expired when a call of its key replaces or removes it leaves as expired, even if the cleanup has not reached it. A live one does not. */
+static void expired_entries_leave_as_expired(void) {
+    struct mini_moka cache = {0};
+    struct mini_moka_settings settings = BYTES;
+    struct mini_moka_statistics met;
+    settings.time_to_live = 20;
+    settings.removed_room = 10;
+    CHECK(mini_moka_open(&cache, &settings) == MINI_MOKA_DONE);
+    /* "live" was inserted first and expires last, so the cleanup stops there. */
+    CHECK(insert(&cache, "live", "1", 1) == MINI_MOKA_DONE && insert(&cache, "a", "apple", 0) == MINI_MOKA_DONE);
+    CHECK(insert(&cache, "b", "berry", 0) == MINI_MOKA_DONE && insert(&cache, "c", "cherry", 0) == MINI_MOKA_DONE);
+    CHECK(insert(&cache, "d", "date", 0) == MINI_MOKA_DONE && contains(&cache, "a", 20) == MINI_MOKA_ABSENT && number_of(mini_moka_count, &cache) == 5);
+    CHECK(insert(&cache, "a", "again", 20) == MINI_MOKA_DONE && drains(&cache, MINI_MOKA_DONE, "a=apple", MINI_MOKA_CAUSE_EXPIRED));
+    CHECK(invalidate(&cache, "b", 20) == MINI_MOKA_DONE && drains(&cache, MINI_MOKA_DONE, "b=berry", MINI_MOKA_CAUSE_EXPIRED));
+    CHECK(finds(mini_moka_remove, &cache, "c", 20, MINI_MOKA_ABSENT, NULL) && drains(&cache, MINI_MOKA_DONE, "c=cherry", MINI_MOKA_CAUSE_EXPIRED));
+    CHECK(insert(&cache, "live", "2", 20) == MINI_MOKA_DONE && drains(&cache, MINI_MOKA_DONE, "live=1", MINI_MOKA_CAUSE_REPLACED));
+    /* Now "d" was written first, so the cleanup reaches it. */
+    CHECK(invalidate(&cache, "live", 20) == MINI_MOKA_DONE && drains(&cache, MINI_MOKA_DONE, "d=date", MINI_MOKA_CAUSE_EXPIRED));
+    CHECK(drains(&cache, MINI_MOKA_DONE, "live=2", MINI_MOKA_CAUSE_EXPLICIT) && drains(&cache, MINI_MOKA_ABSENT, NULL, 0));
+    CHECK(mini_moka_statistics(&cache, &met) == MINI_MOKA_DONE && met.inserts == 7 && met.updates == 1 && met.expirations == 4 && met.removals == 1);
+    /* A call that removes all has no moment. */
+    CHECK(mini_moka_invalidate_all(&cache) == MINI_MOKA_DONE && drains(&cache, MINI_MOKA_DONE, "a=again", MINI_MOKA_CAUSE_EXPLICIT));
+    CHECK(mini_moka_close(&cache) == MINI_MOKA_DONE);
+}
+
+/* The same for numbers. A get-or-insert at the key of an expired entry is a miss and an insert, and no update. */
+static void expired_numbers_leave_as_expired(void) {
+    struct mini_moka cache = {0};
+    struct mini_moka_statistics met;
+    uint64_t key = BEFORE, value = BEFORE;
+    uint32_t cause = BEFORE;
+    CHECK(mini_moka_u64_open(&cache, &(struct mini_moka_u64_settings){10, NONE, 20, 0, 10}) == MINI_MOKA_DONE);
+    CHECK(mini_moka_u64_insert(&cache, 1, 1, 1) == MINI_MOKA_DONE);
+    for (uint64_t i = 2; i < 6; i++)
+        CHECK(mini_moka_u64_insert(&cache, i, i, 0) == MINI_MOKA_DONE);
+    CHECK(mini_moka_u64_insert(&cache, 2, 20, 20) == MINI_MOKA_DONE && mini_moka_u64_get_or_insert(&cache, 3, 30, 20, &value) == MINI_MOKA_DONE && value == 30);
+    CHECK(mini_moka_u64_invalidate(&cache, 4, 20) == MINI_MOKA_DONE && mini_moka_u64_remove(&cache, 5, 20, &value) == MINI_MOKA_ABSENT);
+    for (uint64_t i = 2; i < 6; i++) {
+        CHECK(mini_moka_u64_removed(&cache, &key, &value, &cause) == MINI_MOKA_DONE && key == i && value == i && cause == MINI_MOKA_CAUSE_EXPIRED);
+    }
+    CHECK(mini_moka_u64_removed(&cache, &key, &value, &cause) == MINI_MOKA_ABSENT);
+    CHECK(mini_moka_statistics(&cache, &met) == MINI_MOKA_DONE && met.hits == 0 && met.misses == 1 && met.inserts == 7 && met.updates == 0);
+    CHECK(met.expirations == 4 && met.removals == 0 && mini_moka_close(&cache) == MINI_MOKA_DONE);
+}
+
 /* ---- numbers */
 
 static void numbers_come_and_go(void) {
@@ -547,6 +592,8 @@ int main(void) {
     removed_entries_are_drained();
     long_removed_entries_stay();
     full_queues_lose();
+    expired_entries_leave_as_expired();
+    expired_numbers_leave_as_expired();
     numbers_come_and_go();
     numbers_expire();
     walks_meet_each_number();

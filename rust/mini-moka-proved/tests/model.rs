@@ -39,6 +39,8 @@ struct Entry {
 struct Model {
     entries: HashMap<Vec<u8>, Entry>,
     expires: bool,
+    updates: u64,
+    removals: u64,
 }
 
 impl Model {
@@ -60,6 +62,8 @@ impl Model {
     }
 
     fn insert(&mut self, key: &[u8], value: &[u8], now: u64) {
+        // An insert over an expired value isn't an update.
+        self.updates += u64::from(self.live(key, now).is_some());
         let entry = Entry {
             value: value.to_vec(),
             written: now,
@@ -70,6 +74,7 @@ impl Model {
 
     fn remove(&mut self, key: &[u8], now: u64) -> Option<Vec<u8>> {
         let value = self.peek(key, now);
+        self.removals += u64::from(value.is_some());
         self.entries.remove(key);
         value
     }
@@ -146,7 +151,13 @@ fn a_cache_with_durations_is_a_map_whose_entries_expire() {
     for _ in 0..CALLS {
         now += random.below(5);
         compare_a_call(&mut random, &mut cache, &mut model, now);
+        let counts = cache.statistics();
+        assert_eq!(
+            (counts.updates, counts.removals),
+            (model.updates, model.removals)
+        );
     }
+    assert!(model.updates > 1000 && model.removals > 1000);
 }
 
 #[test]
