@@ -1,5 +1,5 @@
-//! Links the static library: the one in the folder `MINI_MOKA_LIB_DIR`, or one that it builds from
-//! this repository.
+//! Links the static library: the one in the folder `MINI_MOKA_LIB_DIR`, an absolute path, or one
+//! that it builds from this repository.
 
 use std::env;
 use std::fs::{self, OpenOptions};
@@ -24,7 +24,11 @@ fn main() {
 
 /// Returns the folder that the variable names, which must have the archive.
 fn named(folder: &Path) -> PathBuf {
-    // The linker runs in another folder than this program, so it needs an absolute path.
+    // Cargo runs this program in the package's folder, and not in the one that a user is in.
+    if !folder.is_absolute() {
+        let folder = folder.display();
+        fail(&format!("{FOLDER} must be an absolute path: {folder}"));
+    }
     let folder = match folder.canonicalize() {
         Ok(found) => found,
         Err(_) => fail(&format!("{FOLDER} is not a folder: {}", folder.display())),
