@@ -12,16 +12,17 @@
  * The size of a cache:
  *
  * - An update with a longer value may leave a weighed cache above its capacity. Then each insert, get, mini_moka_contains, mini_moka_remove and
- *   mini_moka_invalidate first evicts up to 100 entries, least recently used first, until the others fit. An update heavier than the whole capacity is
+ *   mini_moka_invalidate first evicts up to 100 entries, in the order of a walk, until the others fit. An update heavier than the whole capacity is
  *   stored, so these calls evict most entries and the update: remove its key instead. Any other cache never exceeds its capacity.
  * - A cache has at most 2,000,000,000 entries; then an insert returns MINI_MOKA_OUT_OF_MEMORY. An entry weighs at most UINT32_MAX, even if it has more bytes.
  * - An insert that finds the cache's memory full doubles it and moves each entry, so a big cache pauses. A cache never grows if its initial_capacity is the
- *   maximum number of entries that it will have.
+ *   maximum number of entries that it will have, also if an insert finds that many and evicts one. Values, and keys of more than 24 bytes, have memory of
+ *   their own, which an insert of bytes allocates.
  *
  * A program must keep these rules, which no proof checks:
  *
  * - A handle starts as all zeros, which is a closed handle: struct mini_moka cache = {0}; From then on the program only passes its address. It neither changes
- *   nor copies a handle, and finally closes it.
+ *   nor copies a handle, and finally closes it. In C++ write {} in place of {0}. Write struct mini_moka_statistics there too, since a function has that name.
  * - Only one call on a handle runs at a time. Threads that share one hold a lock during each call; mini_moka_segments.h has a cache that does so.
  * - No pointer is null, not even one to zero bytes.
  * - Memory that a call writes (the handle, a buffer, a length, a value, a count, a cause, statistics) overlaps no memory of another argument. So the two
@@ -57,16 +58,20 @@ enum mini_moka_status {
     MINI_MOKA_OTHER_KIND = 5,    /* the handle has a cache of numbers and the call is for bytes, or the other way round: nothing was done */
     MINI_MOKA_TOO_SHORT = 6,     /* a buffer is shorter than the key or the value found, whose length is written */
     MINI_MOKA_CHANGED = 7,       /* no walk was begun, or a call that may change the cache ended it */
-    MINI_MOKA_ZERO_DURATION = 8, /* a time to live or to idle is 0, so no entry would be found: nothing was opened. For no duration use MINI_MOKA_UNLIMITED */
+    MINI_MOKA_ZERO_DURATION = 8, /* a time to live or to idle is 0, as in settings of all zeros, so no entry would be found: nothing was opened. For no
+                                    duration use MINI_MOKA_UNLIMITED, which MINI_MOKA_SETTINGS_INIT has */
     MINI_MOKA_REJECTED = 9,      /* the call was made, and the full cache did not admit the new entry */
 };
 
-/* The cause for which an entry left a cache, or was not admitted. */
+/*
+ * The cause for which an entry left a cache, or was not admitted. An expired entry that is still there may also be evicted, or removed by
+ * mini_moka_invalidate_all, which has no moment. In any other call it leaves as expired.
+ */
 enum mini_moka_cause {
     MINI_MOKA_CAUSE_SIZE = 0,     /* it was evicted for the capacity: other entries are used more */
-    MINI_MOKA_CAUSE_EXPIRED = 1,  /* its time to live or to idle had passed */
-    MINI_MOKA_CAUSE_EXPLICIT = 2, /* a call removed it */
-    MINI_MOKA_CAUSE_REPLACED = 3, /* an insert gave its key another value */
+    MINI_MOKA_CAUSE_EXPIRED = 1,  /* its time to live or to idle had passed, also if an insert replaced it or a call of its key removed it */
+    MINI_MOKA_CAUSE_EXPLICIT = 2, /* a call of its key removed it while it was unexpired, or mini_moka_invalidate_all removed it */
+    MINI_MOKA_CAUSE_REPLACED = 3, /* an insert gave its key another value while it was unexpired */
     MINI_MOKA_CAUSE_REJECTED = 4, /* it was new, and the full cache did not admit it */
 };
 
@@ -86,7 +91,7 @@ static inline const char *mini_moka_status_text(uint32_t status) {
         "the handle keeps the other kind of keys",
         "a buffer is too short",
         "no walk was begun, or a change has ended it",
-        "a time to live or to idle is 0",
+        "a time to live or to idle is 0; MINI_MOKA_SETTINGS_INIT sets neither",
         "the new entry was not admitted",
     };
     return status < sizeof texts / sizeof *texts ? texts[status] : "an unknown status";
@@ -100,7 +105,10 @@ struct mini_moka {
 
 /* ---- bytes */
 
-/* Settings of a cache of bytes. MINI_MOKA_UNLIMITED sets no capacity, or no duration. A duration of 0 is refused. A cache of capacity 0 keeps nothing. */
+/*
+ * Settings of a cache of bytes. MINI_MOKA_UNLIMITED sets no capacity, or no duration. A duration of 0 is refused. A cache of capacity 0 keeps nothing, but a
+ * weighed one keeps an entry of an empty key and an empty value, which weighs 0.
+ */
 struct mini_moka_settings {
     uint64_t capacity;       /* maximum number of entries; if is_weighed is set, maximum bytes of keys and values */
     uint64_t time_to_live;   /* nanoseconds that an entry lives after its last write */
@@ -116,8 +124,8 @@ struct mini_moka_settings {
 #define MINI_MOKA_SETTINGS_INIT {MINI_MOKA_UNLIMITED, MINI_MOKA_UNLIMITED, MINI_MOKA_UNLIMITED, 0, {0, 0}, false, 0}
 
 /*
- * Opens a closed handle with a new cache. If memory is refused or a duration is 0, the handle stays closed. The memory for removed_room entries is reserved
- * here, so no other call is refused memory for them.
+ * Opens a closed handle with a new cache. If memory is refused or a duration is 0, the handle stays closed. An initial_capacity of 2,000,000,000 or more is
+ * refused too: MINI_MOKA_OUT_OF_MEMORY. The memory for removed_room entries is reserved here, so no other call is refused memory for them.
  */
 uint32_t mini_moka_open(struct mini_moka *handle, const struct mini_moka_settings *settings);
 
@@ -133,8 +141,8 @@ uint32_t mini_moka_insert(struct mini_moka *handle, const void *key, size_t key_
  * Looks up the key, and makes its entry the most recently used one. Copies the value to the beginning of the buffer, and writes its length. If the buffer is
  * shorter, returns MINI_MOKA_TOO_SHORT and writes only the length, which counts as a hit too. (mini_moka_peek writes the length without counting.)
  *
- * This call and those of bytes below can be refused memory only for a key of more than 24 bytes. Such a key is copied into memory of the handle, which grows if
- * it is shorter than the key.
+ * This call and those of bytes below, but for mini_moka_removed, can be refused memory only for a key of more than 24 bytes. Such a key is copied into memory
+ * of the handle, which grows if it is shorter than the key.
  */
 uint32_t mini_moka_get(struct mini_moka *handle, const void *key, size_t key_length, uint64_t now, void *buffer, size_t buffer_length, size_t *length);
 
@@ -145,8 +153,8 @@ uint32_t mini_moka_peek(struct mini_moka *handle, const void *key, size_t key_le
 uint32_t mini_moka_contains(struct mini_moka *handle, const void *key, size_t key_length, uint64_t now);
 
 /*
- * Removes the entry of the key, and copies its value as mini_moka_get does. If the buffer is shorter, the entry stays. An expired entry is removed too, and the
- * call returns MINI_MOKA_ABSENT.
+ * Removes the entry of the key, and copies its value as mini_moka_get does. If the buffer is shorter, the entry stays: the call is a peek then, and removes no
+ * expired entries either. An expired entry of the key is removed too, and the call returns MINI_MOKA_ABSENT.
  */
 uint32_t mini_moka_remove(struct mini_moka *handle, const void *key, size_t key_length, uint64_t now, void *buffer, size_t buffer_length, size_t *length);
 
@@ -155,7 +163,8 @@ uint32_t mini_moka_invalidate(struct mini_moka *handle, const void *key, size_t 
 
 /*
  * Copies the next entry of a walk (mini_moka_walk) to the beginnings of both buffers, and writes the lengths of its key and its value. If a buffer is
- * shorter, returns MINI_MOKA_TOO_SHORT, and the walk stays at the entry, so that the call can be repeated. It doesn't count as an access.
+ * shorter, returns MINI_MOKA_TOO_SHORT. If memory is refused, for a key of more than 24 bytes, returns MINI_MOKA_OUT_OF_MEMORY. With both the walk stays at the
+ * entry, so that the call can be repeated. It doesn't count as an access.
  */
 uint32_t mini_moka_next(struct mini_moka *handle, uint64_t now, void *key, size_t key_room, void *value, size_t value_room, size_t *key_length,
                         size_t *value_length);
@@ -163,7 +172,7 @@ uint32_t mini_moka_next(struct mini_moka *handle, uint64_t now, void *key, size_
 /*
  * Drains the removed entry that left first. Copies its key and its value to the beginnings of both buffers, and writes their lengths and a mini_moka_cause.
  * If a buffer is shorter, returns MINI_MOKA_TOO_SHORT and writes only the lengths, and the entry stays at the front. If no entry is queued, returns
- * MINI_MOKA_ABSENT.
+ * MINI_MOKA_ABSENT. It is never refused memory.
  *
  * Each entry that leaves is queued in the call in which it leaves, unless mini_moka_remove returns it. A replaced value is queued with its key, and a rejected
  * entry as it was passed. If removed_room entries are queued, later ones are dropped and counted as `lost` in the statistics. A queued entry stays until it is
@@ -201,7 +210,7 @@ uint32_t mini_moka_u64_removed(struct mini_moka *handle, uint64_t *key, uint64_t
 
 /*
  * Gets the value of the key, or inserts `otherwise` if there is none, and writes the value that it got or inserted. It returns MINI_MOKA_DONE even if the new
- * entry was rejected.
+ * entry was rejected. It never updates: an expired entry of the key leaves as MINI_MOKA_CAUSE_EXPIRED, and the call is a miss and an insert.
  */
 uint32_t mini_moka_u64_get_or_insert(struct mini_moka *handle, uint64_t key, uint64_t otherwise, uint64_t now, uint64_t *value);
 
@@ -210,23 +219,26 @@ uint32_t mini_moka_u64_get_or_insert(struct mini_moka *handle, uint64_t key, uin
 /*
  * Counts of the calls on a handle since it was opened, and of the entries that left. Each count stops at UINT64_MAX. Until then
  * inserts - updates - rejections = evictions + expirations + removals + the number of entries.
+ *
+ * If there is a queue, each entry that left was drained, is queued, was lost, or was returned by a removal that returned MINI_MOKA_DONE:
+ * drained + queued + lost + returned = updates + rejections + evictions + expirations + removals.
  */
 struct mini_moka_statistics {
     uint64_t hits;        /* gets that found a value */
     uint64_t misses;      /* gets that found none */
     uint64_t inserts;     /* inserts that were not refused memory: MINI_MOKA_DONE or MINI_MOKA_REJECTED */
-    uint64_t updates;     /* inserts that gave a key another value */
+    uint64_t updates;     /* inserts that gave the key of an unexpired entry another value */
     uint64_t rejections;  /* new entries that the full cache did not admit */
     uint64_t evictions;   /* entries that were evicted for the capacity */
-    uint64_t expirations; /* expired entries that were removed */
-    uint64_t removals;    /* entries that a call removed */
+    uint64_t expirations; /* entries that left as expired, also if an insert replaced them or a call of their key removed them */
+    uint64_t removals;    /* unexpired entries that a call of their key removed, and all that mini_moka_invalidate_all removed */
     uint64_t lost;        /* entries that left while the queue of removed entries was full; always 0 without a queue */
 };
 
 /* Closes the handle and frees its cache. Returns MINI_MOKA_CLOSED if the handle is closed already. */
 uint32_t mini_moka_close(struct mini_moka *handle);
 
-/* Removes all entries. */
+/* Removes all entries, expired or not, as MINI_MOKA_CAUSE_EXPLICIT. */
 uint32_t mini_moka_invalidate_all(struct mini_moka *handle);
 
 /* Writes the number of entries, including expired ones that no call has removed yet. */
@@ -239,9 +251,11 @@ uint32_t mini_moka_weight(struct mini_moka *handle, uint64_t *weight);
 uint32_t mini_moka_statistics(struct mini_moka *handle, struct mini_moka_statistics *statistics);
 
 /*
- * Begins a walk over the unexpired entries, least recently used first, those of the window last. Each mini_moka_next of bytes, or mini_moka_u64_next of
- * numbers, writes one entry; after the last it returns MINI_MOKA_ABSENT. During a walk a program may peek, drain removed entries, and get the count, the
- * weight and the statistics. Any other call may end the walk.
+ * Begins a walk over the unexpired entries: those of the window last, and the others before them, each least recently used first. An entry that leaves the
+ * window is put after all others outside of it, though some of them may have been used later.
+ *
+ * Each mini_moka_next of bytes, or mini_moka_u64_next of numbers, writes one entry; after the last it returns MINI_MOKA_ABSENT. During a walk a program may
+ * peek, drain removed entries, and get the count, the weight and the statistics. Any other call may end the walk.
  */
 uint32_t mini_moka_walk(struct mini_moka *handle);
 

@@ -1,6 +1,7 @@
 /*
  * A cache of bytes that threads share: N segments, each a handle of mini_moka.h behind a pthread mutex. All its code is in this header; a program links
- * libmini_moka.a and pthreads. The caches inside are proved. The sharing between threads is tested: dev/c_library/run runs threads under ThreadSanitizer.
+ * libmini_moka.a and pthreads. The caches inside are proved. The sharing between threads is tested: dev/c_library/run runs threads that make each call but
+ * open and close under ThreadSanitizer.
  *
  * A key belongs to one segment, which has its part of the capacity and its own admission policy. A call waits only for calls in the same segment. Calls work as
  * those of mini_moka.h, and return the same statuses. A new entry that weighs more than its segment's part of the capacity is rejected. An update to such a
@@ -110,8 +111,9 @@ static inline uint64_t mini_moka_segments_part(uint64_t whole, size_t count, siz
 
 /*
  * Opens a cache of `count` segments. If that is 0, chooses up to 16, each with a capacity of at least 100 entries, or 1 MiB if bytes are weighed; a smaller
- * cache has one. Each segment has its part of the capacity, of initial_capacity and of removed_room, which is rounded up. With more segments than the capacity
- * some keep nothing. If a segment can't be opened, nothing stays open.
+ * cache has one. Each segment has its part of the capacity, of initial_capacity and of removed_room, which is rounded up. Keys are never spread quite evenly, so
+ * a segment may grow although the whole cache has fewer entries than initial_capacity, unless that is the capacity. With more segments than the capacity some
+ * keep nothing. If a segment can't be opened, nothing stays open.
  */
 static inline uint32_t mini_moka_segments_open(struct mini_moka_segments *all, const struct mini_moka_settings *settings, size_t count) {
     if (all->segments != NULL)

@@ -442,6 +442,7 @@ static void durations_of_zero_are_refused(void) {
     struct mini_moka_u64_settings numbers = MINI_MOKA_U64_SETTINGS_INIT;
     CHECK(mini_moka_open(&cache, &bytes) == MINI_MOKA_DONE && mini_moka_close(&cache) == MINI_MOKA_DONE);
     CHECK(mini_moka_u64_open(&cache, &numbers) == MINI_MOKA_DONE && mini_moka_close(&cache) == MINI_MOKA_DONE);
+    CHECK(mini_moka_open(&cache, &(struct mini_moka_settings){0}) == MINI_MOKA_ZERO_DURATION);
     CHECK(mini_moka_open(&cache, &(struct mini_moka_settings){.capacity = 10, .time_to_idle = NONE}) == MINI_MOKA_ZERO_DURATION);
     CHECK(mini_moka_open(&cache, &(struct mini_moka_settings){.capacity = 10, .time_to_live = NONE}) == MINI_MOKA_ZERO_DURATION);
     CHECK(mini_moka_u64_open(&cache, &(struct mini_moka_u64_settings){.capacity = 10, .time_to_idle = NONE}) == MINI_MOKA_ZERO_DURATION);
@@ -463,7 +464,7 @@ static void statuses_have_texts(void) {
         for (uint32_t other = 0; other < status; other++)
             CHECK(strcmp(mini_moka_status_text(status), mini_moka_status_text(other)) != 0);
     }
-    CHECK(strcmp(mini_moka_status_text(MINI_MOKA_ZERO_DURATION), "a time to live or to idle is 0") == 0);
+    CHECK(strcmp(mini_moka_status_text(MINI_MOKA_ZERO_DURATION), "a time to live or to idle is 0; MINI_MOKA_SETTINGS_INIT sets neither") == 0);
     CHECK(strcmp(mini_moka_status_text(MINI_MOKA_REJECTED), "the new entry was not admitted") == 0);
     CHECK(strcmp(mini_moka_status_text(UINT32_MAX), "an unknown status") == 0);
 }

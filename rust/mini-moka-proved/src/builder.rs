@@ -33,7 +33,7 @@ pub struct Builder {
 
 impl Builder {
     /// Sets the maximum number of entries, or with [`weigh_bytes`](Self::weigh_bytes) of bytes.
-    /// With 0 the cache keeps nothing.
+    /// With 0 the cache keeps nothing, or of weighed entries only one whose key and value are empty.
     pub fn max_capacity(mut self, max_capacity: u64) -> Builder {
         self.limits.max_capacity = Some(max_capacity);
         self
@@ -43,7 +43,7 @@ impl Builder {
     ///
     /// An entry weighs at most `u32::MAX`. An update with a longer value may leave the cache above
     /// its capacity. Then each insert, get, `contains_key`, `remove` and `invalidate` first evicts
-    /// up to 100 entries, least recently used first, until the others fit. An update that is
+    /// up to 100 entries, in the order of [`Cache::iter`], until the others fit. An update that is
     /// heavier than the whole capacity is stored, so these calls evict most entries and the update:
     /// remove its key instead.
     pub fn weigh_bytes(mut self) -> Builder {
@@ -68,7 +68,8 @@ impl Builder {
     /// memory only for its value, or for a key of more than 24 bytes.
     ///
     /// An insert that finds the cache's memory full doubles it, which takes time linear in the
-    /// number of entries. The memory never doubles if the cache has at most `entries` entries.
+    /// number of entries. The memory never doubles if the cache never has more than `entries`
+    /// entries, also if an insert finds that many and evicts one.
     pub fn initial_capacity(mut self, entries: usize) -> Builder {
         self.limits.initial_capacity = entries;
         self
@@ -127,7 +128,7 @@ impl Builder {
     ///
     /// [`BuildError::ZeroDuration`] if a duration is 0, and [`BuildError::DurationTooLong`] if one
     /// is 2^64 - 1 nanoseconds or more. [`BuildError::OutOfMemory`] if memory is refused, or if the
-    /// initial capacity is above the 2,000,000,000 entries that a cache can have.
+    /// initial capacity is 2,000,000,000 or more. A cache has at most 2,000,000,000 entries.
     pub fn build(self) -> Result<Cache, BuildError> {
         self.build_with(self.clock())
     }

@@ -71,8 +71,9 @@ const SHORT: usize = 256;
 /// copy. A look-up copies a longer key into memory that the cache keeps, which grows if it is
 /// shorter than the key.
 ///
-/// An insert into a cache whose memory is full takes time linear in the number of entries, unless
-/// [`Builder::initial_capacity`] reserved enough. Dropping a cache takes linear time too.
+/// An insert into a cache whose memory is full takes time linear in the number of entries. There is
+/// none if the cache never has more entries than its [`Builder::initial_capacity`]. Dropping a cache
+/// takes linear time too.
 ///
 /// # Threads
 ///
@@ -391,9 +392,12 @@ impl Cache {
         self.handle.clear();
     }
 
-    /// Returns an iterator over copies of the unexpired entries, as pairs of key and value. The
-    /// least recently used one comes first, and those of the window last. It doesn't count as an
-    /// access, and removes none.
+    /// Returns an iterator over copies of the unexpired entries, as pairs of key and value. Those of
+    /// the window come last, and the others before them, each least recently used first. It doesn't
+    /// count as an access, and removes none.
+    ///
+    /// An entry that leaves the window is put after all others outside of it, though some of them
+    /// may have been used later.
     ///
     /// If memory for a pair is refused, the iterator yields an error, and tries that pair again
     /// next.

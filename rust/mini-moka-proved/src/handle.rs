@@ -60,6 +60,10 @@ pub(crate) struct NumberSettings {
 ///
 /// Until then `inserts - updates - rejections` equals `evictions + expirations + removals` plus the
 /// number of entries.
+///
+/// If removed entries are queued, each entry that left was drained, is queued, was lost, or was
+/// returned by `remove`. So the numbers of these add up to
+/// `updates + rejections + evictions + expirations + removals`.
 #[repr(C)]
 #[derive(Clone, Copy, Debug, Default, PartialEq, Eq)]
 pub struct Statistics {
@@ -69,30 +73,35 @@ pub struct Statistics {
     pub misses: u64,
     /// Inserts that were not refused memory: of new entries, admitted or not, and updates.
     pub inserts: u64,
-    /// Inserts that gave a key another value.
+    /// Inserts that gave the key of an unexpired entry another value.
     pub updates: u64,
     /// New entries that the full cache did not admit.
     pub rejections: u64,
     /// Entries that were evicted for the capacity.
     pub evictions: u64,
-    /// Expired entries that were removed.
+    /// Entries that left as expired, also if an insert replaced them or a call of their key removed
+    /// them.
     pub expirations: u64,
-    /// Entries that a call removed.
+    /// Unexpired entries that a call of their key removed, and all that `clear` removed.
     pub removals: u64,
     /// Entries that left while the queue of removed entries was full. It stays 0 without a queue.
     pub lost: u64,
 }
 
 /// The cause for which an entry left a cache, or was not admitted.
+///
+/// An expired entry that is still there may also be evicted, or removed by `clear`, which has no
+/// moment. In any other call it leaves as expired.
 #[derive(Clone, Copy, Debug, PartialEq, Eq, Hash)]
 pub enum Cause {
     /// It was evicted for the capacity: other entries are used more.
     Size,
-    /// Its time to live or to idle had passed.
+    /// Its time to live or to idle had passed, also if an insert replaced it or a call of its key
+    /// removed it.
     Expired,
-    /// A call removed it.
+    /// A call of its key removed it while it was unexpired, or `clear` removed it.
     Explicit,
-    /// An insert gave its key another value.
+    /// An insert gave its key another value while it was unexpired.
     Replaced,
     /// It was new, and the full cache did not admit it.
     Rejected,

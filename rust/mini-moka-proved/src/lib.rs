@@ -20,8 +20,9 @@
 //! ```
 //!
 //! The calls of the library are proved; this package, which makes them, is tested. Sharing a cache
-//! between threads is tested too, under ThreadSanitizer, which also checks the library. The
-//! `unsafe` of this package is in two modules: `handle`, and the coarse clock in `clock`.
+//! between threads is tested too, and one example runs under ThreadSanitizer, which also checks the
+//! library. The `unsafe` of this package is in two modules: `handle`, and the coarse clock in
+//! `clock`.
 
 #![deny(missing_docs, unsafe_code)]
 

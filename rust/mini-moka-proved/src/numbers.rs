@@ -97,7 +97,8 @@ impl NumberCache {
     }
 
     /// Looks up the key as [`get`](Self::get) does, and inserts `otherwise` if the key has no
-    /// value. Returns the key's value, or `otherwise`, even if its entry was rejected.
+    /// value. Returns the key's value, or `otherwise`, even if its entry was rejected. It never
+    /// updates: an expired entry of the key leaves as [`Cause::Expired`](crate::Cause::Expired).
     ///
     /// # Errors
     ///
@@ -230,9 +231,8 @@ impl NumberCache {
         self.handle.clear();
     }
 
-    /// Returns an iterator over the unexpired entries, as pairs of key and value. The least
-    /// recently used one comes first, and those of the window last. It doesn't count as an access,
-    /// and removes none.
+    /// Returns an iterator over the unexpired entries, as pairs of key and value, in the order of
+    /// [`Cache::iter`](crate::Cache::iter). It doesn't count as an access, and removes none.
     ///
     /// ```
     /// use mini_moka_proved::NumberCache;

@@ -192,8 +192,9 @@ impl Cache {
     /// the key has none. Returns the key's value, or that of `make`, even if its entry was
     /// rejected.
     ///
-    /// No lock is held while `make` runs, so it may call the cache. Two threads may both make a
-    /// value for one key; the later insert stays.
+    /// No lock is held while `make` runs, so it may call the cache. Threads that look up an absent
+    /// key at the same time each call `make`, and the last insert stays: no thread waits for
+    /// another's value.
     ///
     /// ```
     /// use mini_moka_proved::sync::Cache;
@@ -641,7 +642,9 @@ impl Builder {
     }
 
     /// Reserves memory for `entries` entries from the start, as
-    /// [`crate::Builder::initial_capacity`] does.
+    /// [`crate::Builder::initial_capacity`] does. Each segment reserves its part. Keys are never
+    /// spread quite evenly, so a segment may grow before the cache has `entries` entries, unless
+    /// that is the capacity.
     pub fn initial_capacity(mut self, entries: usize) -> Builder {
         self.whole = self.whole.initial_capacity(entries);
         self
