@@ -149,3 +149,16 @@ fn a_shared_iterator_copies_a_refused_segment_again() {
     let lengths: Vec<_> = pairs.map(|pair| pair.unwrap().1.len()).collect();
     assert_eq!(lengths, [1000, 10]);
 }
+
+#[test]
+fn a_shared_iterator_is_refused_the_memory_for_its_pairs() {
+    let cache = sync::Cache::builder().segments(1).build().unwrap();
+    for key in 0..10u8 {
+        cache.insert([key], [key]).unwrap();
+    }
+    let mut pairs = cache.iter();
+    // Each copy takes a byte, and the pairs take some 500.
+    let refused = limited(100, || pairs.next());
+    assert_eq!(refused, Some(Err(OutOfMemory)));
+    assert_eq!(pairs.count(), 10);
+}

@@ -213,6 +213,53 @@ fn a_shared_cache_of_one_segment_works_as_a_cache() {
     }
 }
 
+#[test]
+fn the_statistics_of_all_segments_are_added() {
+    for room in [9, 60_000] {
+        let mut random = Random(1);
+        let builder = sync::Cache::builder().weigh_bytes().max_capacity(60);
+        let builder = builder.time_to_live(10 * SECOND).removed_room(room);
+        let cache = builder.segments(3).build().unwrap();
+        let (mut gets, mut inserts, mut returned) = ([0; 2], 0, 0);
+        // The numbers of drained entries by cause.
+        let mut left = [0u64; 5];
+        let mut drain = || {
+            for removed in cache.removed() {
+                left[removed.unwrap().cause as usize] += 1;
+            }
+        };
+        for turn in 0..6000u32 {
+            let (now, key) = (turn * SECOND / 4, [random.below(20) as u8]);
+            let value = vec![turn as u8; random.below(9) as usize];
+            match random.below(9) {
+                0 => cache.invalidate_at(key, now).unwrap(),
+                1 => returned += cache.remove_at(key, now).unwrap().iter().count() as u64,
+                2 | 3 => gets[usize::from(cache.get_at(key, now).is_some())] += 1,
+                4 if turn < 5000 => drain(),
+                _ => {
+                    cache.insert_at(key, &value, now).unwrap();
+                    inserts += 1;
+                }
+            }
+        }
+        drain();
+        let it = cache.statistics();
+        assert_eq!(([it.misses, it.hits], it.inserts), (gets, inserts));
+        let explicit = it.removals - returned;
+        let counts = [it.evictions, it.expirations, explicit, it.updates];
+        let counts = [&counts[..], &[it.rejections]].concat();
+        if room > 9 {
+            assert_eq!((it.lost, &counts[..]), (0, &left[..]));
+        }
+        let all: u64 = counts.iter().sum();
+        assert_eq!(left.iter().sum::<u64>() + it.lost, all);
+        assert_eq!(it.lost > 0, room == 9);
+        let remaining = inserts - it.updates - it.rejections;
+        let gone = it.evictions + it.expirations + it.removals;
+        assert_eq!(remaining, gone + cache.len() as u64);
+    }
+}
+
 /// Makes a call in another thread, and fails if it doesn't return.
 fn returns<T: Send + 'static>(call: impl FnOnce() -> T + Send + 'static) -> T {
     let (told, heard) = mpsc::channel();
