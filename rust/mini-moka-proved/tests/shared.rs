@@ -2,7 +2,7 @@
 
 mod common;
 
-use common::{Random, SECOND, START};
+use common::{bytes, Random, SECOND, START};
 use mini_moka_proved::{sync, Cache};
 use std::cell::Cell;
 use std::sync::mpsc;
@@ -66,6 +66,8 @@ fn each_segment_has_a_hundred_entries_and_the_parts_are_the_whole() {
     assert_eq!(segments(weighed.max_capacity(1 << 21)), 2);
     assert_eq!(segments(sync::Cache::builder().segments(0)), 1);
     assert_eq!(segments(sync::Cache::builder().segments(3)), 3);
+    let most = sync::Cache::builder().segments(usize::MAX);
+    assert_eq!(segments(most), 65_536);
 
     let builder = sync::Cache::builder().max_capacity(1003).segments(4);
     let cache = builder.initial_capacity(1003).build().unwrap();
@@ -141,6 +143,22 @@ fn an_iterator_meets_each_entry_of_each_segment_once() {
     assert!(cache.is_empty());
     assert_eq!(cache.statistics().hits, before.hits);
     assert!(cache.iter().next().is_none());
+}
+
+#[test]
+fn keys_of_each_length_are_found_in_their_segments() {
+    let builder = sync::Cache::builder().weigh_bytes().segments(5);
+    let cache = builder.build().unwrap();
+    for length in 0..100 {
+        cache.insert(bytes(length), bytes(length)).unwrap();
+        assert_eq!(cache.get(bytes(length)), Some(bytes(length)));
+    }
+    assert!((0..100).all(|length| cache.contains_key(bytes(length))));
+    let shown = format!("{cache:?}");
+    assert_eq!(
+        shown,
+        "Cache { len: 100, weighted_size: 9900, segments: 5, .. }"
+    );
 }
 
 #[test]
