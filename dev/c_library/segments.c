@@ -258,6 +258,28 @@ static void statistics_are_added(void) {
     CHECK(mini_moka_segments_close(&cache) == MINI_MOKA_DONE);
 }
 
+/* A key's segment follows from the products of its words, of 64 by 64 bits. The last word is filled with zeros. */
+static void keys_are_hashed_by_products(void) {
+    struct mini_moka_segments all = {0};
+    uint64_t state = 1, words[6];
+    for (int round = 0; round < 2000; round++) {
+        unsigned char key[sizeof words];
+        size_t length = next_number(&state) % sizeof key;
+        memset(words, 0, sizeof words);
+        for (size_t i = 0; i < length; i++)
+            key[i] = (unsigned char)next_number(&state);
+        memcpy(words, key, length);
+        all.seed = next_number(&state);
+        all.count = next_number(&state) % UINT32_MAX + 1;
+        uint64_t hash = all.seed ^ length;
+        for (size_t i = 0; i * 8 < length; i++) {
+            __extension__ unsigned __int128 product = (unsigned __int128)(hash ^ words[i]) * UINT64_C(0x9E3779B97F4A7C15);
+            hash = (uint64_t)product ^ (uint64_t)(product >> 64);
+        }
+        CHECK(mini_moka_segments_at(&all, key, length) == (size_t)((hash >> 32) * all.count >> 32));
+    }
+}
+
 /* The numbers of entries of the segments, after 100 inserts, follow from the seed. */
 static void the_seed_picks_the_segments(void) {
     uint64_t parts[3][8];
@@ -305,6 +327,7 @@ int main(void) {
     removed_entries_are_drained();
     one_segment_is_a_cache();
     statistics_are_added();
+    keys_are_hashed_by_products();
     the_seed_picks_the_segments();
     initial_capacity_is_spread();
     return 0;
