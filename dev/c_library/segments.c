@@ -1,18 +1,21 @@
 /*
  * Tests a cache of include/mini_moka_segments.h in one thread: each call, and a cache of one segment compared with a plain handle. It is linked with --wrap for
- * malloc and realloc. Prints the first check that fails, and exits with status 1 then.
+ * malloc, realloc, calloc and free. Prints the first check that fails, and exits with status 1 then.
  */
 #include "segments.h"
 
 enum { ROOM = 64 };
 
-/* ---- the bytes that the library allocates */
+/* ---- allocations: the bytes that the library asks for, and the place of the segments */
 
 void *__real_malloc(size_t size);
 void *__real_realloc(void *block, size_t size);
+void *__real_calloc(size_t count, size_t size);
+void __real_free(void *block);
 
 static bool is_counting;
-static size_t allocated;
+static size_t allocated, shift;
+static char *whole, *shifted;
 
 void *__wrap_malloc(size_t size) {
     if (is_counting)
@@ -24,6 +27,18 @@ void *__wrap_realloc(void *block, size_t size) {
     if (is_counting)
         allocated += size;
     return __real_realloc(block, size);
+}
+
+/* Allocates `shift` bytes more, in front of the block, so that it isn't aligned as the C library aligns it. The block still ends where the allocation does. */
+void *__wrap_calloc(size_t count, size_t size) {
+    if (shift == 0)
+        return __real_calloc(count, size);
+    whole = (char *)__real_calloc(1, count * size + shift);
+    return shifted = whole == NULL ? NULL : whole + shift;
+}
+
+void __wrap_free(void *block) {
+    __real_free(block != NULL && block == shifted ? whole : block);
 }
 
 /* ---- one thread */
@@ -58,6 +73,21 @@ static void calls_answer(void) {
     CHECK(mini_moka_segments_statistics(&cache, &met) == MINI_MOKA_DONE && met.hits == 1 && met.misses == 1 && met.inserts == 2);
     CHECK(met.removals == 2 && met.updates + met.rejections + met.evictions + met.expirations == 0);
     CHECK(mini_moka_segments_close(&cache) == MINI_MOKA_DONE && mini_moka_segments_close(&cache) == MINI_MOKA_CLOSED);
+    CHECK(cache.block == NULL && cache.segments == NULL && cache.count == 0);
+}
+
+/* Segments begin at multiples of their size, and lie within their allocation, wherever that is. */
+static void segments_are_aligned(void) {
+    struct mini_moka_settings settings = MINI_MOKA_SETTINGS_INIT;
+    for (shift = 0; shift < 2 * MINI_MOKA_SEGMENT_SIZE; shift += 16) {
+        struct mini_moka_segments cache = {0};
+        CHECK(mini_moka_segments_open(&cache, &settings, 3) == MINI_MOKA_DONE);
+        CHECK((uintptr_t)cache.segments % MINI_MOKA_SEGMENT_SIZE == 0 && (uintptr_t)cache.segments - (uintptr_t)cache.block < MINI_MOKA_SEGMENT_SIZE);
+        for (unsigned char key = 0; key < 100; key++)
+            CHECK(mini_moka_segments_insert(&cache, &key, 1, &key, 1, 0) == MINI_MOKA_DONE);
+        CHECK(number_of(&cache, mini_moka_segments_count) == 100 && mini_moka_segments_close(&cache) == MINI_MOKA_DONE);
+    }
+    shift = 0;
 }
 
 /* The number of segments follows from the capacity. If a segment can't be opened, none stays open. */
@@ -322,6 +352,7 @@ static void initial_capacity_is_spread(void) {
 
 int main(void) {
     calls_answer();
+    segments_are_aligned();
     segments_are_counted();
     capacity_is_spread();
     removed_entries_are_drained();
