@@ -14,7 +14,7 @@ void *__real_calloc(size_t count, size_t size);
 void __real_free(void *block);
 
 static bool is_counting;
-static size_t allocated, shift;
+static size_t allocated, shift, blocks;
 static char *whole, *shifted;
 
 void *__wrap_malloc(size_t size) {
@@ -31,6 +31,7 @@ void *__wrap_realloc(void *block, size_t size) {
 
 /* Allocates `shift` bytes more, in front of the block, so that it isn't aligned as the C library aligns it. The block still ends where the allocation does. */
 void *__wrap_calloc(size_t count, size_t size) {
+    blocks++;
     if (shift == 0)
         return __real_calloc(count, size);
     whole = (char *)__real_calloc(1, count * size + shift);
@@ -79,13 +80,20 @@ static void calls_answer(void) {
 /* Segments begin at multiples of their size, and lie within their allocation, wherever that is. */
 static void segments_are_aligned(void) {
     struct mini_moka_settings settings = MINI_MOKA_SETTINGS_INIT;
+    struct mini_moka_statistics met;
+    size_t key_length, length;
+    uint32_t cause;
+    char buffer[2];
     for (shift = 0; shift < 2 * MINI_MOKA_SEGMENT_SIZE; shift += 16) {
         struct mini_moka_segments cache = {0};
         CHECK(mini_moka_segments_open(&cache, &settings, 3) == MINI_MOKA_DONE);
         CHECK((uintptr_t)cache.segments % MINI_MOKA_SEGMENT_SIZE == 0 && (uintptr_t)cache.segments - (uintptr_t)cache.block < MINI_MOKA_SEGMENT_SIZE);
         for (unsigned char key = 0; key < 100; key++)
             CHECK(mini_moka_segments_insert(&cache, &key, 1, &key, 1, 0) == MINI_MOKA_DONE);
-        CHECK(number_of(&cache, mini_moka_segments_count) == 100 && mini_moka_segments_close(&cache) == MINI_MOKA_DONE);
+        CHECK(number_of(&cache, mini_moka_segments_count) == 100 && number_of(&cache, mini_moka_segments_weight) == 100);
+        CHECK(mini_moka_segments_statistics(&cache, &met) == MINI_MOKA_DONE && met.inserts == 100);
+        CHECK(mini_moka_segments_removed(&cache, buffer, 1, buffer + 1, 1, &key_length, &length, &cause) == MINI_MOKA_ABSENT);
+        CHECK(mini_moka_segments_invalidate_all(&cache) == MINI_MOKA_DONE && mini_moka_segments_close(&cache) == MINI_MOKA_DONE);
     }
     shift = 0;
 }
@@ -106,7 +114,9 @@ static void segments_are_counted(void) {
     CHECK(mini_moka_segments_open(&cache, &settings, 0) == MINI_MOKA_DONE && cache.count == 1 && mini_moka_segments_close(&cache) == MINI_MOKA_DONE);
     settings.capacity = 1 << 21;
     CHECK(mini_moka_segments_open(&cache, &settings, 0) == MINI_MOKA_DONE && cache.count == 2 && mini_moka_segments_close(&cache) == MINI_MOKA_DONE);
+    blocks = 0;
     CHECK(mini_moka_segments_open(&cache, &settings, SIZE_MAX) == MINI_MOKA_OUT_OF_MEMORY && cache.segments == NULL);
+    CHECK(mini_moka_segments_open(&cache, &settings, (size_t)UINT32_MAX + 1) == MINI_MOKA_OUT_OF_MEMORY && cache.segments == NULL && blocks == 0);
     settings.initial_capacity = SIZE_MAX;
     CHECK(mini_moka_segments_open(&cache, &settings, 3) == MINI_MOKA_OUT_OF_MEMORY && cache.segments == NULL);
     settings.time_to_idle = 0;
@@ -141,6 +151,7 @@ static void removed_entries_are_drained(void) {
     size_t key_length, value_length;
     uint32_t cause, status;
     uint64_t drained = 0;
+    settings.capacity = 1000;
     settings.removed_room = 9;
     CHECK(mini_moka_segments_open(&cache, &settings, 4) == MINI_MOKA_DONE);
     for (key = 0; key < 100; key++)
@@ -341,13 +352,14 @@ static size_t reserved(size_t entries, size_t count) {
     return allocated;
 }
 
-/* The segments together reserve about what one does. */
+/* The segments together reserve what caches of their parts do, which is about what one does. */
 static void initial_capacity_is_spread(void) {
     size_t one = reserved(10000, 1), none = reserved(0, 16);
     for (size_t count = 2; count <= 16; count *= 2) {
         size_t all = reserved(10000, count);
         CHECK(one > 10000 * 40 && all > one / 2 && all < 2 * one + none);
     }
+    CHECK(reserved(1003, 4) == 3 * reserved(251, 1) + reserved(250, 1) && reserved(251, 1) > reserved(250, 1));
 }
 
 int main(void) {
