@@ -55,10 +55,10 @@ fn an_entry_expires_by_the_clock_in_each_call() {
     assert_eq!(numbers.get_or_insert(8, 9), Ok(9));
 }
 
+// A call that finds nothing removes what is expired, so in these tests each has its own cache.
 #[test]
-fn each_look_up_alone_finds_nothing_expired() {
-    // A look-up that finds nothing removes what is expired, so each has its own cache.
-    let calls: [fn(&sync::Cache) -> bool; 6] = [
+fn each_call_alone_reads_the_clock() {
+    let bytes: [fn(&mut Cache) -> bool; 6] = [
         |cache| cache.get([1]).is_none(),
         |cache| cache.try_get([1]) == Ok(None),
         |cache| cache.get_into([1], &mut Vec::new()) == Ok(false),
@@ -66,12 +66,72 @@ fn each_look_up_alone_finds_nothing_expired() {
         |cache| cache.remove([1]) == Ok(None),
         |cache| cache.get_or_insert_with([1], || vec![2]) == Ok(vec![2]),
     ];
-    for call in calls {
-        let cache = sync::Cache::builder().time_to_live(NANOSECOND).build();
-        let cache = cache.unwrap();
+    let shared: [fn(&sync::Cache) -> bool; 6] = [
+        |cache| cache.get([1]).is_none(),
+        |cache| cache.try_get([1]) == Ok(None),
+        |cache| cache.get_into([1], &mut Vec::new()) == Ok(false),
+        |cache| !cache.contains_key([1]),
+        |cache| cache.remove([1]) == Ok(None),
+        |cache| cache.get_or_insert_with([1], || vec![2]) == Ok(vec![2]),
+    ];
+    let numbers: [fn(&mut NumberCache) -> bool; 5] = [
+        |cache| cache.get(1).is_none(),
+        |cache| !cache.contains_key(1),
+        |cache| cache.remove(1) == Ok(None),
+        |cache| cache.get_or_insert(1, 2) == Ok(2),
+        |cache| cache.get_or_insert_with(1, || 2) == Ok(2),
+    ];
+    let live = Duration::from_millis(1);
+    for call in bytes {
+        let mut cache = Cache::builder().time_to_live(live).build().unwrap();
         cache.insert_at([1], [1], START).unwrap();
-        sleep(NANOSECOND);
+        sleep(live);
+        assert!(call(&mut cache));
+    }
+    for call in shared {
+        let cache = sync::Cache::builder().time_to_live(live).build().unwrap();
+        cache.insert_at([1], [1], START).unwrap();
+        sleep(live);
         assert!(call(&cache));
+    }
+    for call in numbers {
+        let mut cache = NumberCache::builder().time_to_live(live).build().unwrap();
+        cache.insert_at(1, 1, START).unwrap();
+        sleep(live);
+        assert!(call(&mut cache));
+    }
+}
+
+#[test]
+fn each_call_alone_takes_its_moment() {
+    let bytes: [fn(&mut Cache, Duration) -> bool; 7] = [
+        |cache, now| cache.get_at([1], now).is_some(),
+        |cache, now| cache.try_get_at([1], now).unwrap().is_some(),
+        |cache, now| cache.get_into_at([1], &mut Vec::new(), now).unwrap(),
+        |cache, now| cache.contains_key_at([1], now),
+        |cache, now| cache.remove_at([1], now).unwrap().is_some(),
+        |cache, now| cache.iter_at(now).next().is_some(),
+        |cache, now| cache.get_or_insert_with_at([1], || vec![2], now) == Ok(vec![1]),
+    ];
+    let numbers: [fn(&mut NumberCache, Duration) -> bool; 6] = [
+        |cache, now| cache.get_at(1, now).is_some(),
+        |cache, now| cache.contains_key_at(1, now),
+        |cache, now| cache.remove_at(1, now).unwrap().is_some(),
+        |cache, now| cache.iter_at(now).next().is_some(),
+        |cache, now| cache.get_or_insert_at(1, 2, now) == Ok(1),
+        |cache, now| cache.get_or_insert_with_at(1, || 2, now) == Ok(1),
+    ];
+    for (now, is_there) in [(HOUR - NANOSECOND, true), (HOUR, false)] {
+        for call in bytes {
+            let mut cache = Cache::builder().time_to_live(HOUR).build().unwrap();
+            cache.insert_at([1], [1], START).unwrap();
+            assert_eq!(call(&mut cache, now), is_there);
+        }
+        for call in numbers {
+            let mut cache = NumberCache::builder().time_to_live(HOUR).build().unwrap();
+            cache.insert_at(1, 1, START).unwrap();
+            assert_eq!(call(&mut cache, now), is_there);
+        }
     }
 }
 

@@ -155,6 +155,7 @@ fn an_iterator_gives_unexpired_pairs_in_order_of_use() {
     assert_eq!(pairs, [(9, 81), (7, 49)]);
     assert_eq!(cache.len(), 3);
     let mut pairs = cache.iter_at(11 * SECOND);
+    assert_eq!(pairs.size_hint(), (0, Some(3)));
     assert_eq!((pairs.next(), pairs.next()), (None, None));
     let mut sum = 0;
     for (key, value) in &mut unlimited_squares() {
