@@ -109,6 +109,7 @@ static void segments_are_counted(void) {
         CHECK(mini_moka_segments_open(&cache, &settings, 0) == MINI_MOKA_DONE && cache.count == counts[i]);
         CHECK(mini_moka_segments_close(&cache) == MINI_MOKA_DONE);
     }
+    CHECK(mini_moka_segments_open(&cache, &settings, 1000) == MINI_MOKA_DONE && cache.count == 1000 && mini_moka_segments_close(&cache) == MINI_MOKA_DONE);
     settings.is_weighed = true;
     settings.capacity = (1 << 21) - 1;
     CHECK(mini_moka_segments_open(&cache, &settings, 0) == MINI_MOKA_DONE && cache.count == 1 && mini_moka_segments_close(&cache) == MINI_MOKA_DONE);

@@ -191,3 +191,10 @@ fn the_seed_picks_the_segments() {
         spread(sync::Cache::builder())
     );
 }
+
+#[test]
+fn each_bit_of_the_seed_counts() {
+    let of = |seed: u128| spread(sync::Cache::builder().seed(seed.to_le_bytes()));
+    let zero = of(0);
+    assert!((0..128).all(|bit| of(1 << bit) != zero));
+}
