@@ -357,7 +357,9 @@ static void numbers_come_and_go(void) {
 static void numbers_expire(void) {
     struct mini_moka cache = {0};
     uint64_t value = BEFORE;
-    CHECK(mini_moka_u64_open(&cache, &(struct mini_moka_u64_settings){10, 20, NONE, 10, 0}) == MINI_MOKA_DONE);
+    struct mini_moka_u64_settings live = {.capacity = 10, .time_to_live = 20, .time_to_idle = NONE, .initial_capacity = 10};
+    struct mini_moka_u64_settings idle = {.capacity = NONE, .time_to_live = NONE, .time_to_idle = 20};
+    CHECK(mini_moka_u64_open(&cache, &live) == MINI_MOKA_DONE);
     CHECK(mini_moka_u64_insert(&cache, 7, 49, 0) == MINI_MOKA_DONE);
     CHECK(mini_moka_u64_get(&cache, 7, 19, &value) == MINI_MOKA_DONE && value == 49);
     CHECK(mini_moka_u64_peek(&cache, 7, 20, &value) == MINI_MOKA_ABSENT && number_of(mini_moka_count, &cache) == 1);
@@ -366,7 +368,7 @@ static void numbers_expire(void) {
     CHECK(mini_moka_u64_remove(&cache, 8, 40, &value) == MINI_MOKA_ABSENT);
     CHECK(number_of(mini_moka_count, &cache) == 0);
     CHECK(mini_moka_close(&cache) == MINI_MOKA_DONE);
-    CHECK(mini_moka_u64_open(&cache, &(struct mini_moka_u64_settings){NONE, NONE, 20, 0, 0}) == MINI_MOKA_DONE);
+    CHECK(mini_moka_u64_open(&cache, &idle) == MINI_MOKA_DONE);
     CHECK(mini_moka_u64_insert(&cache, 7, 49, 0) == MINI_MOKA_DONE);
     CHECK(mini_moka_u64_get(&cache, 7, 19, &value) == MINI_MOKA_DONE);
     CHECK(mini_moka_u64_contains(&cache, 7, 38) == MINI_MOKA_DONE);

@@ -198,3 +198,27 @@ fn each_bit_of_the_seed_counts() {
     let zero = of(0);
     assert!((0..128).all(|bit| of(1 << bit) != zero));
 }
+
+#[test]
+fn errors_and_weights_are_shown() {
+    let texts = [
+        BuildError::ZeroDuration.to_string(),
+        BuildError::DurationTooLong.to_string(),
+        BuildError::OutOfMemory.to_string(),
+    ];
+    assert_eq!(
+        texts,
+        [
+            "a duration is 0",
+            "a duration is 2^64 - 1 nanoseconds or more",
+            "memory was refused"
+        ]
+    );
+    let mut cache = Cache::builder().weigh_bytes().build().unwrap();
+    cache.insert("key", "value").unwrap();
+    assert_eq!(
+        format!("{cache:?}"),
+        "Cache { len: 1, weighted_size: 8, .. }"
+    );
+    assert_eq!(cache.iter().size_hint(), (0, None));
+}
