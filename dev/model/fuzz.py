@@ -9,6 +9,7 @@ import argparse
 import multiprocessing
 import os
 import random
+import re
 import subprocess
 import sys
 import time
@@ -1649,6 +1650,14 @@ def answer(program, data):
     return done.stdout, done.returncode, done.stderr
 
 
+def is_said(out, status, err):
+    """Returns True if standard error has what it should: after a bad line its number and a reason, else nothing."""
+    if status != 2:
+        return err == b""
+    number = out.removeprefix(b"bad line ").strip()
+    return re.fullmatch(rb"line " + number + rb": [a-z][^\n]+\n", err) is not None
+
+
 def one(job):
     mode, seed, i, malformed = job
     data = make(mode, seed, i, malformed)
@@ -1666,7 +1675,7 @@ def one(job):
         out, status, err = answer(PROGRAM, data)
     except subprocess.TimeoutExpired:
         out, status, err = b"", "timeout", b""
-    if (out, status) == want and err == b"":
+    if (out, status) == want and is_said(out, status, err):
         return mode, "same", None, seen
     name = os.path.join(HERE, "diff-%s-%d-%d.txt" % (mode, seed, i))
     got_lines, want_lines = out.split(b"\n"), want[0].split(b"\n")
