@@ -1,7 +1,7 @@
 //! What is wrong with a bad line, for people. The parser says only which line is the first bad one.
 use crate::words::number_of;
 
-/// What is wrong with a bad line. `Display` writes it in words.
+/// A fault of a bad line. `text` returns it in words.
 #[derive(Clone, Copy, Debug, PartialEq, Eq)]
 pub enum BadLine {
     /// The script has no such line, as an empty one has none.

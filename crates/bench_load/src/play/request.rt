@@ -39,7 +39,7 @@ pub enum Request {
     Capacity(u64),
     /// `durations SECONDS`: the time to live and the time to idle of the caches that are made from here on. Before the first such line they have none.
     Durations(u64),
-    /// `clock on` or `clock off`: each call of the plays from here on reads the clock, or all calls of a play have one moment, as at first.
+    /// `clock on`: each call of the plays from here on reads the clock. `clock off`: all calls of a play have one moment, as at first.
     Clock(bool),
     /// `thread`: the calls that follow are those of one more thread. The calls that come before the first thread's fill each new cache.
     Thread,
