@@ -13,7 +13,6 @@ pub mod RoomLemmas
 pub mod WriteLemmas
 pub mod OrderLemmas
 pub mod GetOrInsertLemmas
-pub mod OneListLemmas
 pub mod ShareLemmas
 pub mod UseLemmas
 pub mod HistoryLemmas

@@ -11,7 +11,6 @@ use Rattle.moka_unsync_model.specs.Cleanup.{least_recent}
 use Rattle.moka_unsync_model.specs.Insert.{after_entry}
 use Rattle.moka_unsync_model.specs.Window.{after_candidate, candidates, victims_of}
 use Rattle.moka_common.specs.Sketch.{Table}
-use Rattle.moka_unsync_model.specs.OneList
 use Rattle.moka_common.specs.Settings.{Settings, keeps_writes}
 use Rattle.moka_unsync_model.specs.Lookup.{after_get, after_look, unexpired_at}
 use Rattle.moka_unsync_model.specs.GetOrInsert.{IsGot, IsPutBehind, IsRefusedBehind}
@@ -117,14 +116,6 @@ module _ {K V S W : Type 0} (keys : Keys K S) (weighs : W → K → V → ℕ �
       unexpired_at keys.eq cache.settings.policy now key (after_look keys cache now).contents ≡ Some e → is_window e.part ≡ false →
       0 < room_of cache → e.weight ≤ room_of cache →
       entry_at keys.eq key (after_get keys cache key now).contents.entries ≡ Some (record e { accessed = now; part = Protected })
-
-  -- with the shares that are set where nothing else is, calls lead from a new cache to one that does what one with main as one list does
-  abbrev pub IsCacheOfOneList : Type 0
-  IsCacheOfOneList =
-      (settings : Settings S) (weigher : W) (capacity : ℕ) (requests : List (Request K V)) (answers : List (Answer K V)) (cache : CacheState K V S W) →
-      Runs keys weighs (new_cache settings default_shares weigher capacity) requests answers cache →
-      (request : Request K V) (answer : Answer K V) (next : CacheState K V S W) →
-      IsStep keys weighs cache request answer next ↔ OneList.IsStep keys weighs cache request answer next
 
 -- ---- entries and their writes
 

@@ -10,7 +10,6 @@ pub mod Iterate
 pub mod GetOrInsert
 pub mod Step
 pub mod Laws
-pub mod OneList
 pub mod PlainMap
 pub mod History
 pub mod Removal

@@ -3,7 +3,7 @@ ghost use Rattle.moka_common.specs.Keys.{keys_by};
 ghost use Rattle.std.specs.Prelude.{◌≡◌, ◌/◌, ℕ};
 ghost use Rattle.moka_unsync_model.specs.declared.constants.TheConstants.{EVICTION_BATCH_SIZE};
 ghost use Rattle.moka_unsync_model.specs.Shares.{default_shares, limits_of};
-ghost use Rattle.moka_unsync_model.specs.Laws.{EntriesAreOwn, GetsOrInsertsAreRuns, HitsAreProtected, InvalidationsKeepCounts, IsCacheOfOneList, KeysStandOnce};
+ghost use Rattle.moka_unsync_model.specs.Laws.{EntriesAreOwn, GetsOrInsertsAreRuns, HitsAreProtected, InvalidationsKeepCounts, KeysStandOnce};
 ghost use Rattle.moka_unsync_model.specs.Laws.{LooksChangeNothing};
 ghost use Rattle.moka_unsync_model.specs.Laws.{NeverRefuses, OnlyUpdatesOutgrowLimit, PartsStandInOrder, ProtectedGivesWayLast, ProtectedStaysEmpty};
 ghost use Rattle.moka_unsync_model.specs.Laws.{ProtectedStaysWithinShare, StaysWithinLimit, WindowStandsBehind, WindowStaysEmpty, WritesFollowEntries};
@@ -70,16 +70,6 @@ pub fn hits_are_protected<K: Eq + Hash, V, S: BuildHasher, W: Weigh<K, V>>()
 /// An entry of protected leaves for want of room only where probation doesn't weigh enough.
 pub fn protected_gives_way_last<K: Eq + Hash, V, S: BuildHasher, W: Weigh<K, V>>()
     ensures { ProtectedGivesWayLast (keys_by K.Hash S.BuildHasher S.Hasher.Hasher) W.weighs }
-{}
-
-/// With the default shares a cache does what one with main as one list and a window of a hundredth does, to the letter.
-pub fn a_cache_without_protected_is_one_of_one_list<
-    K: Eq + Hash,
-    V,
-    S: BuildHasher,
-    W: Weigh<K, V>,
->()
-    ensures { IsCacheOfOneList (keys_by K.Hash S.BuildHasher S.Hasher.Hasher) W.weighs }
 {}
 
 /// Without a limit, and with one of which its share is nothing, there is no window: no entry is ever in it.
