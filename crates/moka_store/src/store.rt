@@ -6,12 +6,12 @@ ghost use Rattle.std.specs.List.{IsDistinct};
 ghost use Rattle.std.specs.Map.{keys_of, lookup};
 ghost use Rattle.moka_list.specs.Nodes.{first_id, next_id};
 ghost use Rattle.moka_common.specs.Settings.{keeps_writes};
-ghost use Rattle.moka_unsync_model.specs.Contents.{InOrder, entry_at, entry_keys, no_contents, total_weight, window_of, writes_without};
+ghost use Rattle.moka_unsync_model.specs.Contents.{InOrder, balanced, entry_at, entry_keys, no_contents, total_weight, window_of, writes_without};
 ghost use Rattle.moka_unsync_model.specs.declared.entry.Entry.{Entry as EntryValue};
 ghost use Rattle.moka_unsync_model.specs.declared.entry.Part.TheVariants.{Probation};
 ghost use Rattle.moka_unsync_model.specs.Lookup.{used_part};
 ghost use Rattle.moka_store.specs.Nodes.{start_of};
-ghost use Rattle.moka_store.specs.Store.{AreCandidates, Enters, HasHash, IsFound, IsFront, IsFrontOf, IsOldest, Promotes, Removes, Replaces, Updates, Uses};
+ghost use Rattle.moka_store.specs.Store.{AreCandidates, Continues, Enters, HasHash, IsFound, IsFront, IsFrontOf, IsOldest, Promotes, Removes, Replaces, Updates, Uses};
 ghost use Rattle.moka_store.specs.Store.{contents_of, entries_of, is_of, those_of};
 
 use crate::parts::{Marks, Weights, add_write, attach, balance, is_of, remove_write, write_again};
@@ -122,10 +122,11 @@ impl<K: Eq + Drop, V: Drop, A: Allocator + Clone + Drop> Store<K, V, A> {
         self.entries.len()
     }
 
-    /// Returns the total weight of all entries.
+    /// Returns the total weight of all entries. It also says that no key stands twice.
     pub fn weight(&self) -> u64
         ensures value { result ≡ total_weight (entries_of self.now) }
         ensures small { result + (2 ^ 32 - 1) < 2 ^ 64 }
+        ensures once { IsDistinct K.eq (entry_keys (entries_of self.now)) }
     {
         self.weights.all
     }
@@ -264,6 +265,14 @@ impl<K: Eq + Drop, V: Drop, A: Allocator + Clone + Drop> Store<K, V, A> {
         entry.part = used;
         self.weights.shift(part, used, weight);
         attach(&mut self.entries, &mut self.marks, id, used);
+        balance(&mut self.entries, &mut self.marks, &mut self.weights, room);
+    }
+
+    /// Moves protected's least recently used entries back to probation until protected weighs no more than `room`. It takes constant time for each of them.
+    pub fn limit_protected(&mut self, room: u64)
+        ensures step { contents_of self.new ≡ record (contents_of self.old) { entries = balanced room (entries_of self.old) } }
+        ensures kept { Continues self.old self.new }
+    {
         balance(&mut self.entries, &mut self.marks, &mut self.weights, room);
     }
 

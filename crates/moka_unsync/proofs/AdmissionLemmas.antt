@@ -1,6 +1,6 @@
 -- Lemmas on the walk through the entries that would give way to another, and on those that do.
 use Rattle.std.proofs.Common.{◌≡◌, ◌<◌, ◌≤◌, ◌+◌, ◌-◌, ℕ, zero, suc, Bool, true, false, not, cond, nat_eq, List, [], ◌∷◌, ◌++◌, All, length, take, nat_lt, Option, Some}
-use Rattle.std.proofs.Common.{None, option_map, unwrap_or, append-nil, refl, sym, ap, ◌∙◌, arith, subst}
+use Rattle.std.proofs.Common.{None, drop, option_map, unwrap_or, append-nil, refl, sym, ap, ◌∙◌, arith, subst}
 use Rattle.std.proofs.lemmas.Bool.{cond-true, cond-false, false≢true, le-ltb, lt-ltb}
 use Rattle.std.proofs.lemmas.List.Elements.{All-head, All-tail, filter_passes}
 use Rattle.std.proofs.lemmas.List.{append_assoc, length_push}
@@ -270,3 +270,27 @@ module _ {K V : Type 0} (eq : K → K → Bool) where
       ∙ (sym (first_leaves eq mid id f main 0
       ∙ ap (λ l. after_leaving eq (entry_keys l) (without eq (contents_of mid) f.entry.key)) (take_none (main_of f.rest)))
       ∙ (sym step ∙ ap (λ n. after_eviction_of eq n old) whole)))
+
+-- ---- main, entry by entry
+
+module _ {K V : Type 0} (x : Entry K V) (rest es : List (Entry K V)) (is : es ≡ x ∷ rest) (arranged : es ≡ main_of es ++ window_of es) where
+  -- where the first entry is of main, the others are arranged as it was
+  pub main_step : is_window x.part ≡ false → (rest ≡ main_of rest ++ window_of rest) × (main_of es ≡ x ∷ main_of rest)
+  main_step flag =
+      let main : main_of es ≡ x ∷ main_of rest =
+      ap main_of is ∙ cond-true (not (is_window x.part)) (x ∷ main_of rest) (main_of rest) (ap not flag) in
+      let window : window_of es ≡ window_of rest =
+      ap window_of is ∙ cond-false (is_window x.part) (x ∷ window_of rest) (window_of rest) flag in
+      (ap (drop 1) (sym is ∙ (arranged ∙ (λ i. main i ++ window i))), main)
+
+  -- where it is of the window, main has none
+  pub main_none : is_window x.part ≡ true → main_of es ≡ []
+  main_none flag = by (main_of es) refl
+    where
+      by : (ms : List (Entry K V)) → main_of es ≡ ms → main_of es ≡ []
+      by [] same = same
+      by (m ∷ ms) same =
+          let first : x ≡ m = head-is x m rest (ms ++ window_of es) (sym is ∙ (arranged ∙ ap (λ l. l ++ window_of es) same)) in
+          let own : not (is_window m.part) ≡ true =
+          All-head (λ e. not (is_window e.part) ≡ true) m ms (subst (All (λ e. not (is_window e.part) ≡ true)) same (none_windowed es)) in
+          absurd (false≢true (ap not (sym (ap (λ (e : Entry K V). is_window e.part) (sym first) ∙ flag)) ∙ own))

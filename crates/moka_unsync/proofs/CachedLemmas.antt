@@ -1,6 +1,6 @@
 -- Lemmas on what holds of a cache's parts.
-use Rattle.std.proofs.Common.{◌≡◌, ℕ, Bool, true, false, List, [], ◌∷◌, All, length, nat_eq}
-use Rattle.std.proofs.Common.{is_some, Option, Some, None, unwrap_or, sym, ap, ◌∙◌}
+use Rattle.std.proofs.Common.{◌≡◌, ◌≤◌, ◌<◌, ℕ, Bool, true, false, List, [], ◌∷◌, All, length, nat_eq}
+use Rattle.std.proofs.Common.{is_some, nat_lt, Option, Some, None, unwrap_or, sym, ap, ◌∙◌}
 use Rattle.std.proofs.Common.{refl, subst, inl, inr}
 use Rattle.std.proofs.lemmas.Bool.{cases_Bool, cond-true, cond-false, false≢true}
 use Rattle.std.proofs.lemmas.List.{length-map}
@@ -21,12 +21,13 @@ use Rattle.moka_unsync_model.specs.Insert.{after_admission}
 use Rattle.moka_unsync_model.specs.declared.shares.PartLimits.{PartLimits}
 use Rattle.moka_unsync_model.specs.declared.shares.Shares.{Shares}
 use Rattle.moka_unsync_model.specs.Lookup.{after_using}
-use Rattle.moka_unsync_model.specs.Shares.{protected_room, windowed_limits}
-use Rattle.moka_unsync_model.specs.Window.{victims_of}
+use Rattle.moka_unsync_model.specs.Shares.{hundredths, limits_of, protected_room, windowed_limits}
+use Rattle.moka_unsync_model.specs.Window.{after_sharing, victims_of}
 use Rattle.moka_unsync_model.proofs.PartLemmas.{All-using, window-used}
 use Rattle.moka_unsync_model.proofs.WindowLemmas.{All-latest}
 use Rattle.moka_unsync_model.proofs.CandidateLemmas.{All-entering}
 use Rattle.moka_unsync_model.proofs.ContentsLemmas.{All-leaving, All-cleanup}
+use Rattle.moka_unsync_model.proofs.SharingLemmas.{All-sharing}
 use Rattle.moka_store.specs.Store.{Continues, HasHash, Store, Updates, Uses, contents_of, entries_of}
 use Rattle.moka_unsync.specs.Cached.{IsCached, IsPut}
 
@@ -70,6 +71,7 @@ module _ {K V S : Type 0} {keys : Keys K S} {state : S} {policy : Policy} {share
         main = λ none.
             subst (λ c. All (λ e. is_window e.part ≡ false) c.entries) (sym step)
             (All-cleanup keys.eq (λ e. is_window e.part ≡ false) policy now (contents_of old) (is.main none));
+        legal = is.legal;
         windowed = is.windowed;
         room = is.room;
       }
@@ -92,6 +94,7 @@ module _ {K V S : Type 0} {keys : Keys K S} {state : S} {policy : Policy} {share
             subst (All Q) (sym entries)
             (All-using keys.eq Q (λ e h p. refl) room used (contents_of old)
             (window-used room used.part used.weight ∙ (part ∙ stood_at Q id entry old.nodes (is.main none) stood)) (is.main none));
+        legal = is.legal;
         windowed = is.windowed;
         room = is.room;
       }
@@ -120,19 +123,21 @@ module _ {K V S : Type 0} {keys : Keys K S} {state : S} {policy : Policy} {share
         main = λ none.
             subst (λ c. All (λ e. is_window e.part ≡ false) c.entries) (sym step)
             (All-leaving keys.eq (λ e. is_window e.part ≡ false) gone (contents_of old) (is.main none));
+        legal = is.legal;
         windowed = is.windowed;
         room = is.room;
       }
 
   -- a store without entries is one of a cache
   pub IsCached-new : {store : Store K V} → entries_of store ≡ [] → store.keeps_writes ≡ keeps_writes policy
-      → limits ≡ windowed_limits shares policy.max_capacity → space ≡ protected_room shares policy.max_capacity
-      → IsCached keys state policy shares limits space store
-  IsCached-new none keeps windowed room =
+      → (shares.window ≤ 100) × (shares.protected ≤ 100) → limits ≡ windowed_limits shares policy.max_capacity
+      → space ≡ protected_room shares policy.max_capacity → IsCached keys state policy shares limits space store
+  IsCached-new none keeps legal windowed room =
       record {
         hashed = rw none (All-from_recursion _ [] tt);
         keeps = keeps;
         main = λ _. rw none (All-from_recursion _ [] tt);
+        legal = legal;
         windowed = windowed;
         room = room;
       }
@@ -145,6 +150,7 @@ module _ {K V S : Type 0} {keys : Keys K S} {state : S} {policy : Policy} {share
         hashed = subst (λ s. All (λ e. e.hash ≡ keys.hash_of state e.key) (entries_of s)) (sym same) is.hashed;
         keeps = ap (λ s. s.keeps_writes) same ∙ is.keeps;
         main = λ none. subst (λ s. All (λ e. is_window e.part ≡ false) (entries_of s)) (sym same) (is.main none);
+        legal = is.legal;
         windowed = is.windowed;
         room = is.room;
       }
@@ -159,6 +165,7 @@ module _ {K V S : Type 0} {keys : Keys K S} {state : S} {policy : Policy} {share
         hashed = all P (λ e part apart here. here) own is.hashed limits put;
         keeps = keeps ∙ is.keeps;
         main = λ none. flags none limits none put;
+        legal = is.legal;
         windowed = is.windowed;
         room = is.room;
       }
@@ -194,6 +201,41 @@ module _ {K V S : Type 0} {keys : Keys K S} {state : S} {policy : Policy} {share
               All-latest (λ e. is_window e.part ≡ false) new (after_leaving keys.eq (entry_keys gone) (contents_of old)).entries
               (All-leaving keys.eq (λ e. is_window e.part ≡ false) (entry_keys gone) (contents_of old) (is.main none)) part
       flags none (Some l) same p = absurd (false≢true (sym (ap is_some same)))
+
+module _ {K V S : Type 0} {keys : Keys K S} {state : S} {policy : Policy} {shares : Shares} {limits : PartLimits} {space : ℕ} where
+  -- nor do limits that follow what is remembered
+  pub IsCached-follow : (extra gained : ℕ) (limit : ℕ) {old new : Store K V} → IsCached keys state policy shares (Some limits) space old
+      → policy.max_capacity ≡ Some limit → contents_of new ≡ after_sharing keys.eq (limits_of (record shares { extra = extra }) limit) gained (contents_of old)
+      → Continues old new
+      → IsCached keys state policy (record shares { extra = extra }) (Some (limits_of (record shares { extra = extra }) limit))
+      (limits_of (record shares { extra = extra }) limit).protected new
+  IsCached-follow extra gained limit {old = old} is limited step kept =
+      let P : Entry K V → Type 0 = λ e. e.hash ≡ keys.hash_of state e.key in
+      record {
+        hashed =
+            subst (λ c. All P c.entries) (sym step)
+            (All-sharing keys.eq P (λ e part apart here. here) (limits_of (record shares { extra = extra }) limit) gained (contents_of old) is.hashed);
+        keeps = kept.keeps ∙ is.keeps;
+        main = λ none. absurd (false≢true (sym (ap is_some none)));
+        legal = is.legal;
+        windowed =
+            rw limited
+            (sym (cond-true (nat_lt 0 (hundredths shares.window limit)) (Some (limits_of (record shares { extra = extra }) limit)) None
+            (some_window policy.max_capacity limited is.windowed)));
+        room = ap (protected_room (record shares { extra = extra })) (sym limited);
+      }
+    where
+      -- the share of a window that there is is some weight
+      some_window : (max : Option ℕ) → max ≡ Some limit → Some limits ≡ windowed_limits shares max → nat_lt 0 (hundredths shares.window limit) ≡ true
+      some_window None same some = absurd (false≢true (ap is_some same))
+      some_window (Some other) same there =
+          let own : other ≡ limit = ap (λ o. unwrap_or o other) same in
+          elim (cases_Bool (nat_lt 0 (hundredths shares.window limit))) [
+            | inl some ↦ some
+            | inr none ↦
+                absurd (false≢true (sym (ap is_some (there ∙ (ap (λ l. windowed_limits shares (Some l)) own
+                ∙ cond-false (nat_lt 0 (hundredths shares.window limit)) (Some (limits_of shares limit)) None none)))))
+          ]
 
 -- there is an entry for each node
 pub length-entries : {K V : Type 0} (store : Store K V) → length (entries_of store) ≡ length store.nodes

@@ -1,6 +1,7 @@
 -- Lemmas on entries of which a listener is told, and on those that come.
 use Rattle.std.proofs.Common.{◌≡◌, ◌⊎◌, ◌∙◌, ◌∷◌, ◌++◌, ◌<◌, ◌≤◌, ◌+◌, ◌-◌, ◌^◌, [], ℕ, Bool, true, false, List, Option, None, Some, nat_eq, ap, arith, inl, inr}
-use Rattle.std.proofs.Common.{is_some, refl, sym, subst, unwrap_or}
+use Rattle.std.proofs.lemmas.List.Elements.{All-head}
+use Rattle.std.proofs.Common.{All, append-nil, is_some, min, option_map, refl, sym, subst, unwrap_or}
 use Rattle.std.specs.Prelude.{⊤}
 use Rattle.std.specs.Cmp.{IsEquivalence}
 use Rattle.std.specs.List.Sorted.{IsPermutation}
@@ -13,14 +14,18 @@ use Rattle.moka_common.specs.Policy.{Policy}
 use Rattle.moka_unsync_model.specs.declared.entry.Entry.{Entry}
 use Rattle.moka_unsync_model.specs.declared.entry.Part.{Part}
 use Rattle.moka_unsync_model.specs.declared.listener.Cause.{Cause}
-use Rattle.moka_unsync_model.specs.declared.listener.Cause.TheVariants.{Expired, Replaced, Size}
+use Rattle.moka_unsync_model.specs.declared.listener.Cause.TheVariants.{Expired, Rejected, Replaced, Size}
 use Rattle.moka_unsync_model.specs.CacheState.{CacheState, windowed}
 use Rattle.moka_unsync_model.specs.Contents.{Contents, entries_without, entry_at, main_of, total_weight, window_of, with_latest}
 use Rattle.moka_unsync_model.specs.Insert.{new_entry}
+use Rattle.moka_unsync_model.specs.declared.entry.Part.{Part}
+use Rattle.moka_unsync.specs.Cached.{gained_in}
+use Rattle.moka_unsync_model.specs.Memory.{Memory}
+use Rattle.moka_unsync_model.specs.Window.{after_judging}
 use Rattle.moka_unsync_model.specs.ToldCalls.{TellsInsert, TellsNew, main_max}
-use Rattle.moka_unsync_model.specs.Told.{IsAbove, TellsPut, TellsCleanup, TellsWhatLeft, cause_at, partless, unplaced}
+use Rattle.moka_unsync_model.specs.Told.{HearsAll, IsAbove, TellsPut, TellsCleanup, TellsWhatLeft, cause_at, partless, unplaced}
 use Rattle.moka_unsync_model.specs.Cleanup.{after_expiry, after_cleanup, is_expired}
-use Rattle.moka_unsync_model.proofs.ToldLemmas.{also_for, also_there, latest_among, moved_among, one_left, passing_among, then_left, unplaced_same}
+use Rattle.moka_unsync_model.proofs.ToldLemmas.{and_moved, also_for, also_there, latest_among, moved_among, one_left, passing_among, then_left, unplaced_same}
 use Rattle.moka_unsync_model.proofs.WindowLemmas.{total-split}
 use Rattle.moka_store.specs.Store.{Enters, IsFront, IsFrontOf, Promotes, Replaces, Store, entries_of, is_of}
 
@@ -193,7 +198,7 @@ module _ {L K V S W : Type 0} (hears : L → K → V → Cause → L → Type 0)
       }
 
   -- and else entries give way to the new one, or it is not let in
-  pub put_told : (weight : ℕ) (limit : Option ℕ) (stays : Bool) → limit ≡ main_max (windowed old) old.settings.policy.max_capacity
+  pub put_told : (weight : ℕ) (limit : Option ℕ) (stays : Bool) → limit ≡ main_max (windowed old) (windowed new) old.settings.policy.max_capacity
       → entry_at keys.eq key were.entries ≡ None → stays ≡ is_some (entry_at keys.eq key new.contents.entries)
       → TellsPut hears limit stays (new_entry keys old.settings.hash_state key value weight now) were.entries new.contents.entries between after
       → TellsInsert hears keys old now key value new before after
@@ -213,3 +218,52 @@ module _ {L K V S W : Type 0} (hears : L → K → V → Cause → L → Type 0)
                   (subst (λ c. TellsPut hears limit stays entry c.entries new.contents.entries between after) cleanup put)),
             );
       }
+
+-- what is remembered of a candidate, by its entry and its verdict
+pub judged_memory : {K V : Type 0} (memory : Option Memory) (e own : Entry K V) → e ≡ own → (some is : Option (List (Entry K V))) → some ≡ is
+    → option_map (λ m. after_judging m e.hash some) memory ≡ option_map (λ m. after_judging m own.hash is) memory
+judged_memory memory e own same some is verdict = λ i. option_map (λ m. after_judging m (same i).hash (verdict i)) memory
+
+-- ---- what leaves once the limits follow
+
+module _ {L K V : Type 0} {hears : L → K → V → Cause → L → Type 0} where
+  -- where nothing has a reason to leave, nothing is told of
+  told_none : {cause : Cause} {Reason : Entry K V → Type 0} {were are : List (Entry K V)} {a b : L} → TellsWhatLeft hears cause Reason were are a b
+      → ((e : Entry K V) → Reason e → ⊥) → (b ≡ a) × IsPermutation (unplaced were) (unplaced are)
+  told_none {cause} {Reason} {were} {are} {a} {b} t never = by t.told t.heard t.each t.reason
+    where
+      by : (told : List (Entry K V)) → HearsAll hears cause a told b → IsPermutation (unplaced were) (unplaced are ++ unplaced told) → All Reason told
+          → (b ≡ a) × IsPermutation (unplaced were) (unplaced are)
+      by [] heard each reason = (heard, subst (IsPermutation (unplaced were)) (append-nil (unplaced are)) each)
+      by (e ∷ es) heard each reason = absurd (never e (All-head Reason e es reason))
+
+  -- main gives up entries only for a new one that stands in the window
+  pub follow_told : (a b before after : ℕ) (part : Option Part) (new : Entry K V) (were then are : List (Entry K V)) (k l m : L)
+      → TellsPut hears (Some a) (is_some part) new were then k l
+      → TellsWhatLeft hears Size (λ e. (0 < gained_in part before after) × (b < total_weight (main_of then))) then are l m
+      → TellsPut hears (Some (min a b)) (is_some part) new were are k m
+  follow_told a b before after None new were then are k l m t u =
+      let (same, moved) = told_none u (λ e reason. nothing reason.0) in (
+        t.0,
+        and_moved (also_for (λ e above. least a b _ above) t.1) moved,
+        subst (λ x. hears t.0 new.key new.value Rejected x) (sym same) t.2,
+        least a b _ t.3,
+      )
+    where
+      nothing : 0 < 0 → ⊥
+      nothing h = omega (arith, h)
+
+      least : (a b n : ℕ) → a < n → min a b < n
+      least a b n h = grind (arith, h)
+  follow_told a b before after (Some p) new were then are k l m t u =
+      let less = lighter t in
+      let split = total-split then in
+      let whole = sum_by-cons (λ e. e.weight) new were in
+      then_left (also_for (λ e above. least a b _ above) t)
+      (also_for (λ e reason. let under = reason.1 in other a b _ _ under (omega (arith, less, split, whole))) u)
+    where
+      least : (a b n : ℕ) → a < n → min a b < n
+      least a b n h = grind (arith, h)
+
+      other : (a b less n : ℕ) → b < less → less ≤ n → min a b < n
+      other a b less n h le = grind (arith, h, le)

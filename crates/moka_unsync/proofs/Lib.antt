@@ -9,3 +9,4 @@ pub mod IterateLemmas
 pub mod RunLemmas
 pub mod LeavingLemmas
 pub mod UsedLemmas
+pub mod FollowLemmas

@@ -1,5 +1,5 @@
 -- Lemmas on entries that leave one after another: those that make up a weight, and those that were idle too long.
-use Rattle.std.proofs.Common.{◌≡◌, ◌<◌, ◌≤◌, ◌+◌, ◌-◌, ◌^◌, ◌||◌, ℕ, zero, suc, Bool, true, false, nat_eq, List, [], ◌∷◌, take, take_while, Option, Some, None, option_map, unwrap_or}
+use Rattle.std.proofs.Common.{◌≡◌, ◌<◌, ◌≤◌, ◌+◌, ◌-◌, ◌^◌, ◌||◌, ℕ, zero, suc, Bool, true, false, not, nat_eq, List, [], ◌∷◌, take, take_while, Option, Some, None, option_map, unwrap_or}
 use Rattle.std.proofs.Common.{is_some, refl, sym, ap, ◌∙◌, arith, subst}
 use Rattle.std.proofs.Math.Seq.{take-nil}
 use Rattle.std.proofs.lemmas.Bool.{cond-false, cond-true, false≢true}
@@ -11,7 +11,9 @@ use Rattle.moka_unsync_model.specs.declared.entry.Part.TheVariants.{Probation, P
 use Rattle.moka_common.specs.Prefix.{shortest_prefix}
 use Rattle.moka_unsync_model.specs.declared.constants.TheConstants.{EVICTION_BATCH_SIZE}
 use Rattle.moka_unsync_model.specs.declared.entry.Entry.{Entry}
-use Rattle.moka_unsync_model.specs.Contents.{Contents, entry_keys, after_leaving, total_weight, without}
+use Rattle.moka_unsync_model.specs.Contents.{Contents, entry_keys, after_leaving, is_window, main_of, total_weight, without}
+use Rattle.moka_unsync_model.specs.Memory.{Memory, after_note}
+use Rattle.moka_unsync_model.specs.Window.{after_displacing}
 use Rattle.moka_unsync_model.specs.Cleanup.{after_eviction, after_trim, is_idle, least_recent}
 use Rattle.moka_store.specs.Store.{Continues, IsFront, IsFrontOf, Removes, Store, contents_of, entries_of, is_of, those_of}
 use Rattle.moka_unsync.specs.Turns.{after_idle_of}
@@ -196,3 +198,32 @@ continued first second =
       capacity = second.capacity ∙ first.capacity;
       fewer = omega (arith, first.fewer, second.fewer);
     }
+
+-- ---- entries that main gives up
+
+module _ {K V : Type 0} (eq : K → K → Bool) (old new : Store K V) (id : ℕ) (f : IsFront eq old id) (main : is_window f.entry.part ≡ false)
+    (r : Removes eq old id new) where
+  -- main without its first entry
+  pub main_left : main_of (entries_of old) ≡ f.entry ∷ main_of (entries_of new)
+  main_left =
+      ap main_of f.first
+      ∙ (cond-true (not (is_window f.entry.part)) (f.entry ∷ main_of f.rest) (main_of f.rest) (ap not main)
+      ∙ ap (λ l. f.entry ∷ main_of l) (sym (ap (λ c. c.entries) (left_is eq old new id f.entry f.stands r) ∙ f.alone)))
+
+  module _ (shortfall : ℕ) (some : 0 < shortfall) where
+    first_gives : least_recent shortfall (main_of (entries_of old)) ≡ f.entry ∷ least_recent (shortfall - f.entry.weight) (main_of (entries_of new))
+    first_gives = ap (least_recent shortfall) main_left ∙ least_recent-cons shortfall f.entry (main_of (entries_of new)) some
+
+    -- the others leave as before
+    pub others_give : after_leaving eq (entry_keys (least_recent (shortfall - f.entry.weight) (main_of (entries_of new)))) (contents_of new)
+        ≡ after_leaving eq (entry_keys (least_recent shortfall (main_of (entries_of old)))) (contents_of old)
+    others_give =
+        ap (after_leaving eq (entry_keys (least_recent (shortfall - f.entry.weight) (main_of (entries_of new)))))
+        (left_is eq old new id f.entry f.stands r)
+        ∙ sym (ap (λ es. after_leaving eq (entry_keys es) (contents_of old)) first_gives)
+
+    -- and are noted as before
+    pub others_noted : (memory : Memory) → after_displacing (record memory { displaced = after_note memory.displaced f.entry.hash })
+        (least_recent (shortfall - f.entry.weight) (main_of (entries_of new)))
+        ≡ after_displacing memory (least_recent shortfall (main_of (entries_of old)))
+    others_noted memory = sym (ap (after_displacing memory) first_gives)

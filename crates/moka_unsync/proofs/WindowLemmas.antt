@@ -1,6 +1,6 @@
 -- Lemmas on a new entry that enters the window, and on the window's entries that are judged.
 use Rattle.std.proofs.Common.{◌≡◌, ◌<◌, ◌≤◌, ◌+◌, ◌-◌, ℕ, max, Bool, true, false, List, [], ◌∷◌, ◌++◌, All, Option, Some, None}
-use Rattle.std.proofs.Common.{take, unwrap_or, refl, sym, ap, ◌∙◌, arith}
+use Rattle.std.proofs.Common.{option_map, take, unwrap_or, refl, sym, ap, ◌∙◌, arith}
 use Rattle.std.proofs.lemmas.List.Sums.{sum_by_push}
 use Rattle.std.specs.Cmp.{IsEquivalence}
 use Rattle.std.specs.List.{IsDistinct}
@@ -12,10 +12,12 @@ use Rattle.moka_unsync_model.specs.declared.shares.PartLimits.{PartLimits}
 use Rattle.moka_unsync_model.specs.Contents.{Contents, after_moving, entry_at, entry_keys, is_before, is_window, main_of, total_weight, window_of}
 use Rattle.moka_unsync_model.specs.Contents.{with_latest, without}
 use Rattle.moka_unsync_model.specs.Contents.{writes_without}
-use Rattle.moka_unsync_model.specs.Insert.{after_arrival, after_entering, after_entry, with_write}
+use Rattle.moka_unsync_model.specs.Insert.{after_arrival, after_entering, after_entering_judged, after_entry, with_write}
+use Rattle.moka_unsync_model.specs.Memory.{Memory}
+use Rattle.moka_unsync_model.proofs.JudgementLemmas.{judged-kept}
 use Rattle.moka_unsync_model.specs.Shares.{main_limit}
 use Rattle.moka_unsync_model.specs.Cleanup.{least_recent}
-use Rattle.moka_unsync_model.specs.Window.{after_candidate, after_candidacy, after_candidates, excess, victims_of}
+use Rattle.moka_unsync_model.specs.Window.{after_candidate, after_candidacy, after_candidates, after_judgements, after_judging, excess, victims_of}
 use Rattle.moka_unsync_model.proofs.EnteringLemmas.{entering-is_kept, entering_excess, excess_left, inside, judged-window, judged_first}
 use Rattle.moka_unsync_model.proofs.EnteringLemmas.{lacking-cons, least_recent-cons, least_recent-none, moving-push, passed-push, window-evicted}
 use Rattle.moka_unsync_model.proofs.WindowLemmas.{latest-last, window-last}
@@ -24,6 +26,21 @@ use Rattle.moka_store.specs.Store.{Enters, IsFrontOf, Promotes, Removes, Replace
 use Rattle.moka_store.proofs.NodeLemmas.{key_absent}
 use Rattle.moka_unsync.specs.Turns.{after_eviction_of, counted}
 use Rattle.moka_unsync.proofs.TurnLemmas.{left_is}
+
+-- two steps of what is remembered are one
+pub remembered : (first second whole : Memory → Memory) → ((m : Memory) → second (first m) ≡ whole m) → (memory : Option Memory)
+    → option_map second (option_map first memory) ≡ option_map whole memory
+remembered first second whole same None = refl
+remembered first second whole same (Some m) = ap Some (same m)
+
+pub remembered_as : (step whole : Memory → Memory) → ((m : Memory) → step m ≡ whole m) → (memory : Option Memory)
+    → option_map step memory ≡ option_map whole memory
+remembered_as step whole same None = refl
+remembered_as step whole same (Some m) = ap Some (same m)
+
+pub remembered_none : (whole : Memory → Memory) → ((m : Memory) → m ≡ whole m) → (memory : Option Memory) → memory ≡ option_map whole memory
+remembered_none whole same None = refl
+remembered_none whole same (Some m) = ap Some (same m)
 
 module _ {K V : Type 0} where
   -- ---- how much has to leave
@@ -57,6 +74,30 @@ module _ {K V : Type 0} where
     next_shortfall =
         ap (λ l. shortfall - f.entry.weight - total_weight (least_recent (shortfall - f.entry.weight) l)) rest
         ∙ sym (ap (λ l. shortfall - total_weight (least_recent shortfall l)) f.first ∙ lacking-cons shortfall f.entry f.rest above)
+
+    -- and what is remembered of them
+    pub next_memory : (memory noted : Option Memory)
+        → noted ≡ option_map (λ m. after_judging m f.entry.hash (victims_of (Some (main_limit limits)) sketch f.entry (main_of (entries_of old)))) memory
+        → option_map (after_judgements eq limits sketch (least_recent (shortfall - f.entry.weight) (window_of (entries_of new))) (contents_of new)) noted
+        ≡ option_map (after_judgements eq limits sketch (least_recent shortfall (window_of (entries_of old))) (contents_of old)) memory
+    next_memory memory noted is =
+        (λ i. option_map (after_judgements eq limits sketch (least_recent (shortfall - f.entry.weight) (rest i)) (judged i)) (is i)) ∙ by memory
+      where
+        by : (o : Option Memory)
+            → option_map (after_judgements eq limits sketch (least_recent (shortfall - f.entry.weight) f.rest) (after_candidate eq limits sketch (contents_of old) f.entry))
+            (option_map (λ m. after_judging m f.entry.hash (victims_of (Some (main_limit limits)) sketch f.entry (main_of (entries_of old)))) o)
+            ≡ option_map (after_judgements eq limits sketch (least_recent shortfall (window_of (entries_of old))) (contents_of old)) o
+        by None = refl
+        by (Some m) =
+            ap (λ es. Some (after_judgements eq limits sketch es (contents_of old) m))
+            (sym (ap (least_recent shortfall) f.first ∙ least_recent-cons shortfall f.entry f.rest above))
+
+  -- where none is left, nothing more is remembered
+  pub none_judged : (eq : K → K → Bool) (limits : PartLimits) (sketch : Option Table) (shortfall : ℕ) (ws : List (Entry K V)) (contents : Contents K V)
+      (memory : Option Memory) → least_recent shortfall ws ≡ []
+      → memory ≡ option_map (after_judgements eq limits sketch (least_recent shortfall ws) contents) memory
+  none_judged eq limits sketch shortfall ws contents None none = refl
+  none_judged eq limits sketch shortfall ws contents (Some m) none = ap (λ es. Some (after_judgements eq limits sketch es contents m)) (sym none)
 
   -- ---- one more at the back
 
@@ -170,6 +211,38 @@ module _ {K V : Type 0} where
         ap (λ n. least_recent n (window_of contents.entries)) none ∙ least_recent-none (window_of contents.entries) in
         sym (entering-is_kept eq laws keeps limits sketch new contents absent unwritten (lacks (entering_excess limits new contents.entries) _ none)
         ∙ ap (λ l. after_entry eq keeps (inside new) (after_candidates eq limits sketch l contents)) first)
+      where
+        lacks : (n t : ℕ) → n ≡ 0 → n - t ≡ 0
+        lacks n t h = omega (arith, h)
+
+    -- and nothing is remembered then
+    pub free_judged : entering_excess limits new contents.entries ≡ 0 → (memory : Memory)
+        → memory ≡ after_entering_judged eq keeps limits sketch new contents memory
+    free_judged none memory =
+        let first : judged_first limits new contents.entries ≡ [] =
+        ap (λ n. least_recent n (window_of contents.entries)) none ∙ least_recent-none (window_of contents.entries) in
+        sym (ap (λ es. after_judgements eq limits sketch es contents memory) first)
+        ∙ judged-kept eq limits sketch laws keeps new contents absent unwritten memory (lacks (entering_excess limits new contents.entries) _ none)
+      where
+        lacks : (n t : ℕ) → n ≡ 0 → n - t ≡ 0
+        lacks n t h = omega (arith, h)
+
+    -- one judgement is remembered
+    pub last_judged : (f : Entry K V) (rest : List (Entry K V)) → window_of contents.entries ≡ f ∷ rest
+        → 0 < entering_excess limits new contents.entries → entering_excess limits new contents.entries ≤ f.weight → (memory : Memory)
+        → after_judging memory f.hash (victims_of (Some (main_limit limits)) sketch f (main_of contents.entries))
+        ≡ after_entering_judged eq keeps limits sketch new contents memory
+    last_judged f rest window some enough memory =
+        let n = entering_excess limits new contents.entries in
+        let none : n - f.weight ≡ 0 = omega (arith, enough) in
+        let first : judged_first limits new contents.entries ≡ f ∷ [] =
+        ap (least_recent n) window
+        ∙ (least_recent-cons n f rest some ∙ ap (λ l. f ∷ l) (ap (λ m. least_recent m rest) none ∙ least_recent-none rest)) in
+        let left : excess_left limits new contents.entries ≡ 0 =
+        ap (λ l. n - total_weight (least_recent n l)) window
+        ∙ (lacking-cons n f rest some ∙ lacks (n - f.weight) _ none) in
+        sym (ap (λ es. after_judgements eq limits sketch es contents memory) first)
+        ∙ judged-kept eq limits sketch laws keeps new contents absent unwritten memory left
       where
         lacks : (n t : ℕ) → n ≡ 0 → n - t ≡ 0
         lacks n t h = omega (arith, h)

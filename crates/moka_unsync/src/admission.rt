@@ -1,23 +1,25 @@
 // Admission of new entries by TinyLFU, size-aware as in Caffeine. A new entry first enters the window, if there is one; entries that leave the window are
 // the candidates for main.
-ghost use Rattle.std.specs.Prelude.{◌≡◌, ◌<◌, ◌≤◌, ◌-◌, ◌+◌, ◌^◌, ◌++◌, ◌∷◌, ◌⊎◌, [], IfSome, List, None, Some, false, is_some, length};
+ghost use Rattle.std.specs.Prelude.{◌≡◌, ◌<◌, ◌≤◌, ◌-◌, ◌+◌, ◌^◌, ◌++◌, ◌∷◌, ◌⊎◌, [], IfSome, List, None, Some, false, is_some, length, option_map};
 ghost use Rattle.moka_common.specs.Admission.{outvoted};
 ghost use Rattle.moka_common.specs.Prefix.{shortest_prefix};
 ghost use Rattle.moka_common.specs.Sketch.{estimate};
-ghost use Rattle.moka_unsync_model.specs.Contents.{after_moving, entry_at, is_window, main_of, total_weight, window_of, writes_without};
+ghost use Rattle.moka_unsync_model.specs.Contents.{after_moving, entry_at, entry_keys, is_window, main_of, total_weight, window_of, writes_without};
 ghost use Rattle.moka_unsync_model.specs.declared.entry.Entry.{Entry as EntryValue};
 ghost use Rattle.moka_unsync_model.specs.declared.entry.Part.TheVariants.{Probation, Window};
-ghost use Rattle.moka_unsync_model.specs.Insert.{after_admission, after_arrival, after_entering, after_entry};
+ghost use Rattle.moka_unsync_model.specs.Insert.{after_admission, after_arrival, after_entering, after_entering_judged, after_entry};
 ghost use Rattle.moka_unsync_model.specs.Shares.{main_limit};
 ghost use Rattle.moka_unsync_model.specs.Told.{IsAbove, TellsPut, TellsWhatLeft, unplaced};
 ghost use Rattle.moka_unsync_model.specs.declared.listener.Cause.TheVariants.{Size};
+ghost use Rattle.std.specs.List.{IsDistinct};
 ghost use Rattle.std.specs.List.Sorted.{IsPermutation};
 ghost use Rattle.moka_unsync_model.specs.Cleanup.{least_recent};
-ghost use Rattle.moka_unsync_model.specs.Window.{after_candidate, after_candidates, excess, victims_of};
+ghost use Rattle.moka_unsync_model.specs.Window.{after_candidate, after_candidates, after_judgements, after_judging, excess, victims_of};
 ghost use Rattle.moka_store.specs.Store.{Continues, IsFrontOf, contents_of, entries_of};
 ghost use Rattle.moka_unsync.specs.Turns.{after_eviction_of, counted};
 
 use crate::leaving::{evict, leave, main_front};
+use crate::memory::{Memory, remember};
 use moka_common::frequency_sketch::FrequencySketch;
 use moka_list::chain::NodeId;
 use moka_store::store::Store;
@@ -26,12 +28,13 @@ use moka_unsync_model::listener::{Cause, Listener};
 use moka_unsync_model::shares::PartLimits;
 use std::alloc::Allocator;
 
-/// Stores a new entry in place of its victims in main, or gives it to the listener if it is rejected. Returns `true` if it was stored.
+/// Stores a new entry in place of its victims in main, or gives it to the listener if it is rejected, and notes the verdict. Returns `true` if it was stored.
 pub(crate) fn admit<K: Eq + Drop, V: Drop, A: Allocator + Clone + Drop, L: Listener<K, V>>(
     store: &mut Store<K, V, A>,
     limit: Option<u64>,
     sketch: &FrequencySketch<A>,
     new: Entry<K, V>,
+    memory: &mut Option<Memory<A>>,
     listener: &mut L,
 ) -> bool
     requires room { length store.old.nodes < store.old.capacity }
@@ -41,9 +44,13 @@ pub(crate) fn admit<K: Eq + Drop, V: Drop, A: Allocator + Clone + Drop, L: Liste
         (victims_of limit sketch.now new (main_of (entries_of store.old))) (contents_of store.old) }
     ensures keeps { store.new.keeps_writes ≡ store.old.keeps_writes }
     ensures capacity { store.new.capacity ≡ store.old.capacity }
+    ensures memory { memory.new
+        ≡ option_map (λ m. after_judging m new.hash (victims_of limit sketch.now new (main_of (entries_of store.old)))) memory.old }
     ensures told { TellsPut L.hears limit result new (entries_of store.old) (entries_of store.new) listener.old listener.new }
 {
-    let Some(count) = victim_count(store, limit, sketch, &new) else {
+    let count = victim_count(store, limit, sketch, &new);
+    remember(memory, store, new.hash, count);
+    let Some(count) = count else {
         let Entry { key, value, .. } = new;
         listener.removed(key, value, Cause::Rejected);
         return false;
@@ -77,9 +84,12 @@ fn victim_count<K: Eq + Drop, V: Drop, A: Allocator + Clone + Drop>(
 
 /// Returns the total weight of main's entries.
 #[inline(always)]
-fn main_weight<K: Eq + Drop, V: Drop, A: Allocator + Clone + Drop>(store: &Store<K, V, A>) -> u64
+pub(crate) fn main_weight<K: Eq + Drop, V: Drop, A: Allocator + Clone + Drop>(
+    store: &Store<K, V, A>,
+) -> u64
     ensures value { result ≡ total_weight (main_of (entries_of store.now)) }
     ensures small { result + (2 ^ 32 - 1) < 2 ^ 64 }
+    ensures once { IsDistinct K.eq (entry_keys (entries_of store.now)) }
 {
     store.weight() - store.window_weight()
 }
@@ -156,7 +166,7 @@ fn enter_for<K: Eq + Drop, V: Drop, A: Allocator + Clone + Drop, L: Listener<K, 
 }
 
 /// Stores a new entry in the window. Then the window's least recently used entries move to main if they are admitted there, or leave the store, until its
-/// weight is within its share. Returns whether the new entry was stored.
+/// weight is within its share. Returns the part in which the new entry was stored.
 #[inline(always)]
 pub(crate) fn insert_into_window<
     K: Eq + Drop,
@@ -168,31 +178,34 @@ pub(crate) fn insert_into_window<
     limits: &PartLimits,
     sketch: &FrequencySketch<A>,
     mut new: Entry<K, V>,
+    memory: &mut Option<Memory<A>>,
     listener: &mut L,
-) -> bool
+) -> Option<Part>
     requires room { length store.old.nodes < store.old.capacity }
     requires absent { entry_at K.eq new.key (entries_of store.old) ≡ None }
     requires unwritten { writes_without K.eq new.key store.old.written ≡ store.old.written }
     requires probation { new.part ≡ Probation }
-    ensures value { result ≡ is_some (entry_at K.eq new.key (entries_of store.new)) }
+    ensures value { result ≡ option_map (λ e. e.part) (entry_at K.eq new.key (entries_of store.new)) }
     ensures step { contents_of store.new ≡ after_entering K.eq store.old.keeps_writes limits.now sketch.now new (contents_of store.old) }
     ensures keeps { store.new.keeps_writes ≡ store.old.keeps_writes }
     ensures capacity { store.new.capacity ≡ store.old.capacity }
-    ensures told { TellsPut L.hears (Some (main_limit limits.now)) result new (entries_of store.old) (entries_of store.new) listener.old listener.new }
+    ensures memory { memory.new
+        ≡ option_map (after_entering_judged K.eq store.old.keeps_writes limits.now sketch.now new (contents_of store.old)) memory.old }
+    ensures told { TellsPut L.hears (Some (main_limit limits.now)) (is_some result) new (entries_of store.old) (entries_of store.new) listener.old listener.new }
 {
     let enough = excess(store, limits, new.weight);
     if enough == 0 {
         new.part = Part::Window;
         store.push(new);
-        return true;
+        return Some(Part::Window);
     }
     match last_candidate(store, enough) {
         Some(id) => {
             new.part = Part::Window;
-            admit_or_evict_last(store, limits, sketch, id, new, listener);
-            true
+            admit_or_evict_last(store, limits, sketch, id, new, memory, listener);
+            Some(Part::Window)
         }
-        None => insert_and_drain(store, limits, sketch, enough, new, listener),
+        None => insert_and_drain(store, limits, sketch, enough, new, memory, listener),
     }
 }
 
@@ -220,31 +233,35 @@ fn insert_and_drain<K: Eq + Drop, V: Drop, A: Allocator + Clone + Drop, L: Liste
     sketch: &FrequencySketch<A>,
     enough: u64,
     mut new: Entry<K, V>,
+    memory: &mut Option<Memory<A>>,
     listener: &mut L,
-) -> bool
+) -> Option<Part>
     requires room { length store.old.nodes < store.old.capacity }
     requires absent { entry_at K.eq new.key (entries_of store.old) ≡ None }
     requires unwritten { writes_without K.eq new.key store.old.written ≡ store.old.written }
     requires probation { new.part ≡ Probation }
     requires enough { enough ≡ excess limits.now (entries_of store.old ++ record new { part = Window } ∷ []) }
-    ensures value { result ≡ is_some (entry_at K.eq new.key (entries_of store.new)) }
+    ensures value { result ≡ option_map (λ e. e.part) (entry_at K.eq new.key (entries_of store.new)) }
     ensures step { contents_of store.new ≡ after_entering K.eq store.old.keeps_writes limits.now sketch.now new (contents_of store.old) }
     ensures keeps { store.new.keeps_writes ≡ store.old.keeps_writes }
     ensures capacity { store.new.capacity ≡ store.old.capacity }
-    ensures told { TellsPut L.hears (Some (main_limit limits.now)) result new (entries_of store.old) (entries_of store.new) listener.old listener.new }
+    ensures memory { memory.new
+        ≡ option_map (after_entering_judged K.eq store.old.keeps_writes limits.now sketch.now new (contents_of store.old)) memory.old }
+    ensures told { TellsPut L.hears (Some (main_limit limits.now)) (is_some result) new (entries_of store.old) (entries_of store.new) listener.old listener.new }
 {
-    if drain_window(store, limits, sketch, enough, listener) > 0 {
+    if drain_window(store, limits, sketch, enough, memory, listener) > 0 {
         // The new entry is the last candidate, so it comes to main or leaves without having stood in the window.
-        return admit(store, Some(main_limit(limits)), sketch, new, listener);
+        let limit = Some(main_limit(limits));
+        return admit(store, limit, sketch, new, memory, listener).then_some(Part::Probation);
     }
     new.part = Part::Window;
     store.push(new);
-    true
+    Some(Part::Window)
 }
 
 /// Returns the weight limit of main.
 #[inline(always)]
-fn main_limit(limits: &PartLimits) -> u64
+pub(crate) fn main_limit(limits: &PartLimits) -> u64
     ensures { result ≡ main_limit limits.now }
 {
     limits.all.saturating_sub(limits.window)
@@ -271,12 +288,15 @@ fn drain_window<K: Eq + Drop, V: Drop, A: Allocator + Clone + Drop, L: Listener<
     limits: &PartLimits,
     sketch: &FrequencySketch<A>,
     enough: u64,
+    memory: &mut Option<Memory<A>>,
     listener: &mut L,
 ) -> u64
     ensures value { result ≡ enough - total_weight (least_recent enough (window_of (entries_of store.old))) }
     ensures step { contents_of store.new ≡ after_candidates K.eq limits.now sketch.now (least_recent enough (window_of (entries_of store.old)))
         (contents_of store.old) }
     ensures kept { Continues store.old store.new }
+    ensures memory { memory.new ≡ option_map (after_judgements K.eq limits.now sketch.now (least_recent enough (window_of (entries_of store.old)))
+        (contents_of store.old)) memory.old }
     ensures told { TellsWhatLeft L.hears Size (λ e. IsAbove (Some (main_limit limits.now)) (total_weight (entries_of store.old)))
         (entries_of store.old) (entries_of store.new) listener.old listener.new }
 {
@@ -286,7 +306,7 @@ fn drain_window<K: Eq + Drop, V: Drop, A: Allocator + Clone + Drop, L: Listener<
             return shortfall;
         };
         shortfall = shortfall.saturating_sub(u64::from(store.get(id).weight));
-        admit_or_evict(store, limits, sketch, id, listener);
+        admit_or_evict(store, limits, sketch, id, memory, listener);
     }
     shortfall
 }
@@ -297,17 +317,23 @@ fn admit_or_evict<K: Eq + Drop, V: Drop, A: Allocator + Clone + Drop, L: Listene
     limits: &PartLimits,
     sketch: &FrequencySketch<A>,
     id: NodeId,
+    memory: &mut Option<Memory<A>>,
     listener: &mut L,
 )
     requires { IsFrontOf K.eq Window store.old id }
     ensures step { (front : IsFrontOf K.eq Window store.old id)
         × (contents_of store.new ≡ after_candidate K.eq limits.now sketch.now (contents_of store.old) front.entry)
-        × (window_of (entries_of store.new) ≡ front.rest) }
+        × (window_of (entries_of store.new) ≡ front.rest)
+        × (memory.new ≡ option_map (λ m. after_judging m front.entry.hash
+        (victims_of (Some (main_limit limits.now)) sketch.now front.entry (main_of (entries_of store.old)))) memory.old) }
     ensures kept { Continues store.old store.new }
     ensures told { TellsWhatLeft L.hears Size (λ e. IsAbove (Some (main_limit limits.now)) (total_weight (entries_of store.old)))
         (entries_of store.old) (entries_of store.new) listener.old listener.new }
 {
-    match victim_count(store, Some(main_limit(limits)), sketch, store.get(id)) {
+    let candidate = store.get(id);
+    let count = victim_count(store, Some(main_limit(limits)), sketch, candidate);
+    remember(memory, store, candidate.hash, count);
+    match count {
         Some(count) => {
             evict(store, count, listener);
             promote_front(store);
@@ -324,6 +350,7 @@ fn admit_or_evict_last<K: Eq + Drop, V: Drop, A: Allocator + Clone + Drop, L: Li
     sketch: &FrequencySketch<A>,
     id: NodeId,
     new: Entry<K, V>,
+    memory: &mut Option<Memory<A>>,
     listener: &mut L,
 )
     requires room { length store.old.nodes < store.old.capacity }
@@ -332,13 +359,18 @@ fn admit_or_evict_last<K: Eq + Drop, V: Drop, A: Allocator + Clone + Drop, L: Li
     requires front { IsFrontOf K.eq Window store.old id }
     ensures step { (front : IsFrontOf K.eq Window store.old id)
         × (contents_of store.new
-        ≡ after_entry K.eq store.old.keeps_writes new (after_candidate K.eq limits.now sketch.now (contents_of store.old) front.entry)) }
+        ≡ after_entry K.eq store.old.keeps_writes new (after_candidate K.eq limits.now sketch.now (contents_of store.old) front.entry))
+        × (memory.new ≡ option_map (λ m. after_judging m front.entry.hash
+        (victims_of (Some (main_limit limits.now)) sketch.now front.entry (main_of (entries_of store.old)))) memory.old) }
     ensures keeps { store.new.keeps_writes ≡ store.old.keeps_writes }
     ensures capacity { store.new.capacity ≡ store.old.capacity }
     ensures told { TellsWhatLeft L.hears Size (λ e. IsAbove (Some (main_limit limits.now)) (total_weight (entries_of store.old) + new.weight))
         (new ∷ entries_of store.old) (entries_of store.new) listener.old listener.new }
 {
-    match victim_count(store, Some(main_limit(limits)), sketch, store.get(id)) {
+    let candidate = store.get(id);
+    let count = victim_count(store, Some(main_limit(limits)), sketch, candidate);
+    remember(memory, store, candidate.hash, count);
+    match count {
         Some(count) => {
             // The candidate is still the window's first entry after this.
             enter_for(store, count, new, listener);

@@ -1,12 +1,13 @@
 //! The builder of caches for one thread.
 ghost use Rattle.std.specs.Prelude.{◌≡◌, true, None, Some, IfErr, IfOk};
 ghost use Rattle.moka_unsync.specs.Builder.{IsBuilt, new_builder, refusal_of};
+ghost use Rattle.moka_unsync_model.specs.Shares.{adaptive};
 
 mod debug;
 mod notifying;
 
 use crate::cache::{Cache, Parts};
-use crate::part_limits::{default_shares, share_fault};
+use crate::part_limits::{adaptive, default_shares, share_fault};
 use moka_common::error::BuildError;
 use moka_common::hash::FixedState;
 use moka_common::policy::Policy;
@@ -51,6 +52,7 @@ pub struct CacheBuilder<K, V, W: Drop = UnitWeight, A: Allocator + Clone + Drop 
 }
 
 impl<K, V, W: Drop, A: Allocator + Clone + Drop> Model for CacheBuilder<K, V, W, A> {
+    ghost use Rattle.std.specs.Prelude.{◌≡◌};
     ghost use Rattle.moka_unsync.specs.Builder.{Builder};
 
     ghost Value = { Builder W };
@@ -62,6 +64,8 @@ impl<K, V, W: Drop, A: Allocator + Clone + Drop> Model for CacheBuilder<K, V, W,
       is_weighed = b.is_weighed;
       weigher = b.weigher;
     } };
+
+    ghost invariant = { λ b. b.shares.extra ≡ 0 };
 }
 
 impl<K, V, A: Allocator + Clone + Drop> CacheBuilder<K, V, UnitWeight, A> {
@@ -155,6 +159,18 @@ impl<K, V, W: Drop, A: Allocator + Clone + Drop> CacheBuilder<K, V, W, A> {
                 protected: percent,
                 ..self.shares
             },
+            ..self
+        }
+    }
+
+    /// Makes the window adapt to the calls. It grows while keys come back that were rejected, up to 80% of the capacity, and shrinks while keys come back that
+    /// main gave up for others. It begins with a window of 1% and protected entries of 80%; a share that is set later changes where it begins. The cache then
+    /// has two small tables beside the sketch's. If memory for them is refused, the window stays as it is.
+    pub fn adaptive(self) -> Self
+        ensures { result ≡ record self { shares = adaptive self.shares } }
+    {
+        CacheBuilder {
+            shares: adaptive(self.shares),
             ..self
         }
     }

@@ -1,25 +1,26 @@
 //! The cache for one thread.
-ghost use Rattle.std.specs.Prelude.{◌≡◌, ◌<◌, ◌≤◌, ◌^◌, Bool, [], false, length, None, Some};
+ghost use Rattle.std.specs.Prelude.{◌≡◌, ◌<◌, ◌≤◌, ◌^◌, [], false, length, None, Some};
 ghost use Rattle.std.specs.Prelude.{IfErr, IfOk, option_copied, option_map};
 ghost use Rattle.std.specs.Map.Iter.{deref_pair};
 ghost use Rattle.moka_common.specs.Keys.{keys_by};
-ghost use Rattle.moka_common.specs.Settings.{keeps_writes};
 ghost use Rattle.moka_unsync.specs.Builder.{new_builder, reserved};
-ghost use Rattle.moka_unsync.specs.Cached.{most_entries};
-ghost use Rattle.moka_unsync_model.specs.CacheState.{new_cache};
+ghost use Rattle.moka_unsync_model.specs.CacheState.{new_cache, window_limit};
 ghost use Rattle.moka_unsync_model.specs.Contents.{entry_at, weighted_size};
 ghost use Rattle.moka_unsync_model.specs.Lookup.{found_by_peek};
-ghost use Rattle.moka_unsync_model.specs.Insert.{after_asking};
+ghost use Rattle.moka_unsync_model.specs.Insert.{Refused, after_asking};
 ghost use Rattle.moka_unsync_model.specs.Iterate.{pair_behind, pairs_at};
 ghost use Rattle.moka_unsync_model.specs.Shares.{default_shares};
 
 mod calls;
 mod debug;
+mod follow;
 mod get_or_insert;
 mod iter;
+mod parts;
 
 use crate::builder::CacheBuilder;
 use crate::cleanup::Bounds;
+use crate::memory::{Memory, make_tables};
 use crate::notifying_cache::NotifyingCache;
 use crate::part_limits::{protected_room, windowed_limits};
 use crate::walk::next_unexpired;
@@ -33,20 +34,11 @@ use moka_common::time::Instant;
 use moka_common::weigh::UnitWeight;
 use moka_store::store::Store;
 use moka_unsync_model::shares::{PartLimits, Shares};
+pub(crate) use parts::Parts;
+use parts::{empty_store, max_entries, new_memory, reserved};
 use std::alloc::{Allocator, Global};
 use std::hash::{BuildHasher, Hash};
 use std::marker::Model;
-
-/// The settings of a cache.
-#[derive(Drop)]
-pub(crate) struct Parts<S: Drop, W: Drop> {
-    pub(crate) hash_state: S,
-    pub(crate) policy: Policy,
-    pub(crate) shares: Shares,
-    pub(crate) is_weighed: bool,
-    pub(crate) weigher: W,
-    pub(crate) initial_capacity: usize,
-}
 
 /// A single-thread cache, bounded by a number of entries or by their weight, with expiry by time to live and by time to idle.
 ///
@@ -78,21 +70,15 @@ pub(crate) struct Parts<S: Drop, W: Drop> {
 /// is too heavy, the window's least recently used entries are the candidates that are admitted to the main part or leave. So a key that is asked for again
 /// soon after it came is found, though it has no frequency yet. Below a capacity of 100 there is no window.
 ///
-/// Two settings of the builder change which keys stay:
+/// Which keys stay depends on how large the window is. `adaptive()` lets the cache choose: the window grows while keys come back that were rejected, and
+/// shrinks while keys come back that the main part gave up for others. It is the first choice unless replies must be those of a fixed window: it costs nothing
+/// at a hit, and two tables of half a byte an entry. Two settings of the builder fix the shares instead, or set where an adaptive cache begins:
 ///
 /// - `protected_share(80)` makes the main part a segmented LRU, as in Caffeine: an entry that is used there again is protected, and leaves after those that
 ///   aren't. It finds more keys if some stay popular, also between scans.
 /// - `window_share(20)` makes the window larger. It finds more keys if most are asked for again soon after they came, and fewer if some stay popular.
 ///
-/// Hits of 100 calls at a capacity of 1% of the keys, by `bench/run hits`, where the traces are described:
-///
-/// | Trace | default | `protected_share(80)` | `window_share(20)` |
-/// |---|---|---|---|
-/// | Zipf 0.8 | 28.8 | 31.5 | 28.2 |
-/// | Zipf 0.99 | 57.2 | 58.5 | 56.5 |
-/// | scan mix | 26.2 | 28.8 | 26.3 |
-/// | drifting hot set | 54.9 | 54.9 | 54.6 |
-/// | asked soon again | 33.7 | 28.1 | 75.0 |
+/// `bench/run hits` compares them on traces.
 ///
 /// # Expiry
 ///
@@ -140,6 +126,8 @@ pub struct Cache<
     weigher: W,
     store: Store<K, V, A>,
     sketch: FrequencySketch<A>,
+    // What left, if the window adapts.
+    memory: Option<Memory<A>>,
 }
 
 // By hand, and not derived: wherever a cache may end, there is one call to prove then, in place of one for each of its parts.
@@ -157,6 +145,7 @@ impl<K: Eq + Hash + Drop, V: Drop, S: BuildHasher + Drop, W: Drop, A: Allocator 
             weigher: _,
             store: _,
             sketch: _,
+            memory: _,
         } = self;
     }
 }
@@ -181,6 +170,7 @@ impl<
       weigher = c.weigher;
       contents = contents_of c.store;
       sketch = c.sketch;
+      memory = c.memory;
       capacity = c.store.capacity;
     } };
 
@@ -229,12 +219,14 @@ impl<
     pub(crate) fn from_parts(alloc: A, parts: Parts<S, W>) -> Result<Self, OutOfMemory>
         requires window { parts.shares.window ≤ 100 }
         requires protected { parts.shares.protected ≤ 100 }
+        requires extra { parts.shares.extra ≡ 0 }
         ensures new { IfOk result (λ cache. cache ≡ new_cache
             (record { hash_state = parts.hash_state; policy = parts.policy; is_weighed = parts.is_weighed })
             parts.shares parts.weigher cache.capacity) }
         ensures room { IfOk result (λ cache. reserved parts.initial_capacity ≤ cache.capacity) }
     {
         let store = empty_store(&alloc, parts.policy, reserved(parts.initial_capacity)?)?;
+        let memory = new_memory(&alloc, parts.shares)?;
         Ok(Cache {
             hash_state: parts.hash_state,
             bounds: Bounds::new(parts.policy),
@@ -246,6 +238,7 @@ impl<
             weigher: parts.weigher,
             store,
             sketch: FrequencySketch::default(alloc),
+            memory,
         })
     }
 
@@ -275,6 +268,16 @@ impl<
         ensures { result ≡ self.now.shares }
     {
         self.shares
+    }
+
+    /// Returns the weight that the window may have now, which changes only if the cache adapts. It is 0 without a window.
+    pub fn window_limit(&self) -> u64
+        ensures { result ≡ window_limit self.now }
+    {
+        match self.windowed {
+            Some(limits) => limits.window,
+            None => 0,
+        }
     }
 
     /// Returns the number of entries, including expired ones that no call has removed yet. It takes constant time.
@@ -343,10 +346,11 @@ impl<
         Some((&entry.key, &entry.value))
     }
 
-    /// Asks for the sketch's table, if the cache is at least half full and has none. If memory is refused, the next new entry asks again.
+    /// Asks for the sketch's table, if the cache is at least half full and has none, and for the memory's tables with it. If memory is refused, the next new
+    /// entry asks again for the sketch's, and the memory has none.
     #[inline(always)]
     fn enable_sketch(&mut self)
-        ensures { (refused : Bool) × (self.new ≡ after_asking K.eq refused self.old) }
+        ensures { (refused : Refused) × (self.new ≡ after_asking K.eq refused self.old) }
     {
         if self.sketch.table_len() == 0 {
             self.ask_for_table();
@@ -356,7 +360,8 @@ impl<
     #[cold]
     #[inline(never)]
     fn ask_for_table(&mut self)
-        ensures { (refused : Bool) × (self.new ≡ after_asking K.eq refused self.old) }
+        requires { self.old.sketch ≡ None }
+        ensures { (refused : Refused) × (self.new ≡ after_asking K.eq refused self.old) }
     {
         let load = Load {
             is_weighed: self.is_weighed,
@@ -365,48 +370,6 @@ impl<
         };
         self.sketch
             .enable_if_half_full(self.bounds.policy().max_capacity(), load);
+        make_tables(&mut self.memory, self.sketch.table_len());
     }
-}
-
-/// Returns the number of entries for which a new store reserves memory: one more than the initial capacity, for the insert into a full cache, which is stored
-/// before another entry leaves. Without an initial capacity nothing is reserved.
-fn reserved(initial_capacity: usize) -> Result<usize, OutOfMemory>
-    ensures { IfOk result (λ entries. entries ≡ reserved initial_capacity) }
-{
-    if initial_capacity == 0 {
-        return Ok(0);
-    }
-    initial_capacity.checked_add(1).ok_or(OutOfMemory)
-}
-
-/// Returns the largest useful capacity of a store: the limit plus one candidate, or `usize::MAX` if entries have weights or there is no limit.
-fn max_entries(policy: Policy, is_weighed: bool) -> usize
-    ensures { result ≡ most_entries policy is_weighed }
-{
-    if is_weighed {
-        return usize::MAX;
-    }
-    let limit = policy.max_capacity().unwrap_or(u64::MAX);
-    usize::try_from(limit)
-        .unwrap_or(usize::MAX)
-        .saturating_add(1)
-}
-
-/// Makes a store without entries, with capacity for at least `room` of them.
-fn empty_store<K: Eq + Drop, V: Drop, A: Allocator + Clone + Drop>(
-    alloc: &A,
-    policy: Policy,
-    room: usize,
-) -> Result<Store<K, V, A>, OutOfMemory>
-    ensures empty { IfOk result (λ store. store ≡ record {
-      nodes = [];
-      written = [];
-      keeps_writes = keeps_writes policy;
-      capacity = store.capacity;
-    }) }
-    ensures room { IfOk result (λ store. room ≤ store.capacity) }
-{
-    let mut store = Store::new(alloc.clone()?, policy)?;
-    store.reserve(room, 0)?;
-    Ok(store)
 }

@@ -1,13 +1,16 @@
 // How entries leave: the listener gets them.
 ghost use Rattle.std.specs.Prelude.{◌≡◌, ◌<◌, ◌+◌, ⊤, ℕ, [], IfSome, IsNone, IsSome, Some, false, nat_eq};
 ghost use Rattle.std.specs.Map.{lookup};
-ghost use Rattle.moka_unsync_model.specs.Contents.{is_window, main_of};
+ghost use Rattle.moka_unsync_model.specs.Contents.{after_leaving, entry_keys, is_window, main_of};
+ghost use Rattle.moka_unsync_model.specs.Cleanup.{least_recent};
+ghost use Rattle.moka_unsync_model.specs.Window.{after_displacing};
 ghost use Rattle.moka_unsync_model.specs.Told.{TellsWhatLeft};
 ghost use Rattle.moka_unsync_model.specs.declared.listener.Cause.TheVariants.{Size};
 ghost use Rattle.moka_store.specs.Store.{Continues, IsFront, Removes, contents_of, entries_of};
 ghost use Rattle.moka_unsync.specs.Turns.{IsTurn, after_eviction_of};
 
 use crate::admission::is_windowed;
+use crate::memory::Memory;
 use moka_list::chain::NodeId;
 use moka_store::store::Store;
 use moka_unsync_model::entry::Entry;
@@ -63,6 +66,31 @@ fn evict_front<K: Eq + Drop, V: Drop, A: Allocator + Clone + Drop, L: Listener<K
     };
     leave(store, id, Cause::Size, listener);
     true
+}
+
+/// Evicts main's least recently used entries until they have made up `enough` weight. They are noted as displaced.
+pub(crate) fn give_up<K: Eq + Drop, V: Drop, A: Allocator + Clone + Drop, L: Listener<K, V>>(
+    store: &mut Store<K, V, A>,
+    enough: u64,
+    memory: &mut Memory<A>,
+    listener: &mut L,
+)
+    ensures step { contents_of store.new
+        ≡ after_leaving K.eq (entry_keys (least_recent enough (main_of (entries_of store.old)))) (contents_of store.old) }
+    ensures memory { memory.new ≡ after_displacing memory.old (least_recent enough (main_of (entries_of store.old))) }
+    ensures kept { Continues store.old store.new }
+    ensures told { TellsWhatLeft L.hears Size (λ e. 0 < enough) (entries_of store.old) (entries_of store.new) listener.old listener.new }
+{
+    let mut shortfall = enough;
+    while shortfall > 0 {
+        let Some(id) = main_front(store) else {
+            return;
+        };
+        let entry = store.get(id);
+        memory.displace(entry.hash);
+        shortfall = shortfall.saturating_sub(u64::from(entry.weight));
+        leave(store, id, Cause::Size, listener);
+    }
 }
 
 /// Returns the node of main's least recently used entry.

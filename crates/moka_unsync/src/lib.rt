@@ -6,6 +6,7 @@ pub mod builder;
 pub mod cache;
 mod cleanup;
 mod leaving;
+mod memory;
 pub mod notifying_cache;
 mod part_limits;
 mod removal;

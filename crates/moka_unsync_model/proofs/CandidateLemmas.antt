@@ -13,8 +13,9 @@ use Rattle.moka_unsync_model.specs.Contents.{Contents, after_leaving, entry_at, 
 use Rattle.moka_unsync_model.specs.Contents.{is_protected}
 use Rattle.moka_unsync_model.specs.CacheState.{CacheState}
 use Rattle.moka_unsync_model.specs.Cleanup.{least_recent}
-use Rattle.moka_unsync_model.specs.Insert.{after_asking, after_entering, after_entry, after_new, after_verdict}
+use Rattle.moka_unsync_model.specs.Insert.{Refused, after_asking, after_entering, after_entry, after_new, after_turn, after_verdict}
 use Rattle.moka_unsync_model.specs.Window.{after_candidacy, after_candidates, candidates, excess, victims_of}
+use Rattle.moka_unsync_model.proofs.SharingLemmas.{All-sharing, turned}
 use Rattle.moka_unsync_model.proofs.ContentsLemmas.{All-leaving}
 use Rattle.moka_unsync_model.proofs.WindowLemmas.{All-latest}
 use Rattle.moka_unsync_model.specs.declared.shares.PartLimits.{PartLimits}
@@ -140,7 +141,7 @@ module _ {K V : Type 0} (eq : K → K → Bool) (P : Entry K V → Type 0) (move
         All-candidates limits sketch (candidates limits entered.entries) entered (All-chosen limits entered.entries whole) whole
 
     -- or was put
-    pub All-new : {S W : Type 0} (cache : CacheState K V S W) (limit : Option PartLimits) (new : Entry K V) (refused : Bool) → All P cache.contents.entries
+    pub All-new : {S W : Type 0} (cache : CacheState K V S W) (limit : Option PartLimits) (new : Entry K V) (refused : Refused) → All P cache.contents.entries
         → P new → All P (after_new eq cache limit new refused).contents.entries
     All-new cache None new refused all here =
         by (victims_of cache.settings.policy.max_capacity cache.sketch new cache.contents.entries)
@@ -148,14 +149,17 @@ module _ {K V : Type 0} (eq : K → K → Bool) (P : Entry K V → Type 0) (move
         by : (gone : Option (List (Entry K V))) → All P (after_verdict eq cache new gone refused).contents.entries
         by None = all
         by (Some gone) = All-latest P new _ (All-leaving eq P (entry_keys gone) cache.contents all) here
-    All-new cache (Some limit) new refused all here =
-        by (is_some (entry_at eq new.key contents.entries))
-        (All-entering (keeps_writes cache.settings.policy) limit cache.sketch new cache.contents all here)
+    All-new {S = S} {W = W} cache (Some limit) new refused all here =
+        let entered = All-entering (keeps_writes cache.settings.policy) limit cache.sketch new cache.contents all here in
+        by (is_some (entry_at eq new.key next.contents.entries))
+        (turned eq (λ c. All P c.entries) cache cache.memory limit new contents entered (λ shared gained. All-sharing eq P moves shared gained contents entered))
       where
         contents : Contents K V
         contents = after_entering eq (keeps_writes cache.settings.policy) limit cache.sketch new cache.contents
 
-        by : (b : Bool) → All P contents.entries
-            → All P (cond b (after_asking eq refused (record cache { contents = contents })) (record cache { contents = contents })).contents.entries
+        next : CacheState K V S W
+        next = after_turn eq cache cache.memory limit new contents
+
+        by : (b : Bool) → All P next.contents.entries → All P (cond b (after_asking eq refused next) next).contents.entries
         by true all = all
         by false all = all

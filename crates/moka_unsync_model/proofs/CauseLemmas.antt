@@ -23,24 +23,25 @@ use Rattle.moka_common.specs.Settings.{keeps_writes, live_nanos}
 use Rattle.moka_unsync_model.specs.Cleanup.{after_expiry, after_idle, after_live_expiry, after_trim, after_cleanup, is_past_ttl, is_idle, least_recent}
 use Rattle.moka_unsync_model.specs.Lookup.{after_use, after_look, unexpired_at, after_using}
 use Rattle.moka_unsync_model.specs.Cleanup.{is_expired}
-use Rattle.moka_unsync_model.specs.Insert.{after_entering, after_entry, after_new, after_put, after_verdict, new_entry}
+use Rattle.moka_unsync_model.specs.Insert.{Refused, after_entering, after_entry, after_new, after_put, after_turn, after_verdict, new_entry}
 use Rattle.moka_unsync_model.specs.Window.{after_candidacy, after_candidates, candidates, excess, victims_of}
 use Rattle.moka_unsync_model.specs.Invalidate.{chosen}
 use Rattle.moka_unsync_model.specs.Step.{Answer, IsStep, Request, Get, Peek, ContainsKey, Insert, Invalidate, Remove}
 use Rattle.moka_unsync_model.specs.Step.{InvalidateAll, InvalidateEntriesIf, Iterate, EntryCount, WeightedSize}
-use Rattle.moka_unsync_model.specs.Removal.{RemovalCause, Invalidated, Expired, AboveLimit, Displaced, Rejected, entries_from, cleanup_moment}
-use Rattle.moka_unsync_model.proofs.HistoryLemmas.{IsSame, any-key, entry_at-leaving, one_of, same-both, same-moved, same-self, something}
+use Rattle.moka_unsync_model.specs.Removal.{RemovalCause, Invalidated, Expired, AboveLimit, Displaced, GivenUp, Rejected, entries_from, cleanup_moment}
+use Rattle.moka_unsync_model.proofs.HistoryLemmas.{IsSame, any-key, entry_at-leaving, found-entering, found-turned, one_of, same-both, same-moved, same-self, something}
 use Rattle.moka_unsync_model.proofs.ContentsLemmas.{found_key, idle_keys}
 use Rattle.moka_unsync_model.proofs.WindowLemmas.{total-split}
 use Rattle.moka_unsync_model.proofs.CandidateLemmas.{All-front, least_parts, prefix_parts, victims_weigh}
-use Rattle.moka_unsync_model.proofs.KeyLemmas.{StandOnce, contents-standing, once-candidacy, once-candidates, once-push, once-remains}
+use Rattle.moka_unsync_model.proofs.KeyLemmas.{StandOnce, contents-standing, once-candidacy, once-candidates, once-entering, once-push, once-remains}
 use Rattle.moka_unsync_model.proofs.LimitLemmas.{filter-swap, is_unlisted, main-leaving, main-moved, total-cons, total-filter, total-cleanup}
 use Rattle.moka_unsync_model.proofs.RemainLemmas.{remains-leaving, remains-cleanup}
 use Rattle.moka_unsync_model.proofs.StandLemmas.{AreCandidates, StandsIn, are-chosen, are-left, main-stands, once-front, Stands, part-stands}
-use Rattle.moka_unsync_model.proofs.MapLemmas.{entry_at-equal, entry_at-moved, entry_at-other, entry_at-push, entry_at-latest, entry_at-using, terms_of}
+use Rattle.moka_unsync_model.proofs.MapLemmas.{entry_at-equal, entry_at-moved, entry_at-other, entry_at-push, entry_at-latest, entry_at-using, given-standing, given_of}
 use Rattle.moka_unsync_model.proofs.TiedLemmas.{all-taken, all-take, one-passes, prefix-cons, IsTied, AllTied, absent-left}
 use Rattle.moka_unsync_model.specs.declared.shares.PartLimits.{PartLimits}
-use Rattle.moka_unsync_model.specs.Shares.{limits_of, main_limit, windowed_limits}
+use Rattle.moka_unsync_model.specs.Shares.{hundredths, limits_of, main_limit, windowed_limits}
+use Rattle.moka_unsync_model.proofs.TurnLemmas.{IsGrown, total-entering, turn-gave-up}
 use Rattle.moka_unsync_model.specs.declared.entry.Part.TheVariants.{Probation, Window}
 use Rattle.moka_unsync_model.specs.declared.shares.Shares.{Shares}
 use Rattle.moka_unsync_model.proofs.PartLemmas.{placed-none}
@@ -701,13 +702,18 @@ pub not-put : {X : Type 0} {P : Type 0} (b : Bool) (x : X) (o : Option X) (e : X
 not-put true x o e none some = something none refl
 not-put false x o e none some = something none some
 
+-- there is one or not
+kept-or-not : {X : Type 0} {P : Type 0} (o : Option X) {other : Option X} → other ≡ o → (other ≡ None → P) → ((x : X) → other ≡ Some x → P) → P
+kept-or-not None is none some = none is
+kept-or-not (Some x) is none some = some x is
+
 -- a limit with a window is the limit
 pub windowed-is : (shares : Shares) (o : Option ℕ) (limits : PartLimits) → windowed_limits shares o ≡ Some limits
     → (l : ℕ) × (o ≡ Some l) × (limits ≡ limits_of shares l)
 windowed-is shares None limits h = something {o = None} refl h
 windowed-is shares (Some l) limits h =
-    let some = nat_lt 0 (limits_of shares l).window in
-    elim (cases_Bool (nat_lt 0 (limits_of shares l).window)) [
+    let some = nat_lt 0 (hundredths shares.window l) in
+    elim (cases_Bool (nat_lt 0 (hundredths shares.window l))) [
       | inl large ↦ (l, refl, one_of h (cond-true some (Some (limits_of shares l)) None large))
       | inr small ↦ something (cond-false some (Some (limits_of shares l)) None small) h
     ]
@@ -757,8 +763,8 @@ module _ {K V S W : Type 0} (keys : Keys K S) (laws : IsEquivalence keys.eq) (ke
 
   -- where a put removes it, it gave way
   put-cause : (old new cache : CacheState K V S W) (other : K) (value : V) (now : ℕ) (o : Option (Entry K V)) (put : Entry K V)
-      (refused : Bool) → new ≡ after_put keys.eq cache o put refused
-      → terms_of cache ≡ terms_of old → cache.sketch ≡ old.sketch
+      (refused : Refused) → new ≡ after_put keys.eq cache o put refused
+      → given_of cache ≡ given_of old → cache.sketch ≡ old.sketch
       → total_weight cache.contents.entries ≤ total_weight old.contents.entries → StandOnce keys.eq cache.contents.entries → put.key ≡ other
       → entry_at keys.eq put.key cache.contents.entries ≡ o → entry_at keys.eq key cache.contents.entries ≡ Some e
       → entry_at keys.eq key new.contents.entries ≡ None
@@ -807,27 +813,65 @@ module _ {K V S W : Type 0} (keys : Keys K S) (laws : IsEquivalence keys.eq) (ke
       entering (Some limit) limits is =
           let keeps = keeps_writes cache.settings.policy in
           let contents = after_entering keys.eq keeps limit cache.sketch put cache.contents in
-          let after : new.contents ≡ contents =
-          ap (λ c. c.contents) is ∙ contents-standing keys.eq (record cache { contents = contents }) put refused in
+          let next = after_turn keys.eq cache cache.memory limit put contents in
+          let after : new.contents ≡ next.contents = ap (λ c. c.contents) is ∙ contents-standing keys.eq next put refused in
+          let shared : new.shares ≡ next.shares = ap (λ c. c.shares) is ∙ ap (λ t. t.1) (given-standing keys.eq next put refused) in
+          let apart = once-entering keys.eq laws keeps limit cache.sketch put cache.contents there once in
           let (l, has, limit_is) = windowed-is cache.shares cache.settings.policy.max_capacity limit limits in
           let limited : old.settings.policy.max_capacity ≡ Some l = ap (λ t. t.0.policy.max_capacity) (sym terms) ∙ has in
           let limits_are : limit ≡ limits_of old.shares l = limit_is ∙ ap (λ t. limits_of t.1 l) terms in
           let main : main_limit limit ≡ main_limit (limits_of old.shares l) = ap main_limit limits_are in
+          let gone : entry_at keys.eq key next.contents.entries ≡ None = sym (ap (λ c. entry_at keys.eq key c.entries) after) ∙ none in
+          let grew : IsGrown laws cache next limit put contents → RemovalCause keys old (Insert other value now) new e =
+          λ grown. GivenUp other value now l grown.entered refl
+          (ap (λ c. entry_at keys.eq other c.entries) after
+          ∙ (sym (ap (λ k. entry_at keys.eq k next.contents.entries) own) ∙ grown.stands))
+          grown.waits
+          (subst (λ s. old.shares.extra < s.extra) (sym shared) (subst (λ t. t.1.extra < next.shares.extra) terms grown.grown))
+          limited
+          (subst (λ s. main_limit (limits_of s l) < total_weight old.contents.entries) (sym shared)
+          (subst (λ a. main_limit (limits_of next.shares a) < total_weight old.contents.entries) (ap (λ p. p.all) limit_is)
+          (grind (
+            arith,
+            grown.full,
+            grown.beside,
+            total-entering laws keeps limit cache.sketch put cache.contents there once,
+            ap (λ (x : Entry K V). x.weight) (as-put keeps limit grown.entered grown.stood),
+            less,
+          )))) in
           elim (entered keys.eq laws keeps limit cache.sketch put cache.contents there once key e stands) [
-            | StaysWith x at same ↦ something (sym (ap (λ c. entry_at keys.eq key c.entries) after) ∙ none) at
+            | StaysWith x at same ↦ grew (turn-gave-up laws cache cache.memory limit put contents apart key x at gone)
             | RejectedWith waits above ↦ Rejected other value now l refl waits limited (grind (arith, above, less, main))
             | DisplacedWith x at more above ↦
-                Displaced other value now l x refl
-                (elim (cases_Bool (keys.eq x.key e.key)) [
+                elim (cases_Bool (keys.eq x.key e.key)) [
                   | inl equal ↦
-                      something (sym (ap (λ c. entry_at keys.eq key c.entries) after) ∙ none)
-                      (sym (entry_at-equal laws x.key key (same-key keys laws key e cache.contents.entries stands x.key ∙ equal) contents.entries)
-                      ∙ at)
-                  | inr differ ↦ differ
-                ])
-                (ap (λ c. entry_at keys.eq x.key c.entries) after ∙ at)
-                (subst (λ s. estimate s e.hash < estimate s x.hash) sketch more) limited (grind (arith, above, less, main))
+                      grew (turn-gave-up laws cache cache.memory limit put contents apart key x
+                      (sym (entry_at-equal laws x.key key (same-key keys laws key e cache.contents.entries stands x.key ∙ equal) contents.entries) ∙ at)
+                      gone)
+                  | inr differ ↦
+                      kept-or-not (entry_at keys.eq x.key next.contents.entries) refl
+                      (λ left. grew (turn-gave-up laws cache cache.memory limit put contents apart x.key x at left))
+                      (λ y is.
+                      let (z, stood, same) = found-turned keys.eq laws cache cache.memory limit put contents x.key y is in
+                      let but : y ≡ record x { part = y.part } = same.but ∙ ap (λ (z : Entry K V). record z { part = y.part }) (one_of stood at) in
+                      Displaced other value now l y refl
+                      (ap (λ (z : Entry K V). keys.eq z.key e.key) but ∙ differ)
+                      (ap (λ c. entry_at keys.eq y.key c.entries) after
+                      ∙ (ap (λ (z : Entry K V). entry_at keys.eq z.key next.contents.entries) but ∙ is))
+                      (subst (λ s. estimate s e.hash < estimate s y.hash) sketch
+                      (subst (λ h. estimate cache.sketch e.hash < estimate cache.sketch h) (sym (ap (λ (z : Entry K V). z.hash) but)) more))
+                      limited (grind (arith, above, less, main, ap (λ (z : Entry K V). z.weight) but)))
+                ]
           ]
+        where
+          as-put : (keeps : Bool) (limit : PartLimits) (entered : Entry K V)
+              → entry_at keys.eq put.key (after_entering keys.eq keeps limit cache.sketch put cache.contents).entries ≡ Some entered
+              → entered ≡ record put { part = entered.part }
+          as-put keeps limit entered stood =
+              elim (found-entering keys.eq laws keeps limit cache.sketch put cache.contents there once put.key entered stood) [
+                | inl (equal, same) ↦ same
+                | inr (differ, before) ↦ absurd (false≢true (sym differ ∙ laws.refl put.key))
+              ]
 
   module _ (weighs : W → K → V → ℕ → W → Type 0) where
     -- an entry that stands before a call and not after it leaves for a cause

@@ -46,8 +46,8 @@ module _ {K V : Type 0} where
   excess_left limit new entries = entering_excess limit new entries - total_weight (judged_first limit new entries)
 
   -- the contents once they were judged
-  abbrev pub after_judging : (K → K → Bool) → PartLimits → Option Table → Entry K V → Contents K V → Contents K V
-  after_judging eq limit sketch new contents = after_candidates eq limit sketch (judged_first limit new contents.entries) contents
+  abbrev pub after_judged : (K → K → Bool) → PartLimits → Option Table → Entry K V → Contents K V → Contents K V
+  after_judged eq limit sketch new contents = after_candidates eq limit sketch (judged_first limit new contents.entries) contents
 
 -- ---- tests of lists
 
@@ -110,7 +110,7 @@ module _ {K V : Type 0} where
       omega (arith, first, sum_by-cons (λ e. e.weight) c (least_recent (lacking - c.weight) ws))
 
   -- where some of them weigh enough, one more behind them changes nothing
-  least_recent-enough : (lacking : ℕ) (ws : List (Entry K V)) (x : Entry K V) → lacking - total_weight (least_recent lacking ws) ≡ 0
+  pub least_recent-enough : (lacking : ℕ) (ws : List (Entry K V)) (x : Entry K V) → lacking - total_weight (least_recent lacking ws) ≡ 0
       → least_recent lacking (ws ++ x ∷ []) ≡ least_recent lacking ws
   least_recent-enough zero ws x none = refl
   least_recent-enough (suc n) [] x none = let no : ⊥ = omega (arith, none) in absurd no
@@ -120,7 +120,7 @@ module _ {K V : Type 0} where
       ∙ sym (least_recent-cons (suc n) c ws (omega arith)))
 
   -- else one more is the last of them
-  least_recent-last : (lacking : ℕ) (ws : List (Entry K V)) (x : Entry K V) → 0 < lacking - total_weight (least_recent lacking ws)
+  pub least_recent-last : (lacking : ℕ) (ws : List (Entry K V)) (x : Entry K V) → 0 < lacking - total_weight (least_recent lacking ws)
       → least_recent lacking (ws ++ x ∷ []) ≡ least_recent lacking ws ++ x ∷ []
   least_recent-last zero ws x some = let no : ⊥ = omega (arith, some) in absurd no
   least_recent-last (suc n) [] x some =
@@ -271,7 +271,7 @@ module _ {K V : Type 0} (eq : K → K → Bool) (key : K) where
     pub written : All (IsOtherWrite eq key) contents.written
 
   -- a key without an entry differs from the keys of all
-  others-absent : (es : List (Entry K V)) → entry_at eq key es ≡ None → All IsOther es
+  pub others-absent : (es : List (Entry K V)) → entry_at eq key es ≡ None → All IsOther es
   others-absent [] absent = All-nil IsOther
   others-absent (e ∷ es) absent =
       elim (cases_Bool (eq key e.key)) [
@@ -282,13 +282,13 @@ module _ {K V : Type 0} (eq : K → K → Bool) (key : K) where
       ]
 
   -- and the other way round
-  absent-others : (es : List (Entry K V)) → All IsOther es → entry_at eq key es ≡ None
+  pub absent-others : (es : List (Entry K V)) → All IsOther es → entry_at eq key es ≡ None
   absent-others [] others = refl
   absent-others (e ∷ es) others =
       cond-false (eq key e.key) (Some e) (entry_at eq key es) (All-head IsOther e es others)
       ∙ absent-others es (All-tail IsOther e es others)
 
-  none-absent : (contents : Contents K V) → entry_at eq key contents.entries ≡ None → writes_without eq key contents.written ≡ contents.written
+  pub none-absent : (contents : Contents K V) → entry_at eq key contents.entries ≡ None → writes_without eq key contents.written ≡ contents.written
       → HasNone contents
   none-absent contents absent unwritten =
       record {
@@ -297,7 +297,7 @@ module _ {K V : Type 0} (eq : K → K → Bool) (key : K) where
       }
 
   -- nor once others were judged
-  others-candidacy : (c : Entry K V) (gone : Option (List (Entry K V))) (contents : Contents K V) → IsOther c → All IsOther contents.entries
+  pub others-candidacy : (c : Entry K V) (gone : Option (List (Entry K V))) (contents : Contents K V) → IsOther c → All IsOther contents.entries
       → All IsOther (after_candidacy eq c gone contents).entries
   others-candidacy c None contents differ all = All-leaving eq IsOther (c.key ∷ []) contents all
   others-candidacy c (Some gone) contents differ all =
@@ -328,7 +328,7 @@ module _ {K V : Type 0} (eq : K → K → Bool) (key : K) where
   none-leaving keys contents none =
       record { entries = All-leaving eq IsOther keys contents none.entries; written = writes-leaving keys contents none.written }
 
-  none-candidate : (limits : PartLimits) (sketch : Option Table) (c : Entry K V) (contents : Contents K V) → IsOther c → HasNone contents
+  pub none-candidate : (limits : PartLimits) (sketch : Option Table) (c : Entry K V) (contents : Contents K V) → IsOther c → HasNone contents
       → HasNone (after_candidate eq limits sketch contents c)
   none-candidate limits sketch c contents differ none =
       let gone = victims_of (Some (main_limit limits)) sketch c (main_of contents.entries) in
@@ -356,7 +356,7 @@ module _ {K V : Type 0} (eq : K → K → Bool) (key : K) where
       ]
 
   -- the candidates of a window whose entries have other keys have other keys
-  others-first : (lacking : ℕ) (es : List (Entry K V)) → All IsOther es → All IsOther (least_recent lacking (window_of es))
+  pub others-first : (lacking : ℕ) (es : List (Entry K V)) → All IsOther es → All IsOther (least_recent lacking (window_of es))
   others-first lacking es all = All-least_recent IsOther lacking (window_of es) (All-filter (λ e. is_window e.part) IsOther es all)
 
 module _ {K V : Type 0} (eq : K → K → Bool) (laws : IsEquivalence eq) (keeps : Bool) (limits : PartLimits) (sketch : Option Table) (new : Entry K V) where
@@ -372,10 +372,10 @@ module _ {K V : Type 0} (eq : K → K → Bool) (laws : IsEquivalence eq) (keeps
       (apart-new (main_of contents.entries) (All-filter (λ e. not (is_window e.part)) (IsOther eq new.key) contents.entries none.entries))
 
   -- the new entry in the window changes nothing for the others
-  main-push : (contents : Contents K V) → main_of (after_entry eq keeps (inside new) contents).entries ≡ main_of contents.entries
+  pub main-push : (contents : Contents K V) → main_of (after_entry eq keeps (inside new) contents).entries ≡ main_of contents.entries
   main-push contents = failed-push (λ e. not (is_window e.part)) contents.entries (inside new) refl
 
-  candidate-push : (c : Entry K V) (contents : Contents K V) → IsOther eq new.key c → HasNone eq new.key contents
+  pub candidate-push : (c : Entry K V) (contents : Contents K V) → IsOther eq new.key c → HasNone eq new.key contents
       → after_candidate eq limits sketch (after_entry eq keeps (inside new) contents) c
       ≡ after_entry eq keeps (inside new) (after_candidate eq limits sketch contents c)
   candidate-push c contents differ none =
@@ -384,7 +384,7 @@ module _ {K V : Type 0} (eq : K → K → Bool) (laws : IsEquivalence eq) (keeps
       ∙ candidacy-push eq keeps (inside new) refl c (victims_of (Some (main_limit limits)) sketch c (main_of contents.entries)) contents
       (laws.symm c.key new.key ∙ differ) (victims-apart c contents none)
 
-  candidates-push : (cs : List (Entry K V)) (contents : Contents K V) → All (IsOther eq new.key) cs → HasNone eq new.key contents
+  pub candidates-push : (cs : List (Entry K V)) (contents : Contents K V) → All (IsOther eq new.key) cs → HasNone eq new.key contents
       → after_candidates eq limits sketch cs (after_entry eq keeps (inside new) contents)
       ≡ after_entry eq keeps (inside new) (after_candidates eq limits sketch cs contents)
   candidates-push [] contents others none = refl
@@ -434,7 +434,7 @@ module _ {K V : Type 0} (eq : K → K → Bool) (laws : IsEquivalence eq) (keeps
   -- if they weigh as much as has to leave
   pub entering-is_kept : (contents : Contents K V) → entry_at eq new.key contents.entries ≡ None
       → writes_without eq new.key contents.written ≡ contents.written → excess_left limits new contents.entries ≡ 0
-      → after_entering eq keeps limits sketch new contents ≡ after_entry eq keeps (inside new) (after_judging eq limits sketch new contents)
+      → after_entering eq keeps limits sketch new contents ≡ after_entry eq keeps (inside new) (after_judged eq limits sketch new contents)
   entering-is_kept contents absent unwritten enough =
       let none = none-absent eq new.key contents absent unwritten in
       let lacking = entering_excess limits new contents.entries in
@@ -450,8 +450,8 @@ module _ {K V : Type 0} (eq : K → K → Bool) (laws : IsEquivalence eq) (keeps
       → writes_without eq new.key contents.written ≡ contents.written → 0 < excess_left limits new contents.entries
       → after_entering eq keeps limits sketch new contents
       ≡ after_admission eq keeps (outside new)
-      (victims_of (Some (main_limit limits)) sketch (outside new) (main_of (after_judging eq limits sketch new contents).entries))
-      (after_judging eq limits sketch new contents)
+      (victims_of (Some (main_limit limits)) sketch (outside new) (main_of (after_judged eq limits sketch new contents).entries))
+      (after_judged eq limits sketch new contents)
   entering-is_judged contents absent unwritten lacks =
       let none = none-absent eq new.key contents absent unwritten in
       let lacking = entering_excess limits new contents.entries in
@@ -464,14 +464,14 @@ module _ {K V : Type 0} (eq : K → K → Bool) (laws : IsEquivalence eq) (keeps
       (least_recent-last lacking (window_of contents.entries) (inside new) lacks)
       ∙ (fold-append (after_candidate eq limits sketch) entered first (inside new ∷ [])
       ∙ (ap (λ c. after_candidate eq limits sketch c (inside new)) (candidates-push first contents others none)
-      ∙ candidate-last (after_judging eq limits sketch new contents) (none-candidates eq new.key limits sketch first contents others none))))
+      ∙ candidate-last (after_judged eq limits sketch new contents) (none-candidates eq new.key limits sketch first contents others none))))
 
   -- no entry stands at its key before it enters or arrives
   pub absent-judged : (contents : Contents K V) → entry_at eq new.key contents.entries ≡ None
-      → entry_at eq new.key (after_judging eq limits sketch new contents).entries ≡ None
+      → entry_at eq new.key (after_judged eq limits sketch new contents).entries ≡ None
   absent-judged contents absent =
       let all = others-absent eq new.key contents.entries absent in
-      absent-others eq new.key (after_judging eq limits sketch new contents).entries
+      absent-others eq new.key (after_judged eq limits sketch new contents).entries
       (others-candidates eq new.key limits sketch (judged_first limits new contents.entries) contents
       (others-first eq new.key (entering_excess limits new contents.entries) contents.entries all) all)
 

@@ -6,7 +6,7 @@ use Rattle.moka_common.specs.Keys.{Keys}
 use Rattle.moka_common.specs.Moment.{idle_expired, live_expired}
 use Rattle.moka_common.specs.Settings.{idle_nanos, live_nanos}
 use Rattle.moka_unsync_model.specs.History.{Exchange, LastWrite, is_over, last_write}
-use Rattle.moka_unsync_model.specs.Removal.{Invalidated, Expired, AboveLimit, Displaced, Rejected}
+use Rattle.moka_unsync_model.specs.Removal.{Invalidated, Expired, AboveLimit, Displaced, GivenUp, Rejected}
 use Rattle.moka_unsync_model.specs.Excluded.{EntriesWithoutCauseStay, ExpiredValuesAreNotCurrent, ReplacedValuesAreNotCurrent, inserted}
 use Rattle.moka_unsync_model.proofs.HistoryLemmas.{one_of, something}
 
@@ -40,3 +40,5 @@ module _ {K S : Type 0} (keys : Keys K S) (V W : Type 0) where
   without_cause old new request e unlimited valid fresh (Displaced key value now limit entered asked other stands used limited full) =
       something unlimited limited
   without_cause old new request e unlimited valid fresh (Rejected key value now limit asked waits limited full) = something unlimited limited
+  without_cause old new request e unlimited valid fresh (GivenUp key value now limit entered asked stands waits grown limited full) =
+      something unlimited limited

@@ -19,8 +19,8 @@ use Rattle.moka_common.specs.Sketch.{Table}
 use Rattle.moka_unsync_model.specs.Cleanup.{after_expiry, after_idle, after_live_expiry, after_trim, after_cleanup, is_past_ttl, is_idle, least_recent}
 use Rattle.moka_unsync_model.specs.Lookup.{after_get, after_use, after_look, unexpired_at, after_using}
 use Rattle.moka_unsync_model.specs.Cleanup.{is_expired, unexpired}
-use Rattle.moka_unsync_model.specs.Insert.{after_entering, after_entry, after_new, after_put, after_verdict, new_entry}
-use Rattle.moka_unsync_model.specs.Window.{after_candidacy, after_candidates, candidates, victims_of}
+use Rattle.moka_unsync_model.specs.Insert.{Refused, after_entering, after_entry, after_new, after_put, after_turn, after_verdict, new_entry}
+use Rattle.moka_unsync_model.specs.Window.{after_candidacy, after_candidates, after_sharing, candidates, given_up, victims_of}
 use Rattle.moka_unsync_model.specs.Invalidate.{chosen}
 use Rattle.moka_unsync_model.specs.Iterate.{unexpired_pairs}
 use Rattle.moka_unsync_model.specs.Step.{Answer, IsStep, Request, Get, Peek, ContainsKey, Insert, Invalidate, Remove, InvalidateAll}
@@ -41,7 +41,9 @@ use Rattle.moka_unsync_model.specs.declared.shares.PartLimits.{PartLimits}
 use Rattle.moka_unsync_model.specs.Shares.{main_limit}
 use Rattle.moka_unsync_model.specs.declared.entry.Part.TheVariants.{Probation, Window}
 use Rattle.moka_unsync_model.specs.declared.shares.Shares.{Shares}
-use Rattle.moka_unsync_model.proofs.PartLemmas.{placed-some}
+use Rattle.moka_unsync_model.proofs.PartLemmas.{entry_at-demoted, placed-some, waits-demoted}
+use Rattle.moka_unsync_model.proofs.SharingLemmas.{stays_of}
+use Rattle.moka_unsync_model.specs.Memory.{Memory}
 
 -- a key among those of entries is that of one of them
 pub any-key : {K V : Type 0} (test : K → Bool) (entries : List (Entry K V))
@@ -149,6 +151,31 @@ module _ {K V : Type 0} (eq : K → K → Bool) (laws : IsEquivalence eq) where
   same-both a b c f g =
       record { but = g.but ∙ ap (λ (e : Entry K V). record e { part = c.part }) f.but; waits = λ w. f.waits (g.waits w) }
 
+  -- what stands once the limits changed stood before
+  pub found-sharing : (limits : PartLimits) (gained : ℕ) (contents : Contents K V) (key : K) (e : Entry K V)
+      → entry_at eq key (after_sharing eq limits gained contents).entries ≡ Some e
+      → (old : Entry K V) × (entry_at eq key contents.entries ≡ Some old) × IsSame old e
+  found-sharing limits gained contents key e h =
+      let left = stays_of eq limits gained contents in
+      let weight = total_weight (protected_of left.entries) - limits.protected in
+      let (f, at) = entry_at-demoted eq key weight left.entries in
+      let (old, stood, but) = placed-some f (entry_at eq key left.entries) e (sym at ∙ h) in
+      let before = (found-leaving laws (λ x. x.key) (given_up limits gained contents.entries) contents key old stood).1 in (
+        old,
+        before,
+        record {
+          but = but;
+          waits = λ w. subst (λ (x : Entry K V). is_window x.part ≡ true) (one_of (waits-demoted eq key weight left.entries e h w) stood) w;
+        },
+      )
+
+  pub found-turned : {S W : Type 0} (cache : CacheState K V S W) (memory : Option Memory) (limits : PartLimits) (new : Entry K V)
+      (contents : Contents K V) (key : K) (e : Entry K V)
+      → entry_at eq key (after_turn eq cache memory limits new contents).contents.entries ≡ Some e
+      → (old : Entry K V) × (entry_at eq key contents.entries ≡ Some old) × IsSame old e
+  found-turned cache None limits new contents key e h = (e, h, same-self e)
+  found-turned cache (Some memory) limits new contents key e h = found-sharing _ _ contents key e h
+
   -- what stands once a candidate was judged stood before
   found-candidacy : (c : Entry K V) (contents : Contents K V) → entry_at eq c.key contents.entries ≡ Some c
       → (gone : Option (List (Entry K V))) (key : K) (e : Entry K V) → entry_at eq key (after_candidacy eq c gone contents).entries ≡ Some e
@@ -254,7 +281,7 @@ module _ {K V S : Type 0} (keys : Keys K S) (laws : IsEquivalence keys.eq) where
 
 module _ {K V S W : Type 0} (keys : Keys K S) (laws : IsEquivalence keys.eq) where
   -- an entry that is put where none or another stands
-  told-put : (known : K → Option (LastWrite V)) (cache : CacheState K V S W) (o : Option (Entry K V)) (new : Entry K V) (refused : Bool)
+  told-put : (known : K → Option (LastWrite V)) (cache : CacheState K V S W) (o : Option (Entry K V)) (new : Entry K V) (refused : Refused)
       → IsTold keys laws known cache.contents.entries → StandOnce keys.eq cache.contents.entries
       → entry_at keys.eq new.key cache.contents.entries ≡ o
       → IsTold keys laws (λ key. cond (keys.eq new.key key) (Some (last_write_of new)) (known key))
@@ -304,11 +331,17 @@ module _ {K V S W : Type 0} (keys : Keys K S) (laws : IsEquivalence keys.eq) whe
       entering (Some limit) h =
           let keeps = keeps_writes cache.settings.policy in
           let contents = after_entering keys.eq keeps limit cache.sketch new cache.contents in
-          elim (found-entering keys.eq laws keeps limit cache.sketch new cache.contents none once key e
-          (sym (ap (λ c. entry_at keys.eq key c.entries) (contents-standing keys.eq (record cache { contents = contents }) new refused)) ∙ h)) [
-            | inl (equal, same) ↦ cond-true (keys.eq new.key key) _ _ equal ∙ ap (λ e. Some (last_write_of e)) (sym same)
+          let next = after_turn keys.eq cache cache.memory limit new contents in
+          let (x, stands, moved) =
+          found-turned keys.eq laws cache cache.memory limit new contents key e
+          (sym (ap (λ c. entry_at keys.eq key c.entries) (contents-standing keys.eq next new refused)) ∙ h) in
+          elim (found-entering keys.eq laws keeps limit cache.sketch new cache.contents none once key x stands) [
+            | inl (equal, same) ↦
+                cond-true (keys.eq new.key key) _ _ equal
+                ∙ (ap (λ e. Some (last_write_of e)) (sym same) ∙ ap (λ e. Some (last_write_of e)) (sym moved.but))
             | inr (differ, (old, stood, same)) ↦
-                cond-false (keys.eq new.key key) _ _ differ ∙ (told key old stood ∙ ap (λ e. Some (last_write_of e)) (sym same.but))
+                cond-false (keys.eq new.key key) _ _ differ
+                ∙ (told key old stood ∙ (ap (λ e. Some (last_write_of e)) (sym same.but) ∙ ap (λ e. Some (last_write_of e)) (sym moved.but)))
           ]
 
   pub told-cleanup : (known : K → Option (LastWrite V)) (cache : CacheState K V S W) (now : ℕ)

@@ -14,8 +14,8 @@ use Rattle.moka_unsync_model.specs.declared.entry.Entry.{Entry}
 use Rattle.moka_unsync_model.specs.Contents.{Contents, after_leaving, after_moving, entry_at, entries_without, entry_keys, main_of, with_latest, without}
 use Rattle.moka_unsync_model.specs.Contents.{protected_of, total_weight}
 use Rattle.moka_unsync_model.specs.CacheState.{CacheState, new_cache, room_of, windowed}
-use Rattle.moka_unsync_model.specs.Insert.{after_asking, after_entering, after_entry, after_new, after_put, after_standing, after_verdict, new_entry}
-use Rattle.moka_unsync_model.specs.Window.{after_candidacy, after_candidates, candidates, victims_of}
+use Rattle.moka_unsync_model.specs.Insert.{Refused, after_asking, after_entering, after_entry, after_new, after_put, after_standing, after_turn, after_verdict, new_entry}
+use Rattle.moka_unsync_model.specs.Window.{after_candidacy, after_candidates, after_sharing, candidates, victims_of}
 use Rattle.moka_unsync_model.specs.Laws.{KeysStandOnce, Remains}
 use Rattle.moka_unsync_model.specs.Lookup.{after_look, after_use, unexpired_at, after_using, used_part}
 use Rattle.moka_unsync_model.specs.Iterate.{pairs_of}
@@ -28,6 +28,7 @@ use Rattle.moka_unsync_model.specs.declared.shares.PartLimits.{PartLimits}
 use Rattle.moka_unsync_model.specs.Shares.{main_limit}
 use Rattle.moka_unsync_model.specs.declared.entry.Part.TheVariants.{Probation, Window}
 use Rattle.moka_unsync_model.proofs.PartLemmas.{keys-demoted}
+use Rattle.moka_unsync_model.proofs.SharingLemmas.{left-remains, stays_of, turned}
 
 module _ {K V : Type 0} where
   -- the pairs have the entries' keys
@@ -196,9 +197,26 @@ module _ {K V : Type 0} (eq : K → K → Bool) where
         let gone = victims_of (Some (main_limit limits)) sketch e (main_of contents.entries) in
         once-candidates limits sketch es (after_candidacy eq e gone contents) (once-candidacy e gone contents once)
 
+    -- a change of the limits
+    pub once-sharing : (limits : PartLimits) (gained : ℕ) (contents : Contents K V) → StandOnce contents.entries
+        → StandOnce (after_sharing eq limits gained contents).entries
+    once-sharing limits gained contents once =
+        let left = stays_of eq limits gained contents in
+        subst (IsDistinct eq) (sym (keys-demoted (total_weight (protected_of left.entries) - limits.protected) left.entries))
+        (once-remains contents left (left-remains eq limits gained contents) once)
+
+    -- a new entry that enters the window
+    pub once-entering : (keeps : Bool) (limits : PartLimits) (sketch : Option Table) (new : Entry K V) (contents : Contents K V)
+        → entry_at eq new.key contents.entries ≡ None → StandOnce contents.entries
+        → StandOnce (after_entering eq keeps limits sketch new contents).entries
+    once-entering keeps limits sketch new contents absent once =
+        let entered = after_entry eq keeps (record new { part = Window }) contents in
+        once-candidates limits sketch (candidates limits entered.entries) entered
+        (once-push contents.entries (record new { part = Window }) absent once)
+
 module _ {K V S W : Type 0} (eq : K → K → Bool) where
   -- asking for a table changes no contents
-  pub contents-standing : (cache : CacheState K V S W) (new : Entry K V) (refused : Bool)
+  pub contents-standing : (cache : CacheState K V S W) (new : Entry K V) (refused : Refused)
       → (after_standing eq cache new refused).contents ≡ cache.contents
   contents-standing cache new refused = by (is_some (entry_at eq new.key cache.contents.entries))
     where
@@ -207,7 +225,7 @@ module _ {K V S W : Type 0} (eq : K → K → Bool) where
       by false = refl
 
 module _ {K V S W : Type 0} (eq : K → K → Bool) (laws : IsEquivalence eq) where
-  once-verdict : (cache : CacheState K V S W) (new : Entry K V) (gone : Option (List (Entry K V))) (refused : Bool)
+  once-verdict : (cache : CacheState K V S W) (new : Entry K V) (gone : Option (List (Entry K V))) (refused : Refused)
       → entry_at eq new.key cache.contents.entries ≡ None
       → StandOnce eq cache.contents.entries → StandOnce eq (after_verdict eq cache new gone refused).contents.entries
   once-verdict cache new None refused absent once = once
@@ -217,7 +235,7 @@ module _ {K V S W : Type 0} (eq : K → K → Bool) (laws : IsEquivalence eq) wh
       (once-remains eq cache.contents left (remains-leaving eq (entry_keys gone) cache.contents) once)
 
   -- an entry that enters the window stands once
-  once-new : (cache : CacheState K V S W) (limit : Option PartLimits) (new : Entry K V) (refused : Bool)
+  once-new : (cache : CacheState K V S W) (limit : Option PartLimits) (new : Entry K V) (refused : Refused)
       → entry_at eq new.key cache.contents.entries ≡ None
       → StandOnce eq cache.contents.entries → StandOnce eq (after_new eq cache limit new refused).contents.entries
   once-new cache None new refused absent once =
@@ -226,11 +244,14 @@ module _ {K V S W : Type 0} (eq : K → K → Bool) (laws : IsEquivalence eq) wh
       let keeps = keeps_writes cache.settings.policy in
       let entered = after_entry eq keeps (record new { part = Window }) cache.contents in
       let contents = after_entering eq keeps limit cache.sketch new cache.contents in
-      subst (λ c. StandOnce eq c.entries) (sym (contents-standing eq (record cache { contents = contents }) new refused))
-      (once-candidates eq laws limit cache.sketch (candidates limit entered.entries) entered
-      (once-push eq laws cache.contents.entries (record new { part = Window }) absent once))
+      let there =
+      once-candidates eq laws limit cache.sketch (candidates limit entered.entries) entered
+      (once-push eq laws cache.contents.entries (record new { part = Window }) absent once) in
+      subst (λ c. StandOnce eq c.entries) (sym (contents-standing eq (after_turn eq cache cache.memory limit new contents) new refused))
+      (turned eq (λ c. StandOnce eq c.entries) cache cache.memory limit new contents there
+      (λ shared gained. once-sharing eq laws shared gained contents there))
 
-  once-insert : (cache : CacheState K V S W) (o : Option (Entry K V)) (new : Entry K V) (refused : Bool)
+  once-insert : (cache : CacheState K V S W) (o : Option (Entry K V)) (new : Entry K V) (refused : Refused)
       → entry_at eq new.key cache.contents.entries ≡ o
       → StandOnce eq cache.contents.entries → StandOnce eq (after_put eq cache o new refused).contents.entries
   once-insert cache None new refused absent once = once-new cache (windowed cache) new refused absent once

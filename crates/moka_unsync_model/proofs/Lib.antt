@@ -1,8 +1,10 @@
 pub mod ContentsLemmas
 pub mod EnteringLemmas
+pub mod JudgementLemmas
 pub mod PartLemmas
 pub mod WindowLemmas
 pub mod RemainLemmas
+pub mod SharingLemmas
 pub mod CandidateLemmas
 pub mod LimitLemmas
 pub mod KeyLemmas
@@ -16,8 +18,11 @@ pub mod GetOrInsertLemmas
 pub mod ShareLemmas
 pub mod UseLemmas
 pub mod HistoryLemmas
+pub mod TurnLemmas
 pub mod TiedLemmas
 pub mod CauseLemmas
+pub mod BoundLemmas
+pub mod WorkLemmas
 pub mod RemovalLemmas
 pub mod ExcludedLemmas
 pub mod ToldLemmas

@@ -20,9 +20,9 @@ use Rattle.moka_unsync_model.specs.CacheState.{CacheState, new_cache, room_of, w
 use Rattle.moka_common.specs.Settings.{keeps_writes}
 use Rattle.moka_unsync_model.specs.Cleanup.{after_expiry, after_idle, after_live_expiry, after_trim, after_cleanup}
 use Rattle.moka_unsync_model.specs.Cleanup.{is_past_ttl, least_recent, is_expired, unexpired}
-use Rattle.moka_unsync_model.specs.Insert.{IsInserted, after_admission, after_asking, after_entering, after_entry, after_new, after_put, after_verdict}
+use Rattle.moka_unsync_model.specs.Insert.{Refused, IsInserted, after_admission, after_asking, after_entering, after_entry, after_new, after_put, after_turn, after_verdict}
 use Rattle.moka_unsync_model.specs.Insert.{new_entry}
-use Rattle.moka_unsync_model.specs.Window.{after_candidacy, after_candidates, candidates, excess, victims_of}
+use Rattle.moka_unsync_model.specs.Window.{after_candidacy, after_candidates, after_sharing, candidates, excess, victims_of}
 use Rattle.moka_unsync_model.specs.Invalidate.{chosen}
 use Rattle.moka_unsync_model.specs.Laws.{IsUpdate, OnlyUpdatesOutgrowLimit, StaysWithinLimit}
 use Rattle.moka_unsync_model.specs.Lookup.{after_search, after_use, unexpired_at, after_using}
@@ -33,9 +33,10 @@ use Rattle.moka_unsync_model.proofs.WindowLemmas.{total-latest, total-main_lates
 use Rattle.moka_unsync_model.proofs.CandidateLemmas.{All-new, least_parts, victims_weigh}
 use Rattle.moka_unsync_model.proofs.MapLemmas.{terms-put}
 use Rattle.moka_unsync_model.proofs.RemainLemmas.{filter-all, filter-both}
-use Rattle.moka_unsync_model.proofs.PartLemmas.{All-using, total-using}
+use Rattle.moka_unsync_model.proofs.PartLemmas.{All-using, total-demoted, total-using}
+use Rattle.moka_unsync_model.proofs.SharingLemmas.{left-remains, stays_of, turned}
 use Rattle.moka_unsync_model.specs.declared.shares.PartLimits.{PartLimits}
-use Rattle.moka_unsync_model.specs.Shares.{limits_of, main_limit, windowed_limits}
+use Rattle.moka_unsync_model.specs.Shares.{hundredths, limits_of, main_limit, windowed_limits}
 use Rattle.moka_unsync_model.specs.declared.entry.Part.TheVariants.{Probation, Window}
 
 and-false : (a b : Bool) → b ≡ false → (a && b) ≡ false
@@ -57,7 +58,7 @@ module _ {K V : Type 0} where
   pub total-cons : (e : Entry K V) (es : List (Entry K V)) → total_weight (e ∷ es) ≡ e.weight + total_weight es
   total-cons e es = sum_by-cons (λ e. e.weight) e es
 
-  total-push : (e : Entry K V) (es : List (Entry K V)) → total_weight (es ++ e ∷ []) ≡ total_weight es + e.weight
+  pub total-push : (e : Entry K V) (es : List (Entry K V)) → total_weight (es ++ e ∷ []) ≡ total_weight es + e.weight
   total-push e es = sum_by_push (λ e. e.weight) es e
 
   -- what passes a test weighs no more than all
@@ -84,7 +85,7 @@ module _ {K V : Type 0} where
   total-ones (e ∷ es) ones = total-cons e es ∙ ((λ i. ones.0 i + total-ones es ones.1 i) ∙ grind (arith))
 
   module _ (eq : K → K → Bool) where
-    total-leaving : (keys : List K) (contents : Contents K V)
+    pub total-leaving : (keys : List K) (contents : Contents K V)
         → total_weight (after_leaving eq keys contents).entries ≤ total_weight contents.entries
     total-leaving [] contents = grind (arith)
     total-leaving (key ∷ keys) contents =
@@ -138,7 +139,7 @@ module _ {K V : Type 0} where
           (total-behind (λ e. is_unlisted eq (entry_keys front) e.key) front rest (all-listed front))
 
       -- without an entry that was found, the others weigh as much less
-      total-found : (key : K) (e : Entry K V) (es : List (Entry K V)) → entry_at eq key es ≡ Some e
+      pub total-found : (key : K) (e : Entry K V) (es : List (Entry K V)) → entry_at eq key es ≡ Some e
           → total_weight (entries_without eq e.key es) + e.weight ≤ total_weight es
       total-found key e [] h = absurd (false≢true (ap is_some h))
       total-found key e (f ∷ fs) h =
@@ -170,6 +171,18 @@ module _ {K V : Type 0} where
         | inl expired ↦ absurd (false≢true (ap is_some (sym (cond-true (is_expired policy now e) None (Some e) expired) ∙ h)))
         | inr fresh ↦ sym (cond-false (is_expired policy now e) None (Some e) fresh) ∙ h
       ]
+
+module _ {K V : Type 0} (eq : K → K → Bool) where
+  -- a change of the limits leaves no more weight
+  pub total-sharing : (limits : PartLimits) (gained : ℕ) (contents : Contents K V)
+      → total_weight (after_sharing eq limits gained contents).entries ≤ total_weight contents.entries
+  total-sharing limits gained contents =
+      let left = stays_of eq limits gained contents in
+      let remains = left-remains eq limits gained contents in
+      subst (λ n. n ≤ total_weight contents.entries)
+      (sym (total-demoted (total_weight (protected_of left.entries) - limits.protected) left.entries))
+      (subst (λ l. total_weight l ≤ total_weight contents.entries) (sym remains.entries)
+      (total-filter (λ e. remains.stays e.key) contents.entries))
 
 module _ {K V : Type 0} (eq : K → K → Bool) (laws : IsEquivalence eq) where
   -- the contents weigh no more than before, or no more than the limit
@@ -381,22 +394,23 @@ module _ {K V S W : Type 0} (keys : Keys K S) (laws : IsEquivalence keys.eq) (we
   HasLimit limit cache = cache.settings.policy.max_capacity ≡ Some limit
 
   -- an insert that finds no entry of its key leaves no more weight, or no more than the limit
-  bounded_put : (cache : CacheState K V S W) (limit : ℕ) (new : Entry K V) (refused : Bool) → HasLimit limit cache
+  bounded_put : (cache : CacheState K V S W) (limit : ℕ) (new : Entry K V) (refused : Refused) → HasLimit limit cache
       → (o : Option (Entry K V)) → is_some o ≡ false
       → IsBounded keys.eq laws limit cache.contents (after_put keys.eq cache o new refused).contents
   bounded_put cache limit new refused has (Some old) none = absurd (false≢true (sym none))
   bounded_put cache limit new refused has None none =
       subst (λ l. IsBounded keys.eq laws limit cache.contents (after_new keys.eq cache (windowed_limits cache.shares l) new refused).contents)
       (sym has)
-      (elim (cases_Bool (nat_lt 0 (limits_of cache.shares limit).window)) [
+      (elim (cases_Bool (nat_lt 0 (hundredths cache.shares.window limit))) [
         | inl windowed ↦
             subst (λ l. IsBounded keys.eq laws limit cache.contents (after_new keys.eq cache l new refused).contents)
-            (sym (cond-true (nat_lt 0 (limits_of cache.shares limit).window) (Some (limits_of cache.shares limit)) None windowed))
-            (standing (is_some (entry_at keys.eq new.key entered.entries))
-            (bounded_entering keys.eq laws (keeps_writes cache.settings.policy) (limits_of cache.shares limit) cache.sketch new cache.contents))
+            (sym (cond-true (nat_lt 0 (hundredths cache.shares.window limit)) (Some (limits_of cache.shares limit)) None windowed))
+            (standing (is_some (entry_at keys.eq new.key next.contents.entries))
+            (turned keys.eq (IsBounded keys.eq laws limit cache.contents) cache cache.memory (limits_of cache.shares limit) new entered bounded
+            (λ shared gained. bounded-less (after_sharing keys.eq shared gained entered) (total-sharing keys.eq shared gained entered) bounded)))
         | inr low ↦
             subst (λ l. IsBounded keys.eq laws limit cache.contents (after_new keys.eq cache l new refused).contents)
-            (sym (cond-false (nat_lt 0 (limits_of cache.shares limit).window) (Some (limits_of cache.shares limit)) None low))
+            (sym (cond-false (nat_lt 0 (hundredths cache.shares.window limit)) (Some (limits_of cache.shares limit)) None low))
             (subst (λ l. IsBounded keys.eq laws limit cache.contents
             (after_verdict keys.eq cache new (victims_of l cache.sketch new cache.contents.entries) refused).contents) (sym has)
             (by (victims_of (Some limit) cache.sketch new cache.contents.entries)
@@ -407,9 +421,20 @@ module _ {K V S W : Type 0} (keys : Keys K S) (laws : IsEquivalence keys.eq) (we
       entered : Contents K V
       entered = after_entering keys.eq (keeps_writes cache.settings.policy) (limits_of cache.shares limit) cache.sketch new cache.contents
 
-      standing : (b : Bool) → IsBounded keys.eq laws limit cache.contents entered
-          → IsBounded keys.eq laws limit cache.contents
-          (cond b (after_asking keys.eq refused (record cache { contents = entered })) (record cache { contents = entered })).contents
+      next : CacheState K V S W
+      next = after_turn keys.eq cache cache.memory (limits_of cache.shares limit) new entered
+
+      bounded : IsBounded keys.eq laws limit cache.contents entered
+      bounded =
+          bounded_entering keys.eq laws (keeps_writes cache.settings.policy) (limits_of cache.shares limit) cache.sketch new cache.contents
+
+      bounded-less : (contents : Contents K V) → total_weight contents.entries ≤ total_weight entered.entries
+          → IsBounded keys.eq laws limit cache.contents entered → IsBounded keys.eq laws limit cache.contents contents
+      bounded-less contents less (inl h) = inl (grind (arith, less, h))
+      bounded-less contents less (inr h) = inr (grind (arith, less, h))
+
+      standing : (b : Bool) → IsBounded keys.eq laws limit cache.contents next.contents
+          → IsBounded keys.eq laws limit cache.contents (cond b (after_asking keys.eq refused next) next).contents
       standing true bounded = bounded
       standing false bounded = bounded
 
@@ -497,7 +522,7 @@ module _ {K V : Type 0} (eq : K → K → Bool) where
   abbrev pub AllOne : List (Entry K V) → Type 0
   AllOne es = All (λ e. e.weight ≡ 1) es
 
-  ones_found : (key : K) (es : List (Entry K V)) (e : Entry K V) → AllOne es → entry_at eq key es ≡ Some e → e.weight ≡ 1
+  pub ones_found : (key : K) (es : List (Entry K V)) (e : Entry K V) → AllOne es → entry_at eq key es ≡ Some e → e.weight ≡ 1
   ones_found key [] e ones h = absurd (false≢true (ap is_some h))
   ones_found key (f ∷ fs) e ones h =
       elim (cases_Bool (eq key f.key)) [
@@ -532,7 +557,7 @@ module _ {K V S W : Type 0} (keys : Keys K S) (laws : IsEquivalence keys.eq) (we
     pub ones : AllOne keys.eq cache.contents.entries
     pub fits : total_weight cache.contents.entries ≤ limit
 
-  within_put : (limit : ℕ) (cache : CacheState K V S W) (new : Entry K V) (refused : Bool) → IsWithin limit cache → new.weight ≡ 1
+  within_put : (limit : ℕ) (cache : CacheState K V S W) (new : Entry K V) (refused : Refused) → IsWithin limit cache → new.weight ≡ 1
       → (o : Option (Entry K V)) → entry_at keys.eq new.key cache.contents.entries ≡ o
       → IsWithin limit (after_put keys.eq cache o new refused)
   within_put limit cache new refused within one (Some old) at =

@@ -22,7 +22,8 @@ use Rattle.moka_common.specs.Settings.{Settings, idle_nanos, keeps_writes, live_
 use Rattle.moka_unsync_model.specs.Cleanup.{after_expiry, after_idle, after_idle_expiry, after_trim, after_cleanup, is_past_ttl, is_idle, is_expired}
 use Rattle.moka_unsync_model.specs.Cleanup.{unexpired}
 use Rattle.moka_unsync_model.specs.Lookup.{after_look, after_search, after_use, found_by_get, found_by_peek, unexpired_at, after_using, used_part}
-use Rattle.moka_unsync_model.specs.Insert.{after_asking, after_entering, after_new, after_put, after_verdict, new_entry}
+use Rattle.moka_unsync_model.specs.Memory.{Memory}
+use Rattle.moka_unsync_model.specs.Insert.{Refused, after_asking, after_entering, after_new, after_put, after_standing, after_turn, after_verdict, new_entry}
 use Rattle.moka_unsync_model.specs.Window.{victims_of}
 use Rattle.moka_unsync_model.specs.Invalidate.{chosen}
 use Rattle.moka_unsync_model.specs.Iterate.{unexpired_pairs, pairs_of}
@@ -267,7 +268,7 @@ module _ {K V : Type 0} {eq : K → K → Bool} (laws : IsEquivalence eq) (key :
 
   module _ {S W : Type 0} where
     -- an insert brings the value
-    value-inserted : (cache : CacheState K V S W) (o : Option (Entry K V)) (new : Entry K V) (refused : Bool)
+    value-inserted : (cache : CacheState K V S W) (o : Option (Entry K V)) (new : Entry K V) (refused : Refused)
         → cache.settings.policy.max_capacity ≡ None
         → entry_at eq new.key cache.contents.entries ≡ o
         → value_in (after_put eq cache o new refused).contents.entries ≡ cond (eq new.key key) (Some new.value)
@@ -337,11 +338,24 @@ told_by_value (Some e) = refl
 
 -- what a cache was made with
 abbrev pub terms_of : {K V S W : Type 0} → CacheState K V S W → Settings S × Shares
-terms_of cache = (cache.settings, cache.shares)
+terms_of cache = (cache.settings, record cache.shares { extra = 0 })
+
+-- its settings and its shares as they are
+abbrev pub given_of : {K V S W : Type 0} → CacheState K V S W → Settings S × Shares
+given_of cache = (cache.settings, cache.shares)
 
 module _ {K V S W : Type 0} (eq : K → K → Bool) where
+  -- asking for a table changes neither
+  pub given-standing : (cache : CacheState K V S W) (new : Entry K V) (refused : Refused)
+      → given_of (after_standing eq cache new refused) ≡ given_of cache
+  given-standing cache new refused = by (is_some (entry_at eq new.key cache.contents.entries))
+    where
+      by : (b : Bool) → given_of (cond b (after_asking eq refused cache) cache) ≡ given_of cache
+      by true = refl
+      by false = refl
+
   -- an insert leaves that
-  pub terms-put : (cache : CacheState K V S W) (o : Option (Entry K V)) (new : Entry K V) (refused : Bool)
+  pub terms-put : (cache : CacheState K V S W) (o : Option (Entry K V)) (new : Entry K V) (refused : Refused)
       → terms_of (after_put eq cache o new refused) ≡ terms_of cache
   terms-put cache None new refused = terms-new (windowed cache)
     where
@@ -354,11 +368,17 @@ module _ {K V S W : Type 0} (eq : K → K → Bool) where
       standing true left same = same
       standing false left same = same
 
+      turning : (memory : Option Memory) (limit : PartLimits) (contents : Contents K V)
+          → terms_of (after_turn eq cache memory limit new contents) ≡ terms_of cache
+      turning None limit contents = refl
+      turning (Some memory) limit contents = refl
+
       terms-new : (limit : Option PartLimits) → terms_of (after_new eq cache limit new refused) ≡ terms_of cache
       terms-new None = by (victims_of cache.settings.policy.max_capacity cache.sketch new cache.contents.entries)
       terms-new (Some limit) =
           let contents = after_entering eq (keeps_writes cache.settings.policy) limit cache.sketch new cache.contents in
-          standing (is_some (entry_at eq new.key contents.entries)) (record cache { contents = contents }) refl
+          let next = after_turn eq cache cache.memory limit new contents in
+          standing (is_some (entry_at eq new.key next.contents.entries)) next (turning cache.memory limit contents)
   terms-put cache (Some old) new refused = refl
 
 module _ {K V S W : Type 0} (keys : Keys K S) where

@@ -1,5 +1,5 @@
 -- Lemmas on main, which stands before the window, and on a window that stays empty.
-use Rattle.std.proofs.Common.{◌≡◌, ℕ, Bool, true, false, not, List, [], ◌∷◌, ◌++◌, All, is_some}
+use Rattle.std.proofs.Common.{◌≡◌, ℕ, Bool, true, false, cond, nat_lt, not, List, [], ◌∷◌, ◌++◌, All, is_some}
 use Rattle.std.proofs.Common.{Option, Some, None, refl, sym, ap, ◌∙◌, subst, inl, inr, append_assoc}
 use Rattle.std.proofs.lemmas.Bool.{cond-false, false≢true}
 use Rattle.std.proofs.lemmas.List.Elements.{All-filter, All-from_recursion, All-head, All-tail, All-cons}
@@ -11,8 +11,8 @@ use Rattle.moka_unsync_model.specs.Contents.{Contents, after_leaving, entry_at, 
 use Rattle.moka_unsync_model.specs.Contents.{is_before, is_window, probation_of, protected_of}
 use Rattle.moka_unsync_model.specs.CacheState.{CacheState, new_cache, room_of, windowed}
 use Rattle.moka_unsync_model.specs.Lookup.{after_look, after_use, unexpired_at, after_using, used_part}
-use Rattle.moka_unsync_model.specs.Insert.{after_entering, after_entry, after_new, after_put, after_verdict, new_entry}
-use Rattle.moka_unsync_model.specs.Window.{after_candidacy, after_candidates, candidates, victims_of}
+use Rattle.moka_unsync_model.specs.Insert.{Refused, after_entering, after_entry, after_new, after_put, after_turn, after_verdict, new_entry}
+use Rattle.moka_unsync_model.specs.Window.{after_candidacy, after_candidates, after_sharing, candidates, victims_of}
 use Rattle.moka_unsync_model.specs.Invalidate.{chosen}
 use Rattle.moka_unsync_model.specs.Step.{Answer, IsStep, Request, Runs, Get, Peek, ContainsKey, Insert, Invalidate, Remove, InvalidateAll}
 use Rattle.moka_unsync_model.specs.Step.{InvalidateEntriesIf, Iterate, EntryCount, WeightedSize}
@@ -24,9 +24,10 @@ use Rattle.moka_unsync_model.proofs.MapLemmas.{terms-step, terms_of}
 use Rattle.moka_unsync_model.proofs.OwnLemmas.{All-found, unexpired-found}
 use Rattle.moka_unsync_model.proofs.RemainLemmas.{remains-leaving, remains-cleanup}
 use Rattle.moka_unsync_model.specs.Contents.{InOrder}
+use Rattle.moka_unsync_model.proofs.SharingLemmas.{left-remains, stays_of, turned}
 use Rattle.moka_unsync_model.proofs.PartLemmas.{All-using, order-balanced, order-filter, order-latest, order-parts, window-used}
 use Rattle.moka_unsync_model.specs.declared.shares.PartLimits.{PartLimits}
-use Rattle.moka_unsync_model.specs.Shares.{main_limit, windowed_limits}
+use Rattle.moka_unsync_model.specs.Shares.{hundredths, main_limit, windowed_limits}
 use Rattle.moka_unsync_model.specs.declared.entry.Part.{Part}
 use Rattle.moka_unsync_model.specs.declared.entry.Part.TheVariants.{Probation, Protected, Window}
 use Rattle.moka_unsync_model.specs.declared.shares.Shares.{Shares}
@@ -100,15 +101,31 @@ module _ {K V : Type 0} (eq : K → K → Bool) where
       never [] = All-from_recursion (λ e. is_before entry.part e.part ≡ false) [] tt
       never (e ∷ es) = All-cons (λ e. is_before entry.part e.part ≡ false) e es (window-last entry.part e.part waits) (never es)
 
+  order-sharing : (limits : PartLimits) (gained : ℕ) (contents : Contents K V) → InOrder Probation contents.entries
+      → InOrder Probation (after_sharing eq limits gained contents).entries
+  order-sharing limits gained contents s =
+      let left = stays_of eq limits gained contents in
+      order-balanced limits.protected left.entries (order-remains contents left (left-remains eq limits gained contents) s)
+
 module _ {K V S W : Type 0} where
   -- the parts stand in their order, and the window is empty where there is none
   pub record IsOrdered (cache : CacheState K V S W) : Type 0 where
     pub order : InOrder Probation cache.contents.entries
     pub main : windowed cache ≡ None → AreMain cache.contents.entries
 
-  -- a cache with the same terms has a window where the other has one
-  same-windowed : (old new : CacheState K V S W) → terms_of new ≡ terms_of old → windowed old ≡ windowed new
-  same-windowed old new same = ap (λ t. windowed_limits t.1 t.0.policy.max_capacity) (sym same)
+  -- a cache has a window where one with the same terms has one
+  pub same-windowed : (old new : CacheState K V S W) → terms_of new ≡ terms_of old → windowed new ≡ None → windowed old ≡ None
+  same-windowed old new same none =
+      by old.settings.policy.max_capacity (record old.shares { extra = 0 }) old.shares.extra
+      (subst (λ t. windowed_limits t.1 t.0.policy.max_capacity ≡ None) same (by new.settings.policy.max_capacity new.shares 0 none))
+    where
+      on : (b : Bool) (some other : PartLimits) → cond b (Some some) None ≡ None → cond b (Some other) None ≡ None
+      on true some other is = absurd (false≢true (sym (ap is_some is)))
+      on false some other is = refl
+
+      by : (max : Option ℕ) (shares : Shares) (extra : ℕ) → windowed_limits shares max ≡ None → windowed_limits (record shares { extra = extra }) max ≡ None
+      by None shares extra none = refl
+      by (Some limit) shares extra none = on (nat_lt 0 (hundredths shares.window limit)) _ _ none
 
   ordered-remains : (old new : CacheState K V S W) → terms_of new ≡ terms_of old → Remains old.contents new.contents → IsOrdered old
       → IsOrdered new
@@ -120,7 +137,7 @@ module _ {K V S W : Type 0} where
         main =
             λ none. subst AreMain (sym remains.entries)
             (All-filter (λ e. remains.stays e.key) (λ e. is_window e.part ≡ false) old.contents.entries
-            (ordered.main (same-windowed old new same ∙ none)));
+            (ordered.main (same-windowed old new same none)));
       }
 
   module _ (eq : K → K → Bool) where
@@ -130,7 +147,7 @@ module _ {K V S W : Type 0} where
     ordered-use cache next room now key None found same is ordered =
         record {
           order = subst (λ c. InOrder Probation c.entries) (sym is) ordered.order;
-          main = λ none. subst (λ c. AreMain c.entries) (sym is) (ordered.main (same-windowed cache next same ∙ none));
+          main = λ none. subst (λ c. AreMain c.entries) (sym is) (ordered.main (same-windowed cache next same none));
         }
     ordered-use cache next room now key (Some e) found same is ordered =
         record {
@@ -138,13 +155,13 @@ module _ {K V S W : Type 0} where
               subst (λ c. InOrder Probation c.entries) (sym is)
               (order-using eq room (record e { accessed = now }) cache.contents ordered.order);
           main =
-              λ none. let main = ordered.main (same-windowed cache next same ∙ none) in
+              λ none. let main = ordered.main (same-windowed cache next same none) in
               subst (λ c. AreMain c.entries) (sym is)
               (main-using eq room (record e { accessed = now }) cache.contents
               (All-found eq (λ e. is_window e.part ≡ false) key e cache.contents.entries main (found e refl)) main);
         }
 
-    ordered-put : (cache : CacheState K V S W) (o : Option (Entry K V)) (new : Entry K V) (refused : Bool) → is_window new.part ≡ false
+    ordered-put : (cache : CacheState K V S W) (o : Option (Entry K V)) (new : Entry K V) (refused : Refused) → is_window new.part ≡ false
         → entry_at eq new.key cache.contents.entries ≡ o → IsOrdered cache
         → InOrder Probation (after_put eq cache o new refused).contents.entries
         × (windowed cache ≡ None → AreMain (after_put eq cache o new refused).contents.entries)
@@ -178,10 +195,14 @@ module _ {K V S W : Type 0} where
             (order gone, λ none. verdict gone (ordered.main is))
         by (Some limit) is =
             let entered = after_entry eq (keeps_writes cache.settings.policy) (record new { part = Window }) cache.contents in
-            let contents = after_entering eq (keeps_writes cache.settings.policy) limit cache.sketch new cache.contents in (
-              subst (λ c. InOrder Probation c.entries) (sym (contents-standing eq (record cache { contents = contents }) new refused))
-                  (order-candidates eq limit cache.sketch (candidates limit entered.entries) entered
-                  (order-push eq (record new { part = Window }) cache.contents.entries refl ordered.order)),
+            let contents = after_entering eq (keeps_writes cache.settings.policy) limit cache.sketch new cache.contents in
+            let next = after_turn eq cache cache.memory limit new contents in
+            let in_order =
+            order-candidates eq limit cache.sketch (candidates limit entered.entries) entered
+            (order-push eq (record new { part = Window }) cache.contents.entries refl ordered.order) in (
+              subst (λ c. InOrder Probation c.entries) (sym (contents-standing eq next new refused))
+                  (turned eq (λ c. InOrder Probation c.entries) cache cache.memory limit new contents in_order
+                  (λ shared gained. order-sharing eq shared gained contents in_order)),
               λ none. absurd (false≢true (ap is_some (sym none ∙ is))),
             )
 
@@ -211,7 +232,7 @@ module _ {K V S W : Type 0} (keys : Keys K S) (weighs : W → K → V → ℕ �
         order = subst (λ c. InOrder Probation c.contents.entries) (sym inserted.step) put.0;
         main =
             λ none. subst (λ c. AreMain c.contents.entries) (sym inserted.step)
-            (put.1 (same-windowed old new same ∙ none));
+            (put.1 (same-windowed old new same none));
       }
   ordered-step old new (Insert key value now) answer (inr (refused, same)) ordered =
       subst IsOrdered (sym same.same) (record { order = ordered.order; main = ordered.main })
@@ -280,5 +301,5 @@ module _ {K V S W : Type 0} (keys : Keys K S) (weighs : W → K → V → ℕ �
       window-empty cache.contents.entries
       ((ordered-runs (new_cache settings shares weigher capacity) cache requests answers run
       (ordered-new (new_cache settings shares weigher capacity) refl)).main
-      (sym (same-windowed (new_cache settings shares weigher capacity) cache
-      (terms-runs (new_cache settings shares weigher capacity) cache requests answers run)) ∙ none))
+      (same-windowed cache (new_cache settings shares weigher capacity)
+      (sym (terms-runs (new_cache settings shares weigher capacity) cache requests answers run)) none))

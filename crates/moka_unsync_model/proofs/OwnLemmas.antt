@@ -10,7 +10,7 @@ use Rattle.moka_unsync_model.specs.Contents.{Contents, entry_at, entry_keys}
 use Rattle.moka_unsync_model.specs.CacheState.{CacheState, new_cache, room_of, windowed}
 use Rattle.moka_unsync_model.specs.Cleanup.{is_expired, unexpired}
 use Rattle.moka_unsync_model.specs.Lookup.{after_look, after_use, unexpired_at}
-use Rattle.moka_unsync_model.specs.Insert.{after_put, new_entry}
+use Rattle.moka_unsync_model.specs.Insert.{Refused, after_put, new_entry}
 use Rattle.moka_unsync_model.specs.Invalidate.{chosen}
 use Rattle.moka_unsync_model.specs.Step.{Answer, IsStep, Request, Runs, Get, Peek, ContainsKey, Insert, Invalidate, Remove, InvalidateAll}
 use Rattle.moka_unsync_model.specs.Step.{InvalidateEntriesIf, Iterate, EntryCount, WeightedSize}
@@ -55,7 +55,7 @@ module _ {K V S : Type 0} (keys : Keys K S) (state : S) where
       All-using keys.eq IsOwn (λ f protected own. own) room (record e { accessed = now }) contents
       (All-found keys.eq IsOwn key e contents.entries a (found e refl)) a
 
-  own-put : {W : Type 0} (cache : CacheState K V S W) (key : K) (o : Option (Entry K V)) (new : Entry K V) (refused : Bool) → IsOwn new
+  own-put : {W : Type 0} (cache : CacheState K V S W) (key : K) (o : Option (Entry K V)) (new : Entry K V) (refused : Refused) → IsOwn new
       → entry_at keys.eq key cache.contents.entries ≡ o
       → All IsOwn cache.contents.entries → All IsOwn (after_put keys.eq cache o new refused).contents.entries
   own-put cache key None new refused own found a =

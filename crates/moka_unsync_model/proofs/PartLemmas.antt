@@ -186,6 +186,70 @@ module _ {K V : Type 0} where
             )
           ]
 
+  -- one that waits in the window was not demoted
+  pub waits-demoted : (eq : K → K → Bool) (key : K) (weight : ℕ) (es : List (Entry K V)) (e : Entry K V)
+      → entry_at eq key (demoted weight es) ≡ Some e → is_window e.part ≡ true → entry_at eq key es ≡ Some e
+  waits-demoted eq key zero es e h waits = h
+  waits-demoted eq key (suc n) [] e h waits = h
+  waits-demoted eq key (suc n) (x ∷ xs) e h waits =
+      by (is_protected x.part) (waits-demoted eq key (suc n - x.weight) xs e) (waits-demoted eq key (suc n) xs e) h
+    where
+      by : (b : Bool)
+          → (entry_at eq key (demoted (suc n - x.weight) xs) ≡ Some e → is_window e.part ≡ true → entry_at eq key xs ≡ Some e)
+          → (entry_at eq key (demoted (suc n) xs) ≡ Some e → is_window e.part ≡ true → entry_at eq key xs ≡ Some e)
+          → entry_at eq key (cond b (record x { part = Probation } ∷ demoted (suc n - x.weight) xs) (x ∷ demoted (suc n) xs)) ≡ Some e
+          → entry_at eq key (x ∷ xs) ≡ Some e
+      by true less all h =
+          elim (cases_Bool (eq key x.key)) [
+            | inl equal ↦
+                let is : record x { part = Probation } ≡ e =
+                ap (λ o. unwrap_or o e)
+                (sym (cond-true (eq key x.key) (Some (record x { part = Probation })) (entry_at eq key (demoted (suc n - x.weight) xs)) equal) ∙ h) in
+                absurd (false≢true (ap (λ (e : Entry K V). is_window e.part) is ∙ waits))
+            | inr differ ↦
+                cond-false (eq key x.key) (Some x) (entry_at eq key xs) differ
+                ∙ less
+                (sym (cond-false (eq key x.key) (Some (record x { part = Probation })) (entry_at eq key (demoted (suc n - x.weight) xs)) differ) ∙ h)
+                waits
+          ]
+      by false less all h =
+          elim (cases_Bool (eq key x.key)) [
+            | inl equal ↦
+                cond-true (eq key x.key) (Some x) (entry_at eq key xs) equal
+                ∙ (sym (cond-true (eq key x.key) (Some x) (entry_at eq key (demoted (suc n) xs)) equal) ∙ h)
+            | inr differ ↦
+                cond-false (eq key x.key) (Some x) (entry_at eq key xs) differ
+                ∙ all (sym (cond-false (eq key x.key) (Some x) (entry_at eq key (demoted (suc n) xs)) differ) ∙ h) waits
+          ]
+
+  -- and stays as it is
+  pub stays-demoted : (eq : K → K → Bool) (key : K) (weight : ℕ) (es : List (Entry K V)) (e : Entry K V)
+      → entry_at eq key es ≡ Some e → is_window e.part ≡ true → entry_at eq key (demoted weight es) ≡ Some e
+  stays-demoted eq key zero es e h waits = h
+  stays-demoted eq key (suc n) [] e h waits = h
+  stays-demoted eq key (suc n) (x ∷ xs) e h waits =
+      elim (cases_Bool (eq key x.key)) [
+        | inl equal ↦
+            let is : x ≡ e = ap (λ o. unwrap_or o e) (sym (cond-true (eq key x.key) (Some x) (entry_at eq key xs) equal) ∙ h) in
+            let free : is_protected x.part ≡ false = unprotected x.part (ap (λ (e : Entry K V). is_window e.part) is ∙ waits) in
+            ap (entry_at eq key) (cond-false (is_protected x.part) _ (x ∷ demoted (suc n) xs) free)
+            ∙ (cond-true (eq key x.key) (Some x) (entry_at eq key (demoted (suc n) xs)) equal ∙ ap Some is)
+        | inr differ ↦
+            let found = sym (cond-false (eq key x.key) (Some x) (entry_at eq key xs) differ) ∙ h in
+            by (is_protected x.part) differ (stays-demoted eq key (suc n - x.weight) xs e found waits) (stays-demoted eq key (suc n) xs e found waits)
+      ]
+    where
+      unprotected : (part : Part) → is_window part ≡ true → is_protected part ≡ false
+      unprotected Probation w = refl
+      unprotected Protected w = absurd (false≢true w)
+      unprotected Window w = refl
+
+      by : (b : Bool) → eq key x.key ≡ false → entry_at eq key (demoted (suc n - x.weight) xs) ≡ Some e → entry_at eq key (demoted (suc n) xs) ≡ Some e
+          → entry_at eq key (cond b (record x { part = Probation } ∷ demoted (suc n - x.weight) xs) (x ∷ demoted (suc n) xs)) ≡ Some e
+      by true differ less all =
+          cond-false (eq key x.key) (Some (record x { part = Probation })) (entry_at eq key (demoted (suc n - x.weight) xs)) differ ∙ less
+      by false differ less all = cond-false (eq key x.key) (Some x) (entry_at eq key (demoted (suc n) xs)) differ ∙ all
+
   -- it is what was there, but for its part
   pub placed-some : (f : Part → Part) (o : Option (Entry K V)) (e : Entry K V) → placed f o ≡ Some e
       → (old : Entry K V) × (o ≡ Some old) × (e ≡ record old { part = e.part })

@@ -10,7 +10,7 @@ use Rattle.moka_unsync_model.specs.CacheState.{CacheState, new_cache, room_of, w
 use Rattle.moka_common.specs.Settings.{Settings, keeps_writes}
 use Rattle.moka_unsync_model.specs.Lookup.{after_use, after_look, unexpired_at, after_using}
 use Rattle.moka_unsync_model.specs.Cleanup.{is_expired, unexpired}
-use Rattle.moka_unsync_model.specs.Insert.{after_entering, after_new, after_put, after_verdict, new_entry}
+use Rattle.moka_unsync_model.specs.Insert.{Refused, after_entering, after_new, after_put, after_turn, after_verdict, new_entry}
 use Rattle.moka_unsync_model.specs.Window.{victims_of}
 use Rattle.moka_unsync_model.specs.Invalidate.{chosen}
 use Rattle.moka_unsync_model.specs.Step.{Answer, IsStep, Request, Get, Peek, ContainsKey, Insert, Invalidate, Remove, InvalidateAll}
@@ -19,15 +19,16 @@ use Rattle.moka_unsync_model.specs.History.{LastWrite, Leads, Transition, chosen
 use Rattle.moka_unsync_model.specs.Removal.{EntriesLeaveForACause, InsertsEnterOrAreRejected, IsMissing}
 use Rattle.moka_unsync_model.specs.Removal.{IsRejected, Leaves, MissesHaveAReason, RemovalCause, last_write_of}
 use Rattle.moka_unsync_model.proofs.ContentsLemmas.{absent-leaving}
-use Rattle.moka_unsync_model.proofs.HistoryLemmas.{found-entering, found-cleanup, found_fresh, once-run, one_of, same_found, settings-run, something}
+use Rattle.moka_unsync_model.proofs.HistoryLemmas.{found-turned, found-entering, found-cleanup, found_fresh, once-run, one_of, same_found, settings-run, something}
 use Rattle.moka_unsync_model.proofs.HistoryLemmas.{told-run}
 use Rattle.moka_unsync_model.proofs.HistoryLemmas.{told-cleanup}
 use Rattle.moka_unsync_model.proofs.ContentsLemmas.{found_key}
 use Rattle.moka_unsync_model.proofs.LimitLemmas.{found_there, total-cleanup}
 use Rattle.moka_unsync_model.proofs.MapLemmas.{entry_at-equal, entry_at-latest, entry_at-using}
-use Rattle.moka_unsync_model.proofs.KeyLemmas.{StandOnce, contents-standing, once-remains}
+use Rattle.moka_unsync_model.proofs.KeyLemmas.{once-entering, StandOnce, contents-standing, once-remains}
 use Rattle.moka_unsync_model.proofs.RemainLemmas.{remains-cleanup}
 use Rattle.moka_unsync_model.proofs.TiedLemmas.{absent-left, tied-run}
+use Rattle.moka_unsync_model.proofs.TurnLemmas.{turn-keeps-new}
 use Rattle.moka_unsync_model.proofs.CauseLemmas.{main-less, new-rejected, no-room, step-cause, use-stands, windowed-is, using-stands}
 use Rattle.moka_unsync_model.specs.declared.shares.PartLimits.{PartLimits}
 use Rattle.moka_unsync_model.specs.Shares.{limits_of, main_limit}
@@ -38,7 +39,7 @@ use Rattle.moka_unsync_model.proofs.PartLemmas.{placed}
 
 module _ {K V S W : Type 0} (keys : Keys K S) (laws : IsEquivalence keys.eq) (weighs : W → K → V → ℕ → W → Type 0) where
   -- an entry that is put and does not stand then was rejected
-  put-rejected : (cache : CacheState K V S W) (put : Entry K V) (refused : Bool) (o : Option (Entry K V))
+  put-rejected : (cache : CacheState K V S W) (put : Entry K V) (refused : Refused) (o : Option (Entry K V))
       → StandOnce keys.eq cache.contents.entries → entry_at keys.eq put.key cache.contents.entries ≡ o
       → entry_at keys.eq put.key (after_put keys.eq cache o put refused).contents.entries ≡ None
       → (l : ℕ) × (cache.settings.policy.max_capacity ≡ Some l)
@@ -74,8 +75,10 @@ module _ {K V S W : Type 0} (keys : Keys K S) (laws : IsEquivalence keys.eq) (we
             has,
             subst (λ m. main_limit m < total_weight cache.contents.entries + put.weight) limit_is
                 (new-rejected keys.eq laws keeps limit cache.sketch put cache.contents there once
+                (turn-keeps-new laws cache cache.memory limit put contents
+                (once-entering keys.eq laws keeps limit cache.sketch put cache.contents there once)
                 (sym (ap (λ c. entry_at keys.eq put.key c.entries)
-                (contents-standing keys.eq (record cache { contents = contents }) put refused)) ∙ none)),
+                (contents-standing keys.eq (after_turn keys.eq cache cache.memory limit put contents) put refused)) ∙ none))),
           )
 
   -- an accepted insert at the key, after which none has an entry, was rejected
@@ -234,7 +237,7 @@ module _ {K V S W : Type 0} (keys : Keys K S) (laws : IsEquivalence keys.eq) (we
         | inr differ ↦ absent-using room key (record used { accessed = now }) contents differ none
       ]
 
-  absent-put : (cache : CacheState K V S W) (put : Entry K V) (refused : Bool) (key : K) (o : Option (Entry K V))
+  absent-put : (cache : CacheState K V S W) (put : Entry K V) (refused : Refused) (key : K) (o : Option (Entry K V))
       → StandOnce keys.eq cache.contents.entries → entry_at keys.eq put.key cache.contents.entries ≡ o
       → keys.eq put.key key ≡ false → entry_at keys.eq key cache.contents.entries ≡ None
       → entry_at keys.eq key (after_put keys.eq cache o put refused).contents.entries ≡ None
@@ -261,13 +264,23 @@ module _ {K V S W : Type 0} (keys : Keys K S) (laws : IsEquivalence keys.eq) (we
             | inr (other, (old, stood, same)) ↦ something none stood
           ]
 
+      turned-nothing : (limit : PartLimits) (contents : Contents K V) → entry_at keys.eq key contents.entries ≡ None → (o : Option (Entry K V))
+          → entry_at keys.eq key (after_turn keys.eq cache cache.memory limit put contents).contents.entries ≡ o
+          → entry_at keys.eq key (after_turn keys.eq cache cache.memory limit put contents).contents.entries ≡ None
+      turned-nothing limit contents before None at = at
+      turned-nothing limit contents before (Some e) at =
+          let (old, stood, same) = found-turned keys.eq laws cache cache.memory limit put contents key e at in
+          something before stood
+
       entering : (limit : Option PartLimits) → entry_at keys.eq key (after_new keys.eq cache limit put refused).contents.entries ≡ None
       entering None = by (victims_of cache.settings.policy.max_capacity cache.sketch put cache.contents.entries)
       entering (Some limit) =
           let keeps = keeps_writes cache.settings.policy in
           let contents = after_entering keys.eq keeps limit cache.sketch put cache.contents in
-          ap (λ c. entry_at keys.eq key c.entries) (contents-standing keys.eq (record cache { contents = contents }) put refused)
-          ∙ nothing keeps limit (entry_at keys.eq key contents.entries) refl
+          let next = after_turn keys.eq cache cache.memory limit put contents in
+          ap (λ c. entry_at keys.eq key c.entries) (contents-standing keys.eq next put refused)
+          ∙ turned-nothing limit contents (nothing keeps limit (entry_at keys.eq key contents.entries) refl)
+          (entry_at keys.eq key next.contents.entries) refl
 
   -- without an accepted insert no key comes to have an entry
   absent-step : (key : K) (old new : CacheState K V S W) (request : Request K V) (answer : Answer K V)

@@ -9,7 +9,9 @@ use Rattle.moka_common.specs.Settings.{keeps_writes}
 use Rattle.moka_unsync_model.specs.declared.entry.Entry.{Entry}
 use Rattle.moka_unsync_model.specs.CacheState.{CacheState, new_cache, windowed}
 use Rattle.moka_unsync_model.specs.Contents.{entry_at}
-use Rattle.moka_unsync_model.specs.Insert.{after_asking, after_entering, after_new, after_put, after_verdict, new_entry}
+use Rattle.moka_unsync_model.specs.Contents.{Contents}
+use Rattle.moka_unsync_model.specs.Memory.{Memory}
+use Rattle.moka_unsync_model.specs.Insert.{Refused, after_asking, after_entering, after_new, after_put, after_turn, after_verdict, new_entry}
 use Rattle.moka_unsync_model.specs.Window.{victims_of}
 use Rattle.moka_unsync_model.specs.Lookup.{after_look}
 use Rattle.moka_unsync_model.specs.Step.{Answer, IsStep, Request, Runs, Get, Peek, ContainsKey, Insert, Invalidate, Remove, InvalidateAll}
@@ -20,7 +22,7 @@ use Rattle.moka_unsync_model.specs.declared.shares.PartLimits.{PartLimits}
 
 module _ {K V S W : Type 0} (eq : K → K → Bool) where
   -- an entry that is put leaves the capacity
-  capacity-put : (cache : CacheState K V S W) (o : Option (Entry K V)) (new : Entry K V) (refused : Bool)
+  capacity-put : (cache : CacheState K V S W) (o : Option (Entry K V)) (new : Entry K V) (refused : Refused)
       → (after_put eq cache o new refused).capacity ≡ cache.capacity
   capacity-put cache None new refused = capacity-new (windowed cache)
     where
@@ -33,11 +35,17 @@ module _ {K V S W : Type 0} (eq : K → K → Bool) where
       standing true left same = same
       standing false left same = same
 
+      turning : (memory : Option Memory) (limit : PartLimits) (contents : Contents K V)
+          → (after_turn eq cache memory limit new contents).capacity ≡ cache.capacity
+      turning None limit contents = refl
+      turning (Some memory) limit contents = refl
+
       capacity-new : (limit : Option PartLimits) → (after_new eq cache limit new refused).capacity ≡ cache.capacity
       capacity-new None = by (victims_of cache.settings.policy.max_capacity cache.sketch new cache.contents.entries)
       capacity-new (Some limit) =
           let contents = after_entering eq (keeps_writes cache.settings.policy) limit cache.sketch new cache.contents in
-          standing (is_some (entry_at eq new.key contents.entries)) (record cache { contents = contents }) refl
+          let next = after_turn eq cache cache.memory limit new contents in
+          standing (is_some (entry_at eq new.key next.contents.entries)) next (turning cache.memory limit contents)
   capacity-put cache (Some old) new refused = refl
 
 module _ {K V S W : Type 0} (keys : Keys K S) (weighs : W → K → V → ℕ → W → Type 0) where

@@ -14,7 +14,7 @@ use Rattle.moka_unsync_model.specs.Contents.{Contents, after_leaving, entry_at, 
 use Rattle.moka_unsync_model.specs.Contents.{is_window, probation_of, protected_of, total_weight, window_of, with_latest}
 use Rattle.moka_unsync_model.specs.CacheState.{CacheState, new_cache, room_of, windowed}
 use Rattle.moka_unsync_model.specs.Lookup.{after_look, after_use, unexpired_at, after_using, used_part}
-use Rattle.moka_unsync_model.specs.Insert.{after_entering, after_entry, after_new, after_put, after_verdict, new_entry}
+use Rattle.moka_unsync_model.specs.Insert.{Refused, after_entering, after_entry, after_new, after_put, after_turn, after_verdict, gained_by, new_entry}
 use Rattle.moka_unsync_model.specs.Window.{after_candidacy, after_candidate, after_candidates, candidates, victims_of}
 use Rattle.moka_unsync_model.specs.Cleanup.{least_recent}
 use Rattle.moka_unsync_model.specs.Invalidate.{chosen}
@@ -29,15 +29,32 @@ use Rattle.moka_unsync_model.proofs.LimitLemmas.{total-cons, total-filter}
 use Rattle.moka_unsync_model.proofs.RemainLemmas.{remains-leaving, remains-cleanup}
 use Rattle.moka_unsync_model.proofs.OrderLemmas.{order-candidacy, order-new, order-push, order-remains, terms-runs}
 use Rattle.moka_unsync_model.specs.Contents.{InOrder}
-use Rattle.moka_unsync_model.proofs.PartLemmas.{All-using, order-parts, protected-using}
+use Rattle.moka_unsync_model.proofs.PartLemmas.{All-using, order-parts, protected-balanced, protected-using}
 use Rattle.moka_unsync_model.specs.declared.shares.PartLimits.{PartLimits}
-use Rattle.moka_unsync_model.specs.Shares.{default_shares, limits_of, main_limit, protected_room}
+use Rattle.moka_unsync_model.specs.Shares.{default_shares, hundredths, limits_of, main_limit, protected_room}
 use Rattle.moka_unsync_model.specs.declared.entry.Part.{Part}
 use Rattle.moka_unsync_model.specs.declared.entry.Part.TheVariants.{Probation, Protected, Window}
 use Rattle.moka_unsync_model.specs.declared.shares.Shares.{Shares}
-use Rattle.moka_unsync_model.proofs.MapLemmas.{terms-put, terms_of}
+use Rattle.moka_unsync_model.proofs.MapLemmas.{given-standing, given_of, terms-put, terms_of}
+use Rattle.moka_unsync_model.proofs.CauseLemmas.{windowed-is}
+use Rattle.moka_unsync_model.proofs.SharingLemmas.{stays_of}
+use Rattle.moka_unsync_model.specs.Memory.{Memory, demand_after, shares_at}
 
 -- ---- the shares that are set where nothing else is
+
+-- less is shared out to a part of less
+less-share : (a b : ℕ) → a ≤ b → a / 100 ≤ b / 100
+less-share a b h = omega (arith, h)
+
+-- more times a number is more
+pub more-times : (share a b : ℕ) → a ≤ b → a * share ≤ b * share
+more-times share a b h = grind (arith, h)
+
+part-less : (share a b : ℕ) → a ≤ b → hundredths share b ≡ 0 → hundredths share a ≡ 0
+part-less share a b less none = nothing-less (hundredths share a) (hundredths share b) (less-share (a * share) (b * share) (more-times share a b less)) none
+  where
+    nothing-less : (x y : ℕ) → x ≤ y → y ≡ 0 → x ≡ 0
+    nothing-less x y h none = omega (arith, h, none)
 
 pub window-default : (limit : ℕ) → (limits_of default_shares limit).window ≡ limit / 100
 window-default limit = omega arith
@@ -51,7 +68,7 @@ protected-default limit = by (limit - (limits_of default_shares limit).window)
 -- ---- what protected weighs
 
 -- two tests in either order
-both-tests : {X : Type 0} (p q : X → Bool) (xs : List X) → filter p (filter q xs) ≡ filter q (filter p xs)
+pub both-tests : {X : Type 0} (p q : X → Bool) (xs : List X) → filter p (filter q xs) ≡ filter q (filter p xs)
 both-tests p q [] = refl
 both-tests p q (x ∷ xs) = by (p x) (q x) refl refl (both-tests p q xs)
   where
@@ -93,7 +110,7 @@ module _ {K V : Type 0} where
   protected-filter test es =
       subst (λ l. total_weight l ≤ protected_weight es) (sym (both-tests (λ e. is_protected e.part) test es)) (total-filter test (protected_of es))
 
-  protected-remains : (old new : Contents K V) → Remains old new → protected_weight new.entries ≤ protected_weight old.entries
+  pub protected-remains : (old new : Contents K V) → Remains old new → protected_weight new.entries ≤ protected_weight old.entries
   protected-remains old new remains =
       subst (λ l. protected_weight l ≤ protected_weight old.entries) (sym remains.entries)
       (protected-filter (λ e. remains.stays e.key) old.entries)
@@ -125,11 +142,10 @@ module _ {K V : Type 0} (eq : K → K → Bool) where
       let first = protected-candidacy e gone contents in
       omega (arith, rest, first)
 
-  -- an entry that is put where none stands adds nothing to protected
-  protected-new : {S W : Type 0} (cache : CacheState K V S W) (limit : Option PartLimits) (new : Entry K V) (refused : Bool)
-      → is_protected new.part ≡ false
-      → protected_weight (after_new eq cache limit new refused).contents.entries ≤ protected_weight cache.contents.entries
-  protected-new cache None new refused free =
+  -- an entry that is put where none stands and there is no window adds nothing to protected
+  protected-new : {S W : Type 0} (cache : CacheState K V S W) (new : Entry K V) (refused : Refused) → is_protected new.part ≡ false
+      → protected_weight (after_new eq cache None new refused).contents.entries ≤ protected_weight cache.contents.entries
+  protected-new cache new refused free =
       by (victims_of cache.settings.policy.max_capacity cache.sketch new cache.contents.entries)
     where
       by : (gone : Option (List (Entry K V)))
@@ -140,26 +156,46 @@ module _ {K V : Type 0} (eq : K → K → Bool) where
           subst (λ l. total_weight l ≤ protected_weight cache.contents.entries)
           (sym (latest-filtered (λ x. is_protected x.part) new left.entries free))
           (protected-remains cache.contents left (remains-leaving eq (entry_keys gone) cache.contents))
-  protected-new cache (Some limit) new refused free =
-      let entered = after_entry eq (keeps_writes cache.settings.policy) (record new { part = Window }) cache.contents in
-      let contents = after_entering eq (keeps_writes cache.settings.policy) limit cache.sketch new cache.contents in
-      let same : protected_of entered.entries ≡ protected_of cache.contents.entries =
-      protected-push (record new { part = Window }) cache.contents.entries refl in
-      subst (λ c. protected_weight c.entries ≤ protected_weight cache.contents.entries)
-      (sym (contents-standing eq (record cache { contents = contents }) new refused))
-      (subst (λ l. protected_weight contents.entries ≤ total_weight l) same
-      (protected-candidates limit cache.sketch (candidates limit entered.entries) entered))
+
+  -- nor one that enters the window
+  pub protected-entering : (keeps : Bool) (limits : PartLimits) (sketch : Option Table) (new : Entry K V) (contents : Contents K V)
+      → protected_weight (after_entering eq keeps limits sketch new contents).entries ≤ protected_weight contents.entries
+  protected-entering keeps limits sketch new contents =
+      let entered = after_entry eq keeps (record new { part = Window }) contents in
+      subst (λ l. protected_weight (after_entering eq keeps limits sketch new contents).entries ≤ total_weight l)
+      (protected-push (record new { part = Window }) contents.entries refl)
+      (protected-candidates limits sketch (candidates limits entered.entries) entered)
 
 module _ {K V S W : Type 0} where
-  -- protected is within its share, and empty where that is nothing
+  -- the most that protected may ever weigh: what it may if the window has no more than its share
+  abbrev most_room : CacheState K V S W → ℕ
+  most_room cache = protected_room (record cache.shares { extra = 0 }) cache.settings.policy.max_capacity
+
+  -- protected is within its share, and empty where that is nothing however the window adapts
   pub record IsShared (cache : CacheState K V S W) : Type 0 where
     pub within : protected_weight cache.contents.entries ≤ room_of cache
-    pub free : room_of cache ≡ 0 → AreFree cache.contents.entries
+    pub free : most_room cache ≡ 0 → AreFree cache.contents.entries
 
-  same-room : (old new : CacheState K V S W) → terms_of new ≡ terms_of old → room_of old ≡ room_of new
+  same-room : (old new : CacheState K V S W) → given_of new ≡ given_of old → room_of old ≡ room_of new
   same-room old new same = ap (λ t. protected_room t.1 t.0.policy.max_capacity) (sym same)
 
-  shared-remains : (old new : CacheState K V S W) → terms_of new ≡ terms_of old → Remains old.contents new.contents → IsShared old
+  same-most : (old new : CacheState K V S W) → terms_of new ≡ terms_of old → most_room old ≡ most_room new
+  same-most old new same = ap (λ t. protected_room t.1 t.0.policy.max_capacity) (sym same)
+
+  given-terms : (old new : CacheState K V S W) → given_of new ≡ given_of old → terms_of new ≡ terms_of old
+  given-terms old new same = ap (λ (t : Settings S × Shares). (t.0, record t.1 { extra = 0 })) same
+
+  -- it never may weigh more
+  room-most : (cache : CacheState K V S W) → most_room cache ≡ 0 → room_of cache ≡ 0
+  room-most cache none = by cache.settings.policy.max_capacity none
+    where
+      by : (max : Option ℕ) → protected_room (record cache.shares { extra = 0 }) max ≡ 0 → protected_room cache.shares max ≡ 0
+      by None none = refl
+      by (Some limit) none =
+          part-less cache.shares.protected (limit - (hundredths cache.shares.window limit + cache.shares.extra))
+          (limit - (hundredths cache.shares.window limit + 0)) (omega arith) none
+
+  shared-remains : (old new : CacheState K V S W) → given_of new ≡ given_of old → Remains old.contents new.contents → IsShared old
       → IsShared new
   shared-remains old new same remains shared =
       let less = protected-remains old.contents new.contents remains in
@@ -169,11 +205,11 @@ module _ {K V S W : Type 0} where
         free =
             λ none. subst AreFree (sym remains.entries)
             (All-filter (λ e. remains.stays e.key) (λ e. is_protected e.part ≡ false) old.contents.entries
-            (shared.free (same-room old new same ∙ none)));
+            (shared.free (same-most old new (given-terms old new same) ∙ none)));
       }
 
   module _ (eq : K → K → Bool) where
-    shared-using : (cache next : CacheState K V S W) (entry : Entry K V) → terms_of next ≡ terms_of cache
+    shared-using : (cache next : CacheState K V S W) (entry : Entry K V) → given_of next ≡ given_of cache
         → next.contents.entries ≡ (after_using eq (room_of cache) entry cache.contents).entries → IsShared cache → IsShared next
     shared-using cache next entry same is shared =
         record {
@@ -181,39 +217,72 @@ module _ {K V S W : Type 0} where
               subst (λ n. protected_weight next.contents.entries ≤ n) (same-room cache next same)
               (subst (λ l. protected_weight l ≤ room_of cache) (sym is) (protected-using eq (room_of cache) entry cache.contents));
           free =
-              λ none. let nothing = same-room cache next same ∙ none in
+              λ none. let nothing = same-most cache next (given-terms cache next same) ∙ none in
               subst AreFree (sym is)
               (All-using eq (λ e. is_protected e.part ≡ false) (λ e protected free. refl) (room_of cache) entry cache.contents
-              (free-used (room_of cache) entry.part entry.weight nothing) (shared.free nothing));
+              (free-used (room_of cache) entry.part entry.weight (room-most cache nothing)) (shared.free nothing));
         }
 
-    shared-use : (cache next : CacheState K V S W) (now : ℕ) (o : Option (Entry K V)) → terms_of next ≡ terms_of cache
+    shared-use : (cache next : CacheState K V S W) (now : ℕ) (o : Option (Entry K V)) → given_of next ≡ given_of cache
         → next.contents ≡ after_use eq (room_of cache) now o cache.contents → IsShared cache → IsShared next
     shared-use cache next now None same is shared =
         record {
           within =
               subst (λ n. protected_weight next.contents.entries ≤ n) (same-room cache next same)
               (subst (λ c. protected_weight c.entries ≤ room_of cache) (sym is) shared.within);
-          free = λ none. subst (λ c. AreFree c.entries) (sym is) (shared.free (same-room cache next same ∙ none));
+          free = λ none. subst (λ c. AreFree c.entries) (sym is) (shared.free (same-most cache next (given-terms cache next same) ∙ none));
         }
     shared-use cache next now (Some e) same is shared =
         shared-using cache next (record e { accessed = now }) same (ap (λ c. c.entries) is) shared
 
-    shared-put : (cache : CacheState K V S W) (o : Option (Entry K V)) (new : Entry K V) (refused : Bool) → is_protected new.part ≡ false
+    -- a new entry leaves protected within its share, which may have changed
+    protected-put : (cache : CacheState K V S W) (limit : Option PartLimits) → windowed cache ≡ limit → (new : Entry K V) (refused : Refused)
+        → is_protected new.part ≡ false → IsShared cache
+        → protected_weight (after_new eq cache limit new refused).contents.entries ≤ room_of (after_new eq cache limit new refused)
+    protected-put cache None none new refused free shared =
+        by (victims_of cache.settings.policy.max_capacity cache.sketch new cache.contents.entries) (protected-new eq cache new refused free)
+      where
+        by : (gone : Option (List (Entry K V)))
+            → protected_weight (after_verdict eq cache new gone refused).contents.entries ≤ protected_weight cache.contents.entries
+            → protected_weight (after_verdict eq cache new gone refused).contents.entries ≤ room_of (after_verdict eq cache new gone refused)
+        by None less = grind (arith, less, shared.within)
+        by (Some gone) less = grind (arith, less, shared.within)
+    protected-put cache (Some limits) is new refused free shared =
+        let contents = after_entering eq (keeps_writes cache.settings.policy) limits cache.sketch new cache.contents in
+        let next = after_turn eq cache cache.memory limits new contents in
+        let (l, has, limits_are) = windowed-is cache.shares cache.settings.policy.max_capacity limits is in
+        subst (λ c. protected_weight c.entries ≤ room_of (after_new eq cache (Some limits) new refused)) (sym (contents-standing eq next new refused))
+        (subst (λ t. protected_weight next.contents.entries ≤ protected_room t.1 t.0.policy.max_capacity) (sym (given-standing eq next new refused))
+        (turning l has (ap (λ p. p.all) limits_are) cache.memory))
+      where
+        turning : (l : ℕ) → cache.settings.policy.max_capacity ≡ Some l → limits.all ≡ l → (memory : Option Memory)
+            → protected_weight (after_turn eq cache memory limits new
+            (after_entering eq (keeps_writes cache.settings.policy) limits cache.sketch new cache.contents)).contents.entries
+            ≤ room_of (after_turn eq cache memory limits new
+            (after_entering eq (keeps_writes cache.settings.policy) limits cache.sketch new cache.contents))
+        turning l has same None =
+            grind (arith, protected-entering eq (keeps_writes cache.settings.policy) limits cache.sketch new cache.contents, shared.within)
+        turning l has same (Some memory) =
+            let contents = after_entering eq (keeps_writes cache.settings.policy) limits cache.sketch new cache.contents in
+            let shares = shares_at cache.shares limits.all (demand_after cache.shares limits.all memory new.hash new.weight) in
+            let gained = gained_by (entry_at eq new.key contents.entries) cache.shares.extra shares.extra in
+            subst (λ m. protected_weight (after_turn eq cache (Some memory) limits new contents).contents.entries ≤ protected_room shares m)
+            (ap Some same ∙ sym has)
+            (protected-balanced (limits_of shares limits.all).protected (stays_of eq (limits_of shares limits.all) gained contents).entries)
+
+    shared-put : (cache : CacheState K V S W) (o : Option (Entry K V)) (new : Entry K V) (refused : Refused) → is_protected new.part ≡ false
         → IsShared cache → IsShared (after_put eq cache o new refused)
     shared-put cache (Some old) new refused free shared =
         shared-using cache (after_put eq cache (Some old) new refused) (record new { key = old.key; hash = old.hash; part = old.part }) refl refl
         shared
     shared-put cache None new refused free shared =
-        let less = protected-new eq cache (windowed cache) new refused free in
-        let within = shared.within in
         let same = terms-put eq cache None new refused in
         let next = after_put eq cache None new refused in
         record {
-          within = subst (λ n. protected_weight next.contents.entries ≤ n) (same-room cache next same) (omega (arith, less, within));
+          within = protected-put cache (windowed cache) refl new refused free shared;
           free =
               λ none. All-new eq (λ e. is_protected e.part ≡ false) (λ e part unprotected was. unprotected) cache (windowed cache) new refused
-              (shared.free (same-room cache next same ∙ none)) free;
+              (shared.free (same-most cache next same ∙ none)) free;
         }
 
 module _ {K V S W : Type 0} (keys : Keys K S) (weighs : W → K → V → ℕ → W → Type 0) where
@@ -225,7 +294,7 @@ module _ {K V S W : Type 0} (keys : Keys K S) (weighs : W → K → V → ℕ �
       → IsShared old → IsShared new
   shared-step old new (Get key now) answer step shared =
       let looked = after_look keys old now in
-      shared-use keys.eq looked new now (unexpired_at keys.eq old.settings.policy now key looked.contents) (ap terms_of step.1)
+      shared-use keys.eq looked new now (unexpired_at keys.eq old.settings.policy now key looked.contents) (ap given_of step.1)
       (ap (λ c. c.contents) step.1) (shared-look old now shared)
   shared-step old new (Peek key now) answer step shared = subst IsShared (sym step.1) shared
   shared-step old new (ContainsKey key now) answer step shared = subst IsShared (sym step.1) (shared-look old now shared)
@@ -271,9 +340,6 @@ module _ {K V S W : Type 0} (keys : Keys K S) (weighs : W → K → V → ℕ �
 
   pub stays_within_share : ProtectedStaysWithinShare keys weighs
   stays_within_share settings shares weigher capacity requests answers cache run =
-      let first : CacheState K V S W = new_cache settings shares weigher capacity in
-      subst (λ n. protected_weight cache.contents.entries ≤ n)
-      (sym (same-room first cache (terms-runs keys weighs first cache requests answers run)))
       (shared-new settings shares weigher capacity requests answers cache run).within
 
   pub stays_empty : ProtectedStaysEmpty keys weighs
@@ -281,7 +347,7 @@ module _ {K V S W : Type 0} (keys : Keys K S) (weighs : W → K → V → ℕ �
       let first : CacheState K V S W = new_cache settings shares weigher capacity in
       free-empty cache.contents.entries
       ((shared-new settings shares weigher capacity requests answers cache run).free
-      (sym (same-room first cache (terms-runs keys weighs first cache requests answers run)) ∙ none))
+      (sym (same-most first cache (terms-runs keys weighs first cache requests answers run)) ∙ none))
 
 -- ---- what leaves before it
 

@@ -122,7 +122,7 @@ module _ {K V : Type 0} (eq : K → K → Bool) where
     part-stands test es once = All-passing (Stands es) test es (All-from_recursion (Stands es) es (stand-all es once))
 
     -- one of main and one of the window have other keys
-    apart-lists : (es : List (Entry K V)) (g e : Entry K V) → StandsIn es false g → StandsIn es true e → eq g.key e.key ≡ false
+    pub apart-lists : (es : List (Entry K V)) (g e : Entry K V) → StandsIn es false g → StandsIn es true e → eq g.key e.key ≡ false
     apart-lists es g e main window =
         elim (cases_Bool (eq g.key e.key)) [
           | inl equal ↦

@@ -18,9 +18,9 @@ use Rattle.moka_unsync_model.specs.Contents.{write_of, writes_without, probation
 use Rattle.moka_unsync_model.specs.CacheState.{CacheState, new_cache, room_of, windowed}
 use Rattle.moka_unsync_model.specs.Cleanup.{after_expiry, after_idle, after_live_expiry, after_trim, after_cleanup, is_past_ttl, least_recent}
 use Rattle.moka_unsync_model.specs.Lookup.{after_look, after_use, unexpired_at, after_using}
-use Rattle.moka_unsync_model.specs.Insert.{after_asking, after_entering, after_entry, after_new, after_put, after_update, after_verdict, new_entry}
+use Rattle.moka_unsync_model.specs.Insert.{Refused, after_asking, after_entering, after_entry, after_new, after_put, after_turn, after_update, after_verdict, new_entry}
 use Rattle.moka_unsync_model.specs.Insert.{after_arrival}
-use Rattle.moka_unsync_model.specs.Window.{after_candidacy, after_candidates, candidates, victims_of}
+use Rattle.moka_unsync_model.specs.Window.{after_candidacy, after_candidates, after_sharing, candidates, given_up, victims_of}
 use Rattle.moka_unsync_model.specs.Invalidate.{chosen}
 use Rattle.moka_unsync_model.specs.Step.{Answer, IsStep, Request, Runs, Get, Peek, ContainsKey, Insert, Invalidate, Remove, InvalidateAll}
 use Rattle.moka_unsync_model.specs.Step.{InvalidateEntriesIf, Iterate, EntryCount, WeightedSize}
@@ -36,7 +36,8 @@ use Rattle.moka_unsync_model.specs.declared.shares.PartLimits.{PartLimits}
 use Rattle.moka_unsync_model.specs.Shares.{main_limit}
 use Rattle.moka_unsync_model.specs.declared.entry.Part.{Part}
 use Rattle.moka_unsync_model.specs.declared.entry.Part.TheVariants.{Probation, Window}
-use Rattle.moka_unsync_model.proofs.PartLemmas.{placed-map}
+use Rattle.moka_unsync_model.proofs.PartLemmas.{entry_at-demoted, placed-map}
+use Rattle.moka_unsync_model.proofs.SharingLemmas.{stays_of, turned}
 
 -- ---- writes as entries
 
@@ -204,6 +205,18 @@ module _ {K V : Type 0} (eq : K → K → Bool) (laws : IsEquivalence eq) where
   follow-leaving true (g ∷ gs) contents f = follow-leaving true gs (without eq contents g) (match-without g contents f)
   follow-leaving false (g ∷ gs) contents f = follow-leaving false gs (without eq contents g) (ap (writes_without eq g) f)
 
+  follow-sharing : (keeps : Bool) (limits : PartLimits) (gained : ℕ) (contents : Contents K V) → Follow keeps contents
+      → Follow keeps (after_sharing eq limits gained contents)
+  follow-sharing true limits gained contents f =
+      let left = stays_of eq limits gained contents in
+      let (once, at) = follow-leaving true (entry_keys (given_up limits gained contents.entries)) contents f in (
+        once,
+        λ key. let (f, demoted_at) = entry_at-demoted eq key (total_weight (protected_of left.entries) - limits.protected) left.entries in
+            at key
+            ∙ (sym (placed-map again (λ x part. refl) f (entry_at eq key left.entries)) ∙ sym (ap (option_map again) demoted_at)),
+      )
+  follow-sharing false limits gained contents f = follow-leaving false (entry_keys (given_up limits gained contents.entries)) contents f
+
   follow-trim : (keeps : Bool) (limit : Option ℕ) (contents : Contents K V) → Follow keeps contents
       → Follow keeps (after_trim eq limit contents)
   follow-trim keeps None contents f = f
@@ -282,7 +295,7 @@ module _ {K V : Type 0} (eq : K → K → Bool) (laws : IsEquivalence eq) where
   follow-clear false contents = refl
 
   module _ {S W : Type 0} where
-    follow-verdict : (cache : CacheState K V S W) (new : Entry K V) (gone : Option (List (Entry K V))) (refused : Bool)
+    follow-verdict : (cache : CacheState K V S W) (new : Entry K V) (gone : Option (List (Entry K V))) (refused : Refused)
         → entry_at eq new.key cache.contents.entries ≡ None → Follow (keeps_writes cache.settings.policy) cache.contents
         → Follow (keeps_writes cache.settings.policy) (after_verdict eq cache new gone refused).contents
     follow-verdict cache new None refused absent f = f
@@ -291,26 +304,30 @@ module _ {K V : Type 0} (eq : K → K → Bool) (laws : IsEquivalence eq) where
         follow-arrival keeps new (after_leaving eq (entry_keys gone) cache.contents)
         (absent-leaving eq new.key (entry_keys gone) cache.contents absent) (follow-leaving keeps (entry_keys gone) cache.contents f)
 
-    follow-new : (cache : CacheState K V S W) (limit : Option PartLimits) (new : Entry K V) (refused : Bool)
+    follow-new : (cache : CacheState K V S W) (limit : Option PartLimits) (new : Entry K V) (refused : Refused)
         → entry_at eq new.key cache.contents.entries ≡ None → StandOnce eq cache.contents.entries
         → Follow (keeps_writes cache.settings.policy) cache.contents
         → Follow (keeps_writes cache.settings.policy) (after_new eq cache limit new refused).contents
     follow-new cache None new refused absent once f =
         follow-verdict cache new (victims_of cache.settings.policy.max_capacity cache.sketch new cache.contents.entries) refused absent f
     follow-new cache (Some limit) new refused absent once f =
-        by (is_some (entry_at eq new.key (after_entering eq (keeps_writes cache.settings.policy) limit cache.sketch new cache.contents).entries))
-        (follow-entering (keeps_writes cache.settings.policy) limit cache.sketch new cache.contents absent once f)
+        let entered = follow-entering (keeps_writes cache.settings.policy) limit cache.sketch new cache.contents absent once f in
+        by (is_some (entry_at eq new.key next.contents.entries))
+        (turned eq (Follow (keeps_writes cache.settings.policy)) cache cache.memory limit new contents entered
+        (λ shared gained. follow-sharing (keeps_writes cache.settings.policy) shared gained contents entered))
       where
         contents : Contents K V
         contents = after_entering eq (keeps_writes cache.settings.policy) limit cache.sketch new cache.contents
 
-        by : (b : Bool) → Follow (keeps_writes cache.settings.policy) contents
-            → Follow (keeps_writes cache.settings.policy)
-            (cond b (after_asking eq refused (record cache { contents = contents })) (record cache { contents = contents })).contents
+        next : CacheState K V S W
+        next = after_turn eq cache cache.memory limit new contents
+
+        by : (b : Bool) → Follow (keeps_writes cache.settings.policy) next.contents
+            → Follow (keeps_writes cache.settings.policy) (cond b (after_asking eq refused next) next).contents
         by true f = f
         by false f = f
 
-    follow-put : (cache : CacheState K V S W) (o : Option (Entry K V)) (new : Entry K V) (refused : Bool)
+    follow-put : (cache : CacheState K V S W) (o : Option (Entry K V)) (new : Entry K V) (refused : Refused)
         → entry_at eq new.key cache.contents.entries ≡ o → StandOnce eq cache.contents.entries → Follow (keeps_writes cache.settings.policy) cache.contents
         → Follow (keeps_writes cache.settings.policy) (after_put eq cache o new refused).contents
     follow-put cache None new refused absent once f = follow-new cache (windowed cache) new refused absent once f

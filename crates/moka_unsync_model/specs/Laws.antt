@@ -1,15 +1,15 @@
 -- What a contract sees of the laws of the cache, which `src/laws.rt` promises, but for those of a plain map.
-use Rattle.std.specs.Prelude.{◌≡◌, ◌≢◌, ◌↔◌, ◌<◌, ◌≤◌, ◌^◌, ℕ, Bool, true, false, List, [], ◌∷◌, ◌++◌, All, filter, length, map, Option, Some, None, IsSome}
+use Rattle.std.specs.Prelude.{◌≡◌, ◌≢◌, ◌⊎◌, ◌<◌, ◌≤◌, ◌+◌, ◌*◌, ◌^◌, ℕ, Bool, true, false, List, [], ◌∷◌, ◌++◌, All, filter, length, map, max, Option, Some, None, IsSome}
 use Rattle.std.specs.Prelude.{option_map}
 use Rattle.std.specs.List.{AllByRecursion, IsDistinct, find}
 use Rattle.moka_common.specs.Keys.{Keys}
 use Rattle.moka_unsync_model.specs.Contents.{Contents, entry_at, entry_keys, is_window, main_of, total_weight, window_of, write_of, probation_of, protected_of}
 use Rattle.moka_unsync_model.specs.declared.entry.Entry.{Entry}
 use Rattle.moka_unsync_model.specs.declared.entry.Part.TheVariants.{Probation, Protected, Window}
-use Rattle.moka_unsync_model.specs.CacheState.{CacheState, new_cache, room_of}
+use Rattle.moka_unsync_model.specs.CacheState.{CacheState, new_cache, room_of, windowed}
 use Rattle.moka_unsync_model.specs.Cleanup.{least_recent}
-use Rattle.moka_unsync_model.specs.Insert.{after_entry}
-use Rattle.moka_unsync_model.specs.Window.{after_candidate, candidates, victims_of}
+use Rattle.moka_unsync_model.specs.Insert.{IsInserted, after_entering, after_entry, after_turn, gained_by}
+use Rattle.moka_unsync_model.specs.Window.{after_candidate, candidates, given_up, victims_of}
 use Rattle.moka_common.specs.Sketch.{Table}
 use Rattle.moka_common.specs.Settings.{Settings, keeps_writes}
 use Rattle.moka_unsync_model.specs.Lookup.{after_get, after_look, unexpired_at}
@@ -18,7 +18,8 @@ use Rattle.moka_unsync_model.specs.Step.{Answer, IsStep, Done, Found, OutOfMemor
 use Rattle.moka_unsync_model.specs.Step.{InvalidateAll, InvalidateEntriesIf, Iterate, EntryCount, WeightedSize}
 use Rattle.moka_unsync_model.specs.declared.shares.Shares.{Shares}
 use Rattle.moka_unsync_model.specs.declared.shares.PartLimits.{PartLimits}
-use Rattle.moka_unsync_model.specs.Shares.{default_shares, main_limit, protected_room, windowed_limits}
+use Rattle.moka_unsync_model.specs.Shares.{hundredths, limits_of, main_limit, protected_room, windowed_limits}
+use Rattle.moka_unsync_model.specs.declared.constants.TheConstants.{MOST_WINDOW_SHARE}
 
 -- ---- limits and keys
 
@@ -65,6 +66,12 @@ module _ {K V S W : Type 0} (keys : Keys K S) (weighs : W → K → V → ℕ �
 
 -- ---- main and the window
 
+-- the window's limit has risen by this weight at most, or fallen by twice that
+abbrev pub MovesBy : ℕ → ℕ → Shares → Shares → Type 0
+MovesBy limit weight old new =
+    ((limits_of new limit).window ≤ (limits_of old limit).window + weight)
+    × ((limits_of old limit).window ≤ (limits_of new limit).window + 2 * weight)
+
 module _ {K V S W : Type 0} (keys : Keys K S) (weighs : W → K → V → ℕ → W → Type 0) where
   -- from a new cache all calls leave the entries of main first, and behind them those of the window
   abbrev pub WindowStandsBehind : Type 0
@@ -91,20 +98,78 @@ module _ {K V S W : Type 0} (keys : Keys K S) (weighs : W → K → V → ℕ �
       windowed_limits shares settings.policy.max_capacity ≡ None →
       Runs keys weighs (new_cache settings shares weigher capacity) requests answers cache → window_of cache.contents.entries ≡ []
 
-  -- from a new cache no calls lead to more weight in protected than its share
+  -- from a new cache with a limit all calls leave the window's limit at its share or above, and at most at the larger of that and 80 hundredths
+  abbrev pub WindowStaysWithinBounds : Type 0
+  WindowStaysWithinBounds =
+      (settings : Settings S) (shares : Shares) (weigher : W) (capacity limit : ℕ) (requests : List (Request K V)) (answers : List (Answer K V))
+      (cache : CacheState K V S W) →
+      settings.policy.max_capacity ≡ Some limit → shares.extra ≡ 0 →
+      Runs keys weighs (new_cache settings shares weigher capacity) requests answers cache →
+      (hundredths shares.window limit ≤ (limits_of cache.shares limit).window)
+      × ((limits_of cache.shares limit).window ≤ max (hundredths shares.window limit) (hundredths MOST_WINDOW_SHARE limit))
+
+  -- an insert that is done moves the window's limit up by its entry's weight at most, or down by twice that
+  pub record IsMovedByInsert (limit : ℕ) (old : CacheState K V S W) (request : Request K V) (new : CacheState K V S W) : Type 0 where
+    pub key : K
+    pub value : V
+    pub now : ℕ
+    pub is : request ≡ Insert key value now
+    pub inserted : IsInserted keys weighs old key value now new
+    pub moves : MovesBy limit inserted.weight old.shares new.shares
+
+  -- from a new cache with a limit, no other call moves it
+  abbrev pub TurnsAreSmall : Type 0
+  TurnsAreSmall =
+      (settings : Settings S) (shares : Shares) (weigher : W) (capacity limit : ℕ) (requests : List (Request K V)) (answers : List (Answer K V))
+      (old new : CacheState K V S W) (request : Request K V) (answer : Answer K V) →
+      settings.policy.max_capacity ≡ Some limit → shares.extra ≡ 0 →
+      Runs keys weighs (new_cache settings shares weigher capacity) requests answers old → IsStep keys weighs old request answer new →
+      (new.shares ≡ old.shares) ⊎ IsMovedByInsert limit old request new
+
+  -- how little an insert of a new key does where each entry weighs 1: three entries of the window are judged at most, and then main gives up one and
+  -- demotes one at most
+  pub record IsLittleWork (old : CacheState K V S W) (limits : PartLimits) (new : Entry K V) (kept entered : Contents K V) (turned : CacheState K V S W)
+      : Type 0 where
+    pub judged : length (candidates limits (kept.entries ++ record new { part = Window } ∷ [])) ≤ 3
+    pub given : length (given_up (limits_of turned.shares limits.all)
+        (gained_by (entry_at keys.eq new.key entered.entries) old.shares.extra turned.shares.extra) entered.entries) ≤ 1
+    pub demoted : total_weight (protected_of entered.entries) ≤ (limits_of turned.shares limits.all).protected + 1
+
+  -- from a new cache whose weigher weighs each entry 1, no insert of a new key does more
+  abbrev pub InsertsDoLittle : Type 0
+  InsertsDoLittle =
+      ((old new : W) (key : K) (value : V) (weight : ℕ) → weighs old key value weight new → weight ≡ 1) →
+      (settings : Settings S) (shares : Shares) (weigher : W) (capacity limit : ℕ) (requests : List (Request K V)) (answers : List (Answer K V))
+      (old : CacheState K V S W) (limits : PartLimits) (new : Entry K V) (now : ℕ) →
+      settings.policy.max_capacity ≡ Some limit → shares.extra ≡ 0 → shares.protected ≤ 100 →
+      Runs keys weighs (new_cache settings shares weigher capacity) requests answers old → windowed old ≡ Some limits → new.weight ≡ 1 →
+      let kept = (after_look keys old now).contents in
+      let entered = after_entering keys.eq (keeps_writes old.settings.policy) limits old.sketch new kept in
+      entry_at keys.eq new.key kept.entries ≡ None →
+      IsLittleWork old limits new kept entered (after_turn keys.eq (record old { contents = kept }) old.memory limits new entered)
+
+  -- from a new cache that doesn't adapt all calls leave its shares, and it remembers nothing
+  abbrev pub FixedSharesStay : Type 0
+  FixedSharesStay =
+      (settings : Settings S) (shares : Shares) (weigher : W) (capacity : ℕ) (requests : List (Request K V)) (answers : List (Answer K V))
+      (cache : CacheState K V S W) →
+      shares.adapts ≡ false → Runs keys weighs (new_cache settings shares weigher capacity) requests answers cache →
+      (cache.shares ≡ shares) × (cache.memory ≡ None)
+
+  -- from a new cache no calls lead to more weight in protected than its share of what the window leaves to main then
   abbrev pub ProtectedStaysWithinShare : Type 0
   ProtectedStaysWithinShare =
       (settings : Settings S) (shares : Shares) (weigher : W) (capacity : ℕ) (requests : List (Request K V)) (answers : List (Answer K V))
       (cache : CacheState K V S W) →
       Runs keys weighs (new_cache settings shares weigher capacity) requests answers cache →
-      total_weight (protected_of cache.contents.entries) ≤ protected_room shares settings.policy.max_capacity
+      total_weight (protected_of cache.contents.entries) ≤ room_of cache
 
   -- from a new cache of which protected's share is nothing, no calls lead to an entry in protected
   abbrev pub ProtectedStaysEmpty : Type 0
   ProtectedStaysEmpty =
       (settings : Settings S) (shares : Shares) (weigher : W) (capacity : ℕ) (requests : List (Request K V)) (answers : List (Answer K V))
       (cache : CacheState K V S W) →
-      protected_room shares settings.policy.max_capacity ≡ 0 →
+      protected_room (record shares { extra = 0 }) settings.policy.max_capacity ≡ 0 →
       Runs keys weighs (new_cache settings shares weigher capacity) requests answers cache → protected_of cache.contents.entries ≡ []
 
   -- from a new cache, a get that finds an entry of main which protected has room for at all leaves it in protected, whatever was there

@@ -1,5 +1,6 @@
 pub mod Contents
 pub mod Shares
+pub mod Memory
 pub mod CacheState
 pub mod Cleanup
 pub mod Lookup

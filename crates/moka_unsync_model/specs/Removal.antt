@@ -52,6 +52,12 @@ module _ {K V S W : Type 0} (keys : Keys K S) where
     Rejected : (key : K) (value : V) (now limit : ℕ) → request ≡ Insert key value now → is_window e.part ≡ true
         → old.settings.policy.max_capacity ≡ Some limit → main_limit (limits_of old.shares limit) < total_weight old.contents.entries
         → RemovalCause old request new e
+    -- with an insert, the window grew for the new entry, which stands in it, and main has no room for all any more
+    GivenUp : (key : K) (value : V) (now limit : ℕ) (entered : Entry K V) → request ≡ Insert key value now
+        → entry_at keys.eq key new.contents.entries ≡ Some entered → is_window entered.part ≡ true
+        → old.shares.extra < new.shares.extra
+        → old.settings.policy.max_capacity ≡ Some limit → main_limit (limits_of new.shares limit) < total_weight old.contents.entries
+        → RemovalCause old request new e
 
 module _ {K V S W : Type 0} (keys : Keys K S) (weighs : W → K → V → ℕ → W → Type 0) where
   -- an accepted insert at an equal key, after which none has an entry: all entries and this one weigh more than main may

@@ -1,5 +1,5 @@
 -- What a listener is told of in each call.
-use Rattle.std.specs.Prelude.{ℕ, Option, Some, None, is_some}
+use Rattle.std.specs.Prelude.{ℕ, Option, Some, None, is_some, min}
 use Rattle.moka_common.specs.Keys.{Keys}
 use Rattle.moka_unsync_model.specs.declared.entry.Entry.{Entry}
 use Rattle.moka_unsync_model.specs.declared.listener.Cause.{Cause}
@@ -13,10 +13,11 @@ use Rattle.moka_unsync_model.specs.Shares.{main_limit}
 use Rattle.moka_unsync_model.specs.Told.{TellsExpired, TellsPut, TellsCleanup, TellsTaken, cause_at}
 use Rattle.moka_unsync_model.specs.Cleanup.{after_cleanup}
 
--- how much main may weigh, if there is a limit
-abbrev pub main_max : Option PartLimits → Option ℕ → Option ℕ
-main_max None max = max
-main_max (Some limits) max = Some (main_limit limits)
+-- how much main may weigh before a call and after it, whichever is less, if there is a limit
+abbrev pub main_max : Option PartLimits → Option PartLimits → Option ℕ → Option ℕ
+main_max None new max = max
+main_max (Some old) None max = Some (main_limit old)
+main_max (Some old) (Some new) max = Some (min (main_limit old) (main_limit new))
 
 module _ {L K V S W : Type 0} (hears : L → K → V → Cause → L → Type 0) (keys : Keys K S) (old : CacheState K V S W) (now : ℕ) where
   -- what a call finds when it acts
@@ -44,7 +45,7 @@ module _ {L K V S W : Type 0} (hears : L → K → V → Cause → L → Type 0)
   TellsNew (Some there) key value new before after =
       hears before key there.value (cause_at old.settings.policy now there cause.Replaced) after
   TellsNew None key value new before after =
-      (weight : ℕ) × TellsPut hears (main_max (windowed old) old.settings.policy.max_capacity) (is_some (entry_at keys.eq key new.contents.entries))
+      (weight : ℕ) × TellsPut hears (main_max (windowed old) (windowed new) old.settings.policy.max_capacity) (is_some (entry_at keys.eq key new.contents.entries))
       (new_entry keys old.settings.hash_state key value weight now) kept.entries new.contents.entries before after
 
   -- an insert tells of what cleanup removes, and then of what leaves for the entry that is put

@@ -1,10 +1,11 @@
 -- What a contract sees of the window: which new entries come from it to main, and which leave.
-use Rattle.std.specs.Prelude.{◌-◌, ℕ, max, Bool, List, fold, Option, Some, None}
+use Rattle.std.specs.Prelude.{◌-◌, ℕ, max, Bool, List, [], ◌∷◌, fold, map, Option, Some, None}
 use Rattle.moka_common.specs.Admission.{victims}
 use Rattle.moka_common.specs.Sketch.{Table, estimate}
 use Rattle.moka_unsync_model.specs.declared.entry.Entry.{Entry}
 use Rattle.moka_unsync_model.specs.declared.entry.Part.TheVariants.{Probation}
-use Rattle.moka_unsync_model.specs.Contents.{Contents, total_weight, main_of, window_of, entry_keys, without, after_leaving, after_moving}
+use Rattle.moka_unsync_model.specs.Contents.{Contents, balanced, total_weight, main_of, window_of, entry_keys, without, after_leaving, after_moving}
+use Rattle.moka_unsync_model.specs.Memory.{Memory, after_note, at_most}
 use Rattle.moka_unsync_model.specs.declared.shares.PartLimits.{PartLimits}
 use Rattle.moka_unsync_model.specs.Shares.{main_limit}
 use Rattle.moka_unsync_model.specs.Cleanup.{least_recent}
@@ -23,6 +24,19 @@ module _ {K V : Type 0} where
   victims_of limit sketch new entries =
       victims (λ e. e.weight) (λ e. estimate sketch e.hash) limit entries new.weight (estimate sketch new.hash)
 
+  -- what is remembered once these entries of main gave way to others
+  abbrev pub after_displacing : Memory → List (Entry K V) → Memory
+  after_displacing memory gone = record memory { displaced = fold after_note memory.displaced (map (λ e. e.hash) gone) }
+
+  -- what is remembered once a candidate of this hash is rejected, or admitted in place of these
+  abbrev pub after_judging : Memory → ℕ → Option (List (Entry K V)) → Memory
+  after_judging memory hash None = record memory { rejected = after_note memory.rejected hash }
+  after_judging memory hash (Some gone) = after_displacing memory gone
+
+  -- main's least recently used entries, as far as it weighs more than it may, but no more than weigh as much as the window has gained
+  abbrev pub given_up : PartLimits → ℕ → List (Entry K V) → List (Entry K V)
+  given_up limits gained entries = least_recent (at_most gained (total_weight (main_of entries) - main_limit limits)) (main_of entries)
+
   module _ (eq : K → K → Bool) where
     -- the contents once a candidate is the most recent of probation in place of these, its write where it was, or has left where it was rejected
     abbrev pub after_candidacy : Entry K V → Option (List (Entry K V)) → Contents K V → Contents K V
@@ -38,3 +52,17 @@ module _ {K V : Type 0} where
     -- the contents once these were candidates for main, one after another
     abbrev pub after_candidates : PartLimits → Option Table → List (Entry K V) → Contents K V → Contents K V
     after_candidates limits sketch entries contents = fold (after_candidate limits sketch) contents entries
+
+    -- what is remembered once these were candidates for main, one after another
+    abbrev pub after_judgements : PartLimits → Option Table → List (Entry K V) → Contents K V → Memory → Memory
+    after_judgements limits sketch [] contents memory = memory
+    after_judgements limits sketch (c ∷ cs) contents memory =
+        after_judgements limits sketch cs (after_candidate limits sketch contents c)
+        (after_judging memory c.hash (victims_of (Some (main_limit limits)) sketch c (main_of contents.entries)))
+
+    -- the contents once the limits of the parts are these and the window has gained so much: main has given up entries, and protected weighs no more than it
+    -- may. A window that is above its limit stays so until the next new entry, when what is above is judged
+    abbrev pub after_sharing : PartLimits → ℕ → Contents K V → Contents K V
+    after_sharing limits gained contents =
+        let left = after_leaving eq (entry_keys (given_up limits gained contents.entries)) contents in
+        record left { entries = balanced limits.protected left.entries }

@@ -4,7 +4,7 @@ ghost use Rattle.std.specs.Prelude.{◌≡◌, ◌/◌, ℕ};
 ghost use Rattle.moka_unsync_model.specs.declared.constants.TheConstants.{EVICTION_BATCH_SIZE};
 ghost use Rattle.moka_unsync_model.specs.Shares.{default_shares, limits_of};
 ghost use Rattle.moka_unsync_model.specs.Laws.{EntriesAreOwn, GetsOrInsertsAreRuns, HitsAreProtected, InvalidationsKeepCounts, KeysStandOnce};
-ghost use Rattle.moka_unsync_model.specs.Laws.{LooksChangeNothing};
+ghost use Rattle.moka_unsync_model.specs.Laws.{FixedSharesStay, InsertsDoLittle, LooksChangeNothing, TurnsAreSmall, WindowStaysWithinBounds};
 ghost use Rattle.moka_unsync_model.specs.Laws.{NeverRefuses, OnlyUpdatesOutgrowLimit, PartsStandInOrder, ProtectedGivesWayLast, ProtectedStaysEmpty};
 ghost use Rattle.moka_unsync_model.specs.Laws.{ProtectedStaysWithinShare, StaysWithinLimit, WindowStandsBehind, WindowStaysEmpty, WritesFollowEntries};
 ghost use Rattle.moka_unsync_model.specs.PlainMap.{RunsAsMap, StepsAsMap};
@@ -50,6 +50,26 @@ pub fn the_window_stands_behind<K: Eq + Hash, V, S: BuildHasher, W: Weigh<K, V>>
 /// And in main those of probation before those of protected.
 pub fn the_parts_stand_in_order<K: Eq + Hash, V, S: BuildHasher, W: Weigh<K, V>>()
     ensures { PartsStandInOrder (keys_by K.Hash S.BuildHasher S.Hasher.Hasher) W.weighs }
+{}
+
+/// A window that adapts keeps its share, and has at most 80 hundredths of the limit, or its share if that is more.
+pub fn the_window_stays_within_bounds<K: Eq + Hash, V, S: BuildHasher, W: Weigh<K, V>>()
+    ensures { WindowStaysWithinBounds (keys_by K.Hash S.BuildHasher S.Hasher.Hasher) W.weighs }
+{}
+
+/// A call moves the window's limit up by the weight of the entry that it inserts at most, or down by twice that. Other calls leave it as it is.
+pub fn turns_are_small<K: Eq + Hash, V, S: BuildHasher, W: Weigh<K, V>>()
+    ensures { TurnsAreSmall (keys_by K.Hash S.BuildHasher S.Hasher.Hasher) W.weighs }
+{}
+
+/// Without a weigher an insert of a new key judges three entries of the window at most, and then main gives up one and demotes one at most.
+pub fn inserts_do_little<K: Eq + Hash, V, S: BuildHasher, W: Weigh<K, V>>()
+    ensures { InsertsDoLittle (keys_by K.Hash S.BuildHasher S.Hasher.Hasher) W.weighs }
+{}
+
+/// A cache that doesn't adapt keeps its shares, and remembers nothing of what left, whatever calls are made.
+pub fn fixed_shares_stay<K: Eq + Hash, V, S: BuildHasher, W: Weigh<K, V>>()
+    ensures { FixedSharesStay (keys_by K.Hash S.BuildHasher S.Hasher.Hasher) W.weighs }
 {}
 
 /// Protected never weighs more than its share of main, whatever calls are made.

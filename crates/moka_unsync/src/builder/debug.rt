@@ -12,6 +12,7 @@ impl<K, V, W: Drop, A: Allocator + Clone + Drop> Debug for CacheBuilder<K, V, W,
             .field("initial_capacity", &self.initial_capacity)
             .field("window_share", &self.shares.window)
             .field("protected_share", &self.shares.protected)
+            .field("adaptive", &self.shares.adapts)
             .field("is_weighed", &self.is_weighed)
             .finish()
     }

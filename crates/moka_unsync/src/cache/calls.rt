@@ -11,6 +11,7 @@ ghost use Rattle.moka_unsync_model.specs.declared.listener.Cause.TheVariants.{Ex
 
 use crate::admission::{admit, insert_into_window};
 use crate::cache::Cache;
+use crate::memory::come;
 use crate::removal::{clear, remove, remove_notifying, remove_where};
 use moka_common::error::InsertError;
 use moka_common::time::Instant;
@@ -332,15 +333,32 @@ impl<
                 let (key, value) = self.store.update(id, self.room, entry);
                 listener.removed(key, value, cause);
             }
-            None => match &self.windowed {
+            None => match self.windowed {
                 Some(limits) => {
-                    if insert_into_window(&mut self.store, limits, &self.sketch, entry, listener) {
+                    come(&mut self.memory, self.shares, limits.all, &entry);
+                    let part = insert_into_window(
+                        &mut self.store,
+                        &limits,
+                        &self.sketch,
+                        entry,
+                        &mut self.memory,
+                        listener,
+                    );
+                    self.follow(limits, part, listener);
+                    if part.is_some() {
                         self.enable_sketch();
                     }
                 }
                 None => {
                     let limit = self.bounds.policy().max_capacity();
-                    if admit(&mut self.store, limit, &self.sketch, entry, listener) {
+                    if admit(
+                        &mut self.store,
+                        limit,
+                        &self.sketch,
+                        entry,
+                        &mut None,
+                        listener,
+                    ) {
                         self.enable_sketch();
                     }
                 }

@@ -8,6 +8,6 @@ pub invariant_of-result : goal.invariant_of-result
 invariant_of-result g c =
     let store = (c.in_ok-store.ensures {u = tt}).empty in
     rw c.new.ensures
-    (IsCached-new (ap entries_of store) (ap (λ s. s.keeps_writes) store)
+    (IsCached-new (ap entries_of store) (ap (λ s. s.keeps_writes) store) (c.requires.window, c.requires.protected)
     (c.windowed_limits.ensures ∙ ap (windowed_limits c.args.parts.shares) c.max_capacity.ensures)
     (c.protected_room.ensures ∙ ap (protected_room c.args.parts.shares) c.max_capacity-2.ensures))

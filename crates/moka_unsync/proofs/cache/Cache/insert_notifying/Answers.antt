@@ -1,9 +1,9 @@
-use Rattle.std.proofs.Common.{◌≡◌, ◌∙◌, ◌<◌, ◌≤◌, ◌+◌, ℕ, Bool, Option, None, Some, ap, arith, is_some, length, option_map, refl, rules, subst, sym, true, unwrap_or}
+use Rattle.std.proofs.Common.{◌≡◌, ◌∙◌, ◌<◌, ◌≤◌, ◌+◌, ℕ, Bool, Option, None, Some, ap, arith, is_some, length, min, option_map, false, refl, rules, subst, sym, true, unwrap_or}
 use Rattle.moka_common.specs.Settings.{keeps_writes}
-use Rattle.moka_unsync_model.specs.CacheState.{CacheState}
+use Rattle.moka_unsync_model.specs.CacheState.{CacheState, windowed}
 use Rattle.moka_unsync_model.specs.Contents.{entry_at, main_of}
 use Rattle.moka_list.proofs.IdLemmas.{some_parts}
-use Rattle.moka_unsync_model.specs.Insert.{after_admission, after_update, new_entry}
+use Rattle.moka_unsync_model.specs.Insert.{Refused, after_admission, after_entering, after_entering_judged, after_update, new_entry}
 use Rattle.moka_unsync_model.specs.Cleanup.{after_cleanup}
 use Rattle.moka_unsync_model.specs.Window.{victims_of}
 use Rattle.moka_store.specs.Store.{Store, contents_of, entries_of}
@@ -11,19 +11,26 @@ use Rattle.moka_common.specs.Keys.{keys_by}
 use Rattle.moka_unsync_model.specs.declared.entry.Entry.{Entry}
 use Rattle.moka_unsync_model.specs.declared.entry.Part.TheVariants.{Probation}
 use Rattle.moka_unsync_model.specs.declared.shares.PartLimits.{PartLimits}
-use Rattle.moka_unsync_model.specs.Shares.{windowed_limits}
-use Rattle.moka_unsync.specs.Cached.{IsCached, IsPut}
+use Rattle.moka_unsync_model.specs.Shares.{limits_of, windowed_limits}
+use Rattle.moka_unsync.specs.Cached.{IsCached, IsPut, after_following}
 use Rattle.moka_unsync.proofs.CachedLemmas.{IsCached-put, IsCached-room, IsCached-update, IsCached-cleanup, has_hash, length-entries}
-use Rattle.moka_unsync.proofs.InsertLemmas.{insert_drops, insert_stays, insert_updates, kept, put_main, stays_main}
+use Rattle.moka_unsync.proofs.InsertLemmas.{entering_drops, entering_stays, insert_drops, insert_stays, insert_updates, judged, kept, put_main, stays_main, turn_is, turned}
+use Rattle.moka_unsync.proofs.FollowLemmas.{stands_there}
+use Rattle.moka_unsync_model.specs.Memory.{after_coming, demand_after}
+use Rattle.moka_unsync_model.specs.declared.entry.Part.{Part}
 use Rattle.moka_unsync_model.specs.declared.listener.Cause.TheVariants.{Replaced}
 use Rattle.moka_unsync_model.specs.Shares.{main_limit}
 use Rattle.moka_unsync_model.specs.Told.{TellsPut, TellsCleanup, cause_at}
 use Rattle.moka_unsync_model.specs.ToldCalls.{TellsInsert, main_max}
 use Rattle.moka_unsync_model.proofs.EnteringLemmas.{stands-arrived}
-use Rattle.moka_unsync.proofs.LeavingLemmas.{put_told, update_told}
+use Rattle.moka_unsync.proofs.LeavingLemmas.{follow_told, put_told, update_told}
 use Rattle.moka_unsync.proofs.cache.Cache.insert_notifying.Given.{Over}
 use Rattle.moka_unsync.proofs.cache.Cache.insert_notifying.Goals.{After-clean_up, After-weigh}
 use Rattle.moka_unsync.proofs.cache.Cache.insert_notifying.Goals as goal
+
+-- no tables are asked for
+abbrev no_tables : Refused
+no_tables = record { table = true; tags = true }
 
 -- the hash is that of the key
 its_own : (g : Over) (c : After-clean_up g) → c.args.hash
@@ -63,6 +70,7 @@ its_cache g c = record {
   weigher = c.weigh.new.self;
   contents = contents_of c.self.inside.store;
   sketch = c.self.inside.sketch;
+  memory = c.self.inside.memory;
   capacity = c.reserve.new.self.capacity;
 }
 
@@ -85,13 +93,13 @@ its_hash g c =
 
 -- the contents that cleanup leaves
 its_contents : (g : Over) (c : After-weigh g)
-    → contents_of c.clean_up.new.store ≡ kept g.K.PartialEq.eq (its_cache g c) (its_entry g c (its_hash g c)) c.args.now true
+    → contents_of c.clean_up.new.store ≡ kept g.K.PartialEq.eq (its_cache g c) (its_entry g c (its_hash g c)) c.args.now no_tables
 its_contents g c =
     c.clean_up.ensures.step ∙ ap (λ s. after_cleanup g.K.PartialEq.eq c.self.inside.bounds c.args.now (contents_of s))
     c.reserve.ensures.unchanged
 
 its_absence : (g : Over) (c : After-weigh g) → entry_at g.K.PartialEq.eq c.args.key (entries_of c.clean_up.new.store) ≡ None
-    → entry_at g.K.PartialEq.eq c.args.key (kept g.K.PartialEq.eq (its_cache g c) (its_entry g c (its_hash g c)) c.args.now true).entries ≡ None
+    → entry_at g.K.PartialEq.eq c.args.key (kept g.K.PartialEq.eq (its_cache g c) (its_entry g c (its_hash g c)) c.args.now no_tables).entries ≡ None
 its_absence g c absent = subst (λ contents. entry_at g.K.PartialEq.eq c.args.key contents.entries ≡ None) (its_contents g c) absent
 
 -- what the new entry leaves, as it was put
@@ -104,7 +112,7 @@ IsPutThere g c windowed put stays =
 its_put : (g : Over) (c : After-weigh g) (put : Store g.row.K.Denot g.row.V.Denot) (stays : Bool) → IsPutThere g c c.self.inside.windowed put stays
     → IsPut g.K.PartialEq.eq (keeps_writes c.self.inside.bounds)
     (windowed_limits c.self.inside.shares c.self.inside.bounds.max_capacity) c.self.inside.bounds.max_capacity c.self.inside.sketch
-    (its_entry g c (its_hash g c)) (kept g.K.PartialEq.eq (its_cache g c) (its_entry g c (its_hash g c)) c.args.now true) stays (contents_of put)
+    (its_entry g c (its_hash g c)) (kept g.K.PartialEq.eq (its_cache g c) (its_entry g c (its_hash g c)) c.args.now no_tables) stays (contents_of put)
 its_put g c put stays step =
     let keeps = c.clean_up.ensures.kept.keeps ∙ (ap (λ s. s.keeps_writes) c.reserve.ensures.unchanged ∙ c.self.invariant.keeps) in
     let eq = g.K.PartialEq.eq in
@@ -112,8 +120,8 @@ its_put g c put stays step =
     let left = contents_of put in
     let new = its_entry g c (its_hash g c) in
     let max = c.self.inside.bounds.max_capacity in
-    subst (λ k. IsPut eq k (windowed_limits c.self.inside.shares max) max sketch new (kept eq (its_cache g c) new c.args.now true) stays left) keeps
-    (subst (λ w. IsPut eq c.clean_up.new.store.keeps_writes w max sketch new (kept eq (its_cache g c) new c.args.now true) stays left)
+    subst (λ k. IsPut eq k (windowed_limits c.self.inside.shares max) max sketch new (kept eq (its_cache g c) new c.args.now no_tables) stays left) keeps
+    (subst (λ w. IsPut eq c.clean_up.new.store.keeps_writes w max sketch new (kept eq (its_cache g c) new c.args.now no_tables) stays left)
     c.self.invariant.windowed
     (subst (λ s. IsPut eq c.clean_up.new.store.keeps_writes c.self.inside.windowed max sketch new s stays left) (its_contents g c)
     (subst (λ h. IsPut eq c.clean_up.new.store.keeps_writes c.self.inside.windowed max sketch (its_entry g c h) (contents_of c.clean_up.new.store)
@@ -155,34 +163,6 @@ its_admission g c none put stays max max_is step value =
       stays_main max c.self.inside.sketch new (entries_of old) stays all value,
     ))
 
-pub invariant_of-self-then-insert_into_window : goal.invariant_of-self-then-insert_into_window
-invariant_of-self-then-insert_into_window g c =
-    let at = (goal.at.invariant_of-self-then-insert_into_window g c).After-weigh in
-    let put = its_entering g at c.in-Some-windowed.limits c.in-Some-windowed.is c.insert_into_window.new.store c.insert_into_window.result
-    (c.insert_into_window.ensures.step, c.insert_into_window.ensures.value) in
-    admitted g at c.insert_into_window.new.store c.insert_into_window.result put c.insert_into_window.ensures.keeps
-
-pub invariant_of-self-else-insert_into_window : goal.invariant_of-self-else-insert_into_window
-invariant_of-self-else-insert_into_window g c =
-    let at = (goal.at.invariant_of-self-else-insert_into_window g c).After-weigh in
-    let put = its_entering g at c.in-Some-windowed.limits c.in-Some-windowed.is c.insert_into_window.new.store c.insert_into_window.result
-    (c.insert_into_window.ensures.step, c.insert_into_window.ensures.value) in
-    admitted g at c.insert_into_window.new.store c.insert_into_window.result put c.insert_into_window.ensures.keeps
-
-pub invariant_of-self-then-admit : goal.invariant_of-self-then-admit
-invariant_of-self-then-admit g c =
-    let at = (goal.at.invariant_of-self-then-admit g c).After-weigh in
-    let put = its_admission g at c.in-None-windowed.is c.admit.new.store c.admit.result c.max_capacity-limit.result
-    (c.max_capacity-limit.ensures ∙ ap (λ p. p.max_capacity) c.policy.ensures) c.admit.ensures.step c.admit.ensures.value in
-    admitted g at c.admit.new.store c.admit.result put c.admit.ensures.keeps
-
-pub invariant_of-self-else-admit : goal.invariant_of-self-else-admit
-invariant_of-self-else-admit g c =
-    let at = (goal.at.invariant_of-self-else-admit g c).After-weigh in
-    let put = its_admission g at c.in-None-windowed.is c.admit.new.store c.admit.result c.max_capacity-limit.result
-    (c.max_capacity-limit.ensures ∙ ap (λ p. p.max_capacity) c.policy.ensures) c.admit.ensures.step c.admit.ensures.value in
-    admitted g at c.admit.new.store c.admit.result put c.admit.ensures.keeps
-
 -- room was made for the entry
 its_room : (g : Over) (c : After-clean_up g) → length (entries_of c.self.inside.store) < c.reserve.new.self.capacity
 its_room g c =
@@ -210,12 +190,13 @@ returns-in-Some-clause-step g c =
       weigher = c.weigh.new.self;
       contents = contents_of start;
       sketch = c.self.inside.sketch;
+      memory = c.self.inside.memory;
       capacity = c.reserve.new.self.capacity;
     } in
     let new : Entry g.row.K.Denot g.row.V.Denot =
     new_entry keys c.self.inside.hash_state c.args.key c.args.value c.weigh.result c.args.now in
     let found = (c.in-Some.ensures {u = tt}).found in
-    let is : contents_of mid ≡ kept eq cache new c.args.now true =
+    let is : contents_of mid ≡ kept eq cache new c.args.now no_tables =
     c.clean_up.ensures.step ∙ ap (λ s. after_cleanup eq c.self.inside.bounds c.args.now (contents_of s)) c.reserve.ensures.unchanged in
     let keeps = c.clean_up.ensures.kept.keeps ∙ (ap (λ s. s.keeps_writes) c.reserve.ensures.unchanged ∙ c.self.invariant.keeps) in
     let own = some_parts c.update-key.ensures.step.entry found.0 (sym c.update-key.ensures.step.stood ∙ found.1) in
@@ -223,112 +204,18 @@ returns-in-Some-clause-step g c =
     (record {
       weight = c.weigh.result;
       weigher = c.weigh.new.self;
-      refused = true;
+      refused = no_tables;
       capacity = c.reserve.new.self.capacity;
       grown = its_room g made;
       kept = its_capacity g made;
       weighed = search rules;
       small = search rules;
       step =
-          insert_updates eq cache new c.args.now true found.0 (subst (λ s. entry_at eq c.args.key s.entries ≡ Some found.0) is found.2)
+          insert_updates eq cache new c.args.now no_tables found.0 (subst (λ s. entry_at eq c.args.key s.entries ≡ Some found.0) is found.2)
           (contents_of c.update-key.new.self) c.update-key.new.self.capacity
           (c.update-key.ensures.step.contents
           ∙ (λ i. after_update eq (keeps i) (c.self.invariant.room i) (own i) new (is i)))
           (c.update-key.ensures.step.kept.capacity ∙ c.clean_up.ensures.kept.capacity);
-    })
-
-pub returns-then-insert_into_window-clause-step : goal.returns-then-insert_into_window-clause-step
-returns-then-insert_into_window-clause-step g c =
-    let made = (goal.at.returns-then-insert_into_window-clause-step g c).After-clean_up in
-    let at = (goal.at.returns-then-insert_into_window-clause-step g c).After-weigh in
-    let absent : entry_at g.K.PartialEq.eq c.args.key (entries_of c.clean_up.new.store) ≡ None = search rules in
-    let put = its_entering g at c.in-Some-windowed.limits c.in-Some-windowed.is c.insert_into_window.new.store c.insert_into_window.result
-    (c.insert_into_window.ensures.step, c.insert_into_window.ensures.value) in
-    rw (← c.self.view_is)
-    (record {
-      weight = c.weigh.result;
-      weigher = c.weigh.new.self;
-      refused = c.enable_sketch.ensures.0;
-      capacity = c.reserve.new.self.capacity;
-      grown = its_room g made;
-      kept = its_capacity g made;
-      weighed = search rules;
-      small = search rules;
-      step =
-          c.enable_sketch.ensures.1
-          ∙ insert_stays g.K.PartialEq.eq (its_cache g at) (its_entry g at (its_hash g at)) c.args.now c.enable_sketch.ensures.0
-          (its_absence g at absent) (contents_of c.insert_into_window.new.store) c.insert_into_window.new.store.capacity c.insert_into_window.result
-          (its_put g at c.insert_into_window.new.store c.insert_into_window.result put) (c.insert_into_window.ensures.capacity ∙ c.clean_up.ensures.kept.capacity) c.if-insert_into_window.true;
-    })
-
-pub returns-else-insert_into_window-clause-step : goal.returns-else-insert_into_window-clause-step
-returns-else-insert_into_window-clause-step g c =
-    let made = (goal.at.returns-else-insert_into_window-clause-step g c).After-clean_up in
-    let at = (goal.at.returns-else-insert_into_window-clause-step g c).After-weigh in
-    let absent : entry_at g.K.PartialEq.eq c.args.key (entries_of c.clean_up.new.store) ≡ None = search rules in
-    let put = its_entering g at c.in-Some-windowed.limits c.in-Some-windowed.is c.insert_into_window.new.store c.insert_into_window.result
-    (c.insert_into_window.ensures.step, c.insert_into_window.ensures.value) in
-    rw (← c.self.view_is)
-    (record {
-      weight = c.weigh.result;
-      weigher = c.weigh.new.self;
-      refused = true;
-      capacity = c.reserve.new.self.capacity;
-      grown = its_room g made;
-      kept = its_capacity g made;
-      weighed = search rules;
-      small = search rules;
-      step =
-          insert_drops g.K.PartialEq.eq (its_cache g at) (its_entry g at (its_hash g at)) c.args.now true
-          (its_absence g at absent) (contents_of c.insert_into_window.new.store) c.insert_into_window.new.store.capacity c.insert_into_window.result
-          (its_put g at c.insert_into_window.new.store c.insert_into_window.result put) (c.insert_into_window.ensures.capacity ∙ c.clean_up.ensures.kept.capacity) c.if-insert_into_window.false;
-    })
-
-pub returns-then-admit-clause-step : goal.returns-then-admit-clause-step
-returns-then-admit-clause-step g c =
-    let made = (goal.at.returns-then-admit-clause-step g c).After-clean_up in
-    let at = (goal.at.returns-then-admit-clause-step g c).After-weigh in
-    let absent : entry_at g.K.PartialEq.eq c.args.key (entries_of c.clean_up.new.store) ≡ None = search rules in
-    let put = its_admission g at c.in-None-windowed.is c.admit.new.store c.admit.result c.max_capacity-limit.result
-    (c.max_capacity-limit.ensures ∙ ap (λ p. p.max_capacity) c.policy.ensures) c.admit.ensures.step c.admit.ensures.value in
-    rw (← c.self.view_is)
-    (record {
-      weight = c.weigh.result;
-      weigher = c.weigh.new.self;
-      refused = c.enable_sketch-then-admit.ensures.0;
-      capacity = c.reserve.new.self.capacity;
-      grown = its_room g made;
-      kept = its_capacity g made;
-      weighed = search rules;
-      small = search rules;
-      step =
-          c.enable_sketch-then-admit.ensures.1
-          ∙ insert_stays g.K.PartialEq.eq (its_cache g at) (its_entry g at (its_hash g at)) c.args.now c.enable_sketch-then-admit.ensures.0
-          (its_absence g at absent) (contents_of c.admit.new.store) c.admit.new.store.capacity c.admit.result
-          (its_put g at c.admit.new.store c.admit.result put) (c.admit.ensures.capacity ∙ c.clean_up.ensures.kept.capacity) c.if-admit.true;
-    })
-
-pub returns-else-admit-clause-step : goal.returns-else-admit-clause-step
-returns-else-admit-clause-step g c =
-    let made = (goal.at.returns-else-admit-clause-step g c).After-clean_up in
-    let at = (goal.at.returns-else-admit-clause-step g c).After-weigh in
-    let absent : entry_at g.K.PartialEq.eq c.args.key (entries_of c.clean_up.new.store) ≡ None = search rules in
-    let put = its_admission g at c.in-None-windowed.is c.admit.new.store c.admit.result c.max_capacity-limit.result
-    (c.max_capacity-limit.ensures ∙ ap (λ p. p.max_capacity) c.policy.ensures) c.admit.ensures.step c.admit.ensures.value in
-    rw (← c.self.view_is)
-    (record {
-      weight = c.weigh.result;
-      weigher = c.weigh.new.self;
-      refused = true;
-      capacity = c.reserve.new.self.capacity;
-      grown = its_room g made;
-      kept = its_capacity g made;
-      weighed = search rules;
-      small = search rules;
-      step =
-          insert_drops g.K.PartialEq.eq (its_cache g at) (its_entry g at (its_hash g at)) c.args.now true
-          (its_absence g at absent) (contents_of c.admit.new.store) c.admit.new.store.capacity c.admit.result
-          (its_put g at c.admit.new.store c.admit.result put) (c.admit.ensures.capacity ∙ c.clean_up.ensures.kept.capacity) c.if-admit.false;
     })
 
 -- the cache as the call finds it
@@ -339,6 +226,7 @@ its_start g c = record {
   weigher = c.self.inside.weigher;
   contents = contents_of c.self.inside.store;
   sketch = c.self.inside.sketch;
+  memory = c.self.inside.memory;
   capacity = c.self.inside.store.capacity;
 }
 
@@ -348,34 +236,6 @@ its_cleanup : (g : Over) (c : After-weigh g) → TellsCleanup g.L.Listener.hears
 its_cleanup g c =
     subst (λ s. TellsCleanup g.L.Listener.hears g.K.PartialEq.eq c.self.inside.bounds c.args.now (contents_of s) c.args.listener.now c.clean_up.new.listener)
     c.reserve.ensures.unchanged c.clean_up.ensures.told
-
--- and of what leaves for the new entry
-its_told : (g : Over) (c : After-weigh g) (limit : Option ℕ) (stays : Bool) (new : CacheState g.row.K.Denot g.row.V.Denot g.row.S.Denot g.row.W.Denot)
-    (after : g.row.L.Denot) → limit ≡ main_max (windowed_limits c.self.inside.shares c.self.inside.bounds.max_capacity) c.self.inside.bounds.max_capacity
-    → entry_at g.K.PartialEq.eq c.args.key (entries_of c.clean_up.new.store) ≡ None
-    → stays ≡ is_some (entry_at g.K.PartialEq.eq c.args.key new.contents.entries)
-    → TellsPut g.L.Listener.hears limit stays (its_entry g c c.args.hash) (entries_of c.clean_up.new.store) new.contents.entries c.clean_up.new.listener after
-    → TellsInsert g.L.Listener.hears
-    (keys_by (record { eq = g.K.PartialEq.eq; hash_input = g.K.Hash.hash_input }) g.S.BuildHasher g.S.Hasher.Hasher) (its_start g c) c.args.now c.args.key
-    c.args.value new c.args.listener.now after
-its_told g c limit stays new after limited absent stands put =
-    let keys = keys_by (record { eq = g.K.PartialEq.eq; hash_input = g.K.Hash.hash_input }) g.S.BuildHasher g.S.Hasher.Hasher in
-    put_told g.L.Listener.hears keys (its_start g c) new c.args.now c.args.key c.args.value (contents_of c.clean_up.new.store) c.args.listener.now
-    c.clean_up.new.listener after (its_contents g c) (its_cleanup g c) c.weigh.result limit stays limited absent stands
-    (subst (λ h. TellsPut g.L.Listener.hears limit stays (its_entry g c h) (entries_of c.clean_up.new.store) new.contents.entries c.clean_up.new.listener after)
-    (put_own g c) put)
-
--- the limit of main, where there is a window
-its_window : (g : Over) (c : After-weigh g) (limits : PartLimits) → c.self.inside.windowed ≡ Some limits
-    → Some (main_limit limits) ≡ main_max (windowed_limits c.self.inside.shares c.self.inside.bounds.max_capacity) c.self.inside.bounds.max_capacity
-its_window g c limits some =
-    ap (λ w. main_max w c.self.inside.bounds.max_capacity) (sym some ∙ c.self.invariant.windowed)
-
--- and where there is none
-its_main : (g : Over) (c : After-weigh g) (max : Option ℕ) → c.self.inside.windowed ≡ None → max ≡ c.self.inside.bounds.max_capacity
-    → max ≡ main_max (windowed_limits c.self.inside.shares c.self.inside.bounds.max_capacity) c.self.inside.bounds.max_capacity
-its_main g c max none is =
-    is ∙ ap (λ w. main_max w c.self.inside.bounds.max_capacity) (sym none ∙ c.self.invariant.windowed)
 
 -- an entry that is judged without a window stays if it has victims or needs none
 its_stay : (g : Over) (c : After-weigh g) (put : Store g.row.K.Denot g.row.V.Denot) (stays : Bool) (max : Option ℕ)
@@ -412,25 +272,264 @@ returns-in-Some-clause-told g c =
     (subst (λ k. hears c.clean_up.new.listener k c.update-key.result.1 c.cause_at-cause.result c.removed.new.self) c.update-key.ensures.key
     c.removed.ensures))))
 
-pub returns-then-insert_into_window-clause-told : goal.returns-then-insert_into_window-clause-told
-returns-then-insert_into_window-clause-told g c =
-    let at = (goal.at.returns-then-insert_into_window-clause-told g c).After-weigh in
-    let absent : entry_at g.K.PartialEq.eq c.args.key (entries_of c.clean_up.new.store) ≡ None = search rules in
-    let same : c.enable_sketch.new.self.contents.entries ≡ entries_of c.insert_into_window.new.store = ap (λ cache. cache.contents.entries) c.enable_sketch.ensures.1 in
-    rw (← c.self.view_is)
-    (its_told g at (Some (main_limit c.in-Some-windowed.limits)) c.insert_into_window.result c.enable_sketch.new.self c.insert_into_window.new.listener
-    (its_window g at c.in-Some-windowed.limits c.in-Some-windowed.is) absent
-    (c.insert_into_window.ensures.value ∙ ap (λ es. is_some (entry_at g.K.PartialEq.eq c.args.key es)) (sym same))
-    (subst (λ es. TellsPut g.L.Listener.hears (Some (main_limit c.in-Some-windowed.limits)) c.insert_into_window.result (its_entry g at c.args.hash)
-    (entries_of c.clean_up.new.store) es c.clean_up.new.listener c.insert_into_window.new.listener) (sym same) c.insert_into_window.ensures.told))
+-- what an entry leaves that enters the window
+its_place : (g : Over) (c : After-weigh g) (limits : PartLimits) → c.self.inside.windowed ≡ Some limits
+    → (put : Store g.row.K.Denot g.row.V.Denot) (part : Option Part)
+    → part ≡ option_map (λ e. e.part) (entry_at g.K.PartialEq.eq c.args.key (entries_of put))
+    → contents_of put ≡ after_entering g.K.PartialEq.eq c.clean_up.new.store.keeps_writes limits c.self.inside.sketch (its_entry g c c.args.hash)
+    (contents_of c.clean_up.new.store)
+    → IsPutThere g c c.self.inside.windowed put (is_some part)
+its_place g c limits some put part value step =
+    its_entering g c limits some put (is_some part)
+    (step, sym (stands_there g.met.K.Eq.laws part (entries_of put) c.args.key value))
 
-pub returns-else-insert_into_window-clause-told : goal.returns-else-insert_into_window-clause-told
-returns-else-insert_into_window-clause-told g c =
-    let at = (goal.at.returns-else-insert_into_window-clause-told g c).After-weigh in
-    let absent : entry_at g.K.PartialEq.eq c.args.key (entries_of c.clean_up.new.store) ≡ None = search rules in
+pub invariant_of-self-in-Some-windowed : goal.invariant_of-self-in-Some-windowed
+invariant_of-self-in-Some-windowed g c =
+    let at = (goal.at.invariant_of-self-in-Some-windowed g c).After-weigh in
+    let put = c.insert_into_window-part in
+    admitted g at put.new.store (is_some put.result)
+    (its_place g at c.in-Some-windowed.limits c.in-Some-windowed.is put.new.store put.result put.ensures.value put.ensures.step) put.ensures.keeps
+
+pub invariant_of-self-then-admit : goal.invariant_of-self-then-admit
+invariant_of-self-then-admit g c =
+    let at = (goal.at.invariant_of-self-then-admit g c).After-weigh in
+    let put = its_admission g at c.in-None-windowed.is c.admit.new.store c.admit.result c.max_capacity-limit.result
+    (c.max_capacity-limit.ensures ∙ ap (λ p. p.max_capacity) c.policy.ensures) c.admit.ensures.step c.admit.ensures.value in
+    admitted g at c.admit.new.store c.admit.result put c.admit.ensures.keeps
+
+pub invariant_of-self-else-admit : goal.invariant_of-self-else-admit
+invariant_of-self-else-admit g c =
+    let at = (goal.at.invariant_of-self-else-admit g c).After-weigh in
+    let put = its_admission g at c.in-None-windowed.is c.admit.new.store c.admit.result c.max_capacity-limit.result
+    (c.max_capacity-limit.ensures ∙ ap (λ p. p.max_capacity) c.policy.ensures) c.admit.ensures.step c.admit.ensures.value in
+    admitted g at c.admit.new.store c.admit.result put c.admit.ensures.keeps
+
+pub returns-then-is_some-clause-step : goal.returns-then-is_some-clause-step
+returns-then-is_some-clause-step g c =
+    let made = (goal.at.returns-then-is_some-clause-step g c).After-clean_up in
+    let at = (goal.at.returns-then-is_some-clause-step g c).After-weigh in
+    let eq = g.K.PartialEq.eq in
+    let limits = c.in-Some-windowed.limits in
+    let cache = its_cache g at in
+    let new = its_entry g at (its_hash g at) in
+    let put = c.insert_into_window-part in
+    let absent : entry_at eq c.args.key (entries_of c.clean_up.new.store) ≡ None = search rules in
+    let gone = its_absence g at absent in
+    let found = kept eq cache new c.args.now no_tables in
+    let some : windowed cache ≡ Some limits = sym c.self.invariant.windowed ∙ c.in-Some-windowed.is in
+    let keeps : c.clean_up.new.store.keeps_writes ≡ keeps_writes c.self.inside.bounds =
+    c.clean_up.ensures.kept.keeps ∙ (ap (λ s. s.keeps_writes) c.reserve.ensures.unchanged ∙ c.self.invariant.keeps) in
+    let entered = after_entering eq (keeps_writes c.self.inside.bounds) limits c.self.inside.sketch new found in
+    let contents : contents_of put.new.store ≡ entered =
+    put.ensures.step ∙ (λ i. after_entering eq (keeps i) limits c.self.inside.sketch (its_entry g at (put_own g at i)) (its_contents g at i)) in
+    let memory : put.new.memory ≡ judged eq cache limits new found entered c.self.inside.memory =
+    put.ensures.memory
+    ∙ ((λ i. option_map (after_entering_judged eq (keeps i) limits c.self.inside.sketch (its_entry g at (put_own g at i)) (its_contents g at i)) (c.come.ensures i))
+    ∙ (λ i. option_map (after_entering_judged eq (keeps_writes c.self.inside.bounds) limits c.self.inside.sketch new found)
+    (option_map (λ m. record (after_coming (put_own g at i) m) {
+      demand = demand_after c.self.inside.shares limits.all m (put_own g at i) c.weigh.result;
+    }) c.self.inside.memory))) in
+    let part : put.result ≡ option_map (λ e. e.part) (entry_at eq c.args.key entered.entries) =
+    put.ensures.value ∙ ap (λ s. option_map (λ e. e.part) (entry_at eq c.args.key s.entries)) contents in
+    let capacity = put.ensures.capacity ∙ c.clean_up.ensures.kept.capacity in
+    let turn : c.follow.new.self ≡ turned eq cache new c.args.now no_tables gone limits some =
+    c.follow.ensures.step
+    ∙ ((λ i. after_following eq (memory i) limits (part i) (record cache { contents = contents i; memory = memory i; capacity = capacity i }))
+    ∙ turn_is eq cache limits new found entered c.self.inside.memory refl) in
+    let stays : is_some (entry_at eq c.args.key c.follow.new.self.contents.entries) ≡ true =
+    c.follow.ensures.stays c.args.key put.ensures.value ∙ (sym c.is_some.ensures ∙ c.if-is_some.true) in
     rw (← c.self.view_is)
-    (its_told g at (Some (main_limit c.in-Some-windowed.limits)) c.insert_into_window.result _ c.insert_into_window.new.listener
-    (its_window g at c.in-Some-windowed.limits c.in-Some-windowed.is) absent c.insert_into_window.ensures.value c.insert_into_window.ensures.told)
+    (record {
+      weight = c.weigh.result;
+      weigher = c.weigh.new.self;
+      refused = c.enable_sketch.ensures.0;
+      capacity = c.reserve.new.self.capacity;
+      grown = its_room g made;
+      kept = its_capacity g made;
+      weighed = search rules;
+      small = search rules;
+      step =
+          c.enable_sketch.ensures.1
+          ∙ entering_stays eq cache new c.args.now c.enable_sketch.ensures.0 gone limits some c.follow.new.self turn stays;
+    })
+
+pub returns-else-is_some-clause-step : goal.returns-else-is_some-clause-step
+returns-else-is_some-clause-step g c =
+    let made = (goal.at.returns-else-is_some-clause-step g c).After-clean_up in
+    let at = (goal.at.returns-else-is_some-clause-step g c).After-weigh in
+    let eq = g.K.PartialEq.eq in
+    let limits = c.in-Some-windowed.limits in
+    let cache = its_cache g at in
+    let new = its_entry g at (its_hash g at) in
+    let put = c.insert_into_window-part in
+    let absent : entry_at eq c.args.key (entries_of c.clean_up.new.store) ≡ None = search rules in
+    let gone = its_absence g at absent in
+    let found = kept eq cache new c.args.now no_tables in
+    let some : windowed cache ≡ Some limits = sym c.self.invariant.windowed ∙ c.in-Some-windowed.is in
+    let keeps : c.clean_up.new.store.keeps_writes ≡ keeps_writes c.self.inside.bounds =
+    c.clean_up.ensures.kept.keeps ∙ (ap (λ s. s.keeps_writes) c.reserve.ensures.unchanged ∙ c.self.invariant.keeps) in
+    let entered = after_entering eq (keeps_writes c.self.inside.bounds) limits c.self.inside.sketch new found in
+    let contents : contents_of put.new.store ≡ entered =
+    put.ensures.step ∙ (λ i. after_entering eq (keeps i) limits c.self.inside.sketch (its_entry g at (put_own g at i)) (its_contents g at i)) in
+    let memory : put.new.memory ≡ judged eq cache limits new found entered c.self.inside.memory =
+    put.ensures.memory
+    ∙ ((λ i. option_map (after_entering_judged eq (keeps i) limits c.self.inside.sketch (its_entry g at (put_own g at i)) (its_contents g at i)) (c.come.ensures i))
+    ∙ (λ i. option_map (after_entering_judged eq (keeps_writes c.self.inside.bounds) limits c.self.inside.sketch new found)
+    (option_map (λ m. record (after_coming (put_own g at i) m) {
+      demand = demand_after c.self.inside.shares limits.all m (put_own g at i) c.weigh.result;
+    }) c.self.inside.memory))) in
+    let part : put.result ≡ option_map (λ e. e.part) (entry_at eq c.args.key entered.entries) =
+    put.ensures.value ∙ ap (λ s. option_map (λ e. e.part) (entry_at eq c.args.key s.entries)) contents in
+    let capacity = put.ensures.capacity ∙ c.clean_up.ensures.kept.capacity in
+    let turn : c.follow.new.self ≡ turned eq cache new c.args.now no_tables gone limits some =
+    c.follow.ensures.step
+    ∙ ((λ i. after_following eq (memory i) limits (part i) (record cache { contents = contents i; memory = memory i; capacity = capacity i }))
+    ∙ turn_is eq cache limits new found entered c.self.inside.memory refl) in
+    let stays : is_some (entry_at eq c.args.key c.follow.new.self.contents.entries) ≡ false =
+    c.follow.ensures.stays c.args.key put.ensures.value ∙ (sym c.is_some.ensures ∙ c.if-is_some.false) in
+    rw (← c.self.view_is)
+    (record {
+      weight = c.weigh.result;
+      weigher = c.weigh.new.self;
+      refused = no_tables;
+      capacity = c.reserve.new.self.capacity;
+      grown = its_room g made;
+      kept = its_capacity g made;
+      weighed = search rules;
+      small = search rules;
+      step = entering_drops eq cache new c.args.now no_tables gone limits some c.follow.new.self turn stays;
+    })
+
+pub returns-then-admit-clause-step : goal.returns-then-admit-clause-step
+returns-then-admit-clause-step g c =
+    let made = (goal.at.returns-then-admit-clause-step g c).After-clean_up in
+    let at = (goal.at.returns-then-admit-clause-step g c).After-weigh in
+    let eq = g.K.PartialEq.eq in
+    let cache = its_cache g at in
+    let new = its_entry g at (its_hash g at) in
+    let put = c.admit in
+    let absent : entry_at eq c.args.key (entries_of c.clean_up.new.store) ≡ None = search rules in
+    let none : windowed cache ≡ None = sym c.self.invariant.windowed ∙ c.in-None-windowed.is in
+    let max = c.max_capacity-limit.ensures ∙ ap (λ p. p.max_capacity) c.policy.ensures in
+    let is =
+    subst (λ w. IsPut eq (keeps_writes c.self.inside.bounds) w c.self.inside.bounds.max_capacity c.self.inside.sketch new
+    (kept eq cache new c.args.now no_tables) put.result (contents_of put.new.store)) none
+    (its_put g at put.new.store put.result
+    (its_admission g at c.in-None-windowed.is put.new.store put.result c.max_capacity-limit.result max put.ensures.step put.ensures.value)) in
+    rw (← c.self.view_is)
+    (record {
+      weight = c.weigh.result;
+      weigher = c.weigh.new.self;
+      refused = c.enable_sketch-then-admit.ensures.0;
+      capacity = c.reserve.new.self.capacity;
+      grown = its_room g made;
+      kept = its_capacity g made;
+      weighed = search rules;
+      small = search rules;
+      step =
+          c.enable_sketch-then-admit.ensures.1
+          ∙ insert_stays eq cache new c.args.now c.enable_sketch-then-admit.ensures.0 (its_absence g at absent) none (contents_of put.new.store)
+          put.new.store.capacity put.result (put.ensures.capacity ∙ c.clean_up.ensures.kept.capacity) is.0 is.1 c.if-admit.true;
+    })
+
+pub returns-else-admit-clause-step : goal.returns-else-admit-clause-step
+returns-else-admit-clause-step g c =
+    let made = (goal.at.returns-else-admit-clause-step g c).After-clean_up in
+    let at = (goal.at.returns-else-admit-clause-step g c).After-weigh in
+    let eq = g.K.PartialEq.eq in
+    let cache = its_cache g at in
+    let new = its_entry g at (its_hash g at) in
+    let put = c.admit in
+    let absent : entry_at eq c.args.key (entries_of c.clean_up.new.store) ≡ None = search rules in
+    let none : windowed cache ≡ None = sym c.self.invariant.windowed ∙ c.in-None-windowed.is in
+    let max = c.max_capacity-limit.ensures ∙ ap (λ p. p.max_capacity) c.policy.ensures in
+    let is =
+    subst (λ w. IsPut eq (keeps_writes c.self.inside.bounds) w c.self.inside.bounds.max_capacity c.self.inside.sketch new
+    (kept eq cache new c.args.now no_tables) put.result (contents_of put.new.store)) none
+    (its_put g at put.new.store put.result
+    (its_admission g at c.in-None-windowed.is put.new.store put.result c.max_capacity-limit.result max put.ensures.step put.ensures.value)) in
+    rw (← c.self.view_is)
+    (record {
+      weight = c.weigh.result;
+      weigher = c.weigh.new.self;
+      refused = no_tables;
+      capacity = c.reserve.new.self.capacity;
+      grown = its_room g made;
+      kept = its_capacity g made;
+      weighed = search rules;
+      small = search rules;
+      step =
+          insert_drops eq cache new c.args.now no_tables (its_absence g at absent) none (contents_of put.new.store) put.new.store.capacity put.result
+          (put.ensures.capacity ∙ c.clean_up.ensures.kept.capacity) is.0 is.1 c.if-admit.false;
+    })
+
+-- the listener was told of what leaves for the new entry
+its_told : (g : Over) (c : After-weigh g) (limit : Option ℕ) (stays : Bool) (new : CacheState g.row.K.Denot g.row.V.Denot g.row.S.Denot g.row.W.Denot)
+    (after : g.row.L.Denot)
+    → limit ≡ main_max (windowed_limits c.self.inside.shares c.self.inside.bounds.max_capacity) (windowed new) c.self.inside.bounds.max_capacity
+    → entry_at g.K.PartialEq.eq c.args.key (entries_of c.clean_up.new.store) ≡ None
+    → stays ≡ is_some (entry_at g.K.PartialEq.eq c.args.key new.contents.entries)
+    → TellsPut g.L.Listener.hears limit stays (its_entry g c c.args.hash) (entries_of c.clean_up.new.store) new.contents.entries c.clean_up.new.listener after
+    → TellsInsert g.L.Listener.hears
+    (keys_by (record { eq = g.K.PartialEq.eq; hash_input = g.K.Hash.hash_input }) g.S.BuildHasher g.S.Hasher.Hasher) (its_start g c) c.args.now c.args.key
+    c.args.value new c.args.listener.now after
+its_told g c limit stays new after limited absent stands put =
+    let keys = keys_by (record { eq = g.K.PartialEq.eq; hash_input = g.K.Hash.hash_input }) g.S.BuildHasher g.S.Hasher.Hasher in
+    put_told g.L.Listener.hears keys (its_start g c) new c.args.now c.args.key c.args.value (contents_of c.clean_up.new.store) c.args.listener.now
+    c.clean_up.new.listener after (its_contents g c) (its_cleanup g c) c.weigh.result limit stays limited absent stands
+    (subst (λ h. TellsPut g.L.Listener.hears limit stays (its_entry g c h) (entries_of c.clean_up.new.store) new.contents.entries c.clean_up.new.listener after)
+    (put_own g c) put)
+
+-- the limit of main, where there is no window
+its_main : (g : Over) (c : After-weigh g) (max : Option ℕ) (new : Option PartLimits) → c.self.inside.windowed ≡ None → max ≡ c.self.inside.bounds.max_capacity
+    → max ≡ main_max (windowed_limits c.self.inside.shares c.self.inside.bounds.max_capacity) new c.self.inside.bounds.max_capacity
+its_main g c max new none is =
+    is ∙ ap (λ w. main_max w new c.self.inside.bounds.max_capacity) (sym none ∙ c.self.invariant.windowed)
+
+-- and where there is one
+its_least : (g : Over) (c : After-weigh g) (limits : PartLimits) (new : Option PartLimits) (then : PartLimits) → c.self.inside.windowed ≡ Some limits
+    → new ≡ Some then → Some (min (main_limit limits) (main_limit then))
+    ≡ main_max (windowed_limits c.self.inside.shares c.self.inside.bounds.max_capacity) new c.self.inside.bounds.max_capacity
+its_least g c limits new then some is =
+    ap (λ w. main_max (Some limits) w c.self.inside.bounds.max_capacity) (sym is)
+    ∙ ap (λ w. main_max w new c.self.inside.bounds.max_capacity) (sym some ∙ c.self.invariant.windowed)
+
+pub returns-then-is_some-clause-told : goal.returns-then-is_some-clause-told
+returns-then-is_some-clause-told g c =
+    let at = (goal.at.returns-then-is_some-clause-told g c).After-weigh in
+    let eq = g.K.PartialEq.eq in
+    let put = c.insert_into_window-part in
+    let limits = c.in-Some-windowed.limits in
+    let absent : entry_at eq c.args.key (entries_of c.clean_up.new.store) ≡ None = search rules in
+    let asked = c.enable_sketch.ensures.1 in
+    let same : c.enable_sketch.new.self.contents.entries ≡ c.follow.new.self.contents.entries = ap (λ cache. cache.contents.entries) asked in
+    let then = limits_of c.follow.new.self.shares limits.all in
+    rw (← c.self.view_is)
+    (its_told g at (Some (min (main_limit limits) (main_limit then))) (is_some put.result) c.enable_sketch.new.self c.follow.new.listener
+    (its_least g at limits (windowed c.enable_sketch.new.self) then c.in-Some-windowed.is
+    (ap (λ cache. windowed cache) asked ∙ c.follow.ensures.windowed)) absent
+    (sym (ap (λ es. is_some (entry_at eq c.args.key es)) same ∙ c.follow.ensures.stays c.args.key put.ensures.value))
+    (subst (λ es. TellsPut g.L.Listener.hears (Some (min (main_limit limits) (main_limit then))) (is_some put.result) (its_entry g at c.args.hash)
+    (entries_of c.clean_up.new.store) es c.clean_up.new.listener c.follow.new.listener) (sym same)
+    (follow_told (main_limit limits) (main_limit then) c.self.inside.shares.extra c.follow.new.self.shares.extra put.result (its_entry g at c.args.hash)
+    (entries_of c.clean_up.new.store) (entries_of put.new.store) c.follow.new.self.contents.entries c.clean_up.new.listener put.new.listener
+    c.follow.new.listener put.ensures.told c.follow.ensures.told)))
+
+pub returns-else-is_some-clause-told : goal.returns-else-is_some-clause-told
+returns-else-is_some-clause-told g c =
+    let at = (goal.at.returns-else-is_some-clause-told g c).After-weigh in
+    let eq = g.K.PartialEq.eq in
+    let put = c.insert_into_window-part in
+    let limits = c.in-Some-windowed.limits in
+    let absent : entry_at eq c.args.key (entries_of c.clean_up.new.store) ≡ None = search rules in
+    let then = limits_of c.follow.new.self.shares limits.all in
+    rw (← c.self.view_is)
+    (its_told g at (Some (min (main_limit limits) (main_limit then))) (is_some put.result) c.follow.new.self c.follow.new.listener
+    (its_least g at limits (windowed c.follow.new.self) then c.in-Some-windowed.is c.follow.ensures.windowed) absent
+    (sym (c.follow.ensures.stays c.args.key put.ensures.value))
+    (follow_told (main_limit limits) (main_limit then) c.self.inside.shares.extra c.follow.new.self.shares.extra put.result (its_entry g at c.args.hash)
+    (entries_of c.clean_up.new.store) (entries_of put.new.store) c.follow.new.self.contents.entries c.clean_up.new.listener put.new.listener
+    c.follow.new.listener put.ensures.told c.follow.ensures.told))
 
 pub returns-then-admit-clause-told : goal.returns-then-admit-clause-told
 returns-then-admit-clause-told g c =
@@ -441,7 +540,7 @@ returns-then-admit-clause-told g c =
     ap (λ cache. cache.contents.entries) c.enable_sketch-then-admit.ensures.1 in
     rw (← c.self.view_is)
     (its_told g at max c.admit.result c.enable_sketch-then-admit.new.self c.admit.new.listener
-    (its_main g at max c.in-None-windowed.is (c.max_capacity-limit.ensures ∙ ap (λ p. p.max_capacity) c.policy.ensures)) absent
+    (its_main g at max _ c.in-None-windowed.is (c.max_capacity-limit.ensures ∙ ap (λ p. p.max_capacity) c.policy.ensures)) absent
     (its_stay g at c.admit.new.store c.admit.result max absent c.admit.ensures.step c.admit.ensures.value
     ∙ ap (λ es. is_some (entry_at g.K.PartialEq.eq c.args.key es)) (sym same))
     (subst (λ es. TellsPut g.L.Listener.hears max c.admit.result (its_entry g at c.args.hash) (entries_of c.clean_up.new.store) es c.clean_up.new.listener
@@ -454,5 +553,5 @@ returns-else-admit-clause-told g c =
     let max = c.max_capacity-limit.result in
     rw (← c.self.view_is)
     (its_told g at max c.admit.result _ c.admit.new.listener
-    (its_main g at max c.in-None-windowed.is (c.max_capacity-limit.ensures ∙ ap (λ p. p.max_capacity) c.policy.ensures)) absent
+    (its_main g at max _ c.in-None-windowed.is (c.max_capacity-limit.ensures ∙ ap (λ p. p.max_capacity) c.policy.ensures)) absent
     (its_stay g at c.admit.new.store c.admit.result max absent c.admit.ensures.step c.admit.ensures.value) c.admit.ensures.told)

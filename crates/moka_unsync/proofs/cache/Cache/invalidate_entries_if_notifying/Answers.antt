@@ -27,6 +27,7 @@ returns g c =
           weigher = c.self.inside.weigher;
           contents = step i;
           sketch = c.self.inside.sketch;
+          memory = c.self.inside.memory;
           capacity = c.remove_where.ensures.kept.capacity i;
         }),
       );
