@@ -25,6 +25,7 @@ fn caches_of<
     P: Rule<K, V>,
 >(alloc: Global, plan: &Plan<S>, weigher: W) -> Result<Vec<Cache<K, V, S, Asks<W>>>, BuildError>
     requires count { (0 < plan.now.count) × (plan.now.count ≤ 2 ^ 32) }
+    requires extra { plan.now.shares.extra ≡ 0 }
     requires ready { W.ready weigher }
     ensures { IfOk result (λ caches. AreCaches (keys_by K.Hash S.BuildHasher S.Hasher.Hasher) W.weighs P.rules plan.now W.ready caches.items
         × (vec_len caches ≡ plan.now.count)) }
@@ -50,6 +51,7 @@ pub(crate) fn assemble<
     weigher: W,
 ) -> Result<(SegmentedCache<K, V, S, W, P>, Owners<K, V, S, W, P>), OutOfMemory>
     requires count { (0 < plan.count) × (plan.count ≤ 2 ^ 32) }
+    requires extra { plan.shares.extra ≡ 0 }
     requires ready { W.ready weigher }
     ensures cache { IfOk result (λ r. r.0.plan ≡ plan) }
     ensures owners { IfOk result (λ r. r.1 ≡ record { cache = r.0; next = 0 }) }

@@ -2,6 +2,7 @@
 ghost use Rattle.std.specs.Prelude.{◌≡◌, ◌≤◌, ◌<◌, ◌^◌, true, None, Some, IfErr, IfOk};
 ghost use Rattle.moka_segments.specs.Builder.{count_fault, count_of, fault_of, new_builder, plan_of, refusal_of, usual_count};
 ghost use Rattle.moka_unsync.specs.Builder.{share_fault};
+ghost use Rattle.moka_unsync_model.specs.Shares.{adaptive};
 
 mod notifying;
 
@@ -18,7 +19,7 @@ use moka_common::hash::FixedState;
 use moka_common::policy::Policy;
 use moka_common::settings::duration_fault;
 use moka_common::weigh::UnitWeight;
-use moka_unsync_model::constants::{PROTECTED_SHARE, WINDOW_SHARE};
+use moka_unsync_model::constants::{ADAPTIVE_PROTECTED_SHARE, PROTECTED_SHARE, WINDOW_SHARE};
 use moka_unsync_model::shares::Shares;
 pub use notifying::NotifyingBuilder;
 use std::alloc::Global;
@@ -51,6 +52,7 @@ pub struct CacheBuilder<K, V, W: Drop = UnitWeight, P = Unruled> {
 }
 
 impl<K, V, W: Drop, P> Model for CacheBuilder<K, V, W, P> {
+    ghost use Rattle.std.specs.Prelude.{◌≡◌};
     ghost use Rattle.moka_segments.specs.Builder.{Builder};
 
     ghost Value = { Builder W };
@@ -63,6 +65,8 @@ impl<K, V, W: Drop, P> Model for CacheBuilder<K, V, W, P> {
       is_weighed = b.is_weighed;
       weigher = b.weigher;
     } };
+
+    ghost invariant = { λ b. b.shares.extra ≡ 0 };
 }
 
 impl<K, V> CacheBuilder<K, V, UnitWeight, Unruled> {
@@ -84,6 +88,8 @@ impl<K, V> CacheBuilder<K, V, UnitWeight, Unruled> {
             shares: Shares {
                 window: WINDOW_SHARE,
                 protected: PROTECTED_SHARE,
+                adapts: false,
+                extra: 0,
             },
             num_segments: None,
             is_weighed: false,
@@ -164,6 +170,23 @@ impl<K, V, W: Drop, P> CacheBuilder<K, V, W, P> {
         CacheBuilder {
             shares: Shares {
                 protected: percent,
+                ..self.shares
+            },
+            ..self
+        }
+    }
+
+    /// Makes the window of each segment adapt to the segment's calls. It grows while keys come back that were rejected, up to 80% of the segment's capacity,
+    /// and shrinks while keys come back that its main part gave up for others. It begins with a window of 1% and protected entries of 80%; a share that is set
+    /// later changes where it begins. Each segment then has two small tables beside its sketch's. If memory for them is refused, its window stays as it is.
+    pub fn adaptive(self) -> Self
+        ensures { result ≡ record self { shares = adaptive self.shares } }
+    {
+        CacheBuilder {
+            shares: Shares {
+                window: WINDOW_SHARE,
+                protected: ADAPTIVE_PROTECTED_SHARE,
+                adapts: true,
                 ..self.shares
             },
             ..self

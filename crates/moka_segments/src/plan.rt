@@ -56,7 +56,8 @@ pub(crate) fn builder_of<K, V, S: Drop, W: Weigh<K, V>>(
     i: usize,
     weigher: W,
 ) -> CacheBuilder<K, V, W>
-    requires { (0 < plan.now.count) × (plan.now.count ≤ 2 ^ 32) }
+    requires count { (0 < plan.now.count) × (plan.now.count ≤ 2 ^ 32) }
+    requires extra { plan.now.shares.extra ≡ 0 }
     ensures { result ≡ record {
       policy = policy_of plan.now i;
       initial_capacity = share plan.now.initial_capacity plan.now.count i;
@@ -66,7 +67,13 @@ pub(crate) fn builder_of<K, V, S: Drop, W: Weigh<K, V>>(
       weigher = weigher;
     } }
 {
-    let builder = CacheBuilder::default(alloc)
+    let builder = CacheBuilder::default(alloc);
+    let builder = if plan.shares.adapts {
+        builder.adaptive()
+    } else {
+        builder
+    };
+    let builder = builder
         .weigher_where(plan.is_weighed, weigher)
         .initial_capacity(share(plan.initial_capacity as u64, plan.count, i) as usize)
         .window_share(plan.shares.window)

@@ -1,4 +1,4 @@
-use Rattle.std.proofs.Common.{◌≡◌, ℕ, rules, subst}
+use Rattle.std.proofs.Common.{◌≡◌, ℕ, rules, subst, sym}
 use Rattle.moka_common.specs.Keys.{Keys, keys_by}
 use Rattle.moka_segments.specs.declared.plan.Plan.{Plan}
 use Rattle.moka_segments.specs.History.{Knows}
@@ -16,3 +16,8 @@ returns-clause-made g c =
     let count : c.deref-shared.result.now.plan.count ≡ c.args.self.now.cache.plan.count = search rules in
     subst (λ (z : Plan g.row.S.Denot × (Knows g.row.K.Denot g.row.V.Denot g.row.S.Denot g.row.W.Denot × ℕ)). InvalidatesAllIf (keys_of g) g.W.Weighing.weighs g.P.Rule.rules z.0 (goal.F-step g) c.args.predicate
     z.1.0 z.1.1 c.invalidate_entries_if.new.me.me.0) (λ j. (plan j, (knows j, count j))) c.invalidate_entries_if.ensures.made
+
+pub invalidate_entries_if-requires-clause-owns : goal.invalidate_entries_if-requires-clause-owns
+invalidate_entries_if-requires-clause-owns g c =
+    let knows : c.self.inside.caller.me.0 ≡ c.args.self.now.knows = search rules in
+    λ key. subst (λ (k : Knows g.row.K.Denot g.row.V.Denot g.row.S.Denot g.row.W.Denot). g.P.Rule.rules.owns k.by key) (sym knows) (c.requires.owns key)
