@@ -25,7 +25,7 @@ static uint64_t now(void) {
 
 /* Opens a table of at most 100,000 logins. */
 static uint32_t logins_open(struct logins *logins) {
-    struct mini_moka_u64_settings settings = MINI_MOKA_U64_SETTINGS_INIT;
+    struct mini_moka_u64_settings settings = MINI_MOKA_U64_ADAPTIVE_SETTINGS_INIT;
     settings.capacity = 100000;
     settings.time_to_live = 30 * 60 * SECOND;
     return mini_moka_u64_open(&logins->users, &settings);

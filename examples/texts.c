@@ -4,7 +4,7 @@
 
 int main(void) {
     struct mini_moka cache = {0};
-    struct mini_moka_settings settings = MINI_MOKA_SETTINGS_INIT;
+    struct mini_moka_settings settings = MINI_MOKA_ADAPTIVE_SETTINGS_INIT;
     char name[64];
     size_t length;
     settings.capacity = 10000;

@@ -49,7 +49,7 @@ static void *work(void *at) {
 
 int main(void) {
     struct mini_moka_segments cache = {0};
-    struct mini_moka_settings settings = MINI_MOKA_SETTINGS_INIT;
+    struct mini_moka_settings settings = MINI_MOKA_ADAPTIVE_SETTINGS_INIT;
     struct mini_moka_statistics counts = {0};
     struct worker workers[THREADS] = {0};
     uint64_t drained = 0, remaining = 0;

@@ -44,23 +44,24 @@ extern "C" {
 #endif
 
 /* The version of this header and of its library. */
-#define MINI_MOKA_VERSION "0.12.0"
+#define MINI_MOKA_VERSION "0.13.0"
 
 /* The value of a capacity or a duration that sets no limit. */
 #define MINI_MOKA_UNLIMITED UINT64_MAX
 
 enum mini_moka_status {
     MINI_MOKA_DONE = 0,
-    MINI_MOKA_ABSENT = 1,        /* the call was made: the key has no unexpired entry, a walk has visited each entry, or no removed entry is queued */
-    MINI_MOKA_CLOSED = 2,        /* the handle is closed, and nothing was done */
-    MINI_MOKA_ALREADY_OPEN = 3,  /* the handle is open, and was not changed */
-    MINI_MOKA_OUT_OF_MEMORY = 4, /* memory was refused, and no entry was written */
-    MINI_MOKA_OTHER_KIND = 5,    /* the handle has a cache of numbers and the call is for bytes, or the other way round: nothing was done */
-    MINI_MOKA_TOO_SHORT = 6,     /* a buffer is shorter than the key or the value found, whose length is written */
-    MINI_MOKA_CHANGED = 7,       /* no walk was begun, or a call that may change the cache ended it */
-    MINI_MOKA_ZERO_DURATION = 8, /* a time to live or to idle is 0, as in settings of all zeros, so no entry would be found: nothing was opened. For no
-                                    duration use MINI_MOKA_UNLIMITED, which MINI_MOKA_SETTINGS_INIT has */
-    MINI_MOKA_REJECTED = 9,      /* the call was made, and the full cache did not admit the new entry */
+    MINI_MOKA_ABSENT = 1,           /* the call was made: the key has no unexpired entry, a walk has visited each entry, or no removed entry is queued */
+    MINI_MOKA_CLOSED = 2,           /* the handle is closed, and nothing was done */
+    MINI_MOKA_ALREADY_OPEN = 3,     /* the handle is open, and was not changed */
+    MINI_MOKA_OUT_OF_MEMORY = 4,    /* memory was refused, and no entry was written */
+    MINI_MOKA_OTHER_KIND = 5,       /* the handle has a cache of numbers and the call is for bytes, or the other way round: nothing was done */
+    MINI_MOKA_TOO_SHORT = 6,        /* a buffer is shorter than the key or the value found, whose length is written */
+    MINI_MOKA_CHANGED = 7,          /* no walk was begun, or a call that may change the cache ended it */
+    MINI_MOKA_ZERO_DURATION = 8,    /* a time to live or to idle is 0, as in settings of all zeros, so no entry would be found: nothing was opened. For no
+                                       duration use MINI_MOKA_UNLIMITED, which MINI_MOKA_SETTINGS_INIT has */
+    MINI_MOKA_REJECTED = 9,         /* the call was made, and the full cache did not admit the new entry */
+    MINI_MOKA_SHARE_TOO_LARGE = 10, /* a share is above 100 percent: nothing was opened */
 };
 
 /*
@@ -93,6 +94,7 @@ static inline const char *mini_moka_status_text(uint32_t status) {
         "no walk was begun, or a change has ended it",
         "a time to live or to idle is 0; MINI_MOKA_SETTINGS_INIT sets neither",
         "the new entry was not admitted",
+        "a share is above 100 percent",
     };
     return status < sizeof texts / sizeof *texts ? texts[status] : "an unknown status";
 }
@@ -118,14 +120,28 @@ struct mini_moka_settings {
     uint64_t seed[2];        /* the key of the hash function: 16 secret bytes, if strangers choose the cache's keys */
     bool is_weighed;         /* true if an entry weighs the bytes of its key and value instead of 1 */
     size_t removed_room;     /* maximum number of removed entries that are queued for mini_moka_removed; 0 queues none */
+    uint8_t window_share;    /* the window's share of the capacity in percent, at most 100; 0 for no window */
+    uint8_t protected_share; /* the share of the capacity outside of the window, in percent, that is for entries used there; at most 100 */
+    bool is_adaptive;        /* true if the window's share follows the calls: it begins at window_share, never falls below it, and grows to 80 at most */
 };
 
-/* Settings without limits, to start from: struct mini_moka_settings settings = MINI_MOKA_SETTINGS_INIT; settings.capacity = 1000; */
-#define MINI_MOKA_SETTINGS_INIT {MINI_MOKA_UNLIMITED, MINI_MOKA_UNLIMITED, MINI_MOKA_UNLIMITED, 0, {0, 0}, false, 0}
+/*
+ * Settings without limits, to start from: struct mini_moka_settings settings = MINI_MOKA_ADAPTIVE_SETTINGS_INIT; settings.capacity = 1000;
+ *
+ * The first are of a cache whose window adapts, which has more hits where recently inserted keys are asked for again, and is the best default. The others
+ * are of a cache with a fixed window of 1 percent.
+ */
+#define MINI_MOKA_ADAPTIVE_SETTINGS_INIT {MINI_MOKA_UNLIMITED, MINI_MOKA_UNLIMITED, MINI_MOKA_UNLIMITED, 0, {0, 0}, false, 0, 1, 80, true}
+#define MINI_MOKA_SETTINGS_INIT {MINI_MOKA_UNLIMITED, MINI_MOKA_UNLIMITED, MINI_MOKA_UNLIMITED, 0, {0, 0}, false, 0, 1, 0, false}
 
 /*
- * Opens a closed handle with a new cache. If memory is refused or a duration is 0, the handle stays closed. An initial_capacity of 2,000,000,000 or more is
- * refused too: MINI_MOKA_OUT_OF_MEMORY. The memory for removed_room entries is reserved here, so no other call is refused memory for them.
+ * Opens a closed handle with a new cache. If memory is refused, a duration is 0 or a share is above 100, the handle stays closed. An initial_capacity of
+ * 2,000,000,000 or more is refused too: MINI_MOKA_OUT_OF_MEMORY. The memory for removed_room entries is reserved here, so no other call is refused memory
+ * for them.
+ *
+ * Only a cache with a capacity and a window adapts. Its window grows when keys return that it gave up, and shrinks when keys return that were evicted from
+ * outside of it. For this the cache remembers keys in two small tables, of at most 1 byte for each entry that fits or of 64 bytes. It allocates them once it
+ * is half full. If memory for them is refused, the call does its work all the same, and the cache never adapts.
  */
 uint32_t mini_moka_open(struct mini_moka *handle, const struct mini_moka_settings *settings);
 
@@ -190,10 +206,14 @@ struct mini_moka_u64_settings {
     uint64_t time_to_idle;   /* nanoseconds that an entry lives after its last read or write */
     size_t initial_capacity; /* number of entries for which memory is reserved; up to it, no insert is refused memory */
     size_t removed_room;     /* maximum number of removed entries that are queued for mini_moka_u64_removed; 0 queues none */
+    uint8_t window_share;    /* the window's share of the capacity in percent, at most 100; 0 for no window */
+    uint8_t protected_share; /* the share of the capacity outside of the window, in percent, that is for entries used there; at most 100 */
+    bool is_adaptive;        /* true if the window's share follows the calls */
 };
 
-/* Settings without limits. */
-#define MINI_MOKA_U64_SETTINGS_INIT {MINI_MOKA_UNLIMITED, MINI_MOKA_UNLIMITED, MINI_MOKA_UNLIMITED, 0, 0}
+/* Settings without limits: of a cache whose window adapts, and of one with a fixed window. */
+#define MINI_MOKA_U64_ADAPTIVE_SETTINGS_INIT {MINI_MOKA_UNLIMITED, MINI_MOKA_UNLIMITED, MINI_MOKA_UNLIMITED, 0, 0, 1, 80, true}
+#define MINI_MOKA_U64_SETTINGS_INIT {MINI_MOKA_UNLIMITED, MINI_MOKA_UNLIMITED, MINI_MOKA_UNLIMITED, 0, 0, 1, 0, false}
 
 /* Opens a closed handle with a new cache. The hash function has a fixed key: if strangers choose the cache's keys, use a cache of bytes. */
 uint32_t mini_moka_u64_open(struct mini_moka *handle, const struct mini_moka_u64_settings *settings);
@@ -246,6 +266,9 @@ uint32_t mini_moka_count(struct mini_moka *handle, uint64_t *count);
 
 /* Writes the weight of the entries, at most UINT64_MAX. */
 uint32_t mini_moka_weight(struct mini_moka *handle, uint64_t *weight);
+
+/* Writes the weight that the window may have, 0 without a window. It changes only if the cache adapts. */
+uint32_t mini_moka_window(struct mini_moka *handle, uint64_t *weight);
 
 /* Writes the counts of the calls and of the entries that left. */
 uint32_t mini_moka_statistics(struct mini_moka *handle, struct mini_moka_statistics *statistics);

@@ -251,6 +251,11 @@ static inline uint32_t mini_moka_segments_weight(struct mini_moka_segments *all,
     return mini_moka_segments_sum(all, mini_moka_weight, weight);
 }
 
+/* Writes the sum of the weights that the segments' windows may have. Each window adapts by itself. */
+static inline uint32_t mini_moka_segments_window(struct mini_moka_segments *all, uint64_t *weight) {
+    return mini_moka_segments_sum(all, mini_moka_window, weight);
+}
+
 static inline uint32_t mini_moka_segments_statistics(struct mini_moka_segments *all, struct mini_moka_statistics *statistics) {
     struct mini_moka_statistics whole;
     memset(&whole, 0, sizeof whole);

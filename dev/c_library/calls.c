@@ -1,27 +1,15 @@
 /* Tests the status and the output of each call of include/mini_moka.h. Prints each check that fails with its line, and exits with status 1 then. */
+#include "check.h"
 #include "mini_moka.h"
-#include <stdio.h>
 #include <string.h>
-
-static int failures;
-
-/* Prints the condition with its line if it is false. */
-#define CHECK(holds) check((holds), #holds, __LINE__)
-
-static void check(bool holds, const char *what, int line) {
-    if (!holds) {
-        failures++;
-        fprintf(stderr, "line %d: %s\n", line, what);
-    }
-}
 
 #define NONE MINI_MOKA_UNLIMITED
 
 /* BEFORE fills outputs before a call, and stays if the call doesn't write them. ROOM is the length of a buffer. */
 enum { BEFORE = 99, ROOM = 8 };
 
-static const struct mini_moka_settings BYTES = {10, NONE, NONE, 0, {1, 2}, false, 0};
-static const struct mini_moka_u64_settings NUMBERS = {10, NONE, NONE, 0, 0};
+static const struct mini_moka_settings BYTES = {10, NONE, NONE, 0, {1, 2}, false, 0, 1, 0, false};
+static const struct mini_moka_u64_settings NUMBERS = {10, NONE, NONE, 0, 0, 1, 0, false};
 
 /* Returns the number that mini_moka_count or mini_moka_weight writes. */
 static uint64_t number_of(uint32_t (*call)(struct mini_moka *, uint64_t *), struct mini_moka *cache) {
@@ -309,7 +297,7 @@ static void expired_numbers_leave_as_expired(void) {
     struct mini_moka_statistics met;
     uint64_t key = BEFORE, value = BEFORE;
     uint32_t cause = BEFORE;
-    CHECK(mini_moka_u64_open(&cache, &(struct mini_moka_u64_settings){10, NONE, 20, 0, 10}) == MINI_MOKA_DONE);
+    CHECK(mini_moka_u64_open(&cache, &(struct mini_moka_u64_settings){10, NONE, 20, 0, 10, 1, 0, false}) == MINI_MOKA_DONE);
     CHECK(mini_moka_u64_insert(&cache, 1, 1, 1) == MINI_MOKA_DONE);
     for (uint64_t i = 2; i < 6; i++)
         CHECK(mini_moka_u64_insert(&cache, i, i, 0) == MINI_MOKA_DONE);
@@ -461,13 +449,14 @@ static void durations_of_zero_are_refused(void) {
 
 /* Each status has its own text, and three of them are no errors. */
 static void statuses_have_texts(void) {
-    for (uint32_t status = 0; status <= MINI_MOKA_REJECTED + 1; status++) {
+    for (uint32_t status = 0; status <= MINI_MOKA_SHARE_TOO_LARGE + 1; status++) {
         CHECK(mini_moka_is_error(status) == (status != MINI_MOKA_DONE && status != MINI_MOKA_ABSENT && status != MINI_MOKA_REJECTED));
         for (uint32_t other = 0; other < status; other++)
             CHECK(strcmp(mini_moka_status_text(status), mini_moka_status_text(other)) != 0);
     }
     CHECK(strcmp(mini_moka_status_text(MINI_MOKA_ZERO_DURATION), "a time to live or to idle is 0; MINI_MOKA_SETTINGS_INIT sets neither") == 0);
     CHECK(strcmp(mini_moka_status_text(MINI_MOKA_REJECTED), "the new entry was not admitted") == 0);
+    CHECK(strcmp(mini_moka_status_text(MINI_MOKA_SHARE_TOO_LARGE), "a share is above 100 percent") == 0);
     CHECK(strcmp(mini_moka_status_text(UINT32_MAX), "an unknown status") == 0);
 }
 
@@ -578,8 +567,8 @@ static void too_much_room_is_refused(void) {
     struct mini_moka_settings settings = BYTES;
     settings.initial_capacity = SIZE_MAX;
     CHECK(mini_moka_open(&cache, &settings) == MINI_MOKA_OUT_OF_MEMORY);
-    CHECK(mini_moka_u64_open(&cache, &(struct mini_moka_u64_settings){10, NONE, NONE, SIZE_MAX, 0}) == MINI_MOKA_OUT_OF_MEMORY);
-    CHECK(mini_moka_u64_open(&cache, &(struct mini_moka_u64_settings){10, NONE, NONE, 0, SIZE_MAX}) == MINI_MOKA_OUT_OF_MEMORY);
+    CHECK(mini_moka_u64_open(&cache, &(struct mini_moka_u64_settings){10, NONE, NONE, SIZE_MAX, 0, 1, 0, false}) == MINI_MOKA_OUT_OF_MEMORY);
+    CHECK(mini_moka_u64_open(&cache, &(struct mini_moka_u64_settings){10, NONE, NONE, 0, SIZE_MAX, 1, 0, false}) == MINI_MOKA_OUT_OF_MEMORY);
     settings.initial_capacity = 0;
     settings.removed_room = SIZE_MAX;
     CHECK(mini_moka_open(&cache, &settings) == MINI_MOKA_OUT_OF_MEMORY);

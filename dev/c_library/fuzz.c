@@ -3,6 +3,8 @@
  * allocation within a call is refused. Keys, values and buffers adjoin each other, in blocks of exactly their length. It is linked with --wrap for malloc and
  * realloc. Prints the first difference, and exits with status 1 then.
  *
+ * Half of the caches are adaptive, and most have random shares. A window stays within its bounds, and only an insert that is done moves it.
+ *
  * Without a capacity the model knows the result of each call, as long as no moment is before an earlier one. With one it doesn't know which entries have left,
  * so a look-up may find nothing. A value that is found must be the last one written, and unexpired, and the capacity must hold. In some caches moments go back;
  * then a live entry that was expired before may have left.
@@ -11,373 +13,11 @@
  * entry that a call of its key replaces or removes leaves as replaced or removed while it is live, and else as expired. Each inserted entry is in the cache, or
  * was drained once, returned by a removal, or lost. As long as none was lost, the model knows which entries have left.
  */
-#include "mini_moka.h"
-#include <inttypes.h>
-#include <stdio.h>
-#include <stdlib.h>
-#include <string.h>
-
-enum { KEYS = 300, LONGEST = 4096, SHORT_KEY = 24, CALLS_OF_A_CACHE = 3000, CAUSES = 5, NO_PUT = -1 };
-
-/* ---- refused memory */
-
-void *__real_malloc(size_t size);
-void *__real_realloc(void *block, size_t size);
-
-static int allocations_left = -1; /* number of allocations before the one that is refused, or -1 if none is */
-static bool was_refused;
-static uint64_t refusals;
-
-static bool refuses(void) {
-    if (allocations_left < 0 || allocations_left-- > 0)
-        return false;
-    was_refused = true;
-    refusals++;
-    return true;
-}
-
-void *__wrap_malloc(size_t size) {
-    return refuses() ? NULL : __real_malloc(size);
-}
-
-void *__wrap_realloc(void *block, size_t size) {
-    return refuses() ? NULL : __real_realloc(block, size);
-}
-
-/* ---- pseudorandom numbers */
-
-static uint64_t state;
-
-static uint64_t mix(uint64_t number) {
-    number = (number ^ (number >> 30)) * UINT64_C(0xbf58476d1ce4e5b9);
-    number = (number ^ (number >> 27)) * UINT64_C(0x94d049bb133111eb);
-    return number ^ (number >> 31);
-}
-
-static uint64_t next_number(void) {
-    return mix(state += UINT64_C(0x9e3779b97f4a7c15));
-}
-
-static uint64_t below(uint64_t bound) {
-    return next_number() % bound;
-}
-
-/* ---- the model */
-
-/* The model's knowledge of a key: its last write and last use, if no call has removed the entry. */
-struct known {
-    bool is_there;
-    uint64_t version, written, used;
-    bool may_have_left; /* a call was made while the entry was expired, and may have removed it */
-};
-
-/* An entry that a call inserted: one version of a key's value. */
-struct put {
-    uint64_t version, written, used;
-    uint32_t status; /* of the call; a get-or-insert doesn't report that its entry was rejected */
-    bool has_left, was_expired; /* was_expired is set if a call that removes expired entries was made while the entry was expired */
-    uint32_t ended; /* the cause for which a call of the key, or one that removes all, ended the entry if it was still there, or CAUSES */
-    int next; /* the next entry of the same key, or NO_PUT */
-};
-
-struct model {
-    struct mini_moka cache;
-    bool is_bytes, is_weighed;
-    uint64_t capacity, time_to_live, time_to_idle, now, versions;
-    struct known keys[KEYS];
-    bool goes_back, is_swept; /* is_swept is set if the model has noted what is expired now */
-    uint64_t hits, misses, inserts, rejections;
-    uint64_t updates, removals; /* the most that there can be: those of entries that are live if they haven't left */
-    size_t longest_key; /* length of the longest key looked up so far, for which the handle has memory */
-    size_t removed_room;
-    bool is_eager; /* true if each look-up drains the removed entries */
-    struct put puts[CALLS_OF_A_CACHE];
-    int put_count, first_put[KEYS], last_put[KEYS];
-    uint64_t drained[CAUSES], returned, skipped;
-};
-
-static const char *calls[] = {"insert",        "get",            "peek",   "contains", "remove", "invalidate",
-                              "get or insert", "invalidate all", "counts", "walk",     "drain",  "open"};
-static unsigned call;
-static uint64_t calls_made, seed;
-
-static void differs(const char *what) {
-    fprintf(stderr, "seed %" PRIu64 ", call %" PRIu64 " (%s): %s\n", seed, calls_made, calls[call], what);
-    exit(1);
-}
-
-static void require(bool holds, const char *what) {
-    if (!holds)
-        differs(what);
-}
-
-static bool is_over(uint64_t since, uint64_t duration, uint64_t now) {
-    return duration != MINI_MOKA_UNLIMITED && since + duration <= now;
-}
-
-static bool is_expired(const struct model *model, uint64_t written, uint64_t used) {
-    return is_over(written, model->time_to_live, model->now) || is_over(used, model->time_to_idle, model->now);
-}
-
-static bool is_alive(const struct model *model, const struct known *key) {
-    return key->is_there && !is_expired(model, key->written, key->used);
-}
-
-/* Returns true if a cache without a capacity must have the entry. */
-static bool is_surely_alive(const struct model *model, const struct known *key) {
-    return is_alive(model, key) && !key->may_have_left;
-}
-
-/* ---- keys and values: bytes derived from numbers */
-
-static size_t fill(uint8_t *bytes, uint64_t number) {
-    size_t length = mix(number) % 8 == 0 ? mix(number + 1) % (LONGEST + 1) : mix(number + 1) % 40;
-    for (size_t i = 0; i < length; i++)
-        bytes[i] = (uint8_t)(mix(number + 2 + i / 8) >> i % 8 * 8);
-    return length;
-}
-
-/* Writes the bytes of a key, and returns their length. They begin with the key's number, so that keys differ; key 0 is empty. */
-static size_t key_bytes(uint8_t *bytes, uint64_t number) {
-    size_t length = fill(bytes, number * 1000003);
-    if (number == 0)
-        return 0;
-    length = length < 8 ? 8 : length;
-    memcpy(bytes, &number, 8);
-    return length;
-}
-
-static uint64_t value_number(uint64_t key, uint64_t version) {
-    return mix(key * 31 + version);
-}
-
-/* ---- calls, of either kind */
-
-/* Allocates a block of a key and `behind` bytes after it, so that AddressSanitizer finds an access outside of them. */
-static uint8_t *block_of(uint64_t key, size_t *key_length, size_t behind) {
-    static uint8_t key_at[LONGEST];
-    *key_length = key_bytes(key_at, key);
-    uint8_t *block = __real_malloc(*key_length + behind + (*key_length + behind == 0));
-    if (block == NULL)
-        abort();
-    memcpy(block, key_at, *key_length);
-    return block;
-}
-
-/* Inserts a version of the key's value. The value adjoins the key in memory. */
-static uint32_t insert(struct model *model, uint64_t key, uint64_t version) {
-    static uint8_t value_at[LONGEST];
-    if (!model->is_bytes)
-        return mini_moka_u64_insert(&model->cache, key, value_number(key, version), model->now);
-    size_t key_length, value_length = fill(value_at, value_number(key, version));
-    uint8_t *pair = block_of(key, &key_length, value_length);
-    memcpy(pair + key_length, value_at, value_length);
-    uint32_t status = mini_moka_insert(&model->cache, pair, key_length, pair + key_length, value_length, model->now);
-    free(pair);
-    return status;
-}
-
-typedef uint32_t bytes_call(struct mini_moka *, const void *, size_t, uint64_t, void *, size_t, size_t *);
-typedef uint32_t numbers_call(struct mini_moka *, uint64_t, uint64_t, uint64_t *);
-
-/* Returns the length of a buffer for a value: its exact length, the longest one, or a random one, which may be too short. */
-static size_t some_room(size_t length) {
-    switch (below(4)) {
-    case 0: return below(LONGEST + 1);
-    case 1: return LONGEST;
-    default: return length;
-    }
-}
-
-/* Makes a look-up, and compares the value that it finds. The buffer adjoins the key, and is uninitialised. */
-static uint32_t look_up(struct model *model, bytes_call *bytes, numbers_call *numbers, uint64_t key) {
-    static uint8_t wanted[LONGEST];
-    uint64_t version = model->keys[key].version;
-    if (!model->is_bytes) {
-        uint64_t value = 0;
-        uint32_t status = numbers(&model->cache, key, model->now, &value);
-        require(status != MINI_MOKA_DONE || value == value_number(key, version), "a wrong value was found");
-        return status;
-    }
-    size_t key_length, length = SIZE_MAX, wanted_length = fill(wanted, value_number(key, version)), room = some_room(wanted_length);
-    uint8_t *at = block_of(key, &key_length, room), *buffer = at + key_length;
-    uint32_t status = bytes(&model->cache, at, key_length, model->now, buffer, room, &length);
-    require(status != MINI_MOKA_DONE || (length == wanted_length && length <= room && memcmp(buffer, wanted, length) == 0), "wrong bytes were found");
-    require(status != MINI_MOKA_TOO_SHORT || (length == wanted_length && length > room), "a wrong length was written");
-    require(status == MINI_MOKA_DONE || status == MINI_MOKA_TOO_SHORT || length == SIZE_MAX, "a length was written without a value");
-    free(at);
-    return status;
-}
-
-static uint32_t contains(struct model *model, uint64_t key) {
-    static uint8_t key_at[LONGEST];
-    if (!model->is_bytes)
-        return mini_moka_u64_contains(&model->cache, key, model->now);
-    return mini_moka_contains(&model->cache, key_at, key_bytes(key_at, key), model->now);
-}
-
-static uint32_t invalidate(struct model *model, uint64_t key) {
-    static uint8_t key_at[LONGEST];
-    if (!model->is_bytes)
-        return mini_moka_u64_invalidate(&model->cache, key, model->now);
-    return mini_moka_invalidate(&model->cache, key_at, key_bytes(key_at, key), model->now);
-}
-
-/* ---- entries that left */
-
-/* Returns the statistics of the open cache. */
-static struct mini_moka_statistics statistics_of(struct model *model) {
-    struct mini_moka_statistics met;
-    require(mini_moka_statistics(&model->cache, &met) == MINI_MOKA_DONE, "mini_moka_statistics failed");
-    return met;
-}
-
-static void note_put(struct model *model, uint64_t key, uint64_t version, uint32_t status) {
-    int at = model->put_count++;
-    model->puts[at] = (struct put){version, model->now, model->now, status, false, false, CAUSES, NO_PUT};
-    if (model->first_put[key] == NO_PUT)
-        model->first_put[key] = at;
-    else
-        model->puts[model->last_put[key]].next = at;
-    model->last_put[key] = at;
-}
-
-/* Notes a use of the key's entry. */
-static void note_use(struct model *model, uint64_t key) {
-    model->keys[key].used = model->puts[model->last_put[key]].used = model->now;
-}
-
-/* Notes that a call ended the key's last entry, if it was still there: for this cause, or as expired if it has a moment. */
-static void note_end(struct model *model, uint64_t key, uint32_t cause, bool has_moment) {
-    if (model->last_put[key] == NO_PUT)
-        return;
-    struct put *put = &model->puts[model->last_put[key]];
-    if (put->ended == CAUSES)
-        put->ended = has_moment && is_expired(model, put->written, put->used) ? MINI_MOKA_CAUSE_EXPIRED : cause;
-}
-
-/* Notes which entries are expired now, for a call that may remove them. */
-static void sweep(struct model *model) {
-    for (size_t i = 0; i < KEYS && !model->is_swept; i++) {
-        struct put *put = model->last_put[i] == NO_PUT ? NULL : &model->puts[model->last_put[i]];
-        if (put != NULL && put->ended == CAUSES && is_expired(model, put->written, put->used))
-            put->was_expired = model->keys[i].may_have_left = true;
-    }
-    model->is_swept = true;
-}
-
-/* Returns true if the entry can have left for this cause. Only an eviction, or a rejection that isn't reported, can't be told. */
-static bool can_leave(const struct model *model, const struct put *put, uint32_t cause) {
-    if (put->status == MINI_MOKA_REJECTED || cause == MINI_MOKA_CAUSE_REJECTED)
-        return cause == MINI_MOKA_CAUSE_REJECTED && (put->status == MINI_MOKA_REJECTED || (!model->is_bytes && model->capacity != MINI_MOKA_UNLIMITED));
-    switch (cause) {
-    case MINI_MOKA_CAUSE_SIZE: return model->capacity != MINI_MOKA_UNLIMITED;
-    case MINI_MOKA_CAUSE_EXPIRED: return put->was_expired || put->ended == MINI_MOKA_CAUSE_EXPIRED;
-    default: return put->ended == cause;
-    }
-}
-
-/* Returns true if the entry has this value: the number, or the bytes. */
-static bool has_value(const struct model *model, uint64_t key, const struct put *put, uint64_t number, const uint8_t *value, size_t length) {
-    static uint8_t wanted[LONGEST];
-    if (!model->is_bytes)
-        return number == value_number(key, put->version);
-    return fill(wanted, value_number(key, put->version)) == length && memcmp(wanted, value, length) == 0;
-}
-
-/* Notes a drained entry: the key's first entry that matches has left, and those before it were lost. */
-static void note_drained(struct model *model, uint64_t key, uint64_t number, const uint8_t *value, size_t length, uint32_t cause) {
-    require(key < KEYS && cause < CAUSES, "an unknown entry was drained");
-    for (int at = model->first_put[key]; at != NO_PUT; at = model->puts[at].next) {
-        struct put *put = &model->puts[at];
-        if (put->has_left)
-            continue;
-        put->has_left = true;
-        if (can_leave(model, put, cause) && has_value(model, key, put, number, value, length)) {
-            model->drained[cause]++;
-            if (put->version == model->keys[key].version)
-                model->keys[key].is_there = false;
-            return;
-        }
-        model->skipped++;
-    }
-    differs("a drained entry was never inserted, had left before, or has an impossible cause");
-}
-
-/* Drains an entry, and returns false if none is queued. A drain must not allocate. */
-static bool drain(struct model *model) {
-    static uint8_t key_at[LONGEST], value_at[LONGEST], wanted[LONGEST];
-    uint64_t key = 0, value = 0;
-    size_t key_length = SIZE_MAX, value_length = SIZE_MAX, key_room = some_room(LONGEST), value_room = some_room(LONGEST);
-    uint32_t cause = CAUSES, status;
-    int left_before = allocations_left;
-    uint64_t refusals_before = refusals;
-    allocations_left = 0;
-    if (model->is_bytes) {
-        status = mini_moka_removed(&model->cache, key_at, key_room, value_at, value_room, &key_length, &value_length, &cause);
-        if (status == MINI_MOKA_TOO_SHORT) {
-            size_t first_key_length = key_length, first_value_length = value_length;
-            require((key_length > key_room || value_length > value_room) && cause == CAUSES, "the buffers were long enough");
-            status = mini_moka_removed(&model->cache, key_at, LONGEST, value_at, LONGEST, &key_length, &value_length, &cause);
-            require(key_length == first_key_length && value_length == first_value_length, "another entry was at the front after MINI_MOKA_TOO_SHORT");
-        }
-    } else {
-        status = mini_moka_u64_removed(&model->cache, &key, &value, &cause);
-    }
-    allocations_left = left_before;
-    require(refusals == refusals_before, "a drain allocated memory");
-    require(status == MINI_MOKA_DONE || (status == MINI_MOKA_ABSENT && cause == CAUSES), "a drain failed");
-    if (status == MINI_MOKA_ABSENT)
-        return false;
-    require(model->removed_room > 0, "an entry was queued without a queue");
-    if (model->is_bytes) {
-        memcpy(&key, key_at, key_length < 8 ? 0 : 8);
-        require(key < KEYS && key_bytes(wanted, key) == key_length && memcmp(wanted, key_at, key_length) == 0, "a wrong key was drained");
-    }
-    note_drained(model, key, value, value_at, value_length, cause);
-    return true;
-}
-
-/* Drains all removed entries, of which there are at most removed_room. */
-static void drain_all(struct model *model) {
-    size_t count = 0;
-    while (drain(model))
-        count++;
-    require(count <= model->removed_room, "more than removed_room entries were queued");
-}
-
-/* Drains the removed entries if the cache is eager. Returns true if the model knows each entry that has left. */
-static bool knows_what_left(struct model *model) {
-    if (model->removed_room == 0 || !model->is_eager)
-        return false;
-    drain_all(model);
-    return statistics_of(model).lost == 0;
-}
+#include "fuzz_model.h"
 
 /* ---- each call compared with the model */
 
-static bool is_found(uint32_t status) {
-    return status == MINI_MOKA_DONE || status == MINI_MOKA_TOO_SHORT;
-}
-
-/* Returns true if the status is MINI_MOKA_OUT_OF_MEMORY; then an allocation must have been refused. */
-static bool is_refused(uint32_t status) {
-    require(status != MINI_MOKA_OUT_OF_MEMORY || was_refused, "out of memory, but no allocation was refused");
-    return status == MINI_MOKA_OUT_OF_MEMORY;
-}
-
-/* Compares the status of a look-up with what is known of the key. In a cache with a capacity the entry may have left. */
-static void meet(struct model *model, struct known *key, uint32_t status) {
-    require(is_found(status) || status == MINI_MOKA_ABSENT, "a look-up returned an unexpected status");
-    bool is_known = knows_what_left(model) || (model->capacity == MINI_MOKA_UNLIMITED && !key->may_have_left);
-    require(!is_found(status) || is_alive(model, key), "an entry was found that has left or is expired");
-    require(is_found(status) || !is_alive(model, key) || !is_known, "an entry is missing");
-    /* An entry that is found hasn't left. A live one that isn't found has, and an expired one may remain. */
-    if (is_found(status))
-        key->may_have_left = false;
-    else if (is_alive(model, key))
-        key->is_there = false;
-}
+static uint64_t windows_moved;
 
 /* Returns true if a look-up was refused memory. It may allocate only for a key that is not short and is longer than all before it. */
 static bool is_look_up_refused(struct model *model, uint64_t key, uint32_t status) {
@@ -623,9 +263,14 @@ static void play_number_walk(struct model *model) {
     require(mini_moka_u64_next(&model->cache, model->now, &key, &value) == MINI_MOKA_CHANGED, "a walk didn't end");
 }
 
-static void play_call(struct model *model) {
-    uint64_t key = below(KEYS);
-    unsigned dice = (unsigned)below(1000);
+/* Returns the key of a call: in some caches often one of a few, which change with time. */
+static uint64_t some_key(const struct model *model) {
+    return model->is_local && below(3) > 0 ? (calls_made / 3 + below(14)) % KEYS : below(KEYS);
+}
+
+/* Makes a random call. */
+static void play_call(struct model *model, unsigned dice) {
+    uint64_t key = some_key(model);
     /* For each call, the upper bound of the dice, which are below 1000. */
     static const unsigned below_it[] = {340, 680, 740, 800, 850, 880, 950, 951, 968, 970, 1000};
     for (call = 0; dice >= below_it[call];)
@@ -633,13 +278,6 @@ static void play_call(struct model *model) {
     /* Caches of bytes have no get-or-insert. */
     if (call == 6 && model->is_bytes)
         call = 1;
-    calls_made++;
-    if (below(8) == 0) {
-        model->now += below(50);
-        if (model->goes_back && below(8) == 0)
-            model->now -= below(1000) % (model->now + 1);
-        model->is_swept = false;
-    }
     /* A peek, a drain, and counts remove nothing. */
     if (call != 2 && call != 7 && call != 8 && call != 10)
         sweep(model);
@@ -660,6 +298,50 @@ static void play_call(struct model *model) {
     allocations_left = -1;
 }
 
+/* Makes a random call at the next moment, and compares the window and the weight before and after it. */
+static void play(struct model *model) {
+    struct mini_moka_statistics before = statistics_of(model);
+    uint64_t window = window_of(model);
+    calls_made++;
+    if (below(8) == 0) {
+        model->now += below(50);
+        if (model->goes_back && below(8) == 0)
+            model->now -= below(1000) % (model->now + 1);
+        model->is_swept = false;
+    }
+    play_call(model, (unsigned)below(1000));
+    struct mini_moka_statistics after = statistics_of(model);
+    uint64_t now = window_of(model);
+    require(model->least_window <= now && now <= model->most_window, "a window is out of its bounds");
+    require(now == window || after.inserts > before.inserts, "a window moved without an insert");
+    windows_moved += now != window;
+    /* A get and mini_moka_contains first evict what is above the capacity. */
+    require((call != 1 && call != 3) || was_refused || weight_of(model) <= model->capacity || after.evictions - before.evictions >= 100,
+            "the cache is above its capacity");
+}
+
+/* Returns a share: one of the header's initial settings, one at a bound, or any. */
+static uint8_t some_share(uint8_t initial) {
+    switch (below(8)) {
+    case 0: return below(2) == 0 ? 0 : 100;
+    case 1: case 2: case 3: return (uint8_t)below(101);
+    default: return initial;
+    }
+}
+
+/* Sets random shares, and the bounds of the window. */
+static void set_shares(struct model *model, uint8_t *window, uint8_t *protected) {
+    model->is_adaptive = below(2) == 0;
+    model->is_local = below(2) == 0;
+    *window = some_share(1);
+    *protected = some_share(model->is_adaptive ? 80 : 0);
+    if (model->capacity == MINI_MOKA_UNLIMITED)
+        return;
+    model->least_window = model->most_window = model->capacity * *window / 100;
+    if (model->is_adaptive && model->least_window > 0 && *window < 80)
+        model->most_window = model->capacity * 80 / 100;
+}
+
 /* Opens a cache with random settings. Returns false if it is refused memory. */
 static bool open_cache(struct model *model) {
     memset(model, 0, sizeof *model);
@@ -674,16 +356,22 @@ static bool open_cache(struct model *model) {
     model->goes_back = below(3) == 0;
     for (size_t i = 0; i < KEYS; i++)
         model->first_put[i] = model->last_put[i] = NO_PUT;
+    uint8_t window, protected;
+    set_shares(model, &window, &protected);
     struct mini_moka_settings bytes = {
-        model->capacity, model->time_to_live, model->time_to_idle, room, {next_number(), next_number()}, model->is_weighed, model->removed_room,
+        model->capacity,   model->time_to_live, model->time_to_idle, room,      {next_number(), next_number()},
+        model->is_weighed, model->removed_room, window,              protected, model->is_adaptive,
     };
-    struct mini_moka_u64_settings numbers = {model->capacity, model->time_to_live, model->time_to_idle, room, model->removed_room};
+    struct mini_moka_u64_settings numbers = {
+        model->capacity, model->time_to_live, model->time_to_idle, room, model->removed_room, window, protected, model->is_adaptive,
+    };
     call = 11;
     was_refused = false;
     allocations_left = below(4) == 0 ? (int)below(6) : -1;
     uint32_t status = model->is_bytes ? mini_moka_open(&model->cache, &bytes) : mini_moka_u64_open(&model->cache, &numbers);
     allocations_left = -1;
     require(status == MINI_MOKA_DONE || is_refused(status), "a cache failed to open");
+    require(status != MINI_MOKA_DONE || window_of(model) == model->least_window, "a window begins elsewhere than at its share");
     return status == MINI_MOKA_DONE;
 }
 
@@ -697,12 +385,13 @@ int main(int count, char **words) {
             continue;
         caches++;
         for (int i = 0; i < CALLS_OF_A_CACHE && calls_made < wanted; i++)
-            play_call(&model);
+            play(&model);
         call = 8;
         if (below(2) == 0)
             play_counts(&model);
         require(mini_moka_close(&model.cache) == MINI_MOKA_DONE, "a cache failed to close");
     }
-    printf("%" PRIu64 " calls of %" PRIu64 " caches, %" PRIu64 " allocations refused: no difference\n", calls_made, caches, refusals);
+    printf("%" PRIu64 " calls of %" PRIu64 " caches, %" PRIu64 " allocations refused, windows moved %" PRIu64 " times: no difference\n", calls_made, caches,
+           refusals, windows_moved);
     return 0;
 }

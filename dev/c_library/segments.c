@@ -240,7 +240,7 @@ static void one_segment_is_a_cache(void) {
         struct mini_moka one = {0};
         struct mini_moka_statistics met, other;
         bool is_weighed = round % 2 == 1;
-        struct mini_moka_settings settings = {is_weighed ? 20 : 3, 20, 12, 0, {7, 8}, is_weighed, 9};
+        struct mini_moka_settings settings = {is_weighed ? 20 : 3, 20, 12, 0, {7, 8}, is_weighed, 9, 1, 0, false};
         if (round / 2 == 1)
             settings.time_to_live = MINI_MOKA_UNLIMITED;
         else if (round / 2 == 2)
@@ -271,7 +271,7 @@ static void add(struct mini_moka_statistics *sum, const struct mini_moka_statist
 /* The weight, the number of entries and each count are the sums of the segments'. */
 static void statistics_are_added(void) {
     struct mini_moka_segments cache = {0};
-    struct mini_moka_settings settings = {60, 40, MINI_MOKA_UNLIMITED, 0, {1, 2}, true, 9};
+    struct mini_moka_settings settings = {60, 40, MINI_MOKA_UNLIMITED, 0, {1, 2}, true, 9, 1, 0, false};
     struct mini_moka_statistics met, part, sum;
     uint64_t state = 1, entries = 0, weight = 0, number;
     size_t length;

@@ -85,7 +85,7 @@ static void *count_and_clear(void *unused) {
 
 static void threads_share(void) {
     pthread_t threads[THREADS + 1];
-    struct mini_moka_settings settings = {310, 1000, 500, 0, {3, 4}, false, 400};
+    struct mini_moka_settings settings = {310, 1000, 500, 0, {3, 4}, false, 400, 1, 0, false};
     struct mini_moka_statistics met;
     uint64_t gone = 0;
     CHECK(mini_moka_segments_open(&shared, &settings, 4) == MINI_MOKA_DONE);

@@ -7,7 +7,7 @@ use Rattle.moka_common.specs.Policy.{Policy}
 use Rattle.moka_unsync_model.specs.CacheState.{CacheState, room_of, windowed}
 use Rattle.moka_unsync_model.specs.Cleanup.{is_expired}
 use Rattle.moka_unsync_model.specs.Contents.{Contents, entry_at}
-use Rattle.moka_unsync_model.specs.Insert.{IsInserted, after_put, new_entry}
+use Rattle.moka_unsync_model.specs.Insert.{IsInserted, Refused, after_put, new_entry}
 use Rattle.moka_unsync_model.specs.Told.{HearsAll, TellsPut, TellsCleanup, cause_at}
 use Rattle.moka_unsync_model.specs.ToldCalls.{TellsInsert, TellsNew, kept, main_max}
 use Rattle.moka_unsync_model.specs.declared.entry.Entry.{Entry}
@@ -31,7 +31,7 @@ somewhere (Some x) one = refl
 
 module _ {K V S W : Type 0} (keys : Keys K S) (laws : IsEquivalence keys.eq) where
   -- an entry that is updated stays
-  put-stands : (cache : CacheState K V S W) (o : Option (Entry K V)) (put e : Entry K V) (refused : Bool)
+  put-stands : (cache : CacheState K V S W) (o : Option (Entry K V)) (put e : Entry K V) (refused : Refused)
       → entry_at keys.eq put.key cache.contents.entries ≡ o → o ≡ Some e
       → is_some (entry_at keys.eq put.key (after_put keys.eq cache o put refused).contents.entries) ≡ true
   put-stands cache None put e refused own is = something refl is
@@ -81,7 +81,7 @@ module _ {K V S W : Type 0} (keys : Keys K S) (laws : IsEquivalence keys.eq) {L 
       by : (o : Option (Entry K V)) → entry_at keys.eq key (kept hears keys old now).entries ≡ o
           → TellsNew hears keys old now o key value new t.between b → answer b ≡ inserted_of (is_some (entry_at keys.eq key new.contents.entries))
       by None is put =
-          put-told hears answer turns (main_max (windowed old) old.settings.policy.max_capacity) (is_some (entry_at keys.eq key new.contents.entries))
+          put-told hears answer turns (main_max (windowed old) (windowed new) old.settings.policy.max_capacity) (is_some (entry_at keys.eq key new.contents.entries))
           (new_entry keys old.settings.hash_state key value put.0 now) (kept hears keys old now).entries new.contents.entries t.between b before put.1
       by (Some there) is heard-it =
           turns t.between b key there.value (cause_at old.settings.policy now there cause.Replaced) heard-it

@@ -1,6 +1,7 @@
 -- How a call on a handle tells what the call of its cache answers.
 use Rattle.std.specs.Prelude.{◌≡◌, ⊤, ℕ, Bool, true, false, [], length, nat_le, Option, Some, None, if◌then◌else◌}
 use Rattle.moka_unsync.specs.Contents.{weighted_size}
+use Rattle.moka_unsync.specs.CacheState.{window_limit}
 use Rattle.moka_unsync.specs.Invalidate.{after_invalidate_all}
 use Rattle.moka_unsync_model.specs.Told.{TellsWhatLeft}
 use Rattle.moka_unsync_model.specs.declared.listener.Cause.TheVariants.{Explicit}
@@ -43,6 +44,11 @@ count_of (Bytes bytes) = length bytes.cache.contents.entries
 abbrev pub weight_of : AnyCache → ℕ
 weight_of (Numbers numbers) = weighted_size numbers.cache.contents.entries
 weight_of (Bytes bytes) = weighted_size bytes.cache.contents.entries
+
+-- the weight that the window may have
+abbrev pub window_of : AnyCache → ℕ
+window_of (Numbers numbers) = window_limit numbers.cache
+window_of (Bytes bytes) = window_limit bytes.cache
 
 -- all entries have left, are counted and queued, which ends a walk
 pub record IsNumbersEmptied (old new : NumberCache) : Type 0 where

@@ -1,7 +1,7 @@
 // The calls of a handle that are the same for bytes and for numbers.
 ghost use Rattle.std.specs.Prelude.{◌≡◌, ◌≢◌, None};
 ghost use Rattle.std.specs.Option.{MatchOption};
-ghost use Rattle.mini_moka_c.specs.Calls.{IsEmptied, OnOpen, count_of, statistics_of, walking, weight_of};
+ghost use Rattle.mini_moka_c.specs.Calls.{IsEmptied, OnOpen, count_of, statistics_of, walking, weight_of, window_of};
 
 use crate::constants::{CLOSED, DONE};
 use crate::handle::Handle;
@@ -60,6 +60,22 @@ pub extern "C" fn mini_moka_weight(handle: &mut Handle, weight: &mut u64) -> u32
     match handle.kept() {
         Some(kept) => {
             *weight = kept.weighted_size();
+            DONE
+        }
+        None => CLOSED,
+    }
+}
+
+/// Writes the weight that the window may have now, which changes only if the cache adapts. It is 0 without a window.
+#[unsafe(no_mangle)]
+pub extern "C" fn mini_moka_window(handle: &mut Handle, weight: &mut u64) -> u32
+    ensures step { OnOpen handle.old.value result handle.new.value (λ old new.
+        (result ≡ DONE) × (weight.new ≡ window_of old) × (new ≡ old)) }
+    ensures unchanged { result ≢ DONE → weight.new ≡ weight.old }
+{
+    match handle.kept() {
+        Some(kept) => {
+            *weight = kept.window_limit();
             DONE
         }
         None => CLOSED,

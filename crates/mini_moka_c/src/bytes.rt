@@ -3,20 +3,20 @@ ghost use Rattle.std.specs.Prelude.{◌≡◌, ◌≢◌, false, IfErr, IfOk, Ma
 ghost use Rattle.mini_moka_c.specs.ByteCalls.{TellsBytesGet, TellsBytesInsert, TellsBytesLook, TellsBytesPeek, TellsBytesRemove};
 ghost use Rattle.mini_moka_c.specs.ByteCalls.{TellsInvalidate};
 ghost use Rattle.mini_moka_c.specs.Calls.{OnBytes, OnOpen, TellsLength};
-ghost use Rattle.mini_moka_c.specs.Opening.{IsBytesKept, IsOpening, has_zero_duration, refusal_of};
+ghost use Rattle.mini_moka_c.specs.Opening.{IsBytesKept, IsOpening, refusal_of, settings_fault};
 
-use crate::constants::{ABSENT, ALREADY_OPEN, DONE, OUT_OF_MEMORY, TOO_SHORT, ZERO_DURATION};
+use crate::constants::{ABSENT, ALREADY_OPEN, DONE, OUT_OF_MEMORY, TOO_SHORT};
 use crate::handle::{AnyCache, Handle};
-use crate::settings::{ByteSettings, build_bytes};
+use crate::settings::{ByteSettings, build_bytes, settings_fault};
 use moka_common::error::OutOfMemory;
 use moka_common::time::Instant;
 use std::alloc::Global;
 
-/// Opens a closed handle with a new cache of bytes. If a duration is 0 or memory is refused it stays closed, and an open handle stays as it is: `ALREADY_OPEN`.
+/// Opens a closed handle with a new cache of bytes. If a duration is 0, a share is above 100 or memory is refused it stays closed, and an open handle stays as it is: `ALREADY_OPEN`.
 #[unsafe(no_mangle)]
 pub extern "C" fn mini_moka_open(alloc: Global, handle: &mut Handle, settings: &ByteSettings) -> u32
-    ensures { IsOpening (has_zero_duration settings.now.time_to_live settings.now.time_to_idle) (IsBytesKept settings.now)
-        handle.old.value result handle.new.value }
+    ensures { IsOpening (settings_fault settings.now.time_to_live settings.now.time_to_idle settings.now.window_share settings.now.protected_share)
+        (IsBytesKept settings.now) handle.old.value result handle.new.value }
 {
     match handle.kept() {
         Some(_) => ALREADY_OPEN,
@@ -30,14 +30,20 @@ pub extern "C" fn mini_moka_open(alloc: Global, handle: &mut Handle, settings: &
     }
 }
 
-/// Makes a new cache of the settings in a box. The error is a status: a duration is 0, or memory is refused.
+/// Makes a new cache of the settings in a box. The error is a status: settings are at fault, or memory is refused.
 fn cache_of(alloc: Global, settings: &ByteSettings) -> Result<Box<AnyCache>, u32>
-    ensures ok { IfOk result (λ kept. (has_zero_duration settings.now.time_to_live settings.now.time_to_idle ≡ false)
+    ensures ok { IfOk result (λ kept. (settings_fault settings.now.time_to_live settings.now.time_to_idle settings.now.window_share settings.now.protected_share ≡ None)
         × IsBytesKept settings.now kept.value) }
-    ensures err { IfErr result (λ status. status ≡ refusal_of (has_zero_duration settings.now.time_to_live settings.now.time_to_idle)) }
+    ensures err { IfErr result (λ status. status
+        ≡ refusal_of (settings_fault settings.now.time_to_live settings.now.time_to_idle settings.now.window_share settings.now.protected_share)) }
 {
-    if settings.time_to_live == 0 || settings.time_to_idle == 0 {
-        return Err(ZERO_DURATION);
+    if let Some(status) = settings_fault(
+        settings.time_to_live,
+        settings.time_to_idle,
+        settings.window_share,
+        settings.protected_share,
+    ) {
+        return Err(status);
     }
     let Some(cache) = build_bytes(alloc, settings) else {
         return Err(OUT_OF_MEMORY);

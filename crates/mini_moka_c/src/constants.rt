@@ -20,6 +20,8 @@ pub const CHANGED: u32 = 7;
 pub const ZERO_DURATION: u32 = 8;
 /// The call was made, and the admission policy did not let the new entry in.
 pub const REJECTED: u32 = 9;
+/// A share is above 100 percent: nothing was done.
+pub const SHARE_TOO_LARGE: u32 = 10;
 
 /// The capacity or the duration of a cache that has none. No clock reaches it: as nanoseconds it is more than 584 years.
 pub const UNLIMITED: u64 = u64::MAX;

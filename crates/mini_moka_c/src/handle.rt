@@ -48,7 +48,7 @@ pub enum AnyCache {
 }
 
 impl AnyCache {
-    ghost use Rattle.mini_moka_c.specs.Calls.{IsEmptied, count_of, statistics_of, walking, weight_of};
+    ghost use Rattle.mini_moka_c.specs.Calls.{IsEmptied, count_of, statistics_of, walking, weight_of, window_of};
 
     /// Removes all entries.
     pub(crate) fn invalidate_all(&mut self)
@@ -77,6 +77,16 @@ impl AnyCache {
         match self {
             AnyCache::Numbers(numbers) => numbers.cache.weighted_size(),
             AnyCache::Bytes(bytes) => bytes.cache.weighted_size(),
+        }
+    }
+
+    /// Returns the weight that the window may have now.
+    pub(crate) fn window_limit(&self) -> u64
+        ensures { result ≡ window_of self.now }
+    {
+        match self {
+            AnyCache::Numbers(numbers) => numbers.cache.window_limit(),
+            AnyCache::Bytes(bytes) => bytes.cache.window_limit(),
         }
     }
 

@@ -4,17 +4,17 @@ ghost use Rattle.mini_moka_c.specs.Calls.{OnNumbers, OnOpen};
 ghost use Rattle.mini_moka_c.specs.Drain.{TellsRemoved, TellsRemovedOf};
 ghost use Rattle.mini_moka_c.specs.NumberCalls.{IsNumberInvalidation, TellsFound, TellsGet, TellsGotOrInserted, TellsInsert, TellsLook, TellsNumberWalk};
 ghost use Rattle.mini_moka_c.specs.NumberCalls.{TellsPeek, TellsRemove, TellsStep};
-ghost use Rattle.mini_moka_c.specs.Opening.{IsNumbersKept, IsOpening, has_zero_duration, refusal_of};
+ghost use Rattle.mini_moka_c.specs.Opening.{IsNumbersKept, IsOpening, refusal_of, settings_fault};
 
-use crate::constants::{ABSENT, ALREADY_OPEN, CHANGED, DONE, OUT_OF_MEMORY, ZERO_DURATION};
+use crate::constants::{ABSENT, ALREADY_OPEN, CHANGED, DONE, OUT_OF_MEMORY};
 use crate::handle::{AnyCache, Handle};
 use crate::removed::{Removed, number_of};
-use crate::settings::{NumberSettings, build_numbers};
+use crate::settings::{NumberSettings, build_numbers, settings_fault};
 use crate::steps::NumberStep;
 use moka_common::time::Instant;
 use std::alloc::Global;
 
-/// Opens a closed handle with a new cache of numbers. If a duration is 0 or memory is refused it stays closed, and an open handle stays as it is:
+/// Opens a closed handle with a new cache of numbers. If a duration is 0, a share is above 100 or memory is refused it stays closed, and an open handle stays as it is:
 /// `ALREADY_OPEN`.
 #[unsafe(no_mangle)]
 pub extern "C" fn mini_moka_u64_open(
@@ -22,8 +22,8 @@ pub extern "C" fn mini_moka_u64_open(
     handle: &mut Handle,
     settings: &NumberSettings,
 ) -> u32
-    ensures { IsOpening (has_zero_duration settings.now.time_to_live settings.now.time_to_idle) (IsNumbersKept settings.now)
-        handle.old.value result handle.new.value }
+    ensures { IsOpening (settings_fault settings.now.time_to_live settings.now.time_to_idle settings.now.window_share settings.now.protected_share)
+        (IsNumbersKept settings.now) handle.old.value result handle.new.value }
 {
     match handle.kept() {
         Some(_) => ALREADY_OPEN,
@@ -37,14 +37,20 @@ pub extern "C" fn mini_moka_u64_open(
     }
 }
 
-/// Makes a new cache of the settings in a box. The error is a status: a duration is 0, or memory is refused.
+/// Makes a new cache of the settings in a box. The error is a status: settings are at fault, or memory is refused.
 fn cache_of(alloc: Global, settings: &NumberSettings) -> Result<Box<AnyCache>, u32>
-    ensures ok { IfOk result (λ kept. (has_zero_duration settings.now.time_to_live settings.now.time_to_idle ≡ false)
+    ensures ok { IfOk result (λ kept. (settings_fault settings.now.time_to_live settings.now.time_to_idle settings.now.window_share settings.now.protected_share ≡ None)
         × IsNumbersKept settings.now kept.value) }
-    ensures err { IfErr result (λ status. status ≡ refusal_of (has_zero_duration settings.now.time_to_live settings.now.time_to_idle)) }
+    ensures err { IfErr result (λ status. status
+        ≡ refusal_of (settings_fault settings.now.time_to_live settings.now.time_to_idle settings.now.window_share settings.now.protected_share)) }
 {
-    if settings.time_to_live == 0 || settings.time_to_idle == 0 {
-        return Err(ZERO_DURATION);
+    if let Some(status) = settings_fault(
+        settings.time_to_live,
+        settings.time_to_idle,
+        settings.window_share,
+        settings.protected_share,
+    ) {
+        return Err(status);
     }
     let Some(cache) = build_numbers(alloc, settings) else {
         return Err(OUT_OF_MEMORY);

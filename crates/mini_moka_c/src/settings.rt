@@ -1,9 +1,10 @@
 // What a cache is built of.
 ghost use Rattle.std.specs.Prelude.{◌≡◌, IfSome, None};
-ghost use Rattle.mini_moka_c.specs.Opening.{HasLimits, IsBytesNew, IsNumbersNew, limit_of};
+ghost use Rattle.mini_moka_c.specs.Opening.{HasLimits, IsBytesNew, IsNumbersNew, limit_of, settings_fault, shares_of};
+ghost use Rattle.moka_unsync.specs.Shares.{default_shares};
 
 use crate::cache::ByteCache;
-use crate::constants::UNLIMITED;
+use crate::constants::{SHARE_TOO_LARGE, UNLIMITED, ZERO_DURATION};
 use crate::key::Key;
 use crate::number_cache::NumberCache;
 use crate::removed::RemovedQueue;
@@ -28,6 +29,12 @@ pub struct NumberSettings {
     pub initial_capacity: usize,
     /// The most entries that left that are kept.
     pub removed_room: usize,
+    /// The window's share of the capacity, in percent.
+    pub window_share: u8,
+    /// The share of the main part for protected entries, in percent.
+    pub protected_share: u8,
+    /// True if the window adapts to the calls.
+    pub is_adaptive: bool,
 }
 
 /// The settings of a cache of bytes.
@@ -46,6 +53,9 @@ pub struct ByteSettings {
     /// True if an entry weighs its bytes and not 1.
     pub is_weighed: bool,
     pub removed_room: usize,
+    pub window_share: u8,
+    pub protected_share: u8,
+    pub is_adaptive: bool,
 }
 
 /// Builds a cache of numbers, unless memory is refused. No duration of 64 bits of nanoseconds is too long.
@@ -61,6 +71,12 @@ pub(crate) fn build_numbers(alloc: Global, settings: &NumberSettings) -> Option<
         settings.capacity,
         settings.time_to_live,
         settings.time_to_idle,
+    );
+    let builder = with_shares(
+        builder,
+        settings.window_share,
+        settings.protected_share,
+        settings.is_adaptive,
     );
     NumberCache::build(builder, removed).ok()
 }
@@ -86,6 +102,12 @@ pub(crate) fn build_bytes(alloc: Global, settings: &ByteSettings) -> Option<Byte
         settings.capacity,
         settings.time_to_live,
         settings.time_to_idle,
+    );
+    let builder = with_shares(
+        builder,
+        settings.window_share,
+        settings.protected_share,
+        settings.is_adaptive,
     );
     let seed = Seed {
         low: settings.seed_low,
@@ -116,6 +138,42 @@ fn with_limits<K, V, W: Drop>(
         builder = builder.time_to_idle(Duration::from_nanos(idle));
     }
     builder
+}
+
+/// Gives a builder with the default shares those that are set.
+fn with_shares<K, V, W: Drop>(
+    builder: CacheBuilder<K, V, W>,
+    window: u8,
+    protected: u8,
+    is_adaptive: bool,
+) -> CacheBuilder<K, V, W>
+    requires { builder.shares ≡ default_shares }
+    ensures { result ≡ record builder { shares = shares_of window protected is_adaptive } }
+{
+    let builder = if is_adaptive {
+        builder.adaptive()
+    } else {
+        builder
+    };
+    builder.window_share(window).protected_share(protected)
+}
+
+/// Returns why settings are refused, however much memory there is: a duration is 0, or a share is above 100.
+pub(crate) fn settings_fault(
+    time_to_live: u64,
+    time_to_idle: u64,
+    window_share: u8,
+    protected_share: u8,
+) -> Option<u32>
+    ensures { result ≡ settings_fault time_to_live time_to_idle window_share protected_share }
+{
+    if time_to_live == 0 || time_to_idle == 0 {
+        return Some(ZERO_DURATION);
+    }
+    if window_share > 100 || protected_share > 100 {
+        return Some(SHARE_TOO_LARGE);
+    }
+    None
 }
 
 /// Returns a capacity or a duration, if it is set.

@@ -19,6 +19,7 @@ impl Logins {
     fn new() -> Result<Logins, BuildError> {
         let names = Cache::builder()
             .max_capacity(100_000)
+            .adaptive()
             .time_to_live(HALF_AN_HOUR)
             .build()?;
         let last_token = 0;

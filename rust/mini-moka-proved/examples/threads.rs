@@ -37,6 +37,7 @@ fn work(cache: &Cache, thread: u64) -> u64 {
 fn main() -> Result<(), Box<dyn std::error::Error>> {
     let cache = Cache::builder()
         .max_capacity(10_000)
+        .adaptive()
         .time_to_live(Duration::from_secs(600))
         .removed_room(10_000)
         .build()?;

@@ -1,10 +1,10 @@
-//! Builders of caches.
+//! The builder of caches of bytes.
 
 use crate::cache::Cache;
-use crate::clock::Clock;
+use crate::clock::{Clock, ManualClock, Source};
 use crate::error::BuildError;
-use crate::handle::{NumberSettings, Settings, UNLIMITED};
-use crate::numbers::NumberCache;
+use crate::handle::Settings;
+use crate::limits::{Limits, Shares};
 use std::collections::hash_map::RandomState;
 use std::fmt;
 use std::hash::{BuildHasher, Hasher};
@@ -88,6 +88,63 @@ impl Builder {
         self
     }
 
+    /// Sets the window's share of the capacity, in percent. It is 1 by default, and with 0 there is
+    /// no window.
+    ///
+    /// New entries begin in the window, which evicts by recency alone: a larger one has more hits
+    /// where keys return soon after they were inserted, and fewer where some keys are always used
+    /// more than others. [`adaptive`](Self::adaptive) finds the share. The window's part of the
+    /// capacity is rounded down, so a cache of fewer than 100 entries has none by default.
+    ///
+    /// ```
+    /// use mini_moka_proved::Cache;
+    ///
+    /// let cache = Cache::builder().max_capacity(1000).window_share(20).build()?;
+    /// assert_eq!(cache.window_capacity(), 200);
+    /// # Ok::<(), mini_moka_proved::BuildError>(())
+    /// ```
+    pub fn window_share(mut self, percent: u8) -> Builder {
+        self.limits.shares.window = percent;
+        self
+    }
+
+    /// Sets the share of the capacity outside of the window, in percent, that is for entries used
+    /// there. It is 0 by default.
+    ///
+    /// An entry that left the window is protected once it is used again. Entries that aren't leave
+    /// first. A share of 80 has more hits where some keys are always used more than others, and
+    /// fewer where the keys that are used change.
+    pub fn protected_share(mut self, percent: u8) -> Builder {
+        self.limits.shares.protected = percent;
+        self
+    }
+
+    /// Makes the window's share follow the calls, and sets the shares with which that begins: 1
+    /// percent for the window, and 80 percent of the rest for protected entries. This is the best
+    /// choice if nothing is known about the keys.
+    ///
+    /// The window grows when keys return that it gave up, and shrinks when keys return that were
+    /// evicted from outside of it. Its share never falls below the one at which it begins, and grows
+    /// to 80 percent at most. [`Cache::window_capacity`] is what it has now. Call `window_share` or
+    /// `protected_share` after this to begin elsewhere. Without a capacity or a window the cache
+    /// doesn't adapt.
+    ///
+    /// A hit costs no more. An insert of a new key also looks it up in two small tables, which take
+    /// at most 1 byte for each entry that fits, or 64 bytes, and are allocated once the cache is
+    /// half full. If memory for them is refused, the cache never adapts, and no call fails.
+    ///
+    /// ```
+    /// use mini_moka_proved::Cache;
+    ///
+    /// let cache = Cache::builder().max_capacity(1000).adaptive().build()?;
+    /// assert_eq!(cache.window_capacity(), 10);
+    /// # Ok::<(), mini_moka_proved::BuildError>(())
+    /// ```
+    pub fn adaptive(mut self) -> Builder {
+        self.limits.shares = Shares::ADAPTIVE;
+        self
+    }
+
     /// Sets the key of the hash function.
     ///
     /// By default each cache has a random one, made by std's
@@ -118,7 +175,31 @@ impl Builder {
     /// # Ok::<(), Box<dyn std::error::Error>>(())
     /// ```
     pub fn coarse_clock(mut self) -> Builder {
-        self.limits.is_coarse = true;
+        self.limits.clock = Source::Coarse;
+        self
+    }
+
+    /// Makes the cache read a clock that the program sets, for tests and simulators. The last call
+    /// of this one and [`coarse_clock`](Self::coarse_clock) holds.
+    ///
+    /// ```
+    /// use mini_moka_proved::{Cache, ManualClock};
+    /// use std::time::Duration;
+    ///
+    /// let clock = ManualClock::new();
+    /// let mut cache = Cache::builder()
+    ///     .time_to_live(Duration::from_secs(60))
+    ///     .manual_clock(&clock)
+    ///     .build()?;
+    /// cache.insert("token", "alice")?;
+    /// clock.advance(Duration::from_secs(59));
+    /// assert!(cache.contains_key("token"));
+    /// clock.advance(Duration::from_secs(1));
+    /// assert!(!cache.contains_key("token"));
+    /// # Ok::<(), Box<dyn std::error::Error>>(())
+    /// ```
+    pub fn manual_clock(mut self, clock: &ManualClock) -> Builder {
+        self.limits.clock = Source::Manual(clock.clone());
         self
     }
 
@@ -127,8 +208,9 @@ impl Builder {
     /// # Errors
     ///
     /// [`BuildError::ZeroDuration`] if a duration is 0, and [`BuildError::DurationTooLong`] if one
-    /// is 2^64 - 1 nanoseconds or more. [`BuildError::OutOfMemory`] if memory is refused, or if the
-    /// initial capacity is 2,000,000,000 or more. A cache has at most 2,000,000,000 entries.
+    /// is 2^64 - 1 nanoseconds or more. [`BuildError::ShareTooLarge`] if a share is above 100.
+    /// [`BuildError::OutOfMemory`] if memory is refused, or if the initial capacity is
+    /// 2,000,000,000 or more. A cache has at most 2,000,000,000 entries.
     pub fn build(self) -> Result<Cache, BuildError> {
         self.build_with(self.clock())
     }
@@ -144,6 +226,9 @@ impl Builder {
             seed: self.seed.map_or_else(random_words, words),
             is_weighed: self.weighs_bytes,
             removed_room: limits.removed_room,
+            window_share: limits.window_share,
+            protected_share: limits.protected_share,
+            is_adaptive: limits.is_adaptive,
         };
         Ok(Cache::open(&settings, clock)?)
     }
@@ -189,139 +274,6 @@ impl fmt::Debug for Builder {
             .fields(&mut f.debug_struct("Builder"))
             .field("weigh_bytes", &self.weighs_bytes)
             .finish_non_exhaustive()
-    }
-}
-
-/// Builds a [`NumberCache`]. A cache has only the limits that are set.
-#[derive(Clone, Default)]
-#[must_use]
-pub struct NumberBuilder {
-    limits: Limits,
-}
-
-impl NumberBuilder {
-    /// Sets the maximum number of entries.
-    pub fn max_capacity(mut self, max_capacity: u64) -> NumberBuilder {
-        self.limits.max_capacity = Some(max_capacity);
-        self
-    }
-
-    /// Sets the time that an entry lives after its last write. It is expired from the end of that
-    /// time on.
-    pub fn time_to_live(mut self, duration: Duration) -> NumberBuilder {
-        self.limits.time_to_live = Some(duration);
-        self
-    }
-
-    /// Sets the time that an entry lives after its last read or write.
-    pub fn time_to_idle(mut self, duration: Duration) -> NumberBuilder {
-        self.limits.time_to_idle = Some(duration);
-        self
-    }
-
-    /// Reserves memory for `entries` entries from the start, as [`Builder::initial_capacity`] does.
-    /// Up to that number no insert is refused memory.
-    pub fn initial_capacity(mut self, entries: usize) -> NumberBuilder {
-        self.limits.initial_capacity = entries;
-        self
-    }
-
-    /// Queues up to `entries` removed entries, for [`NumberCache::removed`] to drain. By default
-    /// none is queued.
-    ///
-    /// The memory for them is reserved when the cache is built, so no call is refused memory for
-    /// them. If the queue is full, entries that leave are dropped and counted:
-    /// [`Statistics::lost`].
-    ///
-    /// [`Statistics::lost`]: crate::Statistics::lost
-    pub fn removed_room(mut self, entries: usize) -> NumberBuilder {
-        self.limits.removed_room = entries;
-        self
-    }
-
-    /// Makes the cache read a coarse clock, as [`Builder::coarse_clock`] does.
-    pub fn coarse_clock(mut self) -> NumberBuilder {
-        self.limits.is_coarse = true;
-        self
-    }
-
-    /// Builds the cache, and starts its clock.
-    ///
-    /// # Errors
-    ///
-    /// Those of [`Builder::build`].
-    pub fn build(self) -> Result<NumberCache, BuildError> {
-        let settings = self.limits.settings()?;
-        Ok(NumberCache::open(&settings, self.limits.clock())?)
-    }
-}
-
-impl fmt::Debug for NumberBuilder {
-    fn fmt(&self, f: &mut fmt::Formatter<'_>) -> fmt::Result {
-        self.limits
-            .fields(&mut f.debug_struct("NumberBuilder"))
-            .finish()
-    }
-}
-
-/// The settings of both builders.
-#[derive(Clone, Default)]
-struct Limits {
-    max_capacity: Option<u64>,
-    time_to_live: Option<Duration>,
-    time_to_idle: Option<Duration>,
-    initial_capacity: usize,
-    removed_room: usize,
-    is_coarse: bool,
-}
-
-impl Limits {
-    fn settings(&self) -> Result<NumberSettings, BuildError> {
-        Ok(NumberSettings {
-            capacity: self.max_capacity.unwrap_or(UNLIMITED),
-            time_to_live: limit(self.time_to_live)?,
-            time_to_idle: limit(self.time_to_idle)?,
-            initial_capacity: self.initial_capacity,
-            removed_room: self.removed_room,
-        })
-    }
-
-    /// Starts a clock for a new cache. Without a duration it stands still, since no result depends
-    /// on moments.
-    fn clock(&self) -> Clock {
-        if self.time_to_live.is_none() && self.time_to_idle.is_none() {
-            Clock::standing()
-        } else if self.is_coarse {
-            Clock::coarse()
-        } else {
-            Clock::running()
-        }
-    }
-
-    fn fields<'f, 'a, 'b>(
-        &self,
-        shown: &'f mut fmt::DebugStruct<'a, 'b>,
-    ) -> &'f mut fmt::DebugStruct<'a, 'b> {
-        shown
-            .field("max_capacity", &self.max_capacity)
-            .field("time_to_live", &self.time_to_live)
-            .field("time_to_idle", &self.time_to_idle)
-            .field("initial_capacity", &self.initial_capacity)
-            .field("removed_room", &self.removed_room)
-            .field("coarse_clock", &self.is_coarse)
-    }
-}
-
-/// Converts a duration to the library's nanoseconds.
-fn limit(duration: Option<Duration>) -> Result<u64, BuildError> {
-    let duration = match duration {
-        Some(set) => set,
-        None => return Ok(UNLIMITED),
-    };
-    match u64::try_from(duration.as_nanos()) {
-        Ok(0) => Err(BuildError::ZeroDuration),
-        Ok(nanoseconds) if nanoseconds != UNLIMITED => Ok(nanoseconds),
-        _ => Err(BuildError::DurationTooLong),
     }
 }
 

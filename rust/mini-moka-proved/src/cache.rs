@@ -33,12 +33,13 @@ const SHORT: usize = 256;
 /// which are the least recently used entries. With a capacity of 100 or more, a hundredth of it is
 /// a window. A new entry that fits begins there. When it leaves the window, it is admitted or
 /// evicted. A new entry that doesn't fit in the window is admitted or rejected at once:
-/// [`Inserted::Rejected`].
+/// [`Inserted::Rejected`]. [`Builder::adaptive`] lets the window grow and shrink with the calls.
 ///
 /// # Moments
 ///
 /// A call reads the cache's clock, which starts when the cache is built. Without durations the
-/// clock is always at zero, and isn't read. [`Builder::coarse_clock`] makes reading it cheap.
+/// clock is always at zero, and isn't read. [`Builder::coarse_clock`] makes reading it cheap, and
+/// [`Builder::manual_clock`] lets a test or a simulator set it.
 ///
 /// Each call that needs a moment has a second form, whose name ends in `_at`. It takes the moment
 /// as a duration since the clock's start. A moment may be before that of an earlier call. A moment
@@ -122,8 +123,8 @@ impl Cache {
         })
     }
 
-    /// Returns the current moment of the cache's clock. It is always zero if the cache has no
-    /// duration.
+    /// Returns the current moment of the cache's clock. If the cache has no duration, it is always
+    /// zero, or that of its [`ManualClock`](crate::ManualClock).
     pub fn now(&self) -> Duration {
         self.clock.elapsed()
     }
@@ -471,6 +472,29 @@ impl Cache {
     /// bytes, the bytes of their keys and values. It takes constant time.
     pub fn weighted_size(&self) -> u64 {
         self.handle.weighted_size()
+    }
+
+    /// Returns the weight that the window may have now, in entries or bytes as the capacity: its
+    /// share of the capacity, or what that has become if the cache is
+    /// [adaptive](Builder::adaptive). It is 0 without a capacity. It takes constant time.
+    ///
+    /// ```
+    /// use mini_moka_proved::Cache;
+    ///
+    /// let mut cache = Cache::builder().max_capacity(1000).adaptive().build()?;
+    /// assert_eq!(cache.window_capacity(), 10);
+    /// // Each key returns when a window of 10 entries has given it up.
+    /// for number in 0..10_000u32 {
+    ///     cache.insert(number.to_le_bytes(), "")?;
+    ///     if let Some(earlier) = number.checked_sub(20) {
+    ///         cache.get_or_insert_with(earlier.to_le_bytes(), Vec::new)?;
+    ///     }
+    /// }
+    /// assert!(cache.window_capacity() > 20);
+    /// # Ok::<(), Box<dyn std::error::Error>>(())
+    /// ```
+    pub fn window_capacity(&self) -> u64 {
+        self.handle.window_capacity()
     }
 
     /// Returns the counts of the calls, and of the entries that left, since the cache was built.

@@ -1,25 +1,109 @@
 //! The clock of a cache.
 
+use std::fmt;
+use std::sync::atomic::{AtomicU64, Ordering};
+use std::sync::Arc;
 use std::time::{Duration, Instant};
 
-/// A clock that counts from its start, or one that stands at zero.
-#[derive(Clone, Copy)]
+/// A clock that the program sets, for tests and simulators.
+///
+/// Builders take it: [`Builder::manual_clock`](crate::Builder::manual_clock). A clone is another
+/// handle on the same clock, which any number of caches and threads may share. Its moments are in
+/// nanoseconds, at most 2^64 - 1, which is 584 years; a later one counts as that.
+///
+/// ```
+/// use mini_moka_proved::ManualClock;
+/// use std::time::Duration;
+///
+/// let second = Duration::from_secs(1);
+/// let clock = ManualClock::new();
+/// assert_eq!(clock.now(), Duration::ZERO);
+/// clock.advance(second);
+/// clock.clone().advance(second);
+/// assert_eq!(clock.now(), 2 * second);
+/// clock.set(second);
+/// assert_eq!(clock.now(), second);
+/// ```
+#[derive(Clone, Default)]
+pub struct ManualClock {
+    nanoseconds: Arc<AtomicU64>,
+}
+
+impl ManualClock {
+    /// Creates a clock at moment 0. It aborts if memory is refused.
+    pub fn new() -> ManualClock {
+        ManualClock::default()
+    }
+
+    /// Returns the current moment.
+    pub fn now(&self) -> Duration {
+        Duration::from_nanos(self.nanoseconds.load(Ordering::Relaxed))
+    }
+
+    /// Sets the current moment, which may be before the last one.
+    pub fn set(&self, moment: Duration) {
+        self.nanoseconds
+            .store(nanoseconds(moment), Ordering::Relaxed);
+    }
+
+    /// Moves the clock forward. Of threads that do so at the same time, each moves it.
+    pub fn advance(&self, duration: Duration) {
+        let further = nanoseconds(duration);
+        let next = |now: u64| Some(now.saturating_add(further));
+        // `next` always returns a moment, so the update is done.
+        let _ = self
+            .nanoseconds
+            .fetch_update(Ordering::Relaxed, Ordering::Relaxed, next);
+    }
+}
+
+impl fmt::Debug for ManualClock {
+    fn fmt(&self, f: &mut fmt::Formatter<'_>) -> fmt::Result {
+        f.debug_tuple("ManualClock").field(&self.now()).finish()
+    }
+}
+
+/// The clock that a builder gives to a cache.
+#[derive(Clone, Debug, Default)]
+pub(crate) enum Source {
+    #[default]
+    Precise,
+    Coarse,
+    Manual(ManualClock),
+}
+
+impl Source {
+    /// Starts a clock. If no result depends on moments, it stands still, unless the program sets
+    /// it.
+    pub(crate) fn start(&self, is_needed: bool) -> Clock {
+        match self {
+            Source::Manual(clock) => Clock::Manual(clock.clone()),
+            _ if !is_needed => Clock::standing(),
+            Source::Coarse => Clock::coarse(),
+            Source::Precise => Clock::running(),
+        }
+    }
+}
+
+/// A clock that counts from its start, one that stands at zero, or one that the program sets.
+#[derive(Clone)]
 pub(crate) enum Clock {
     Standing,
     Running(Instant),
     // The reading of the system's coarse clock at the start.
     Coarse(Duration),
+    Manual(ManualClock),
 }
 
 impl Clock {
     /// Starts a precise clock.
-    pub(crate) fn running() -> Clock {
+    fn running() -> Clock {
         Clock::Running(Instant::now())
     }
 
     /// Starts a clock that costs less to read, and lags by some milliseconds. It is precise if the
     /// system has no coarse clock.
-    pub(crate) fn coarse() -> Clock {
+    fn coarse() -> Clock {
         coarse::now().map_or_else(Clock::running, Clock::Coarse)
     }
 
@@ -30,11 +114,12 @@ impl Clock {
     }
 
     /// Returns the time since the clock's start.
-    pub(crate) fn elapsed(self) -> Duration {
+    pub(crate) fn elapsed(&self) -> Duration {
         match self {
             Clock::Standing => Duration::ZERO,
             Clock::Running(start) => start.elapsed(),
-            Clock::Coarse(start) => coarse::now().unwrap_or(start).saturating_sub(start),
+            Clock::Coarse(start) => coarse::now().unwrap_or(*start).saturating_sub(*start),
+            Clock::Manual(clock) => clock.now(),
         }
     }
 }

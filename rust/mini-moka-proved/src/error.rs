@@ -30,6 +30,8 @@ pub enum BuildError {
     ZeroDuration,
     /// A duration is 2^64 - 1 nanoseconds or more, which is 584 years.
     DurationTooLong,
+    /// A share is above 100 percent.
+    ShareTooLarge,
     /// Memory was refused.
     OutOfMemory,
 }
@@ -41,6 +43,7 @@ impl fmt::Display for BuildError {
             BuildError::DurationTooLong => {
                 f.write_str("a duration is 2^64 - 1 nanoseconds or more")
             }
+            BuildError::ShareTooLarge => f.write_str("a share is above 100 percent"),
             BuildError::OutOfMemory => OutOfMemory.fmt(f),
         }
     }

@@ -17,8 +17,8 @@ use std::ptr::null_mut;
 pub(crate) const UNLIMITED: u64 = u64::MAX;
 
 // The statuses of calls. The header's others are for a closed handle, an open one that is opened
-// again, one of the other kind, an ended walk and a duration of 0. No call of this module returns
-// one of them.
+// again, one of the other kind, an ended walk, a duration of 0 and a share above 100. No call of
+// this module returns one of them.
 const DONE: u32 = 0;
 const ABSENT: u32 = 1;
 const OUT_OF_MEMORY: u32 = 4;
@@ -42,6 +42,9 @@ pub(crate) struct Settings {
     pub(crate) seed: [u64; 2],
     pub(crate) is_weighed: bool,
     pub(crate) removed_room: usize,
+    pub(crate) window_share: u8,
+    pub(crate) protected_share: u8,
+    pub(crate) is_adaptive: bool,
 }
 
 /// The header's `struct mini_moka_u64_settings`.
@@ -52,6 +55,9 @@ pub(crate) struct NumberSettings {
     pub(crate) time_to_idle: u64,
     pub(crate) initial_capacity: usize,
     pub(crate) removed_room: usize,
+    pub(crate) window_share: u8,
+    pub(crate) protected_share: u8,
+    pub(crate) is_adaptive: bool,
 }
 
 // The header's `struct mini_moka_statistics`.
@@ -256,6 +262,7 @@ extern "C" {
     fn mini_moka_invalidate_all(handle: *mut RawHandle) -> u32;
     fn mini_moka_count(handle: *mut RawHandle, count: *mut u64) -> u32;
     fn mini_moka_weight(handle: *mut RawHandle, weight: *mut u64) -> u32;
+    fn mini_moka_window(handle: *mut RawHandle, weight: *mut u64) -> u32;
     fn mini_moka_statistics(handle: *mut RawHandle, statistics: *mut Statistics) -> u32;
     fn mini_moka_walk(handle: *mut RawHandle) -> u32;
 }
@@ -306,6 +313,11 @@ impl<Kind> Handle<Kind> {
     /// Sums the weights of the entries, at most `u64::MAX`.
     pub(crate) fn weighted_size(&self) -> u64 {
         self.count(mini_moka_weight)
+    }
+
+    /// Returns the weight that the window may have, 0 without a window.
+    pub(crate) fn window_capacity(&self) -> u64 {
+        self.count(mini_moka_window)
     }
 
     fn count(&self, call: Count) -> u64 {

@@ -4,12 +4,17 @@
 //! [`sync::Cache`]. A cache is bounded by a number of entries or of bytes, and its entries expire
 //! by a time to live, by a time to idle, or not at all.
 //!
+//! [`Builder::adaptive`] is the best choice if nothing is known about the keys: the part of the
+//! cache for new entries grows and shrinks with the calls. [`Builder::window_share`] and
+//! [`Builder::protected_share`] set fixed parts.
+//!
 //! ```
 //! use mini_moka_proved::Cache;
 //! use std::time::Duration;
 //!
 //! let mut cache = Cache::builder()
 //!     .max_capacity(10_000)
+//!     .adaptive()
 //!     .time_to_live(Duration::from_secs(30 * 60))
 //!     .build()?;
 //! cache.insert("token", "alice")?;
@@ -32,13 +37,17 @@ mod clock;
 mod error;
 #[allow(unsafe_code)]
 mod handle;
+mod limits;
+mod number_builder;
 mod numbers;
 pub mod sync;
 
-pub use builder::{Builder, NumberBuilder};
+pub use builder::Builder;
 pub use cache::{Cache, Iter, RemovedIter};
+pub use clock::ManualClock;
 pub use error::{BuildError, OutOfMemory};
 pub use handle::{Cause, Inserted, Removed, Statistics};
+pub use number_builder::NumberBuilder;
 pub use numbers::{NumberCache, NumberIter, NumberRemovedIter};
 
 /// Runs the examples of the README as tests.

@@ -1,9 +1,9 @@
 //! The cache of numbers.
 
-use crate::builder::NumberBuilder;
 use crate::clock::{nanoseconds, Clock};
 use crate::error::OutOfMemory;
 use crate::handle::{Handle, Inserted, NumberSettings, Numbers, Removed, Statistics};
+use crate::number_builder::NumberBuilder;
 use std::fmt;
 use std::iter::FusedIterator;
 use std::time::Duration;
@@ -58,8 +58,8 @@ impl NumberCache {
         Ok(NumberCache { handle, clock })
     }
 
-    /// Returns the current moment of the cache's clock. It is always zero if the cache has no
-    /// duration.
+    /// Returns the current moment of the cache's clock. If the cache has no duration, it is always
+    /// zero, or that of its [`ManualClock`](crate::ManualClock).
     pub fn now(&self) -> Duration {
         self.clock.elapsed()
     }
@@ -291,6 +291,12 @@ impl NumberCache {
     /// Returns the weight of the entries, which is 1 each. It takes constant time.
     pub fn weighted_size(&self) -> u64 {
         self.handle.weighted_size()
+    }
+
+    /// Returns the number of entries that the window may have now, as
+    /// [`Cache::window_capacity`](crate::Cache::window_capacity) does. It takes constant time.
+    pub fn window_capacity(&self) -> u64 {
+        self.handle.window_capacity()
     }
 
     /// Returns the counts of the calls, and of the entries that left, since the cache was built.

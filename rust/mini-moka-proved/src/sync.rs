@@ -4,7 +4,7 @@
 //! and by its example `threads` under ThreadSanitizer, which also checks the library.
 
 use crate::builder;
-use crate::clock::Clock;
+use crate::clock::{Clock, ManualClock};
 use crate::error::{BuildError, OutOfMemory};
 use crate::handle::{Inserted, Removed, Statistics};
 use std::fmt;
@@ -397,6 +397,15 @@ impl Cache {
             .fold(0, u64::saturating_add)
     }
 
+    /// Returns the weight that the windows of all segments may have now, at most `u64::MAX`. Each
+    /// is that of [`crate::Cache::window_capacity`].
+    pub fn window_capacity(&self) -> u64 {
+        let segments = self.shared.segments.iter();
+        segments
+            .map(|segment| segment.lock().window_capacity())
+            .fold(0, u64::saturating_add)
+    }
+
     /// Returns the counts of the calls, and of the entries that left, since the cache was built.
     pub fn statistics(&self) -> Statistics {
         let segments = self.shared.segments.iter();
@@ -421,8 +430,8 @@ impl Cache {
         self.shared.segments.len()
     }
 
-    /// Returns the current moment of the cache's clock. It is always zero if the cache has no
-    /// duration.
+    /// Returns the current moment of the cache's clock. If the cache has no duration, it is always
+    /// zero, or that of its [`ManualClock`](crate::ManualClock).
     pub fn now(&self) -> Duration {
         self.shared.clock.elapsed()
     }
@@ -666,6 +675,41 @@ impl Builder {
     /// Makes the cache read a coarse clock, as [`crate::Builder::coarse_clock`] does.
     pub fn coarse_clock(mut self) -> Builder {
         self.whole = self.whole.coarse_clock();
+        self
+    }
+
+    /// Makes the cache read a clock that the program sets, as [`crate::Builder::manual_clock`] does.
+    pub fn manual_clock(mut self, clock: &ManualClock) -> Builder {
+        self.whole = self.whole.manual_clock(clock);
+        self
+    }
+
+    /// Sets the share of each segment's capacity that is its window, in percent, as
+    /// [`crate::Builder::window_share`] does.
+    pub fn window_share(mut self, percent: u8) -> Builder {
+        self.whole = self.whole.window_share(percent);
+        self
+    }
+
+    /// Sets the share of each segment's capacity outside of its window that is for entries used
+    /// there, in percent, as [`crate::Builder::protected_share`] does.
+    pub fn protected_share(mut self, percent: u8) -> Builder {
+        self.whole = self.whole.protected_share(percent);
+        self
+    }
+
+    /// Makes the share of each segment's window follow the calls in the segment, as
+    /// [`crate::Builder::adaptive`] does.
+    ///
+    /// ```
+    /// use mini_moka_proved::sync::Cache;
+    ///
+    /// let cache = Cache::builder().max_capacity(1000).segments(4).adaptive().build()?;
+    /// assert_eq!(cache.window_capacity(), 4 * 2);
+    /// # Ok::<(), mini_moka_proved::BuildError>(())
+    /// ```
+    pub fn adaptive(mut self) -> Builder {
+        self.whole = self.whole.adaptive();
         self
     }
 

@@ -3,7 +3,7 @@
 mod common;
 
 use common::Random;
-use mini_moka_proved::{Cache, Inserted, NumberCache};
+use mini_moka_proved::{Builder, Cache, Cause, Inserted, NumberCache};
 use std::collections::HashMap;
 use std::time::Duration;
 
@@ -160,35 +160,110 @@ fn a_cache_with_durations_is_a_map_whose_entries_expire() {
     assert!(model.updates > 1000 && model.removals > 1000);
 }
 
+/// Returns a key that often was used shortly before, if the window is to move.
+fn recurring_key(random: &mut Random, call: u64) -> u64 {
+    if random.below(3) == 0 {
+        return random.below(KEYS);
+    }
+    (call / 3 + random.below(14)) % KEYS
+}
+
+/// Compares a full cache with a map: it finds nothing but what was last written. Returns how often
+/// its window moved.
+fn compare_a_full_cache(builder: Builder, capacity: u64) -> u64 {
+    let mut random = Random(capacity);
+    let mut cache = builder.max_capacity(capacity).build().unwrap();
+    let first_window = cache.window_capacity();
+    let mut map = HashMap::new();
+    let (mut found, mut moved) = (0, 0);
+    for call in 0..CALLS / 8 {
+        let key = recurring_key(&mut random, call).to_le_bytes();
+        let value = some_value(&mut random);
+        let window = cache.window_capacity();
+        if let Some(known) = cache.get(key) {
+            assert_eq!(map.get(&key), Some(&known));
+            found += 1;
+        }
+        assert_eq!(cache.window_capacity(), window);
+        if random.below(2) == 0 {
+            match cache.insert(key, &value).unwrap() {
+                Inserted::Stored => assert_eq!(cache.peek(key), Some(value.clone())),
+                Inserted::Rejected => assert_eq!(cache.peek(key), None),
+            }
+            map.insert(key, value);
+        }
+        assert!(cache.len() as u64 <= capacity);
+        let now = cache.window_capacity();
+        assert!((first_window..=first_window.max(capacity * 80 / 100)).contains(&now));
+        moved += u64::from(now != window);
+    }
+    let counts = cache.statistics();
+    assert_eq!(counts.hits, found);
+    assert!(found > 1000 && counts.rejections + counts.evictions > 1000);
+    let entered = counts.inserts - counts.updates - counts.rejections;
+    assert_eq!(entered, counts.evictions + cache.len() as u64);
+    moved
+}
+
 #[test]
 fn a_full_cache_finds_nothing_but_what_was_last_written() {
     for capacity in [KEYS / 8, KEYS / 2] {
-        let mut random = Random(capacity);
-        let mut cache = Cache::builder().max_capacity(capacity).build().unwrap();
-        let mut map = HashMap::new();
-        let mut found = 0;
-        for _ in 0..CALLS / 4 {
-            let (key, value) = (random.below(KEYS).to_le_bytes(), some_value(&mut random));
-            if let Some(known) = cache.get(key) {
-                assert_eq!(map.get(&key), Some(&known));
-                found += 1;
-            }
-            if random.below(2) == 0 {
-                match cache.insert(key, &value).unwrap() {
-                    Inserted::Stored => assert_eq!(cache.peek(key), Some(value.clone())),
-                    Inserted::Rejected => assert_eq!(cache.peek(key), None),
-                }
-                map.insert(key, value);
-            }
-            assert!(cache.len() as u64 <= capacity);
+        for share in [0, 1, 20, 100] {
+            let builder = Cache::builder().window_share(share);
+            assert_eq!(compare_a_full_cache(builder.clone(), capacity), 0);
+            assert_eq!(
+                compare_a_full_cache(builder.protected_share(80), capacity),
+                0
+            );
+            let adaptive = Cache::builder().adaptive().window_share(share);
+            let moved = compare_a_full_cache(adaptive, capacity);
+            let has_window = capacity * u64::from(share) / 100 > 0;
+            assert_eq!(moved > 10, has_window && share < 80);
         }
-        assert_eq!(cache.len() as u64, capacity);
-        assert_eq!(cache.statistics().hits, found);
-        assert!(found > 1000);
-        let counts = cache.statistics();
-        let entered = counts.inserts - counts.updates - counts.rejections;
-        assert_eq!(entered, counts.evictions + capacity);
-        assert!(counts.rejections + counts.evictions > 1000);
+    }
+}
+
+/// Drains the removed entries, and removes those from the map that left the cache.
+fn drain_into(cache: &mut Cache, map: &mut HashMap<[u8; 8], Vec<u8>>) {
+    for removed in cache.removed() {
+        let removed = removed.unwrap();
+        let key = <[u8; 8]>::try_from(removed.key).unwrap();
+        if removed.cause != Cause::Replaced {
+            assert_eq!(map.remove(&key), Some(removed.value));
+        }
+    }
+}
+
+#[test]
+fn a_full_weighed_cache_keeps_its_capacity() {
+    for is_adaptive in [false, true] {
+        let mut random = Random(9);
+        let builder = Cache::builder().max_capacity(20_000).weigh_bytes();
+        let builder = if is_adaptive {
+            builder.adaptive().window_share(5)
+        } else {
+            builder
+        };
+        let mut cache = builder.removed_room(100).build().unwrap();
+        let mut map = HashMap::new();
+        let mut moved = 0;
+        for call in 0..CALLS / 8 {
+            let key = recurring_key(&mut random, call).to_le_bytes();
+            let window = cache.window_capacity();
+            // A get first evicts what an update has left above the capacity.
+            let found = cache.get(key);
+            drain_into(&mut cache, &mut map);
+            assert_eq!(found, map.get(&key).cloned());
+            assert!(cache.weighted_size() <= 20_000);
+            let value = some_value(&mut random);
+            cache.insert(key, &value).unwrap();
+            map.insert(key, value);
+            drain_into(&mut cache, &mut map);
+            assert_eq!(cache.len(), map.len());
+            moved += u64::from(cache.window_capacity() != window);
+        }
+        assert_eq!(moved > 10, is_adaptive);
+        assert_eq!(cache.statistics().lost, 0);
     }
 }
 

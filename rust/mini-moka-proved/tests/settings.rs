@@ -3,7 +3,7 @@
 mod common;
 
 use common::{Random, NANOSECOND, SECOND, START};
-use mini_moka_proved::{sync, BuildError, Cache, NumberCache};
+use mini_moka_proved::{sync, BuildError, Cache, ManualClock, NumberCache};
 use std::time::Duration;
 
 #[test]
@@ -92,24 +92,35 @@ fn a_builder_shows_its_limits_and_no_seed() {
     assert_eq!(
         format!("{builder:?}"),
         "Builder { max_capacity: Some(10), time_to_live: Some(1s), time_to_idle: None, \
-         initial_capacity: 0, removed_room: 0, coarse_clock: false, weigh_bytes: false, .. }"
+         initial_capacity: 0, removed_room: 0, window_share: 1, protected_share: 0, \
+         adaptive: false, clock: Precise, weigh_bytes: false, .. }"
     );
-    let builder = NumberCache::builder().max_capacity(10).coarse_clock();
+    let builder = NumberCache::builder()
+        .max_capacity(10)
+        .adaptive()
+        .window_share(5)
+        .coarse_clock();
     assert_eq!(
         format!("{builder:?}"),
         "NumberBuilder { max_capacity: Some(10), time_to_live: None, time_to_idle: None, \
-         initial_capacity: 0, removed_room: 0, coarse_clock: true }"
+         initial_capacity: 0, removed_room: 0, window_share: 5, protected_share: 80, \
+         adaptive: true, clock: Coarse }"
     );
+    let clock = ManualClock::new();
+    clock.set(2 * SECOND);
     let builder = sync::Cache::builder()
         .time_to_idle(SECOND)
         .initial_capacity(7)
         .removed_room(8)
         .weigh_bytes()
+        .protected_share(30)
+        .manual_clock(&clock)
         .segments(4);
     assert_eq!(
         format!("{builder:?}"),
         "Builder { whole: Builder { max_capacity: None, time_to_live: None, \
-         time_to_idle: Some(1s), initial_capacity: 7, removed_room: 8, coarse_clock: false, \
+         time_to_idle: Some(1s), initial_capacity: 7, removed_room: 8, window_share: 1, \
+         protected_share: 30, adaptive: false, clock: Manual(ManualClock(2s)), \
          weigh_bytes: true, .. }, segments: Some(4) }"
     );
 }
@@ -204,6 +215,7 @@ fn errors_and_weights_are_shown() {
     let texts = [
         BuildError::ZeroDuration.to_string(),
         BuildError::DurationTooLong.to_string(),
+        BuildError::ShareTooLarge.to_string(),
         BuildError::OutOfMemory.to_string(),
     ];
     assert_eq!(
@@ -211,6 +223,7 @@ fn errors_and_weights_are_shown() {
         [
             "a duration is 0",
             "a duration is 2^64 - 1 nanoseconds or more",
+            "a share is above 100 percent",
             "memory was refused"
         ]
     );
