@@ -101,6 +101,7 @@ class Settings:
         if mode in ("core", "recorded") and r.random() < 0.15:
             self.tickets = r.choice([0, 1, 7, U64, U64 - 1, U64 - 2, U64 - 3, U64 - 5, U64 - 10, 2**63])
         self.mode = mode
+        self.adaptive = mode == "unsync" and r.random() < 0.5
         # large weights only with a large limit or none: with a small one the table would have gigabytes
         self.big_weights = self.weighed and (self.max is None or self.max >= U32 - 1) and r.random() < 0.6
         self.some_high = self.weighed and r.random() < 0.2
@@ -115,6 +116,8 @@ class Settings:
             s += " idle " + self.idle
         if self.weighed:
             s += " weighed"
+        if self.adaptive:
+            s += " adaptive"
         if self.tickets is not None:
             s += " tickets %d" % self.tickets
         return s
@@ -212,7 +215,9 @@ class WindowScript:
         self.none = r.choice([0, 0, 0.05, 0.3, 0.8])
         self.heavy = r.choice([0, 0, 0.03, 0.15])
         self.near = r.choice([0, 0.1, 0.5])
-        self.key = r.choice([lambda i: i, lambda i: 4 * i, lambda i: U64 - i, lambda i: (i * 0x9e3779b97f4a7c15) % 2**64])
+        # The slot of a hash is by its bits from 20 on, and its tag by those from 49 on.
+        self.key = r.choice([lambda i: i, lambda i: 4 * i, lambda i: U64 - i, lambda i: (i * 0x9e3779b97f4a7c15) % 2**64,
+                             lambda i: (i * 0x9e3779b97f4a7c15) % 2**64, lambda i: (i << 20) % 2**64, lambda i: (i << 49 | i << 20) % 2**64])
         self.known = []          # inserted keys, the latest last
         self.made_keys = 0
         self.texts = r.sample(TEXTS, r.randint(1, 5))
@@ -301,6 +306,8 @@ class WindowScript:
         shares = [("new", 20), ("asked", 12), ("update", 8), ("heavy", 3), ("get", 12), ("gets", 4), ("sweep", 0.5), ("burst", 1), ("nothings", 1.5),
                   ("has", 4), ("invalidate", 2), ("remove", 2), ("clear", 0.15), ("drop-if", 0.3), ("look", 12), ("policy", 0.1), ("again", 3),
                   ("rivals", 3), ("above", 1), ("idle", 0.7)]
+        if self.s.adaptive:
+            shares += [("returns", 12), ("firsts", 4), ("uses", 4)]
         w = jitter(r, shares)
         for _ in range(r.choice([r.randint(5, 40), r.randint(20, 120), r.randint(100, 250)])):
             getattr(self, "do_" + pick(r, w).replace("-", "_"))()
@@ -452,6 +459,30 @@ class WindowScript:
         for _ in range(r.randint(1, 4)):
             self.say("has %d" % self.some())
             self.say("count")
+
+    def do_returns(self):
+        """Inserts new rows, and each again after some of the others, when the window has given it up. The window grows then."""
+        r = self.r
+        apart = r.choice([1, 2, 3, 5, 8, 12, 20])
+        asked = r.choice([0, 0, 0, 1, 4])
+        for _ in range(r.choice([5, 20, 60, 150])):
+            self.new(asked=asked)
+            if len(self.known) > apart:
+                self.insert(self.known[-1 - apart])
+        self.look()
+
+    def do_firsts(self):
+        """Inserts rows again that were the first, which main may have given up. The window shrinks then."""
+        r = self.r
+        at = r.choice([0, 0, r.randrange(max(1, len(self.known)))])
+        for key in self.known[at:at + r.choice([1, 5, 20, 60])]:
+            self.insert(key)
+        self.look()
+
+    def do_uses(self):
+        """Looks rows up that the cache may have, so that they are protected."""
+        for _ in range(self.r.choice([3, 20, 80])):
+            self.do_get()
 
     def fresh(self):
         """Clears the cache, mostly."""
@@ -1534,7 +1565,7 @@ BYTES = [b" ", b"\n", b"\r", b"\t", b"\0", b"\xff", b"\xc3\xa9", b"-", b"+", b"_
 NUMBERS = ["00", "01", "007", "+1", "-1", "1.0", "0x1", "1_0", "", "18446744073709551615", "18446744073709551616", "18446744073709551617",
            "18446744073709551620", "28446744073709551615", "99999999999999999999", "100000000000000000000", "4294967295", "4294967296", "65535",
            "65536", "4", "3", "0000000000000000000000", "9" * 40, "1" * 300, "1e3", "\u0661"]
-WORDS = ["max", "live", "idle", "weighed", "tickets", "max 3", "live 5ns", "idle 5ns", "tickets 3", "unsync", "core", "recorded", "sketch",
+WORDS = ["max", "live", "idle", "weighed", "adaptive", "tickets", "max 3", "live 5ns", "idle 5ns", "tickets 3", "unsync", "core", "recorded", "sketch",
          "sync", "insert", "get", "INSERT", "Get", "fetch", "REMOVE", "remove", "count", "x" * 64, "x" * 65, "x" * 63 + "_", "a_b", "a.b", "-", "--", ""]
 DURATIONS = ["5", "5ms", "s", "ns", "5sn", "5nss", "5us", "05ns", "00s", "18446744073709551615s", "18446744073709551616s",
              "18446744073709551615ns", "18446744073709551616ns", "5NS", "5S", "+5s", "-5s", "5n", "ns5", "5ns5", "0ns", "5sns", "5 s", "5 ns"]
@@ -1542,7 +1573,11 @@ FIRSTS = ["", "sync", "sync max 3", "sync tickets 3", "sync max 3 weighed ticket
           "recorded idle 3ns live 3ns", "recorded weighed max 3", "sketch", "sketch 4294967296", "sketch 3 3", "sketch max 3", "core tickets",
           "core live 3ns max 3", "core idle 3ns idle 3ns", "recorded live 3ns live 4ns", "unsync weighed 3", "unsync  max 3", " unsync", "unsync ",
           "Unsync", "unsynced", "core max 18446744073709551616", "core max 03", "recorded tickets 18446744073709551616", "unsync live 5", "max 3",
-          "core max 3 live 3ns idle 3ns weighed tickets 3 ", "cores", "unsync max 3 5", "recorded tickets 3 tickets 3"]
+          "core max 3 live 3ns idle 3ns weighed tickets 3 ", "cores", "unsync max 3 5", "recorded tickets 3 tickets 3",
+          "unsync adaptive", "unsync max 3 live 5s idle 5s weighed adaptive", "unsync max 100 adaptive", "unsync adaptive weighed", "unsync adaptive max 3",
+          "unsync adaptive adaptive", "unsync adaptive 3", "unsync Adaptive", "unsync adapt", "unsync weighed adaptive tickets 3", "adaptive", "sync adaptive",
+          "sync max 3 weighed adaptive", "recorded adaptive", "recorded adaptive tickets 3", "core adaptive", "core max 3 adaptive", "sketch adaptive",
+          "sketch 3 adaptive"]
 OTHERS = ["0 get 0", "0 get 1 0", "0 insert 0 a", "0 insert 1 0 a", "0 insert 0 a 1", "0 insert 1 0 a 1", "0 drop-if a", "0 iter", "0 policy",
           "0 sync", "0 push 1", "0 forget 1", "0 begin", "0 turn", "0 rest", "inc 0 1", "freq 0", "len", "ensure 3", "index 0 0", "0 len",
           "0 has 0", "0 has 1 0", "0 invalidate 0", "0 invalidate 1 0", "0 remove 0", "0 remove 1 0", "0 remove", "0 clear", "clear", "0 count", "count", "0 weight", "0", "0 ", "",

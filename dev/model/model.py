@@ -5,6 +5,8 @@ reply_text(script_bytes) -> (reply_bytes, status); the status is 0 if the script
 import re
 from collections import Counter
 
+import adapting
+
 U16 = 2**16 - 1
 U32 = 2**32 - 1
 U64 = 2**64 - 1
@@ -57,6 +59,7 @@ class Options:
         self.live = None
         self.idle = None
         self.weighed = False
+        self.adaptive = False
         self.tickets = 0
 
 
@@ -91,6 +94,8 @@ def first_line(line):
         o.idle = duration(argument())
     if take(b"weighed"):
         o.weighed = True
+    if mode == b"unsync" and take(b"adaptive"):
+        o.adaptive = True
     if mode in (b"core", b"recorded") and take(b"tickets"):
         o.tickets = number(argument(), U64)
     if rest:
@@ -327,25 +332,43 @@ def weight_of(rows):
     return sum(r.weight for r in rows)
 
 
-WINDOWED = 100               # the least limit with a window, which new rows enter first
-
-
 class Unsync:
     def __init__(self, o):
         self.o = o
-        self.main = []           # in order of use
-        self.window = []         # in order of use; always empty if the limit is below 100, or if there is none
-        self.writes = []         # the rows of both in order of writing (kept always, used with a time to live)
+        # in order of use
+        self.probation = []
+        self.protected = []      # always empty unless the cache adapts
+        self.window = []         # always empty if the limit is below 100, or if there is none
+        self.writes = []         # the rows of all three in order of writing (kept always, used with a time to live)
         self.table = Table()
+        self.extra = 0           # the window's weight beyond its share
+        self.memory = adapting.Memory() if o.adaptive else None
+
+    def main(self):
+        return self.probation + self.protected
 
     def rows(self):
-        return self.main + self.window
+        return self.main() + self.window
 
     def weight(self):
         return weight_of(self.rows())
 
+    def has_window(self):
+        return self.o.max is not None and adapting.hundredths(adapting.WINDOW_SHARE, self.o.max) > 0
+
+    def window_limit(self):
+        return adapting.hundredths(adapting.WINDOW_SHARE, self.o.max) + self.extra
+
+    def main_limit(self):
+        return max(0, self.o.max - self.window_limit())
+
+    def protected_limit(self):
+        if self.o.max is None or not self.o.adaptive:
+            return 0
+        return adapting.hundredths(adapting.PROTECTED_SHARE, self.main_limit())
+
     def list_of(self, r):
-        return self.window if r in self.window else self.main
+        return next(rows for rows in (self.window, self.protected, self.probation) if r in rows)
 
     def leave(self, rows):
         for r in rows:
@@ -359,14 +382,36 @@ class Unsync:
         return None
 
     def used(self, r):
-        """Moves the row to the back of its list."""
+        """Moves the row to the back of its part. One of main is protected then, unless it is heavier than protected may be."""
         rows = self.list_of(r)
+        rows_then = rows
         if rows is self.window:
             SEEN["unsync use in the window"] += 1
             if rows[0] is r and len(rows) > 1:
                 SEEN["unsync use of the window's front, of several"] += 1
+        else:
+            limit = self.protected_limit()
+            rows_then = self.protected if limit > 0 and r.weight <= limit else self.probation
+            if limit > 0 and rows_then is self.probation:
+                SEEN["unsync use of a row heavier than protected's limit"] += 1
         rows.remove(r)
-        rows.append(r)
+        rows_then.append(r)
+        self.balance()
+
+    def balance(self):
+        """Moves protected's front to the back of probation, until protected is within its limit."""
+        demoted = self.front_of(self.protected, weight_of(self.protected) - self.protected_limit())
+        if demoted:
+            SEEN["unsync demoted"] += 1
+        if len(demoted) > 1:
+            SEEN["unsync demoted several"] += 1
+        del self.protected[:len(demoted)]
+        self.probation += demoted
+
+    def front_of(self, rows, weight):
+        """Returns the shortest front of the rows that weighs so much, or all."""
+        f = front(rows, lambda r: r.weight, weight)
+        return list(rows) if f is None else f
 
     def expired(self, r, now):
         return idle_expired(self.o, r, now) or live_expired(self.o, r, now)
@@ -384,7 +429,7 @@ class Unsync:
                 SEEN["unsync live-expired"] += 1
             self.leave(gone[:100])
         if self.o.idle is not None:
-            for place, rows in (("window", self.window), ("main", self.main)):
+            for place, rows in (("window", self.window), ("probation", self.probation), ("protected", self.protected)):
                 gone = []
                 for r in rows:
                     if not idle_expired(self.o, r, now):
@@ -417,32 +462,42 @@ class Unsync:
 
     def main_takes(self, limit, hash_, w, who):
         """Returns True if main admits a row of this weight. Then its victims leave."""
-        if limit is None or weight_of(self.main) + w <= limit:
+        main = self.main()
+        if limit is None or weight_of(main) + w <= limit:
             return True
         if w > limit:
             SEEN["unsync %s rejected, above the limit" % who] += 1
             return False
-        if weight_of(self.main) > limit:
+        if weight_of(main) > limit:
             SEEN["unsync %s judged while main is above its limit" % who] += 1
-        f = front(self.main, lambda r: r.weight, w)
+        f = front(main, lambda r: r.weight, w)
         if f is None:
             SEEN["unsync %s without a front" % who] += 1
             return False
         if self.table.est(hash_) > sum(self.table.est(r.hash) for r in f):
             SEEN["unsync %s admitted over %s" % (who, min(len(f), 2))] += 1
-            self.leave(f)
+            if any(r in self.protected for r in f):
+                SEEN["unsync %s admitted over a protected row" % who] += 1
+            self.displace(f)
             return True
         SEEN["unsync %s rejected" % who] += 1
         return False
+
+    def displace(self, rows):
+        """Lets rows of main leave for others, and notes them if there is a window to follow."""
+        if self.memory is not None and self.has_window():
+            for r in rows:
+                self.memory.displaced.note(r.hash)
+        self.leave(rows)
 
     def enter(self, new):
         """Adds a new row to the back of the window, and judges the rows that are then above the limits."""
         limit = self.o.max
         self.window.append(new)
         self.writes.append(new)
-        window_limit = limit // 100
-        main_limit = limit - window_limit
-        e = max(weight_of(self.window) - window_limit, self.weight() - limit)
+        main_limit = self.main_limit()
+        above = weight_of(self.window) - self.window_limit()
+        e = max(above, self.weight() - limit)
         if e <= 0:
             SEEN["unsync window has capacity"] += 1
             return
@@ -456,19 +511,59 @@ class Unsync:
             SEEN["unsync candidates, over 100"] += 1
         if new in candidates:
             SEEN["unsync new row is a candidate"] += 1
-        if e > weight_of(self.window) - window_limit:
+        if e > above:
             SEEN["unsync excess of the whole above the excess of the window"] += 1
         came = []
         for c in candidates:
             if self.main_takes(main_limit, c.hash, c.weight, "candidate"):
-                if any(r not in self.main for r in came):
+                if any(r not in self.probation for r in came):
                     SEEN["unsync candidate evicted one of the same insert"] += 1
                 self.window.remove(c)
-                self.main.append(c)
+                self.probation.append(c)
                 came.append(c)
                 SEEN["unsync to main"] += 1
             else:
+                if self.memory is not None:
+                    self.memory.rejected.note(c.hash)
                 self.leave([c])
+
+    def turn(self, new, demand):
+        """Lets the window follow this demand, after a new row entered it. Main gives up what it has no room for, if the window has gained as much."""
+        before = self.extra
+        self.memory.demand = demand
+        self.extra = adapting.extra_at(self.o.max, demand)
+        if self.extra != before:
+            SEEN["unsync window %s" % ("grew" if self.extra > before else "shrank")] += 1
+            if self.extra == adapting.most_extra(self.o.max):
+                SEEN["unsync window is as large as it may be"] += 1
+        gained = max(0, self.extra - before) if new in self.window else 0
+        if gained == 0 and self.extra > before:
+            SEEN["unsync window grew by a row that has left it"] += 1
+        given = self.front_of(self.main(), min(gained, weight_of(self.main()) - self.main_limit()))
+        if given:
+            SEEN["unsync main gave up for the window"] += 1
+        self.displace(given)
+        self.balance()
+
+    def arrive(self, new):
+        """Adds a new row to the window."""
+        if self.memory is None:
+            self.enter(new)
+            return
+        for name in ("rejected", "displaced"):
+            if getattr(self.memory, name).has(new.hash):
+                SEEN["unsync new row was %s of late" % name] += 1
+        demand = self.memory.demand_after(self.o.max, new)
+        self.memory.take(new.hash)
+        self.enter(new)
+        self.turn(new, demand)
+
+    def ask(self):
+        """Asks whether to turn the sketch on. The tables of tags are made with the sketch's."""
+        was_on = self.table.n != 0
+        turning_on(self.table, self.o.max, self.o.weighed, len(self.rows()), self.weight())
+        if self.memory is not None and not was_on and self.table.n != 0:
+            self.memory.make_tables(self.table.n)
 
     def call(self, now, name, a):
         if name == "policy":
@@ -480,7 +575,8 @@ class Unsync:
         if name == "iter":
             return " ".join("%d=%s" % (r.key, r.value) for r in self.rows() if not self.expired(r, now)) or "empty"
         if name == "clear":
-            self.main = []
+            self.probation = []
+            self.protected = []
             self.window = []
             self.writes = []
             return "ok"
@@ -534,13 +630,13 @@ class Unsync:
                 self.writes.append(r)
                 return "ok"
             new = Row(key, value, w, now)
-            if self.o.max is not None and self.o.max >= WINDOWED:
-                self.enter(new)
+            if self.has_window():
+                self.arrive(new)
             elif self.main_takes(self.o.max, new.hash, w, "new row"):
-                self.main.append(new)
+                self.probation.append(new)
                 self.writes.append(new)
             if self.row_of(key) is not None:
-                turning_on(self.table, self.o.max, self.o.weighed, len(self.rows()), self.weight())
+                self.ask()
             return "ok"
         raise AssertionError(name)
 

@@ -1,6 +1,6 @@
 -- The words of headers are read as those headers.
 use Rattle.std.proofs.Common.{◌≡◌, ℕ, List, [], ◌∷◌, codes, cond, Some, None, refl, ap, ◌∙◌, subst, inl, inr, ◌^◌, arith}
-use Rattle.std.specs.Prelude.{IsTrue}
+use Rattle.std.specs.Prelude.{IsTrue, not}
 use Rattle.std.specs.List.{AllByRecursion}
 use Rattle.std.specs.Str.{bytes_eq}
 use Rattle.std.proofs.lemmas.Option.{cond_some, same_Some}
@@ -55,12 +55,13 @@ cache_header_of-found mode arguments header e =
     subst (IsHeader (mode_word mode ∷ arguments)) shown.1 (ap (λ l. mode_word mode ∷ l) found.0, (found.1, shown.0))
 
 -- what is read as a core's header is spelled so
-core-found : (arguments : List (List ℕ)) (header : Header) → (options_of arguments >>= λ options. Some (Core options)) ≡ Some header
-    → IsHeader (codes "core" ∷ arguments) header
+core-found : (arguments : List (List ℕ)) (header : Header)
+    → (options_of arguments >>= λ options. cond (not options.adaptive) (Some (Core options)) None) ≡ Some header → IsHeader (codes "core" ∷ arguments) header
 core-found arguments header e =
-    let (options, was, shown) = bind_some (options_of arguments) (λ options. Some (Core options)) header e in
+    let (options, was, rest) = bind_some (options_of arguments) (λ options. cond (not options.adaptive) (Some (Core options)) None) header e in
     let found = options_of-found arguments options was in
-    subst (IsHeader (codes "core" ∷ arguments)) (same_Some _ _ shown) (ap (λ l. codes "core" ∷ l) found.0, found.1)
+    let shown = cond_some (not options.adaptive) (Core options) header rest in
+    subst (IsHeader (codes "core" ∷ arguments)) shown.1 (ap (λ l. codes "core" ∷ l) found.0, (found.1, shown.0))
 
 -- what is read as a sketch's header is spelled so
 sketch-found : (arguments : List (List ℕ)) (header : Header) → (u32_of arguments >>= λ cap. Some (Sketch cap)) ≡ Some header
@@ -104,7 +105,7 @@ mode_word_is Unsync = IsWord-name (codes "unsync") refl
 -- the words of a header are words
 header_words_are : (header : Header) → HeaderFits header → AllByRecursion IsWord (header_words header)
 header_words_are (Cache header) fits = (mode_word_is header.mode, options_words_are header.options fits.0)
-header_words_are (Core options) fits = (IsWord-name (codes "core") refl, options_words_are options fits)
+header_words_are (Core options) fits = (IsWord-name (codes "core") refl, options_words_are options fits.0)
 header_words_are (Sketch cap) fits = (IsWord-name (codes "sketch") refl, (IsWord-decimal cap (omega (arith, fits)), tt))
 
 -- the settings of a mode are read behind its name
@@ -126,7 +127,7 @@ header_again : (header : Header) → HeaderFits header → header_from_words (he
 unfolding header_from_words u32_of
 header_again (Cache header) fits = cache_again header.mode (options_words header.options) (Cache header)
     (cache_header_of-again header fits.0 fits.1)
-header_again (Core options) fits = rw (options_again options fits) refl
+header_again (Core options) fits = rw (options_again options fits.0, fits.1) refl
 header_again (Sketch cap) fits = rw (number_below-decimal (2 ^ 32) cap fits (omega (arith, fits))) refl
 
 -- a header has words

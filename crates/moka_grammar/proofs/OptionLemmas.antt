@@ -15,9 +15,9 @@ use Rattle.std.proofs.lemmas.Slice.Eq.{bytes_eq-Decides}
 use Rattle.moka_grammar.specs.declared.line.Span.{Span}
 use Rattle.moka_grammar.specs.declared.line.Span.TheVariants.{Seconds, Nanos}
 use Rattle.moka_grammar.specs.declared.line.CacheOptions.{CacheOptions}
-use Rattle.moka_grammar.specs.Options.{span_word, option_words, weighed_words, options_words, NumberFits, SpanFits, OptionsFit}
+use Rattle.moka_grammar.specs.Options.{span_word, option_words, flag_words, options_words, NumberFits, SpanFits, OptionsFit}
 use Rattle.moka_grammar.specs.Reading.{no_argument, number_of}
-use Rattle.moka_grammar.specs.ReadingOptions.{front_of, span_before, span_of, option_of, weighed_of, options_of}
+use Rattle.moka_grammar.specs.ReadingOptions.{front_of, span_before, span_of, option_of, flag_of, options_of}
 use Rattle.moka_grammar.proofs.CutLemmas.{bind_some}
 use Rattle.moka_grammar.proofs.ArgumentLemmas.{chosen, no_argument-found}
 use Rattle.moka_grammar.proofs.NumberLemmas.{digits_model, number_of-decimal, number_of-found}
@@ -175,40 +175,39 @@ module _ {X : Type 0} (name : List ℕ) (word : X → List ℕ) (Fits : X → Ty
 
 -- ---- all settings
 
--- the word of weights and what is behind it, where this word is that one
+-- a word and what is behind it, where this word is that one
 abbrev parted : Bool → List ℕ → List (List ℕ) → Bool × List (List ℕ)
 parted is word words = cond is (true, words) (false, word ∷ words)
 
 -- these words are all
-parted-all : (is : Bool) (word : List ℕ) (words : List (List ℕ)) → (is ≡ true → word ≡ codes "weighed")
-    → word ∷ words ≡ weighed_words (parted is word words).0 ++ (parted is word words).1
-parted-all true word words named = ap (λ w. w ∷ words) (named refl)
-parted-all false word words named = refl
+parted-all : (name : List ℕ) (is : Bool) (word : List ℕ) (words : List (List ℕ)) → (is ≡ true → word ≡ name)
+    → word ∷ words ≡ flag_words name (parted is word words).0 ++ (parted is word words).1
+parted-all name true word words named = ap (λ w. w ∷ words) (named refl)
+parted-all name false word words named = refl
 
--- what is read as the word of weights is that word
-weighed_of-found : (words : List (List ℕ)) → words ≡ weighed_words (weighed_of words).0 ++ (weighed_of words).1
-unfolding weighed_of
-weighed_of-found [] = refl
-weighed_of-found (word ∷ words) = parted-all (bytes_eq word (codes "weighed")) word words (bytes_eq-Decides word (codes "weighed")).0
+-- what is read as this word is that word
+flag_of-found : (name : List ℕ) (words : List (List ℕ)) → words ≡ flag_words name (flag_of name words).0 ++ (flag_of name words).1
+unfolding flag_of
+flag_of-found name [] = refl
+flag_of-found name (word ∷ words) = parted-all name (bytes_eq word name) word words (bytes_eq-Decides word name).0
 
--- the word of weights is read as it is
-weighed_again : (weighed : Bool) (behind : List (List ℕ)) → LacksName (codes "weighed") behind
-    → weighed_of (weighed_words weighed ++ behind) ≡ (weighed, behind)
-unfolding weighed_of
-weighed_again true behind lacks = refl
-weighed_again false [] lacks = refl
-weighed_again false (word ∷ behind) lacks = rw lacks refl
+-- the word is read as it is
+flag_again : (name : List ℕ) (is : Bool) (behind : List (List ℕ)) → LacksName name behind → flag_of name (flag_words name is ++ behind) ≡ (is, behind)
+unfolding flag_of
+flag_again name true behind lacks = rw ((bytes_eq-Decides name name).1 refl) refl
+flag_again name false [] lacks = refl
+flag_again name false (word ∷ behind) lacks = rw lacks refl
 
--- the word of weights is a word
-weighed_words_are : (weighed : Bool) → AllByRecursion IsWord (weighed_words weighed)
-weighed_words_are true = (IsWord-name (codes "weighed") refl, tt)
-weighed_words_are false = tt
+-- the word is a word
+flag_words_are : (name : List ℕ) → IsWord name → (is : Bool) → AllByRecursion IsWord (flag_words name is)
+flag_words_are name is_name true = (is_name, tt)
+flag_words_are name is_name false = tt
 
 -- another name doesn't come first with it
-LacksName-weighed : (name : List ℕ) (weighed : Bool) (behind : List (List ℕ)) → bytes_eq (codes "weighed") name ≡ false
-    → LacksName name behind → LacksName name (weighed_words weighed ++ behind)
-LacksName-weighed name true behind e lacks = e
-LacksName-weighed name false behind e lacks = lacks
+LacksName-flag : (word name : List ℕ) (is : Bool) (behind : List (List ℕ)) → bytes_eq word name ≡ false
+    → LacksName name behind → LacksName name (flag_words word is ++ behind)
+LacksName-flag word name true behind e lacks = e
+LacksName-flag word name false behind e lacks = lacks
 
 -- the last setting is read behind nothing more
 tickets_again : (tickets : Option ℕ) → IfSome tickets NumberFits
@@ -217,17 +216,19 @@ tickets_again tickets fits =
     rw append-nil at (option_again (codes "tickets") decimal NumberFits number_of number_of-decimal tickets [] fits tt)
 
 -- settings one after another are all of them
-options_spelled : (o : CacheOptions) (words max live idle weighed tickets : List (List ℕ))
+options_spelled : (o : CacheOptions) (words max live idle weighed adaptive tickets : List (List ℕ))
     → words ≡ option_words (codes "max") decimal o.max ++ max → max ≡ option_words (codes "live") span_word o.live ++ live
-    → live ≡ option_words (codes "idle") span_word o.idle ++ idle → idle ≡ weighed_words o.weighed ++ weighed
-    → weighed ≡ option_words (codes "tickets") decimal o.tickets ++ tickets → tickets ≡ [] → words ≡ options_words o
-options_spelled o words max live idle weighed tickets max_is live_is idle_is weighed_is tickets_is none =
+    → live ≡ option_words (codes "idle") span_word o.idle ++ idle → idle ≡ flag_words (codes "weighed") o.weighed ++ weighed
+    → weighed ≡ flag_words (codes "adaptive") o.adaptive ++ adaptive
+    → adaptive ≡ option_words (codes "tickets") decimal o.tickets ++ tickets → tickets ≡ [] → words ≡ options_words o
+options_spelled o words max live idle weighed adaptive tickets max_is live_is idle_is weighed_is adaptive_is tickets_is none =
     max_is ∙ ap (λ l. option_words (codes "max") decimal o.max ++ l)
     (live_is ∙ ap (λ l. option_words (codes "live") span_word o.live ++ l)
     (idle_is ∙ ap (λ l. option_words (codes "idle") span_word o.idle ++ l)
-    (weighed_is ∙ ap (λ l. weighed_words o.weighed ++ l)
+    (weighed_is ∙ ap (λ l. flag_words (codes "weighed") o.weighed ++ l)
+    (adaptive_is ∙ ap (λ l. flag_words (codes "adaptive") o.adaptive ++ l)
     (tickets_is ∙ ap (λ l. option_words (codes "tickets") decimal o.tickets ++ l) none
-    ∙ append-nil (option_words (codes "tickets") decimal o.tickets)))))
+    ∙ append-nil (option_words (codes "tickets") decimal o.tickets))))))
 
 -- what is read as settings is spelled so
 pub options_of-found : (words : List (List ℕ)) (options : CacheOptions) → options_of words ≡ Some options
@@ -239,15 +240,18 @@ options_of-found words options e =
     let (idle, idle_is, others) = bind_some _ _ _ rest in
     let (tickets, tickets_is, last) = bind_some _ _ _ others in
     let (nothing, nothing_is, shown) = bind_some _ _ _ last in
-    let weighed = weighed_of idle.1 in
+    let weighed = flag_of (codes "weighed") idle.1 in
+    let adaptive = flag_of (codes "adaptive") weighed.1 in
     let maxes = option_of-found (codes "max") decimal NumberFits number_of number_of-found words max.0 max.1 max_is in
     let lives = option_of-found (codes "live") span_word SpanFits span_of span_of-found max.1 live.0 live.1 live_is in
     let idles = option_of-found (codes "idle") span_word SpanFits span_of span_of-found live.1 idle.0 idle.1 idle_is in
-    let firsts = option_of-found (codes "tickets") decimal NumberFits number_of number_of-found weighed.1 tickets.0 tickets.1 tickets_is in
+    let firsts = option_of-found (codes "tickets") decimal NumberFits number_of number_of-found adaptive.1 tickets.0 tickets.1 tickets_is in
     let ends : tickets.1 ≡ [] = no_argument-found tickets.1 nothing nothing_is in
-    let made : CacheOptions = record { max = max.0; live = live.0; idle = idle.0; weighed = weighed.0; tickets = tickets.0 } in
+    let made : CacheOptions =
+    record { max = max.0; live = live.0; idle = idle.0; weighed = weighed.0; adaptive = adaptive.0; tickets = tickets.0 } in
     subst (λ o. (words ≡ options_words o) × OptionsFit o) (same_Some _ _ shown) (
-      options_spelled made words max.1 live.1 idle.1 weighed.1 tickets.1 maxes.0 lives.0 idles.0 (weighed_of-found idle.1) firsts.0 ends,
+      options_spelled made words max.1 live.1 idle.1 weighed.1 adaptive.1 tickets.1 maxes.0 lives.0 idles.0 (flag_of-found (codes "weighed") idle.1)
+          (flag_of-found (codes "adaptive") weighed.1) firsts.0 ends,
       (maxes.1, lives.1, idles.1, firsts.1),
     )
 
@@ -256,25 +260,29 @@ pub options_again : (options : CacheOptions) → OptionsFit options → options_
 unfolding options_of no_argument
 options_again options fits =
     let first = option_words (codes "tickets") decimal options.tickets in
-    let last = weighed_words options.weighed ++ first in
+    let second = flag_words (codes "adaptive") options.adaptive ++ first in
+    let last = flag_words (codes "weighed") options.weighed ++ second in
     let idle = option_words (codes "idle") span_word options.idle in
     let live = option_words (codes "live") span_word options.live in
     let lacks_first = λ (name : List ℕ) (other : bytes_eq (codes "tickets") name ≡ false).
     subst (LacksName name) (append-nil first)
     (LacksName-option (codes "tickets") decimal NumberFits number_of name options.tickets [] other tt) in
-    let lacks_last = λ (name : List ℕ) (other : bytes_eq (codes "weighed") name ≡ false) (more : bytes_eq (codes "tickets") name ≡ false).
-    LacksName-weighed name options.weighed first other (lacks_first name more) in
+    let lacks_second = λ (name : List ℕ) (other : bytes_eq (codes "adaptive") name ≡ false) (more : bytes_eq (codes "tickets") name ≡ false).
+    LacksName-flag (codes "adaptive") name options.adaptive first other (lacks_first name more) in
+    let lacks_last = λ (name : List ℕ) (other : bytes_eq (codes "weighed") name ≡ false) (others : bytes_eq (codes "adaptive") name ≡ false)
+    (more : bytes_eq (codes "tickets") name ≡ false). LacksName-flag (codes "weighed") name options.weighed second other (lacks_second name others more) in
     rw (
       option_again (codes "max") decimal NumberFits number_of number_of-decimal options.max (live ++ (idle ++ last)) fits.0
           (LacksName-option (codes "live") span_word SpanFits span_of (codes "max") options.live (idle ++ last) refl
           (LacksName-option (codes "idle") span_word SpanFits span_of (codes "max") options.idle last refl
-          (lacks_last (codes "max") refl refl))),
+          (lacks_last (codes "max") refl refl refl))),
       option_again (codes "live") span_word SpanFits span_of span_again options.live (idle ++ last) fits.1
           (LacksName-option (codes "idle") span_word SpanFits span_of (codes "live") options.idle last refl
-          (lacks_last (codes "live") refl refl)),
+          (lacks_last (codes "live") refl refl refl)),
       option_again (codes "idle") span_word SpanFits span_of span_again options.idle last fits.2
-          (lacks_last (codes "idle") refl refl),
-      weighed_again options.weighed first (lacks_first (codes "weighed") refl),
+          (lacks_last (codes "idle") refl refl refl),
+      flag_again (codes "weighed") options.weighed second (lacks_second (codes "weighed") refl refl),
+      flag_again (codes "adaptive") options.adaptive first (lacks_first (codes "adaptive") refl),
       tickets_again options.tickets fits.3,
     ) refl
 
@@ -287,6 +295,7 @@ options_words_are options fits =
     (IsWord-name (codes "live") refl) options.live fits.1)
     (are_words-append _ _ (option_words_are (codes "idle") span_word SpanFits span_of IsWord-span
     (IsWord-name (codes "idle") refl) options.idle fits.2)
-    (are_words-append _ _ (weighed_words_are options.weighed)
+    (are_words-append _ _ (flag_words_are (codes "weighed") (IsWord-name (codes "weighed") refl) options.weighed)
+    (are_words-append _ _ (flag_words_are (codes "adaptive") (IsWord-name (codes "adaptive") refl) options.adaptive)
     (option_words_are (codes "tickets") decimal NumberFits number_of IsWord-decimal
-    (IsWord-name (codes "tickets") refl) options.tickets fits.3))))
+    (IsWord-name (codes "tickets") refl) options.tickets fits.3)))))

@@ -1,5 +1,5 @@
 -- What a contract sees of scripts: which bytes are one, and which line is the first bad one.
-use Rattle.std.specs.Prelude.{◌≡◌, ◌≢◌, ℕ, ◌+◌, ◌^◌, ◌<◌, List, [], ◌∷◌, ◌++◌, length, codes, ◌⊎◌, IsTrue}
+use Rattle.std.specs.Prelude.{◌≡◌, ◌≢◌, ℕ, ◌+◌, ◌^◌, ◌<◌, List, [], ◌∷◌, ◌++◌, length, codes, ◌⊎◌, IsTrue, not}
 use Rattle.std.specs.List.{flat_map, AllByRecursion}
 use Rattle.std.specs.Fmt.{decimal}
 use Rattle.moka_grammar.specs.Spelling.{line_of}
@@ -32,7 +32,7 @@ header_words (Sketch cap) = codes "sketch" ∷ decimal cap ∷ []
 -- the header holds what can be spelled, and settings that its mode can have
 abbrev pub HeaderFits : Header → Type 0
 HeaderFits (Cache header) = OptionsFit header.options × IsTrue (can_have header.mode header.options)
-HeaderFits (Core options) = OptionsFit options
+HeaderFits (Core options) = OptionsFit options × IsTrue (not options.adaptive)
 HeaderFits (Sketch cap) = cap < 2 ^ 32
 
 -- ---- lines of one kind

@@ -1,5 +1,5 @@
 -- What a contract sees of the settings of a cache: how the first line of a script spells them.
-use Rattle.std.specs.Prelude.{ℕ, ◌^◌, ◌<◌, ◌*◌, Bool, true, false, List, [], ◌∷◌, ◌++◌, codes, Option, Some, None, IfSome, is_none}
+use Rattle.std.specs.Prelude.{ℕ, ◌^◌, ◌<◌, ◌*◌, ◌&&◌, not, Bool, true, false, List, [], ◌∷◌, ◌++◌, codes, Option, Some, None, IfSome, is_none}
 use Rattle.std.specs.Fmt.{decimal}
 use Rattle.moka_grammar.specs.declared.line.Span.{Span}
 use Rattle.moka_grammar.specs.declared.line.Span.TheVariants.{Seconds, Nanos}
@@ -22,10 +22,10 @@ abbrev pub option_words : {X : Type 0} → List ℕ → (X → List ℕ) → Opt
 option_words name word None = []
 option_words name word (Some value) = name ∷ word value ∷ []
 
--- the word that says that inserts have weights, where they have
-abbrev pub weighed_words : Bool → List (List ℕ)
-weighed_words true = codes "weighed" ∷ []
-weighed_words false = []
+-- the word of a setting that has no value, where it is made
+abbrev pub flag_words : List ℕ → Bool → List (List ℕ)
+flag_words name true = name ∷ []
+flag_words name false = []
 
 -- the words of settings, in their order
 abbrev pub options_words : CacheOptions → List (List ℕ)
@@ -33,8 +33,9 @@ options_words options =
     option_words (codes "max") decimal options.max
     ++ (option_words (codes "live") span_word options.live
     ++ (option_words (codes "idle") span_word options.idle
-    ++ (weighed_words options.weighed
-    ++ option_words (codes "tickets") decimal options.tickets)))
+    ++ (flag_words (codes "weighed") options.weighed
+    ++ (flag_words (codes "adaptive") options.adaptive
+    ++ option_words (codes "tickets") decimal options.tickets))))
 
 -- the number can be spelled
 abbrev pub NumberFits : ℕ → Type 0
@@ -50,8 +51,9 @@ abbrev pub OptionsFit : CacheOptions → Type 0
 OptionsFit options =
     IfSome options.max NumberFits × IfSome options.live SpanFits × IfSome options.idle SpanFits × IfSome options.tickets NumberFits
 
--- whether a script of calls to a cache of this mode can begin with the settings: only the cache of a record has its first tickets set
+-- whether a script of calls to a cache of this mode can begin with the settings: only the cache of a record has its first tickets set, and only the cache for
+-- one thread adapts
 abbrev pub can_have : Mode → CacheOptions → Bool
-can_have Recorded options = true
-can_have Sync options = is_none options.tickets
+can_have Recorded options = not options.adaptive
+can_have Sync options = is_none options.tickets && not options.adaptive
 can_have Unsync options = is_none options.tickets

@@ -1,5 +1,5 @@
 -- What the words of a line are read as. No public clause cites this module.
-use Rattle.std.specs.Prelude.{ℕ, ◌^◌, List, [], ◌∷◌, codes, Option, Some, None, if◌then◌else◌}
+use Rattle.std.specs.Prelude.{ℕ, ◌^◌, List, [], ◌∷◌, codes, not, Option, Some, None, if◌then◌else◌}
 use Rattle.std.specs.Str.{bytes_eq}
 use Rattle.moka_common.specs.declared.constants.TheConstants.{DEPTHS}
 use Rattle.moka_grammar.specs.Lines.{allows}
@@ -43,7 +43,7 @@ header_from_words (name ∷ arguments) =
       Some (Sketch cap))
     else if bytes_eq name (codes "core") then (do
       options ← options_of arguments
-      Some (Core options))
+      if not options.adaptive then Some (Core options) else None)
     else (do
       mode ← mode_of name
       cache_header_of mode arguments)

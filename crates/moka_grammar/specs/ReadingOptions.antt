@@ -34,10 +34,10 @@ option_of name read (first ∷ value ∷ behind) =
     else Some (None, first ∷ value ∷ behind)
 option_of name read words = Some (None, words)
 
--- whether the word comes first which says that inserts have weights, and the words that are left
-unfoldable pub weighed_of : List (List ℕ) → Bool × List (List ℕ)
-weighed_of [] = (false, [])
-weighed_of (word ∷ words) = if bytes_eq word (codes "weighed") then (true, words) else (false, word ∷ words)
+-- whether this word comes first, and the words that are left
+unfoldable pub flag_of : List ℕ → List (List ℕ) → Bool × List (List ℕ)
+flag_of name [] = (false, [])
+flag_of name (word ∷ words) = if bytes_eq word name then (true, words) else (false, word ∷ words)
 
 -- the settings that all of the words spell
 unfoldable pub options_of : List (List ℕ) → Option CacheOptions
@@ -45,6 +45,13 @@ options_of words = do
   max ← option_of (codes "max") number_of words
   live ← option_of (codes "live") span_of max.1
   idle ← option_of (codes "idle") span_of live.1
-  tickets ← option_of (codes "tickets") number_of (weighed_of idle.1).1
+  tickets ← option_of (codes "tickets") number_of (flag_of (codes "adaptive") (flag_of (codes "weighed") idle.1).1).1
   nothing ← no_argument tickets.1
-  Some (record { max = max.0; live = live.0; idle = idle.0; weighed = (weighed_of idle.1).0; tickets = tickets.0 })
+  Some (record {
+    max = max.0;
+    live = live.0;
+    idle = idle.0;
+    weighed = (flag_of (codes "weighed") idle.1).0;
+    adaptive = (flag_of (codes "adaptive") (flag_of (codes "weighed") idle.1).1).0;
+    tickets = tickets.0;
+  })

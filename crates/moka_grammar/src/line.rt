@@ -51,13 +51,15 @@ impl Mode {
         }
     }
 
-    /// Returns `true` if a script of this mode can begin with the settings: only a record's cache and a core have their first tickets set.
+    /// Returns `true` if a script of this mode can begin with the settings. Only a record's cache and a core have their first tickets set, and only the cache
+    /// for one thread adapts.
     pub fn can_have(self, options: CacheOptions) -> bool
         ensures { result ≡ can_have self options }
     {
         match self {
-            Mode::Recorded => true,
-            Mode::Sync | Mode::Unsync => options.tickets.is_none(),
+            Mode::Recorded => !options.adaptive,
+            Mode::Sync => options.tickets.is_none() && !options.adaptive,
+            Mode::Unsync => options.tickets.is_none(),
         }
     }
 }
@@ -92,6 +94,8 @@ pub struct CacheOptions {
     pub idle: Option<Span>,
     /// True if each insert has a weight.
     pub weighed: bool,
+    /// True if the window adapts to the calls.
+    pub adaptive: bool,
     /// The number of each shard's first ticket.
     pub tickets: Option<u64>,
 }

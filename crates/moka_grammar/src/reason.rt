@@ -27,7 +27,7 @@ impl BadLine {
             BadLine::Spaces => "words are separated by one space each, with none at either end",
             BadLine::Mode => "the first word is no mode: unsync, sync, recorded, core or sketch",
             BadLine::Settings => "after the mode come settings, in this order and at most once: \
-                max N, live DURATION, idle DURATION, weighed, and of recorded and core tickets N; after sketch comes a number",
+                max N, live DURATION, idle DURATION, weighed, of unsync adaptive, and of recorded and core tickets N; after sketch comes a number",
             BadLine::Moment => "the line doesn't begin with a moment, a number of nanoseconds",
             BadLine::Request => "the mode has no such call",
             BadLine::Words => "the call takes other words, or a number or a value is malformed",

@@ -1,5 +1,5 @@
 -- Replies of a script's cache come one after another, and its weighers answer what its lines say.
-use Rattle.std.proofs.Common.{◌≡◌, ℕ, Bool, false, List, [], ◌∷◌, ◌++◌, map, Option, Some}
+use Rattle.std.proofs.Common.{◌≡◌, ℕ, Bool, false, true, if◌then◌else◌, List, [], ◌∷◌, ◌++◌, map, Option, Some}
 use Rattle.std.proofs.Common.{None, Result, Ok, Err, OnOk, IfOk, refl, sym, ap, ◌∙◌, subst}
 use Rattle.std.specs.Prelude.{IsTrue}
 use Rattle.std.specs.Borrow.{Bor}
@@ -16,15 +16,16 @@ use Rattle.moka_grammar.specs.declared.line.Request.TheVariants.{Insert, Get, Co
 use Rattle.moka_grammar.specs.declared.line.Request.TheVariants.{InvalidateIf, Sync, Iter, EntryCount, WeightedSize, Policy}
 use Rattle.moka_grammar.specs.Lines.{allows, WeightFits, RequestFits, LineFits}
 use Rattle.moka_unsync.specs.declared.entry.Entry.{Entry}
-use Rattle.moka_unsync.specs.Shares.{default_shares}
+use Rattle.moka_unsync.specs.Builder.{share_fault}
 use Rattle.moka_unsync.specs.CacheState.{new_cache}
 use Rattle.moka_unsync.specs.Insert.{IsInserted}
 use Rattle.moka_unsync.specs.Invalidate.{AnswersInTurn}
+use Rattle.moka_unsync.specs.Shares.{adaptive, default_shares}
 use Rattle.moka_script.specs.Reply.{Reply, Ready, reply_line}
 use Rattle.moka_script.specs.ScriptKeys.{script_keys}
 use Rattle.moka_script.specs.ScriptWeighers.{AnswersLine, AnswersRequest, AnswersStored}
 use Rattle.moka_script.specs.Stored.{stored_text, stored_weighs}
-use Rattle.moka_script.specs.UnsyncRun.{ScriptCache, IsAnswered, AreUnsyncReplies, WeigherOf, HasLimits}
+use Rattle.moka_script.specs.UnsyncRun.{ScriptCache, IsAnswered, AreUnsyncReplies, WeigherOf, HasLimits, shares_of}
 use Rattle.moka_script.specs.UnsyncRun.{AreRepliesUnder, options_fault, AreUnsyncReplyLines}
 use Rattle.moka_script.specs.declared.stored.Stored.{Stored}
 
@@ -138,6 +139,14 @@ module _ {W : Type 0} (weighs : W → ℕ → Stored (List ℕ) → ℕ → W �
 
 -- ---- the first line
 
+-- no shares that a script sets are at fault
+pub fair_shares : (options : CacheOptions) → share_fault (shares_of options) ≡ None
+fair_shares options = by options.adaptive
+  where
+    by : (b : Bool) → share_fault (if b then adaptive default_shares else default_shares) ≡ None
+    by true = refl
+    by false = refl
+
 -- where a fact leads to another it does so for what an Ok holds
 pub IfOk-map : {T E : Type 0} (result : Result T E) {P Q : T → Type 0} → ((value : T) → P value → Q value) → IfOk result P → IfOk result Q
 IfOk-map (Ok value) leads p = leads value p
@@ -159,7 +168,7 @@ module _ (options : CacheOptions) (policy : Limits) (limits : HasLimits policy o
   -- the cache is new and of these settings, where the script is weighed so
   abbrev IsFirst : (weighed : Bool) → ScriptCache (WeigherOf weighed) → Type 0
   IsFirst weighed cache = HasLimits cache.settings.policy options ×
-      (cache ≡ new_cache (record { hash_state = record {}; policy = cache.settings.policy; is_weighed = weighed }) default_shares cache.weigher
+      (cache ≡ new_cache (record { hash_state = record {}; policy = cache.settings.policy; is_weighed = weighed }) (shares_of options) cache.weigher
       cache.capacity)
 
   -- the reply lines are those of the cache
@@ -177,11 +186,11 @@ module _ (options : CacheOptions) (policy : Limits) (limits : HasLimits policy o
   -- a cache that is built answers the lines
   pub built : {T E : Type 0} (text_of : T → List ℕ) (result : Result T E) (weighed : Bool) (weigher : WeigherOf weighed)
       (cache : ScriptCache (WeigherOf weighed)) → weighed ≡ options.weighed
-      → policy_fault ≡ None → cache ≡ new_cache (record { hash_state = record {}; policy = policy; is_weighed = weighed }) default_shares weigher
+      → policy_fault ≡ None → cache ≡ new_cache (record { hash_state = record {}; policy = policy; is_weighed = weighed }) (shares_of options) weigher
       cache.capacity
       → IfOk result (λ t. AreOf cache (text_of t)) → IfOk result (λ t. AreUnsyncReplyLines options lines (text_of t))
   built text_of result weighed weigher cache is fine new answers =
-      let first : IsFirst weighed (new_cache (record { hash_state = record {}; policy = policy; is_weighed = weighed }) default_shares weigher
+      let first : IsFirst weighed (new_cache (record { hash_state = record {}; policy = policy; is_weighed = weighed }) (shares_of options) weigher
       cache.capacity) =
       (limits, refl) in
       IfOk-map result (λ t of. under_fault None (text_of t) fine

@@ -1,5 +1,5 @@
 -- What the replies to a script are that builds a cache for one thread: those of the cache's machine.
-use Rattle.std.specs.Prelude.{◌≡◌, ℕ, Bool, true, false, List, [], ◌∷◌, ◌++◌, map, bytes_eq, Option, Some, None, option_map}
+use Rattle.std.specs.Prelude.{◌≡◌, ℕ, Bool, true, false, List, [], ◌∷◌, ◌++◌, map, bytes_eq, Option, Some, None, option_map, if◌then◌else◌}
 use Rattle.moka_common.specs.Policy.{Policy}
 use Rattle.moka_common.specs.Settings.{duration_fault, live_nanos, idle_nanos}
 use Rattle.moka_common.specs.declared.error.BuildError.{BuildError}
@@ -11,7 +11,8 @@ use Rattle.moka_grammar.specs.declared.line.Request.TheVariants.{Insert, Get, Co
 use Rattle.moka_grammar.specs.declared.line.Request.TheVariants.{Sync, Iter, EntryCount, WeightedSize, Policy as GetPolicy}
 use Rattle.moka_grammar.specs.Options.{span_nanos}
 use Rattle.moka_unsync.specs.declared.entry.Entry.{Entry}
-use Rattle.moka_unsync.specs.Shares.{default_shares}
+use Rattle.moka_unsync.specs.Shares.{adaptive, default_shares}
+use Rattle.moka_unsync.specs.declared.shares.Shares.{Shares}
 use Rattle.moka_unsync.specs.CacheState.{CacheState, new_cache}
 use Rattle.moka_unsync.specs.Step as machine
 use Rattle.moka_script.specs.declared.keys.KeyState.{KeyState}
@@ -86,10 +87,14 @@ pub record HasLimits (policy : Policy) (options : CacheOptions) : Type 0 where
   pub time_to_live : live_nanos policy ≡ option_map span_nanos options.live
   pub time_to_idle : idle_nanos policy ≡ option_map span_nanos options.idle
 
+-- the shares of the window and of protected: the default ones, or those with which a window that adapts begins
+abbrev pub shares_of : CacheOptions → Shares
+shares_of options = if options.adaptive then adaptive default_shares else default_shares
+
 -- the cache is a new one with these settings
 pub record IsFirstCache {W : Type 0} (options : CacheOptions) (cache : ScriptCache W) : Type 0 where
   pub limits : HasLimits cache.settings.policy options
-  pub new : cache ≡ new_cache (record { hash_state = record {}; policy = cache.settings.policy; is_weighed = options.weighed }) default_shares
+  pub new : cache ≡ new_cache (record { hash_state = record {}; policy = cache.settings.policy; is_weighed = options.weighed }) (shares_of options)
       cache.weigher cache.capacity
 
 -- what is written where the settings have this fault or none: that they are refused, and nothing more; or the reply lines

@@ -3,12 +3,11 @@ ghost use Rattle.std.specs.Prelude.{◌≡◌, ◌++◌, ℕ, List, false, IfOk,
 ghost use Rattle.std.specs.List.{AllByRecursion};
 ghost use Rattle.moka_unsync.specs.Invalidate.{after_invalidate_if};
 ghost use Rattle.moka_grammar.specs.Lines.{allows, LineFits};
-ghost use Rattle.moka_unsync.specs.Shares.{default_shares};
 ghost use Rattle.moka_script.specs.Reply.{Ready, Reply as Told, reply_line};
 ghost use Rattle.moka_script.specs.ReplyValue.{pairs_of};
 ghost use Rattle.moka_script.specs.ScriptKeys.{script_keys};
 ghost use Rattle.moka_script.specs.ScriptWeighers.{AnswersLine};
-ghost use Rattle.moka_script.specs.UnsyncRun.{AreUnsyncReplies, AreUnsyncReplyLines, HasLimits, IsAnswered, have_text};
+ghost use Rattle.moka_script.specs.UnsyncRun.{AreUnsyncReplies, AreUnsyncReplyLines, HasLimits, IsAnswered, have_text, shares_of};
 
 use crate::keys::KeyState;
 use crate::reply::{ReplyValue, found, push_reply, refusal};
@@ -30,6 +29,7 @@ type ScriptCache<W, A> = Cache<u64, Stored<Text<A>>, KeyState, W, A>;
 
 /// Builds a cache with the settings, makes the calls of the lines in turn on it, and writes the replies. If the settings are
 /// refused, that is all that is written.
+#[tactic(auto, using(crate::proofs::UnsyncRunLemmas::fair_shares))]
 pub fn unsync_replies<A: Allocator + Clone + Drop>(
     alloc: A,
     header: CacheHeader,
@@ -56,7 +56,7 @@ pub fn unsync_replies<A: Allocator + Clone + Drop>(
 fn builder_of<A: Allocator + Clone + Drop>(alloc: A, options: CacheOptions) -> ScriptBuilder<A>
     ensures limits { HasLimits result.policy options }
     ensures weighed { result.is_weighed ≡ false }
-    ensures shares { result.shares ≡ default_shares }
+    ensures shares { result.shares ≡ shares_of options }
 {
     let mut builder = CacheBuilder::default(alloc);
     if let Some(max) = options.max {
@@ -67,6 +67,9 @@ fn builder_of<A: Allocator + Clone + Drop>(alloc: A, options: CacheOptions) -> S
     }
     if let Some(idle) = options.idle {
         builder = builder.time_to_idle(idle.to_duration());
+    }
+    if options.adaptive {
+        builder = builder.adaptive();
     }
     builder
 }

@@ -23,6 +23,9 @@ impl<A: Allocator + Clone + Drop> FromWords<A, ()> for Header {
         }
         if *name == b"core".as_slice() {
             let options = options_of(arguments)?;
+            if options.adaptive {
+                return Err(LineError::Bad);
+            }
             return Ok(Header::Core(options));
         }
         let mode = mode_of(name)?;

@@ -1,7 +1,7 @@
 // From the words of the first line to the settings of a cache.
 ghost use Rattle.std.specs.Prelude.{◌≡◌, map, option_map};
 ghost use Rattle.moka_grammar.specs.Reading.{Gives, GivesLeft, number_of};
-ghost use Rattle.moka_grammar.specs.ReadingOptions.{front_of, span_of, option_of, weighed_of, options_of};
+ghost use Rattle.moka_grammar.specs.ReadingOptions.{front_of, span_of, option_of, flag_of, options_of};
 
 use crate::line::{CacheOptions, Span};
 use crate::words::{LineError, no_argument, number_of};
@@ -14,7 +14,8 @@ pub(super) fn options_of(arguments: &[&[u8]]) -> Result<CacheOptions, LineError>
     let (max, arguments) = number_option(b"max", arguments)?;
     let (live, arguments) = span_option(b"live", arguments)?;
     let (idle, arguments) = span_option(b"idle", arguments)?;
-    let (weighed, arguments) = weighed_of(arguments);
+    let (weighed, arguments) = flag_of(b"weighed", arguments);
+    let (adaptive, arguments) = flag_of(b"adaptive", arguments);
     let (tickets, arguments) = number_option(b"tickets", arguments)?;
     no_argument(arguments)?;
     Ok(CacheOptions {
@@ -22,6 +23,7 @@ pub(super) fn options_of(arguments: &[&[u8]]) -> Result<CacheOptions, LineError>
         live,
         idle,
         weighed,
+        adaptive,
         tickets,
     })
 }
@@ -62,15 +64,15 @@ fn span_option<'a>(
     Ok((Some(span), behind))
 }
 
-/// Returns whether the first word says that inserts have weights, and the words that are left.
-#[tactic(auto, unfolding(crate::specs::ReadingOptions::weighed_of))]
-fn weighed_of<'a>(arguments: &'a [&'a [u8]]) -> (bool, &'a [&'a [u8]])
-    ensures { (result.0, map (λ word. word.now) result.1.now) ≡ weighed_of (map (λ word. word.now) arguments.now) }
+/// Returns whether this word comes first, and the words that are left.
+#[tactic(auto, unfolding(crate::specs::ReadingOptions::flag_of))]
+fn flag_of<'a>(name: &[u8], arguments: &'a [&'a [u8]]) -> (bool, &'a [&'a [u8]])
+    ensures { (result.0, map (λ word. word.now) result.1.now) ≡ flag_of name.now (map (λ word. word.now) arguments.now) }
 {
     let [word, behind @ ..] = arguments else {
         return (false, arguments);
     };
-    if *word == b"weighed".as_slice() {
+    if *word == name {
         return (true, behind);
     }
     (false, arguments)

@@ -1,6 +1,5 @@
 use Rattle.std.proofs.Common.{◌≡◌, true, false, sym, subst}
 use Rattle.moka_unsync.specs.CacheState.{new_cache}
-use Rattle.moka_unsync.specs.Shares.{default_shares}
 use Rattle.moka_grammar.specs.declared.line.Mode.TheVariants.{Unsync}
 use Rattle.moka_script.proofs.UnsyncRunLemmas.{each_allowed, each_stored, each_one, built}
 use Rattle.moka_script.proofs.unsync.unsync_replies.Goals as goal
