@@ -2,6 +2,8 @@
 #![tactic(auto)]
 
 #[cfg(test)]
+mod adaptive;
+#[cfg(test)]
 mod chain;
 #[cfg(test)]
 mod core_hashes;

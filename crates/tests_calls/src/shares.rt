@@ -56,10 +56,14 @@ fn shares_are_read_back(rt: HostRuntime) -> Result<(), Fail> {
     let set = Shares {
         window: 20,
         protected: 80,
+        adapts: false,
+        extra: 0,
     };
     let default = Shares {
         window: 1,
         protected: 0,
+        adapts: false,
+        extra: 0,
     };
     assert!(rt; cache.shares() == set && plain.shares() == default);
     Ok(())

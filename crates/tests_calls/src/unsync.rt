@@ -70,7 +70,7 @@ fn what_is_set_is_shown(rt: HostRuntime) -> Result<(), Fail> {
     let reply: Reply<u64> = Reply::Number(1);
     let text = format!(in rt.alloc(); "{builder:?} {call:?} {reply:?}")?;
     let shown =
-        "CacheBuilder { max_capacity: Some(3), time_to_live: None, time_to_idle: None, initial_capacity: 0, window_share: 1, protected_share: 0, is_weighed: false } Get { key: 7, now: Instant { nanos: 0 } } Number(1)";
+        "CacheBuilder { max_capacity: Some(3), time_to_live: None, time_to_idle: None, initial_capacity: 0, window_share: 1, protected_share: 0, adaptive: false, is_weighed: false } Get { key: 7, now: Instant { nanos: 0 } } Number(1)";
     assert!(rt; text.as_str() == shown);
     Ok(())
 }

@@ -23,7 +23,7 @@ const MODE: &str = "the first word is no mode: unsync, sync, recorded, core or s
 
 const SETTINGS: &str =
     "after the mode come settings, in this order and at most once: max N, live DURATION, idle DURATION, weighed, \
-    and of recorded and core tickets N; after sketch comes a number";
+    of unsync adaptive, and of recorded and core tickets N; after sketch comes a number";
 
 const MISSING: &str = "there is no line: a script begins with a mode, as `unsync max 3`";
 
