@@ -20,6 +20,7 @@ struct bench_trace_settings {
     bool is_std_hashed; /* true if keys are hashed by the default hash state instead of one multiplication */
     uint8_t window_share; /* in percent of the capacity; the core has no window */
     uint8_t protected_share; /* in percent of the main part; the core has no segments */
+    bool is_adaptive;        /* true if the window adapts to the calls; the core has no window */
 };
 
 enum bench_trace_kind {

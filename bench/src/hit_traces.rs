@@ -4,7 +4,8 @@ use crate::traces::Random;
 /// Number of keys in most traces.
 pub const KEYS: u64 = 100_000;
 
-const CALLS: usize = 1_000_000;
+/// Number of calls of most traces.
+pub(crate) const CALLS: usize = 1_000_000;
 
 /// Number of calls during which a set of keys stays popular.
 const DRIFT: usize = 100_000;
@@ -22,7 +23,7 @@ pub struct HitTrace {
 }
 
 /// Returns a generator of ranks from 0 on, in a Zipf distribution with this exponent.
-fn zipf(exponent: f64) -> impl FnMut() -> u64 {
+pub(crate) fn zipf(exponent: f64, seed: u64) -> impl FnMut() -> u64 {
     let mut total = 0.0;
     let sums: Vec<f64> = (1..=KEYS)
         .map(|rank| {
@@ -30,7 +31,7 @@ fn zipf(exponent: f64) -> impl FnMut() -> u64 {
             total
         })
         .collect();
-    let mut random = Random(1);
+    let mut random = Random(seed);
     move || {
         let at = random.unit() * total;
         sums.partition_point(|sum| *sum <= at) as u64 % KEYS
@@ -38,13 +39,13 @@ fn zipf(exponent: f64) -> impl FnMut() -> u64 {
 }
 
 fn zipf_keys(exponent: f64) -> Vec<u64> {
-    let mut rank = zipf(exponent);
+    let mut rank = zipf(exponent, 1);
     (0..CALLS).map(|_| rank()).collect()
 }
 
 /// Returns by turns popular keys, and a scan of other keys that recur only after a long time.
 fn scan_mix() -> Vec<u64> {
-    let mut rank = zipf(0.99);
+    let mut rank = zipf(0.99, 1);
     let mut scanned = 0;
     (0..CALLS)
         .map(|call| {
@@ -59,7 +60,7 @@ fn scan_mix() -> Vec<u64> {
 
 /// Returns popular keys, which change after each `DRIFT` calls.
 fn drift() -> Vec<u64> {
-    let mut rank = zipf(0.99);
+    let mut rank = zipf(0.99, 1);
     (0..CALLS)
         .map(|call| {
             let moved = (call / DRIFT) as u64 * (KEYS / 7);
@@ -68,13 +69,12 @@ fn drift() -> Vec<u64> {
         .collect()
 }
 
-/// Returns new keys, each of which recurs three times soon after, and then never again.
-fn recent() -> Vec<u64> {
-    let mut random = Random(3);
-    let mut again = vec![Vec::new(); CALLS];
-    let mut keys = Vec::with_capacity(CALLS);
-    let mut fresh = 0;
-    while keys.len() < CALLS {
+/// Returns new keys from `fresh` on, each of which recurs three times within `soon` calls after one that is due, and then never again.
+pub(crate) fn recent(calls: usize, soon: u64, seed: u64, mut fresh: u64) -> Vec<u64> {
+    let mut random = Random(seed);
+    let mut again = vec![Vec::new(); calls];
+    let mut keys = Vec::with_capacity(calls);
+    while keys.len() < calls {
         let call = keys.len();
         match again[call].pop() {
             // The other keys that are due now move to the next call.
@@ -87,7 +87,7 @@ fn recent() -> Vec<u64> {
             }
             None => {
                 for _ in 0..3 {
-                    let due = call + 1 + random.below(SOON) as usize;
+                    let due = call + 1 + random.below(soon) as usize;
                     if let Some(due) = again.get_mut(due) {
                         due.push(fresh);
                     }
@@ -110,6 +110,6 @@ pub fn hit_traces() -> Vec<HitTrace> {
         trace("loop", (0..CALLS as u64).map(|call| call % KEYS).collect()),
         trace("scan mix", scan_mix()),
         trace("drifting hot set", drift()),
-        trace("asked soon again", recent()),
+        trace("asked soon again", recent(CALLS, SOON, 3, 0)),
     ]
 }

@@ -1,5 +1,7 @@
 //! Compares the port with the original: by traces on single-thread caches and the core, batches on parts, and lists of calls on shared caches.
+pub mod caffeine_model;
 pub mod callgrind;
+pub mod further_traces;
 pub mod hand_lists;
 pub mod hit_plot;
 pub mod hit_traces;

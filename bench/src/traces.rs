@@ -33,6 +33,8 @@ pub struct Settings {
     /// The port's shares of the window and of protected entries, in percent.
     pub window_share: u8,
     pub protected_share: u8,
+    /// True if the port's window adapts to the calls.
+    pub is_adaptive: bool,
 }
 
 impl Settings {
@@ -47,6 +49,7 @@ impl Settings {
             is_std_hashed: false,
             window_share: 1,
             protected_share: 0,
+            is_adaptive: false,
         }
     }
 
@@ -56,6 +59,14 @@ impl Settings {
             window_share,
             protected_share,
             ..self
+        }
+    }
+
+    /// Returns the settings with a window that adapts, from its usual start.
+    pub fn adaptive(self) -> Settings {
+        Settings {
+            is_adaptive: true,
+            ..self.with_shares(1, 80)
         }
     }
 

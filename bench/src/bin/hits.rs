@@ -1,12 +1,15 @@
-//! Measures hit ratios over capacities: `hits FILE [CAFFEINE.jar]` prints a table, and draws it into FILE as SVG. The best possible cache is Belady's, which
+//! Measures hit ratios over capacities: `hits FILE [CAFFEINE.jar]` prints a table, and draws the first traces into FILE as SVG. The best possible cache is Belady's, which
 //! knows all later calls.
+use mini_moka_bench::caffeine_model::model_hits;
+use mini_moka_bench::further_traces::further_traces;
 use mini_moka_bench::hit_plot::{plot, Panel};
 use mini_moka_bench::hit_traces::{hit_traces, KEYS};
 use mini_moka_bench::port;
-use mini_moka_bench::rust_sides::{lru_cache, original, play};
+use mini_moka_bench::rust_sides::{lru_cache, original, play, Multiply};
 use mini_moka_bench::table::{print_head, print_row};
 use mini_moka_bench::traces::{spread, Operation, Settings, READ_THROUGH};
 use std::collections::{BTreeMap, HashMap, HashSet, VecDeque};
+use std::hash::BuildHasher;
 use std::io::Write;
 use std::process::{Command, ExitCode, Stdio};
 
@@ -15,14 +18,16 @@ const SHARES: [u64; 5] = [1, 5, 10, 50, 100];
 
 const SHARE_NAMES: [&str; 5] = ["0.1%", "0.5%", "1%", "5%", "10%"];
 
-const SIDES: [(&str, &str); 9] = [
+const SIDES: [(&str, &str); 11] = [
     ("best possible", "#999999"),
     ("this cache", "#1f5fa8"),
+    ("adaptive", "#d62728"),
     ("segments", "#bcbd22"),
     ("protected 80", "#17becf"),
     ("window 20", "#8c564b"),
     ("mini-moka 0.10.3", "#b5651d"),
     ("Caffeine", "#2e8b57"),
+    ("model of Caffeine 3", "#006400"),
     ("lru", "#c71585"),
     ("first in, first out", "#6a5acd"),
 ];
@@ -113,7 +118,7 @@ fn segmented_hits(operations: &[Operation], capacity: u64) -> u64 {
 }
 
 /// Counts the hits of each side at a capacity, except Caffeine's, which are passed in.
-fn hits_at(keys: &[u64], capacity: u64, caffeine: Option<u64>) -> [Option<u64>; 9] {
+fn hits_at(keys: &[u64], capacity: u64, caffeine: Option<u64>) -> [Option<u64>; 11] {
     let settings = Settings::with_capacity(capacity);
     let operations: Vec<Operation> = keys
         .iter()
@@ -126,11 +131,13 @@ fn hits_at(keys: &[u64], capacity: u64, caffeine: Option<u64>) -> [Option<u64>; 
     [
         Some(best_hits(keys, capacity as usize)),
         Some(port::play(&settings, &operations).hits),
+        Some(port::play(&settings.adaptive(), &operations).hits),
         Some(segmented_hits(&operations, capacity)),
         Some(port::play(&settings.with_shares(1, 80), &operations).hits),
         Some(port::play(&settings.with_shares(20, 0), &operations).hits),
         Some(play(&mut original(&settings), &operations).hits),
         caffeine,
+        Some(model_hits(keys, capacity, |key| Multiply::default().hash_one(key))),
         Some(play(&mut lru_cache(&settings), &operations).hits),
         Some(fifo_hits(keys, capacity as usize)),
     ]
@@ -147,7 +154,9 @@ fn main() -> ExitCode {
     head.extend(SIDES.iter().map(|side| side.0));
     print_head(&head);
     let mut panels = Vec::new();
-    for trace in hit_traces() {
+    let drawn = hit_traces();
+    let count_drawn = drawn.len();
+    for (number, trace) in drawn.into_iter().chain(further_traces()).enumerate() {
         let keys: Vec<u64> = trace.keys.iter().map(|number| spread(*number)).collect();
         let caffeine = words
             .get(1)
@@ -166,10 +175,12 @@ fn main() -> ExitCode {
             }
             print_row(&cells);
         }
-        panels.push(Panel {
-            name: trace.name.into(),
-            ratios,
-        });
+        if number < count_drawn {
+            panels.push(Panel {
+                name: trace.name.into(),
+                ratios,
+            });
+        }
     }
     if let Err(error) = std::fs::write(file, plot(&panels, &SHARE_NAMES, &SIDES)) {
         eprintln!("{file}: {error}");

@@ -1,5 +1,5 @@
-//! Plays one trace on one side, for a profiler: `one SIDE TRACE [TIMES]`. SIDE is `port`, `original`, `core` or `sync`. The last two are the core of the shared
-//! cache, and the original's `sync`.
+//! Plays one trace on one side, for a profiler: `one SIDE TRACE [TIMES]`. SIDE is `port`, `protected`, `adaptive`, `original`, `core` or `sync`. `protected` is the port
+//! with a share of 80 for protected entries, `adaptive` with a window that adapts, which has that share too; the last two are the core of the shared cache, and the original's `sync`.
 use mini_moka_bench::{port, rust_sides, traces};
 
 fn main() {
@@ -23,6 +23,8 @@ fn main() {
     for _ in 0..times {
         let outcome = match side.as_str() {
             "port" => port::play(&trace.settings, &trace.operations),
+            "protected" => port::play(&trace.settings.with_shares(1, 80), &trace.operations),
+            "adaptive" => port::play(&trace.settings.adaptive(), &trace.operations),
             "original" => {
                 let mut cache = rust_sides::original(&trace.settings);
                 rust_sides::play(&mut cache, &trace.operations)
@@ -32,7 +34,7 @@ fn main() {
                 let mut cache = rust_sides::shared_original(&trace.settings);
                 rust_sides::play(&mut cache, &trace.operations)
             }
-            _ => panic!("the sides are port, original, core and sync"),
+            _ => panic!("the sides are port, protected, adaptive, original, core and sync"),
         };
         println!("{outcome:?}");
     }

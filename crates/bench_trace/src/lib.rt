@@ -41,6 +41,8 @@ pub struct Settings {
     /// The shares of the window and of protected entries, in percent.
     pub window_share: u8,
     pub protected_share: u8,
+    /// True if the window adapts to the calls.
+    pub is_adaptive: bool,
 }
 
 /// Plays a trace on a new single-thread cache. What it gave is in `outcome` if the answer is `DONE`; else `outcome` is as it was.

@@ -59,7 +59,13 @@ impl Plays for OnUnsync {
 
 /// A builder with all that is set but the weigher.
 fn builder_of(alloc: Global, settings: &Settings) -> CacheBuilder<u64, u64> {
-    let mut builder = Cache::builder(alloc)
+    let builder = Cache::builder(alloc);
+    let builder = if settings.is_adaptive {
+        builder.adaptive()
+    } else {
+        builder
+    };
+    let mut builder = builder
         .window_share(settings.window_share)
         .protected_share(settings.protected_share);
     if settings.capacity != UNLIMITED {
