@@ -1,0 +1,116 @@
+//! The sentence that says which capacity and settings to choose.
+
+use crate::numbers::{grouped, percent};
+use crate::play::Outcome;
+use crate::policies::Setting;
+
+/// The least capacity with at least 99 of 100 of the hits of the largest one, and its best settings.
+#[derive(Clone, Copy, Debug, PartialEq, Eq)]
+pub struct Advice {
+    pub setting: Setting,
+    pub capacity: u64,
+    pub hits: u64,
+    /// The largest capacity that was played, and the most hits of it.
+    pub largest: u64,
+    pub most: u64,
+    /// A smaller capacity with which an LRU has as many hits, if it was played.
+    pub lru: Option<u64>,
+}
+
+/// Chooses among the library's caches, or among the others if none was played. Returns `None` if
+/// only the best possible cache was played, or if nothing hits.
+pub fn advise(outcomes: &[Outcome]) -> Option<Advice> {
+    let of = |is_candidate: fn(Setting) -> bool| -> Vec<&Outcome> {
+        outcomes
+            .iter()
+            .filter(|outcome| is_candidate(outcome.play.setting))
+            .collect()
+    };
+    let mut candidates = of(Setting::is_library);
+    if candidates.is_empty() {
+        candidates = of(|setting| setting == Setting::Lru);
+    }
+    let largest = candidates
+        .iter()
+        .map(|outcome| outcome.play.rules.capacity)
+        .max()?;
+    let most = best(&candidates, largest)?.tally.hits;
+    let least = |outcomes: &[&Outcome]| {
+        let suffices =
+            |outcome: &&&Outcome| u128::from(outcome.tally.hits) * 100 >= u128::from(most) * 99;
+        outcomes
+            .iter()
+            .filter(suffices)
+            .map(|outcome| outcome.play.rules.capacity)
+            .min()
+    };
+    let capacity = least(&candidates)?;
+    let chosen = best(&candidates, capacity)?;
+    let lru = least(&of(|setting| setting == Setting::Lru)).filter(|lru| *lru < capacity);
+    let (setting, hits) = (chosen.play.setting, chosen.tally.hits);
+    (most > 0).then_some(Advice {
+        setting,
+        capacity,
+        hits,
+        largest,
+        most,
+        lru,
+    })
+}
+
+/// Returns the first of the outcomes of this capacity that has the most hits.
+fn best<'a>(outcomes: &[&'a Outcome], capacity: u64) -> Option<&'a Outcome> {
+    let of_capacity = outcomes
+        .iter()
+        .filter(|outcome| outcome.play.rules.capacity == capacity);
+    of_capacity.copied().reduce(|best, other| {
+        if other.tally.hits > best.tally.hits {
+            other
+        } else {
+            best
+        }
+    })
+}
+
+/// Returns the sentence, for a trace of so many requests.
+pub fn sentence(advice: Option<Advice>, requests: u64, is_weighed: bool) -> String {
+    let Some(advice) = advice else {
+        return "There is nothing to choose: no cache that a program can have had a hit."
+            .to_owned();
+    };
+    let unit = if is_weighed { " bytes" } else { "" };
+    let start = format!(
+        "Choose a capacity of {}{unit} with `{}` ({}): {} of the requests hit",
+        grouped(advice.capacity),
+        advice.setting.name(),
+        call(advice, is_weighed),
+        percent(advice.hits, requests),
+    );
+    let reason = if advice.capacity == advice.largest {
+        ", and no smaller capacity that was played has 99 of 100 of these hits, so a larger one may gain".to_owned()
+    } else {
+        let (largest, most) = (grouped(advice.largest), percent(advice.most, requests));
+        format!(
+            ", at least 99 of 100 of the hits of the largest capacity, {largest}, which are {most}"
+        )
+    };
+    let lru = advice.lru.map_or(String::new(), |lru| {
+        format!("; an LRU has as many with {}", grouped(lru))
+    });
+    format!("{start}{reason}{lru}.")
+}
+
+/// Returns the call in Rust that makes the cache.
+fn call(advice: Advice, is_weighed: bool) -> String {
+    let weigh = if is_weighed { ".weigh_bytes()" } else { "" };
+    let capacity = advice.capacity;
+    match advice.setting {
+        Setting::Default => format!("Cache::builder().max_capacity({capacity}){weigh}"),
+        Setting::Protected => {
+            format!("Cache::builder().max_capacity({capacity}){weigh}.protected_share(80)")
+        }
+        Setting::Adaptive => format!("Cache::builder().max_capacity({capacity}){weigh}.adaptive()"),
+        Setting::Segments => format!("sync::Cache::builder().max_capacity({capacity}){weigh}"),
+        Setting::Lru | Setting::Belady => "not a cache of this library".to_owned(),
+    }
+}

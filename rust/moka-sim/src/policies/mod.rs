@@ -1,0 +1,133 @@
+//! The caches that play a trace.
+
+mod belady;
+mod library;
+mod lru;
+
+use crate::memory::OutOfMemory;
+use crate::trace::Trace;
+use std::ops::Range;
+
+/// A cache and its settings.
+#[derive(Clone, Copy, Debug, PartialEq, Eq)]
+pub enum Setting {
+    Default,
+    Protected,
+    Adaptive,
+    Segments,
+    Lru,
+    Belady,
+}
+
+impl Setting {
+    /// All settings, in the order of tables.
+    pub const ALL: [Setting; 6] = [
+        Setting::Default,
+        Setting::Protected,
+        Setting::Adaptive,
+        Setting::Segments,
+        Setting::Lru,
+        Setting::Belady,
+    ];
+
+    /// Returns the name in arguments, tables and files.
+    pub fn name(self) -> &'static str {
+        match self {
+            Setting::Default => "default",
+            Setting::Protected => "protected80",
+            Setting::Adaptive => "adaptive",
+            Setting::Segments => "segments",
+            Setting::Lru => "lru",
+            Setting::Belady => "belady",
+        }
+    }
+
+    /// Returns `true` if the library plays it.
+    pub fn is_library(self) -> bool {
+        !matches!(self, Setting::Lru | Setting::Belady)
+    }
+}
+
+/// The rules of a play: what counts against the capacity, and how long an entry lives.
+#[derive(Clone, Copy, Debug)]
+pub struct Rules {
+    /// The capacity, in entries, or in bytes if entries are weighed.
+    pub capacity: u64,
+    pub is_weighed: bool,
+    /// Nanoseconds from an entry's insert to its expiry.
+    pub time_to_live: Option<u64>,
+}
+
+impl Rules {
+    /// Returns what an entry of this request counts against the capacity.
+    pub fn weight(&self, trace: &Trace, request: usize) -> u64 {
+        if self.is_weighed {
+            trace.bytes(request)
+        } else {
+            1
+        }
+    }
+
+    /// Returns `true` if an entry that was inserted at one time is expired at another.
+    pub fn is_expired(&self, inserted: u64, now: u64) -> bool {
+        self.time_to_live.is_some_and(|life| now - inserted >= life)
+    }
+}
+
+/// What a part of a trace gave.
+#[derive(Clone, Copy, Debug, Default, PartialEq, Eq)]
+pub struct Tally {
+    pub hits: u64,
+    pub hit_bytes: u64,
+}
+
+/// What left a cache so far. A cache doesn't tell what is `None`.
+#[derive(Clone, Copy, Debug, Default, PartialEq, Eq)]
+pub struct Counts {
+    pub evictions: Option<u64>,
+    pub rejections: Option<u64>,
+    pub expirations: Option<u64>,
+}
+
+/// The reason that a play has no result.
+#[derive(Clone, Copy, Debug, PartialEq, Eq)]
+pub enum PlayError {
+    OutOfMemory,
+    /// The library's own count of hits differs from its answers.
+    Disagreement {
+        counted: u64,
+        answered: u64,
+    },
+}
+
+impl From<OutOfMemory> for PlayError {
+    fn from(_: OutOfMemory) -> PlayError {
+        PlayError::OutOfMemory
+    }
+}
+
+/// A cache that plays a trace, part by part.
+pub trait Policy {
+    /// Gets the key of each request, and inserts it if it isn't found.
+    fn play(&mut self, trace: &Trace, part: Range<usize>) -> Result<Tally, PlayError>;
+
+    /// Returns the weight that the cache's window may have now, if it has a window.
+    fn window(&self) -> Option<u64>;
+
+    /// Returns what left the cache so far. `hits` is what the parts gave.
+    fn counts(&self, hits: u64) -> Result<Counts, PlayError>;
+}
+
+/// Opens an empty cache. `zeros` has the bytes of the longest value.
+pub fn open<'a>(
+    setting: Setting,
+    rules: Rules,
+    trace: &Trace,
+    zeros: &'a [u8],
+) -> Result<Box<dyn Policy + 'a>, PlayError> {
+    match setting {
+        Setting::Lru => Ok(Box::new(lru::Lru::open(rules, trace)?)),
+        Setting::Belady => Ok(Box::new(belady::Belady::open(rules, trace)?)),
+        library => library::open(library, rules, trace, zeros),
+    }
+}
