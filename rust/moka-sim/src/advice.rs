@@ -114,3 +114,38 @@ fn call(advice: Advice, is_weighed: bool) -> String {
         Setting::Lru | Setting::Belady => "not a cache of this library".to_owned(),
     }
 }
+
+#[cfg(test)]
+mod tests {
+    use super::*;
+    use crate::play::Play;
+    use crate::policies::{Counts, Rules, Tally};
+
+    /// Returns what a default cache of this capacity did, with so many hits.
+    fn outcome(capacity: u64, hits: u64) -> Outcome {
+        let rules = Rules {
+            capacity,
+            is_weighed: false,
+            time_to_live: None,
+        };
+        Outcome {
+            play: Play {
+                setting: Setting::Default,
+                rules,
+            },
+            tally: Tally { hits, hit_bytes: 0 },
+            counts: Counts::default(),
+            parts: Vec::new(),
+        }
+    }
+
+    #[test]
+    fn ninety_nine_of_a_hundred_hits_suffice_and_no_fewer() {
+        let capacity_with = |hits| {
+            let outcomes = [outcome(10, hits), outcome(20, 1000)];
+            advise(&outcomes).map(|advice| advice.capacity)
+        };
+        assert_eq!(capacity_with(989), Some(20));
+        assert_eq!(capacity_with(990), Some(10));
+    }
+}
