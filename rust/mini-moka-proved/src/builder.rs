@@ -129,9 +129,10 @@ impl Builder {
     /// `protected_share` after this to begin elsewhere. Without a capacity or a window the cache
     /// doesn't adapt.
     ///
-    /// A hit costs no more. An insert of a new key also looks it up in two small tables, which take
-    /// at most 1 byte for each entry that fits, or 64 bytes, and are allocated once the cache is
-    /// half full. If memory for them is refused, the cache never adapts, and no call fails.
+    /// A hit costs what it does with `protected_share(80)`. An insert of a new key also looks it up
+    /// in two small tables, which take at most 1 byte for each entry that fits, or 64 bytes, and are
+    /// allocated once the cache is half full. If memory for them is refused, the cache never adapts,
+    /// and no call fails.
     ///
     /// ```
     /// use mini_moka_proved::Cache;
