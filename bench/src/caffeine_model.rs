@@ -228,7 +228,11 @@ impl<'a> Model<'a> {
     fn loser(&mut self, victim: Option<usize>, candidate: Option<usize>) -> Option<usize> {
         match (victim, candidate) {
             (Some(victim), Some(candidate)) if victim != candidate => {
-                Some(if self.admits(candidate, victim) { victim } else { candidate })
+                Some(if self.admits(candidate, victim) {
+                    victim
+                } else {
+                    candidate
+                })
             }
             (victim, candidate) => victim.or(candidate),
         }

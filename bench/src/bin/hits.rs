@@ -1,5 +1,6 @@
-//! Measures hit ratios over capacities: `hits FILE [CAFFEINE.jar]` prints a table, and draws the first traces into FILE as SVG. The best possible cache is Belady's, which
-//! knows all later calls.
+//! Measures hit ratios over capacities: `hits FILE [CAFFEINE.jar]` prints a table, and draws the first traces into FILE as SVG.
+//!
+//! The best possible cache is Belady's, which knows all later calls.
 use mini_moka_bench::caffeine_model::model_hits;
 use mini_moka_bench::further_traces::further_traces;
 use mini_moka_bench::hit_plot::{plot, Panel};
@@ -137,7 +138,9 @@ fn hits_at(keys: &[u64], capacity: u64, caffeine: Option<u64>) -> [Option<u64>; 
         Some(port::play(&settings.with_shares(20, 0), &operations).hits),
         Some(play(&mut original(&settings), &operations).hits),
         caffeine,
-        Some(model_hits(keys, capacity, |key| Multiply::default().hash_one(key))),
+        Some(model_hits(keys, capacity, |key| {
+            Multiply::default().hash_one(key)
+        })),
         Some(play(&mut lru_cache(&settings), &operations).hits),
         Some(fifo_hits(keys, capacity as usize)),
     ]

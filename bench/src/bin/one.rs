@@ -1,5 +1,7 @@
-//! Plays one trace on one side, for a profiler: `one SIDE TRACE [TIMES]`. SIDE is `port`, `protected`, `adaptive`, `original`, `core` or `sync`. `protected` is the port
-//! with a share of 80 for protected entries, `adaptive` with a window that adapts, which has that share too; the last two are the core of the shared cache, and the original's `sync`.
+//! Plays one trace on one side, for a profiler: `one SIDE TRACE [TIMES]`.
+//!
+//! The sides `port`, `protected` and `adaptive` are this repository's cache: with the default shares, with 80 for protected entries, and with a window that adapts,
+//! which has that 80 too. `original` and `sync` are mini-moka's two caches, and `core` is the core of the shared cache.
 use mini_moka_bench::{port, rust_sides, traces};
 
 fn main() {
