@@ -15,7 +15,7 @@ use Rattle.moka_list.proofs.CutLemmas.{absent-cut}
 use Rattle.moka_list.proofs.ItemLemmas.{absent_cons, absent_head, absent_tail, cond_swap, differs, distinct_from_apart, found_tail}
 use Rattle.moka_list.proofs.ItemLemmas.{length-remove, lookup-other, lookup-remove_other, nat_eq-same, nat_eq_comm, ne_comm, not_both, remove-other}
 use Rattle.moka_list.proofs.ItemLemmas.{remove-same}
-use Rattle.moka_list.proofs.IdLemmas.{IsDistinct-removed, lookup-removed, some_parts}
+use Rattle.moka_list.proofs.IdLemmas.{IsDistinct-removed, lookup-removed, not_none, some_parts}
 use Rattle.moka_list.proofs.WalkLemmas.{next_is_in}
 
 module _ {X : Type 0} where
@@ -135,6 +135,40 @@ module _ {X : Type 0} where
       → moved_before id next items ≡ inserted next (id, x) (remove_entry (nat_eq id) items)
   moved_before-inserted id next x items at =
       ap (λ o. option_map_or (λ element. inserted next (id, element) (remove_entry (nat_eq id) items)) o items) at
+
+  -- a first node that is put before the second stays
+  inserted-first : (next : ℕ) (n : ℕ × X) (es : List (ℕ × X)) → first_id es ≡ Some next → inserted next n es ≡ n ∷ es
+  inserted-first next n [] follows = refl
+  inserted-first next n (e ∷ es) follows =
+      inserted-same next n e es (ap (λ k. nat_eq k e.0) (sym (some_parts e.0 next follows)) ∙ nat_eq-same e.0)
+
+  -- so does any that is put before the one behind it
+  inserted-behind : (id next : ℕ) (x : X) (items : List (ℕ × X)) → AreApart items → lookup (nat_eq id) items ≡ Some x
+      → next_id id items ≡ Some next → inserted next (id, x) (remove_entry (nat_eq id) items) ≡ items
+  inserted-behind id next x [] apart at follows = not_none next (sym follows)
+  inserted-behind id next x (e ∷ es) apart at follows =
+      elim (cases_Bool (nat_eq id e.0)) [
+        | inl same ↦
+            let value : e.1 ≡ x = some_parts e.1 x (sym (cond-true (nat_eq id e.0) (Some e.1) (lookup (nat_eq id) es) same) ∙ at) in
+            let first : first_id es ≡ Some next = sym (cond-true (nat_eq id e.0) (first_id es) (next_id id es) same) ∙ follows in
+            ap (inserted next (id, x)) (remove-same id e es same) ∙ inserted-first next (id, x) es first
+            ∙ (λ i. (eqb-true id e.0 same i, sym value i) ∷ es)
+        | inr other ↦
+            let later : next_id id es ≡ Some next = sym (cond-false (nat_eq id e.0) (first_id es) (next_id id es) other) ∙ follows in
+            let found : IsIn es next = subst (λ o. IfSome o (λ j. IsIn es j)) later (next_is_in id es) in
+            ap (inserted next (id, x)) (remove-other id e es other)
+            ∙ inserted-other next (id, x) e (remove_entry (nat_eq id) es) (ne_comm e.0 next (differs e.0 next es apart.0 found))
+            ∙ ap (λ l. e ∷ l) (inserted-behind id next x es apart.1 (sym (lookup-other id e es other) ∙ at) later)
+      ]
+
+  -- a node of the list, put before the one behind it, stays
+  pub moved_before-behind : (id next : ℕ) (items : List (ℕ × X)) → AreApart items → next_id id items ≡ Some next
+      → moved_before id next items ≡ items
+  moved_before-behind id next items apart follows = by (lookup (nat_eq id) items) refl
+    where
+      by : (o : Option X) → lookup (nat_eq id) items ≡ o → moved_before id next items ≡ items
+      by None at = ap (λ o. option_map_or (λ element. inserted next (id, element) (remove_entry (nat_eq id) items)) o items) at
+      by (Some x) at = moved_before-inserted id next x items at ∙ inserted-behind id next x items apart at follows
 
   -- what holds of the list where the node is in it, and where it isn't, holds of the list with it before the other
   moved_cases : (id next : ℕ) (items : List (ℕ × X)) (P : List (ℕ × X) → Type 0) → P items

@@ -275,6 +275,10 @@ impl<T, A: Allocator> Chain<T, A> {
         ensures room { self.new.room ≡ self.old.room }
         ensures unchanged { self.new ≡ record self.old { items = self.new.items } }
     {
+        if self.links.links[id.number].next as usize == next.number {
+            // It stands there already.
+            return;
+        }
         self.links.unlink(id.number);
         self.links.link_before(id.number, next.number);
     }
