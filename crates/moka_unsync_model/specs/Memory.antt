@@ -8,7 +8,7 @@ use Rattle.moka_unsync_model.specs.Shares.{hundredths}
 
 -- ---- tables of tags
 
--- tags of entries that left of late, each in its hash's slot, 0 in a slot without one; and the slot that is cleared next
+-- tags of the entries that left last, each in its hash's slot, 0 in a slot without one; and the slot that is cleared next
 pub record Tags : Type 0 where
   pub slots : List ℕ
   pub hand : ℕ
@@ -88,8 +88,8 @@ slack_of limit = limit / DEMAND_SLACK
 abbrev pub extra_at : Shares → ℕ → ℕ → ℕ
 extra_at shares limit demand = at_most (most_extra shares limit) (demand / 2 - slack_of limit)
 
--- the demand once a new entry of this hash and weight came: two halves of its weight more if it was rejected of late, since a larger window would have kept
--- it; three less if main gave it up of late, since a larger main would have; and else the same
+-- the demand once a new entry of this hash and weight came: two halves of its weight more if it was recently rejected, since a larger window would have
+-- kept it; three less if main recently gave it up, since a larger main would have; and else the same
 abbrev pub demand_after : Shares → ℕ → Memory → ℕ → ℕ → ℕ
 demand_after shares limit memory hash weight =
     if is_noted memory.rejected hash then at_most (2 * (most_extra shares limit + slack_of limit)) (memory.demand + 2 * weight)

@@ -17,11 +17,11 @@ pub struct Entry<K: Drop, V: Drop> {
     pub key: K,
     pub value: V,
     pub hash: u64,
-    pub weight: u32,
-    /// It takes bytes beside the weight that are free.
-    pub part: Part,
     pub accessed: Instant,
     pub modified: Instant,
+    pub weight: u32,
+    /// It takes bytes beside the weight that are free. It comes last, so that no padding splits the moves of an entry.
+    pub part: Part,
 }
 
 impl<K: Drop, V: Drop> Hashed for Entry<K, V> {
