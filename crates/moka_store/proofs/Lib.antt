@@ -11,3 +11,4 @@ pub mod StepLemmas
 pub mod BalanceLemmas
 pub mod ChangeLemmas
 pub mod RelistLemmas
+pub mod ProbationLemmas

@@ -132,6 +132,23 @@ module _ {K V : Type 0} (test : Part → Bool) where
             ]
       ]
 
+  -- a mark doesn't move off a node that it doesn't stand at
+  pub passed-none : (id : ℕ) (next mark : Option ℕ) (x : Entry K V) (nodes : List (ℕ × Entry K V)) → AreApart nodes → lookup (nat_eq id) nodes ≡ Some x
+      → test x.part ≡ false → mark ≡ first_in test nodes → passed id next mark ≡ mark
+  passed-none id next mark x nodes a stood fails is =
+      elim (cases_Bool (option_eq nat_eq mark (Some id))) [
+        | inl same ↦ by mark is same
+        | inr other ↦ passed-other id next mark other
+      ]
+    where
+      by : (o : Option ℕ) → o ≡ first_in test nodes → option_eq nat_eq o (Some id) ≡ true → passed id next mark ≡ mark
+      by None is same = absurd (false≢true same)
+      by (Some w) is same =
+          let at : w ≡ id = eqb-true w id same in
+          let (e, found, passes) = first_is w nodes a (sym is) in
+          let own : e ≡ x = some_parts e x (sym found ∙ (ap (λ v. lookup (nat_eq v) nodes) at ∙ stood)) in
+          absurd (false≢true (sym fails ∙ (ap (λ y. test y.part) (sym own) ∙ passes)))
+
   -- the mark once a node has come last of its part
   pub first-joined : GoesOn test → (id : ℕ) (e : Entry K V) (nodes : List (ℕ × Entry K V)) → AreApart nodes
       → joined (test e.part) id (first_in (is_before e.part) nodes) (first_in test nodes) ≡ first_in test (latest_node (id, e) nodes)

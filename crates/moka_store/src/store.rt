@@ -1,6 +1,6 @@
 //! The entries of a cache: one list in order of use with its three parts, one in order of writing, and an index by hash. Only this module finds, adds,
 //! changes and removes entries.
-ghost use Rattle.std.specs.Prelude.{◌≡◌, ◌≤◌, ◌<◌, ◌+◌, ◌-◌, ◌^◌, ◌++◌, ◌==◌, ◌&&◌, ℕ, [], length, nat_eq};
+ghost use Rattle.std.specs.Prelude.{◌≡◌, ◌≤◌, ◌<◌, ◌+◌, ◌-◌, ◌^◌, ◌++◌, ◌==◌, ◌&&◌, ℕ, [], length, nat_eq, nat_le, nat_lt};
 ghost use Rattle.std.specs.Prelude.{IfOk, IfSome, IsNone, IsOk, IsSome, None, OnOk, Some, option_map};
 ghost use Rattle.std.specs.List.{IsDistinct};
 ghost use Rattle.std.specs.Map.{keys_of, lookup};
@@ -257,6 +257,32 @@ impl<K: Eq + Drop, V: Drop, A: Allocator + Clone + Drop> Store<K, V, A> {
         requires { IsSome (lookup (nat_eq id) self.old.nodes) }
         ensures { Uses K.eq self.old id room now self.new }
     {
+        let entry = self.entries.get(id);
+        if is_of(entry.part, Part::Probation) && !may_be_protected(room, entry.weight) {
+            self.use_in_probation(id, room, now);
+        } else {
+            self.use_anywhere(id, room, now);
+        }
+    }
+
+    /// Does what `touch` does for an entry that stays in probation. No mark stands at it, and its part weighs the same.
+    #[inline(always)]
+    fn use_in_probation(&mut self, id: NodeId, room: u64, now: Instant)
+        requires stays { (e : EntryValue K V) × (lookup (nat_eq id) self.old.nodes ≡ Some e) × (e.part ≡ Probation) × (used_part room Probation e.weight ≡ Probation) }
+        ensures { Uses K.eq self.old id room now self.new }
+    {
+        let entry = self.entries.get_mut(id);
+        entry.accessed = now;
+        attach(&mut self.entries, &mut self.marks, id, Part::Probation);
+        balance(&mut self.entries, &mut self.marks, &mut self.weights, room);
+    }
+
+    /// Does what `touch` does for any entry.
+    #[inline(always)]
+    fn use_anywhere(&mut self, id: NodeId, room: u64, now: Instant)
+        requires { IsSome (lookup (nat_eq id) self.old.nodes) }
+        ensures { Uses K.eq self.old id room now self.new }
+    {
         self.marks.pass(&self.entries, id);
         let entry = self.entries.get_mut(id);
         let (part, weight) = (entry.part, entry.weight);
@@ -370,10 +396,18 @@ fn used_part(room: u64, part: Part, weight: u32) -> Part
     if matches!(part, Part::Window) {
         return Part::Window;
     }
-    if 0 < room && u64::from(weight) <= room {
+    if may_be_protected(room, weight) {
         return Part::Protected;
     }
     Part::Probation
+}
+
+/// Returns `true` if main has room for a protected entry of this weight.
+#[inline(always)]
+fn may_be_protected(room: u64, weight: u32) -> bool
+    ensures { result ≡ (nat_lt 0 room && nat_le weight room) }
+{
+    0 < room && u64::from(weight) <= room
 }
 
 /// Replaces an entry's value, weight, moments and part, and keeps its key. Returns the other key and the old value.

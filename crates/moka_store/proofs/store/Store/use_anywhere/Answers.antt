@@ -4,7 +4,7 @@ use Rattle.moka_store.proofs.RelistLemmas.{length-settled, stored-settled}
 use Rattle.moka_store.proofs.StepLemmas.{uses_is}
 use Rattle.moka_store.proofs.StoreLemmas.{length-balanced, room-same, stored-balanced}
 use Rattle.moka_store.proofs.WeightLemmas.{share_protected, share_window}
-use Rattle.moka_store.proofs.store.Store.touch.Goals as goal
+use Rattle.moka_store.proofs.store.Store.use_anywhere.Goals as goal
 
 pub shift-requires-clause-protected : goal.shift-requires-clause-protected
 shift-requires-clause-protected g c =
