@@ -294,3 +294,24 @@ module _ {K V : Type 0} (x : Entry K V) (rest es : List (Entry K V)) (is : es �
           let own : not (is_window m.part) ≡ true =
           All-head (λ e. not (is_window e.part) ≡ true) m ms (subst (All (λ e. not (is_window e.part) ≡ true)) same (none_windowed es)) in
           absurd (false≢true (ap not (sym (ap (λ (e : Entry K V). is_window e.part) (sym first) ∙ flag)) ∙ own))
+
+-- ---- where main's first entry is heavy enough alone
+
+module _ {K V : Type 0} (votes_of : Entry K V → ℕ) (candidate enough : ℕ) (x : Entry K V) (rest es : List (Entry K V)) (is : es ≡ x ∷ rest)
+    (order : InOrder Probation es) (some : 0 < enough) (heavy : enough ≤ x.weight) (main : is_window x.part ≡ false) where
+  alone : IsWalk (λ e. e.weight) votes_of enough (main_of es) (main_of rest) 1 (enough - x.weight) (0 + votes_of x)
+  alone =
+      walk_step (λ e. e.weight) votes_of enough (main_of es) x (main_of rest) 0 enough 0
+      (subst (λ m. IsWalk (λ e. e.weight) votes_of enough (main_of es) m 0 enough 0) (main_step x rest es is (main_and_window es order) main).1
+      (walk_start (λ e. e.weight) votes_of enough (main_of es))) some
+
+  -- it leaves for a candidate with more votes
+  pub alone_outweighed : votes_of x < candidate
+      → counted (main_of es) (Some 1) ≡ outvoted (λ e. e.weight) votes_of candidate (shortest_prefix (λ e. e.weight) enough (main_of es))
+  alone_outweighed above =
+      walk_enough (λ e. e.weight) votes_of candidate enough (main_of es) (main_of rest) 1 (enough - x.weight) (0 + votes_of x) alone (omega (arith, heavy)) (omega (arith, above))
+
+  -- and for no other
+  pub alone_holds : candidate ≤ votes_of x → None ≡ outvoted (λ e. e.weight) votes_of candidate (shortest_prefix (λ e. e.weight) enough (main_of es))
+  alone_holds many =
+      walk_lost (λ e. e.weight) votes_of candidate enough (main_of es) (main_of rest) 1 (enough - x.weight) (0 + votes_of x) alone (omega (arith, many))

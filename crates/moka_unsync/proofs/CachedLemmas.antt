@@ -1,5 +1,5 @@
 -- Lemmas on what holds of a cache's parts.
-use Rattle.std.proofs.Common.{◌≡◌, ◌≤◌, ◌<◌, ℕ, Bool, true, false, List, [], ◌∷◌, All, length, nat_eq}
+use Rattle.std.proofs.Common.{◌≡◌, ◌≤◌, ◌<◌, ◌-◌, ℕ, Bool, true, false, List, [], ◌∷◌, All, length, nat_eq}
 use Rattle.std.proofs.Common.{is_some, nat_lt, Option, Some, None, unwrap_or, sym, ap, ◌∙◌}
 use Rattle.std.proofs.Common.{refl, subst, inl, inr}
 use Rattle.std.proofs.lemmas.Bool.{cases_Bool, cond-true, cond-false, false≢true}
@@ -13,7 +13,7 @@ use Rattle.moka_common.proofs.KeysLemmas.{keys_by-respects}
 use Rattle.moka_common.specs.Policy.{Policy}
 use Rattle.moka_unsync_model.specs.declared.entry.Entry.{Entry}
 use Rattle.moka_unsync_model.specs.declared.entry.Part.{Part}
-use Rattle.moka_unsync_model.specs.Contents.{after_leaving, entry_keys, is_protected, is_window}
+use Rattle.moka_unsync_model.specs.Contents.{after_leaving, balanced, entry_keys, is_protected, is_window, protected_of, total_weight}
 use Rattle.moka_unsync_model.specs.Cleanup.{after_cleanup}
 use Rattle.moka_common.specs.Settings.{keeps_writes}
 use Rattle.moka_common.specs.Sketch.{Table}
@@ -23,7 +23,7 @@ use Rattle.moka_unsync_model.specs.declared.shares.Shares.{Shares}
 use Rattle.moka_unsync_model.specs.Lookup.{after_using}
 use Rattle.moka_unsync_model.specs.Shares.{hundredths, limits_of, protected_room, windowed_limits}
 use Rattle.moka_unsync_model.specs.Window.{after_sharing, victims_of}
-use Rattle.moka_unsync_model.proofs.PartLemmas.{All-using, window-used}
+use Rattle.moka_unsync_model.proofs.PartLemmas.{All-demoted, All-using, window-used}
 use Rattle.moka_unsync_model.proofs.WindowLemmas.{All-latest}
 use Rattle.moka_unsync_model.proofs.CandidateLemmas.{All-entering}
 use Rattle.moka_unsync_model.proofs.ContentsLemmas.{All-leaving, All-cleanup}
@@ -236,6 +236,26 @@ module _ {K V S : Type 0} {keys : Keys K S} {state : S} {policy : Policy} {share
                 absurd (false≢true (sym (ap is_some (there ∙ (ap (λ l. windowed_limits shares (Some l)) own
                 ∙ cond-false (nat_lt 0 (hundredths shares.window limit)) (Some (limits_of shares limit)) None none)))))
           ]
+
+module _ {K V S : Type 0} {keys : Keys K S} {state : S} {policy : Policy} {shares : Shares} {limits : Option PartLimits} {space : ℕ} where
+  -- nor do entries that are protected no more
+  pub IsCached-balanced : (room : ℕ) {old new : Store K V} → IsCached keys state policy shares limits space old
+      → contents_of new ≡ record (contents_of old) { entries = balanced room (entries_of old) } → Continues old new
+      → IsCached keys state policy shares limits space new
+  IsCached-balanced room {old = old} is step kept =
+      let P : Entry K V → Type 0 = λ e. e.hash ≡ keys.hash_of state e.key in
+      let IsMain : Entry K V → Type 0 = λ e. is_window e.part ≡ false in
+      let above = total_weight (protected_of (entries_of old)) - room in
+      record {
+        hashed = subst (λ c. All P c.entries) (sym step) (All-demoted P (λ e protected here. here) above (entries_of old) is.hashed);
+        keeps = kept.keeps ∙ is.keeps;
+        main =
+            λ none. subst (λ c. All IsMain c.entries) (sym step)
+            (All-demoted IsMain (λ e protected here. refl) above (entries_of old) (is.main none));
+        legal = is.legal;
+        windowed = is.windowed;
+        room = is.room;
+      }
 
 -- there is an entry for each node
 pub length-entries : {K V : Type 0} (store : Store K V) → length (entries_of store) ≡ length store.nodes

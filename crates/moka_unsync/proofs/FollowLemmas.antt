@@ -178,3 +178,10 @@ module _ {K V : Type 0} {eq : K → K → Bool} (laws : IsEquivalence eq) where
       by : (o : Option (Entry K V)) → is_some o ≡ is_some (option_map (λ e. e.part) o)
       by None = refl
       by (Some e) = refl
+
+  -- nor does it leave where entries are protected no more
+  pub stands_balanced : (room : ℕ) (part : Option Part) (es : List (Entry K V)) (key : K) → part ≡ option_map (λ e. e.part) (entry_at eq key es)
+      → is_some (entry_at eq key (balanced room es)) ≡ is_some part
+  stands_balanced room part es key is =
+      let (f, at) = entry_at-demoted eq key (total_weight (protected_of es) - room) es in
+      ap is_some at ∙ (placed-some f (entry_at eq key es) ∙ stands_there part es key is)

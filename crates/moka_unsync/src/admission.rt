@@ -105,6 +105,36 @@ fn victims_outweighed_by<K: Eq + Drop, V: Drop, A: Allocator + Clone + Drop>(
         (shortest_prefix (λ e. e.weight) new.now.weight (main_of (entries_of store.now))) }
 {
     let candidate = sketch.frequency(new.hash);
+    if candidate == 0 {
+        return None;
+    }
+    if let Some(id) = store.front() {
+        let victim = store.get(id);
+        // Nearly always main's first entry is heavy enough alone.
+        if 0 < new.weight && new.weight <= victim.weight && !is_windowed(victim) {
+            if candidate <= sketch.frequency(victim.hash) {
+                return None;
+            }
+            return Some(1);
+        }
+    }
+    several_outweighed_by(store, sketch, new, candidate)
+}
+
+/// Does what `victims_outweighed_by` does for any number of victims. `candidate` is the new entry's frequency.
+#[cold]
+#[inline(never)]
+fn several_outweighed_by<K: Eq + Drop, V: Drop, A: Allocator + Clone + Drop>(
+    store: &Store<K, V, A>,
+    sketch: &FrequencySketch<A>,
+    new: &Entry<K, V>,
+    candidate: u8,
+) -> Option<usize>
+    requires { candidate ≡ estimate sketch.now new.now.hash }
+    ensures { counted (main_of (entries_of store.now)) result
+        ≡ outvoted (λ e. e.weight) (λ e. estimate sketch.now e.hash) (estimate sketch.now new.now.hash)
+        (shortest_prefix (λ e. e.weight) new.now.weight (main_of (entries_of store.now))) }
+{
     let mut shortfall = new.weight;
     let mut victims_frequency = 0;
     let mut count = 0;

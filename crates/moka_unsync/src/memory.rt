@@ -80,7 +80,11 @@ impl<A: Allocator + Clone + Drop> Tags<A> {
         let slot = self.slot_of(hash);
         self.slots[self.hand] = 0;
         self.slots[slot] = tag_of(hash);
-        self.hand = (self.hand + 1) % count;
+        self.hand = if self.hand + 1 == count {
+            0
+        } else {
+            self.hand + 1
+        };
     }
 
     /// Returns `true` if a hash was noted, and notes it no more.
@@ -163,6 +167,9 @@ impl<A: Allocator + Clone + Drop> Memory<A> {
         ensures within { result ≤ most_extra shares limit }
     {
         let wanted = (self.demand / 2).saturating_sub(u128::from(slack_of(limit)));
+        if wanted == 0 {
+            return 0;
+        }
         let most = u128::from(most_extra(shares, limit));
         (wanted - wanted.saturating_sub(most)) as u64
     }

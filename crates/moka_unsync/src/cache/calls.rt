@@ -38,21 +38,11 @@ impl<
             ≡ after_look (keys_by K.Hash S.BuildHasher S.Hasher.Hasher) self.old now }
     {
         let hash = self.hash_state.hash_one(key);
-        self.contains_hashed(key, hash, now)
-    }
-
-    /// Returns `true` if the key has an unexpired entry, as `contains_key` does, by the key's hash. An owner of many caches with one hash state hashes once.
-    pub fn contains_hashed(&mut self, key: &K, hash: u64, now: Instant) -> bool
-        requires { hash ≡ (keys_by K.Hash S.BuildHasher S.Hasher.Hasher).hash_of self.old.settings.hash_state key.now }
-        ensures value { result
-            ≡ is_contained (keys_by K.Hash S.BuildHasher S.Hasher.Hasher) self.old key.now now }
-        ensures step { self.new
-            ≡ after_look (keys_by K.Hash S.BuildHasher S.Hasher.Hasher) self.old now }
-    {
         self.contains_notifying(key, hash, now, &mut NoListener)
     }
 
-    /// Returns `true` if the key has an unexpired entry, as `contains_hashed` does. The listener gets what leaves.
+    /// Returns `true` if the key has an unexpired entry, as `contains_key` does, by the key's hash: an owner of many caches with one hash state hashes once.
+    /// The listener gets what leaves.
     pub fn contains_notifying<L: Listener<K, V>>(
         &mut self,
         key: &K,
@@ -84,19 +74,7 @@ impl<
         self.get_notifying(key, hash, now, &mut NoListener)
     }
 
-    /// Returns the value of the key, as `get` does, by the key's hash.
-    pub fn get_hashed(&mut self, key: &K, hash: u64, now: Instant) -> Option<&V>
-        requires { hash ≡ (keys_by K.Hash S.BuildHasher S.Hasher.Hasher).hash_of self.old.settings.hash_state key.now }
-        ensures* step { sem 𝓛 (ends_as K.row V.row S.row W.row A.row S.Hasher.row
-            K.Hash S.BuildHasher S.Hasher.Hasher A.Allocator A.Clone self.entry
-            (after_get (keys_by K.Hash S.BuildHasher S.Hasher.Hasher) self.old key.now now)) }
-        ensures value { option_copied result
-            ≡ found_by_get (keys_by K.Hash S.BuildHasher S.Hasher.Hasher) self.old key.now now }
-    {
-        self.get_notifying(key, hash, now, &mut NoListener)
-    }
-
-    /// Returns the value of the key, as `get_hashed` does. The listener gets what leaves.
+    /// Returns the value of the key, as `get` does, by the key's hash. The listener gets what leaves.
     pub fn get_notifying<L: Listener<K, V>>(
         &mut self,
         key: &K,
@@ -129,19 +107,10 @@ impl<
             ≡ after_invalidate (keys_by K.Hash S.BuildHasher S.Hasher.Hasher) self.old key.now now }
     {
         let hash = self.hash_state.hash_one(key);
-        self.invalidate_hashed(key, hash, now);
-    }
-
-    /// Removes the entry of the key, as `invalidate` does, by the key's hash.
-    pub fn invalidate_hashed(&mut self, key: &K, hash: u64, now: Instant)
-        requires { hash ≡ (keys_by K.Hash S.BuildHasher S.Hasher.Hasher).hash_of self.old.settings.hash_state key.now }
-        ensures step { self.new
-            ≡ after_invalidate (keys_by K.Hash S.BuildHasher S.Hasher.Hasher) self.old key.now now }
-    {
         self.invalidate_notifying(key, hash, now, &mut NoListener);
     }
 
-    /// Removes the entry of the key, as `invalidate_hashed` does. The listener gets what leaves, the entry of the key as removed or as expired.
+    /// Removes the entry of the key, as `invalidate` does, by its hash. The listener gets what leaves, the entry of the key as removed or as expired.
     pub fn invalidate_notifying<L: Listener<K, V>>(
         &mut self,
         key: &K,
@@ -169,21 +138,10 @@ impl<
             ≡ after_invalidate (keys_by K.Hash S.BuildHasher S.Hasher.Hasher) self.old key.now now }
     {
         let hash = self.hash_state.hash_one(key);
-        self.remove_hashed(key, hash, now)
-    }
-
-    /// Removes the entry of the key, as `remove` does, by the key's hash.
-    pub fn remove_hashed(&mut self, key: &K, hash: u64, now: Instant) -> Option<V>
-        requires { hash ≡ (keys_by K.Hash S.BuildHasher S.Hasher.Hasher).hash_of self.old.settings.hash_state key.now }
-        ensures value { result
-            ≡ found_by_get (keys_by K.Hash S.BuildHasher S.Hasher.Hasher) self.old key.now now }
-        ensures step { self.new
-            ≡ after_invalidate (keys_by K.Hash S.BuildHasher S.Hasher.Hasher) self.old key.now now }
-    {
         self.remove_notifying(key, hash, now, &mut NoListener)
     }
 
-    /// Removes the entry of the key, as `remove_hashed` does. The listener doesn't get a value that is returned.
+    /// Removes the entry of the key, as `remove` does, by its hash. The listener doesn't get a value that is returned.
     pub fn remove_notifying<L: Listener<K, V>>(
         &mut self,
         key: &K,
@@ -273,27 +231,8 @@ impl<
         self.insert_notifying(key, hash, value, now, &mut NoListener)
     }
 
-    /// Puts the value at the key, as `insert` does, by the key's hash.
-    pub fn insert_hashed(
-        &mut self,
-        key: K,
-        hash: u64,
-        value: V,
-        now: Instant,
-    ) -> Result<(), InsertError>
-        requires hashed { hash ≡ (keys_by K.Hash S.BuildHasher S.Hasher.Hasher).hash_of self.old.settings.hash_state key }
-        requires ready { W.ready self.old.weigher }
-        ensures step { OnOk result (IsInserted (keys_by K.Hash S.BuildHasher S.Hasher.Hasher)
-            W.weighs self.old key value now self.new) }
-        ensures err { OnErr result (IsRefused self.old self.new) }
-        ensures error { IfErr result (λ error. error ≡ InsertError.OutOfMemory) }
-        ensures ready { W.ready self.new.weigher }
-    {
-        self.insert_notifying(key, hash, value, now, &mut NoListener)
-    }
-
-    /// Puts the value at the key, as `insert_hashed` does. If it replaces a value, the listener gets the old value with the new key, as replaced or, if the
-    /// value was past a duration, as expired.
+    /// Puts the value at the key, as `insert` does, by the key's hash. If it replaces a value, the listener gets the old value with the new key, as replaced or,
+    /// if the value was past a duration, as expired.
     pub fn insert_notifying<L: Listener<K, V>>(
         &mut self,
         key: K,

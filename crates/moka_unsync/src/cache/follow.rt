@@ -44,7 +44,12 @@ impl<
             return;
         };
         let before = self.shares.extra;
-        self.shares.extra = memory.extra(self.shares, limits.all);
+        let extra = memory.extra(self.shares, limits.all);
+        if extra == before {
+            self.store.limit_protected(limits.protected);
+            return;
+        }
+        self.shares.extra = extra;
         let followed = limits_of(self.shares, limits.all);
         let gained = gained_in(part, before, self.shares.extra);
         let above = main_weight(&self.store).saturating_sub(main_limit(&followed));

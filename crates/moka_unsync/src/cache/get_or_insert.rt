@@ -47,33 +47,11 @@ impl<
         ensures ready { W.ready self.new.weigher }
     {
         let hash = self.hash_state.hash_one(&key);
-        self.get_or_insert_hashed(key, hash, now, make)
-    }
-
-    /// Returns a clone of the value of the key, as `get_or_insert_with` does, by the key's hash.
-    pub fn get_or_insert_hashed<F: FnOnce() -> V>(
-        &mut self,
-        key: K,
-        hash: u64,
-        now: Instant,
-        make: F,
-    ) -> Result<V, InsertError>
-        requires hashed { hash ≡ (keys_by K.Hash S.BuildHasher S.Hasher.Hasher).hash_of self.old.settings.hash_state key }
-        requires ready { W.ready self.old.weigher }
-        requires make { found_by_get (keys_by K.Hash S.BuildHasher S.Hasher.Hasher) self.old key now ≡ None → F.pre make }
-        ensures ok { IfOk result (λ copy. (value : V) × V.is_clone value copy
-            × IsGotOrInserted (keys_by K.Hash S.BuildHasher S.Hasher.Hasher) self.old key now W.weighs (F.post make) value self.new) }
-        ensures err { OnErr result (((value : V) × (¬ (V.is_infallible value))
-            × (self.new ≡ after_get (keys_by K.Hash S.BuildHasher S.Hasher.Hasher) self.old key now))
-            ⊎ IsRefusedBehind (keys_by K.Hash S.BuildHasher S.Hasher.Hasher) self.old key now self.new) }
-        ensures error { IfErr result (λ error. error ≡ InsertError.OutOfMemory) }
-        ensures ready { W.ready self.new.weigher }
-    {
         self.get_or_insert_notifying(key, hash, now, make, &mut NoListener)
     }
 
-    /// Returns a clone of the value of the key, as `get_or_insert_hashed` does. If memory is refused, for the clone or for room, the listener doesn't get
-    /// what was made.
+    /// Returns a clone of the value of the key, as `get_or_insert_with` does, by the key's hash. If memory is refused, for the clone or for room, the
+    /// listener doesn't get what was made.
     pub fn get_or_insert_notifying<F: FnOnce() -> V, L: Listener<K, V>>(
         &mut self,
         key: K,

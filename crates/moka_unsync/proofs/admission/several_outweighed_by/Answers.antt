@@ -4,7 +4,7 @@ use Rattle.moka_common.specs.Sketch.{estimate}
 use Rattle.moka_store.specs.Store.{entries_of}
 use Rattle.moka_unsync.proofs.AdmissionLemmas.{IsMainWalk, main_and_window, main_end, main_next, main_over, main_shorter, main_start, walk_counts, walk_enough, walk_lost}
 use Rattle.moka_unsync.proofs.AdmissionLemmas.{walk_short, walk_step}
-use Rattle.moka_unsync.proofs.admission.victims_outweighed_by.Goals as goal
+use Rattle.moka_unsync.proofs.admission.several_outweighed_by.Goals as goal
 
 pub loop-victims_frequency-init : goal.loop-victims_frequency-init
 loop-victims_frequency-init g c =
@@ -17,7 +17,7 @@ returns-then-shortfall-eq0 g c =
     walk_enough (λ e. e.weight) (λ e. estimate c.args.sketch.now e.hash) (estimate c.args.sketch.now c.args.new.now.hash)
     c.args.new.now.weight (main_of (entries_of c.args.store.now)) c.loop-victims_frequency.invariant.0 c.loop-victims_frequency.count c.loop-victims_frequency.shortfall
     c.loop-victims_frequency.victims_frequency c.loop-victims_frequency.invariant.2 c.if-shortfall-eq0.true
-    (subst (λ v. c.loop-victims_frequency.victims_frequency < v) c.frequency-candidate.ensures.value c.loop-victims_frequency-test.true)
+    (subst (λ v. c.loop-victims_frequency.victims_frequency < v) c.requires c.loop-victims_frequency-test.true)
 
 pub returns-in_default : goal.returns-in_default
 returns-in_default g c =
@@ -45,7 +45,7 @@ returns g c =
     walk_lost (λ e. e.weight) (λ e. estimate c.args.sketch.now e.hash) (estimate c.args.sketch.now c.args.new.now.hash)
     c.args.new.now.weight (main_of (entries_of c.args.store.now)) c.loop-victims_frequency.invariant.0 c.loop-victims_frequency.count c.loop-victims_frequency.shortfall
     c.loop-victims_frequency.victims_frequency c.loop-victims_frequency.invariant.2
-    (subst (λ v. v ≤ c.loop-victims_frequency.victims_frequency) c.frequency-candidate.ensures.value c.loop-victims_frequency-test.false)
+    (subst (λ v. v ≤ c.loop-victims_frequency.victims_frequency) c.requires c.loop-victims_frequency-test.false)
 
 pub overflow_add-count : goal.overflow_add-count
 overflow_add-count g c =

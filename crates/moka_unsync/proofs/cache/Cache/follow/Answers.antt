@@ -10,26 +10,48 @@ use Rattle.moka_unsync_model.specs.Window.{after_displacing, after_sharing, give
 use Rattle.moka_unsync_model.proofs.ToldLemmas.{also_for, and_moved, untold}
 use Rattle.moka_store.specs.Store.{contents_of, entries_of}
 use Rattle.moka_unsync.specs.Cached.{IsCached, after_following, gained_in}
-use Rattle.moka_unsync.proofs.CachedLemmas.{IsCached-follow}
-use Rattle.moka_unsync.proofs.FollowLemmas.{balanced-same, followed, limit_of, limits_are, stands_still, stands_there}
+use Rattle.moka_unsync.proofs.CachedLemmas.{IsCached-balanced, IsCached-follow}
+use Rattle.moka_unsync.proofs.FollowLemmas.{balanced-same, followed, limit_of, limits_are, stands_balanced, stands_still, stands_there}
 use Rattle.moka_unsync.proofs.TurnLemmas.{continued}
 use Rattle.moka_unsync.proofs.cache.Cache.follow.Given.{Over}
-use Rattle.moka_unsync.proofs.cache.Cache.follow.Goals.{After-limit_protected}
+use Rattle.moka_unsync.proofs.cache.Cache.follow.Goals.{After-limit_protected-2}
 use Rattle.moka_unsync.proofs.cache.Cache.follow.Goals as goal
 
 pub returns-in_default-clause-told : goal.returns-in_default-clause-told
 returns-in_default-clause-told g c = rw (← c.self.view_is) untold
 
+-- ---- where the window gets what it has
+
+pub invariant_of-self-then-extra-before : goal.invariant_of-self-then-extra-before
+invariant_of-self-then-extra-before g c =
+    IsCached-balanced c.args.limits.protected c.self.invariant c.limit_protected.ensures.step c.limit_protected.ensures.kept
+
+pub returns-then-extra-before-clause-stays : goal.returns-then-extra-before-clause-stays
+returns-then-extra-before-clause-stays g c =
+    let eq = g.K.PartialEq.eq in
+    rw (← c.self.view_is)
+    (λ key stood. ap (λ s. is_some (entry_at eq key s.entries)) c.limit_protected.ensures.step
+    ∙ stands_balanced g.met.K.Eq.laws c.args.limits.protected c.args.part (entries_of c.self.inside.store) key stood)
+
+pub returns-then-extra-before-clause-told : goal.returns-then-extra-before-clause-told
+returns-then-extra-before-clause-told g c =
+    rw (← c.self.view_is)
+    (and_moved untold
+    (balanced-same c.args.limits.protected (entries_of c.self.inside.store) (entries_of c.limit_protected.new.self)
+    (ap (λ s. s.entries) c.limit_protected.ensures.step)))
+
+-- ---- where it gets more or less
+
 -- the shares then
-abbrev its_shares : (g : Over) (c : After-limit_protected g) → Shares
-its_shares g c = record c.self.inside.shares { extra = c.extra-self-inside.result }
+abbrev its_shares : (g : Over) (c : After-limit_protected-2 g) → Shares
+its_shares g c = record c.self.inside.shares { extra = c.extra-extra.result }
 
 -- the limit of the cache
-its_window : (g : Over) (c : After-limit_protected g) → windowed_limits c.self.inside.shares c.self.inside.bounds.max_capacity ≡ Some c.args.limits
+its_window : (g : Over) (c : After-limit_protected-2 g) → windowed_limits c.self.inside.shares c.self.inside.bounds.max_capacity ≡ Some c.args.limits
 its_window g c = ap (λ cache. windowed_limits cache.shares cache.settings.policy.max_capacity) c.self.view_is ∙ c.requires
 
 -- how much main gives up
-its_weight : (g : Over) (c : After-limit_protected g) → c.saturating_sub-above.result - c.saturating_sub.result
+its_weight : (g : Over) (c : After-limit_protected-2 g) → c.saturating_sub-above.result - c.saturating_sub.result
     ≡ at_most c.gained_in-gained.result (total_weight (main_of (entries_of c.self.inside.store)) - main_limit (limits_of (its_shares g c) c.args.limits.all))
 its_weight g c =
     let above : c.saturating_sub-above.result
@@ -38,27 +60,27 @@ its_weight g c =
     ∙ (λ i. c.main_weight.ensures.value i - (c.main_limit.ensures ∙ ap main_limit c.limits_of-followed.ensures) i) in
     (λ i. c.saturating_sub-above.result - c.saturating_sub.ensures i) ∙ ap (λ n. n - (n - c.gained_in-gained.result)) above
 
-its_contents : (g : Over) (c : After-limit_protected g) → contents_of c.limit_protected.new.self
+its_contents : (g : Over) (c : After-limit_protected-2 g) → contents_of c.limit_protected-2.new.self
     ≡ after_sharing g.K.PartialEq.eq (limits_of (its_shares g c) c.args.limits.all) c.gained_in-gained.result (contents_of c.self.inside.store)
 its_contents g c =
-    followed g.K.PartialEq.eq c.self.inside.store c.give_up.new.store c.limit_protected.new.self (limits_of (its_shares g c) c.args.limits.all)
+    followed g.K.PartialEq.eq c.self.inside.store c.give_up.new.store c.limit_protected-2.new.self (limits_of (its_shares g c) c.args.limits.all)
     c.gained_in-gained.result (c.saturating_sub-above.result - c.saturating_sub.result) (its_weight g c) c.give_up.ensures.step
-    (c.limit_protected.ensures.step
+    (c.limit_protected-2.ensures.step
     ∙ ap (λ l. record (contents_of c.give_up.new.store) { entries = Rattle.moka_unsync_model.specs.Contents.balanced l.protected (entries_of c.give_up.new.store) })
     c.limits_of-followed.ensures)
 
 pub invariant_of-self-2 : goal.invariant_of-self-2
 invariant_of-self-2 g c =
-    let at = (goal.at.invariant_of-self-2 g c).After-limit_protected in
+    let at = (goal.at.invariant_of-self-2 g c).After-limit_protected-2 in
     let keys = keys_by (record { eq = g.K.PartialEq.eq; hash_input = g.K.Hash.hash_input }) g.S.BuildHasher g.S.Hasher.Hasher in
     let space = c.self.inside.room in
-    subst (λ l. IsCached keys c.self.inside.hash_state c.self.inside.bounds (its_shares g at) (Some l) l.protected c.limit_protected.new.self)
+    subst (λ l. IsCached keys c.self.inside.hash_state c.self.inside.bounds (its_shares g at) (Some l) l.protected c.limit_protected-2.new.self)
     (sym c.limits_of-followed.ensures)
-    (IsCached-follow {limits = c.args.limits} {space = space} c.extra-self-inside.result c.gained_in-gained.result c.args.limits.all
+    (IsCached-follow {limits = c.args.limits} {space = space} c.extra-extra.result c.gained_in-gained.result c.args.limits.all
     (subst (λ w. IsCached keys c.self.inside.hash_state c.self.inside.bounds c.self.inside.shares w space c.self.inside.store)
     (c.self.invariant.windowed ∙ its_window g at) c.self.invariant)
     (limit_of c.self.inside.shares c.self.inside.bounds.max_capacity c.args.limits (its_window g at)) (its_contents g at)
-    (continued c.give_up.ensures.kept c.limit_protected.ensures.kept))
+    (continued c.give_up.ensures.kept c.limit_protected-2.ensures.kept))
 
 pub returns-in_default-clause-windowed : goal.returns-in_default-clause-windowed
 returns-in_default-clause-windowed g c =
@@ -67,18 +89,18 @@ returns-in_default-clause-windowed g c =
 
 pub returns-clause-windowed : goal.returns-clause-windowed
 returns-clause-windowed g c =
-    let at = (goal.at.returns-clause-windowed g c).After-limit_protected in
+    let at = (goal.at.returns-clause-windowed g c).After-limit_protected-2 in
     let keys = keys_by (record { eq = g.K.PartialEq.eq; hash_input = g.K.Hash.hash_input }) g.S.BuildHasher g.S.Hasher.Hasher in
     let space = c.self.inside.room in
-    sym (IsCached-follow {limits = c.args.limits} {space = space} c.extra-self-inside.result c.gained_in-gained.result c.args.limits.all
+    sym (IsCached-follow {limits = c.args.limits} {space = space} c.extra-extra.result c.gained_in-gained.result c.args.limits.all
     (subst (λ w. IsCached keys c.self.inside.hash_state c.self.inside.bounds c.self.inside.shares w space c.self.inside.store)
     (c.self.invariant.windowed ∙ its_window g at) c.self.invariant)
     (limit_of c.self.inside.shares c.self.inside.bounds.max_capacity c.args.limits (its_window g at)) (its_contents g at)
-    (continued c.give_up.ensures.kept c.limit_protected.ensures.kept)).windowed
+    (continued c.give_up.ensures.kept c.limit_protected-2.ensures.kept)).windowed
 
 pub returns-clause-step : goal.returns-clause-step
 returns-clause-step g c =
-    let at = (goal.at.returns-clause-step g c).After-limit_protected in
+    let at = (goal.at.returns-clause-step g c).After-limit_protected-2 in
     let eq = g.K.PartialEq.eq in
     let store = c.self.inside.store in
     let memory = c.in-Some.memory in
@@ -102,11 +124,11 @@ returns-clause-step g c =
     ≡ after_displacing memory (given_up (limits_of (its_shares g at) c.args.limits.all) c.gained_in-gained.result (entries_of store)) =
     c.give_up.ensures.memory
     ∙ ap (λ n. after_displacing memory (least_recent n (main_of (entries_of store)))) (its_weight g at) in
-    let capacity = c.limit_protected.ensures.kept.capacity ∙ c.give_up.ensures.kept.capacity in
+    let capacity = c.limit_protected-2.ensures.kept.capacity ∙ c.give_up.ensures.kept.capacity in
     rw (← c.self.view_is)
     ((λ i. record old { shares = its_shares g at; contents = its_contents g at i; memory = Some (noted i); capacity = capacity i })
-    ∙ (ap (then c.extra-self-inside.result) c.gained_in-gained.ensures
-    ∙ (ap (λ e. then e (gained_in c.args.part c.self.inside.shares.extra e)) c.extra-self-inside.ensures.value
+    ∙ (ap (then c.extra-extra.result) c.gained_in-gained.ensures
+    ∙ (ap (λ e. then e (gained_in c.args.part c.self.inside.shares.extra e)) c.extra-extra.ensures.value
     ∙ sym (ap (λ o. after_following eq o c.args.limits c.args.part old) c.in-Some.is))))
 
 pub returns-in_default-clause-stays : goal.returns-in_default-clause-stays
@@ -115,24 +137,24 @@ returns-in_default-clause-stays g c =
 
 pub returns-clause-stays : goal.returns-clause-stays
 returns-clause-stays g c =
-    let at = (goal.at.returns-clause-stays g c).After-limit_protected in
+    let at = (goal.at.returns-clause-stays g c).After-limit_protected-2 in
     let eq = g.K.PartialEq.eq in
     rw (← c.self.view_is)
     (λ key stood.
     ap (λ s. is_some (entry_at eq key s.entries))
     (its_contents g at
     ∙ ap (λ n. after_sharing eq (limits_of (its_shares g at) c.args.limits.all) n (contents_of c.self.inside.store)) c.gained_in-gained.ensures)
-    ∙ stands_still g.met.K.Eq.laws (limits_of (its_shares g at) c.args.limits.all) c.args.part c.self.inside.shares.extra c.extra-self-inside.result
+    ∙ stands_still g.met.K.Eq.laws (limits_of (its_shares g at) c.args.limits.all) c.args.part c.self.inside.shares.extra c.extra-extra.result
     (contents_of c.self.inside.store) key c.main_weight.ensures.once stood)
 
 pub returns-clause-told : goal.returns-clause-told
 returns-clause-told g c =
-    let at = (goal.at.returns-clause-told g c).After-limit_protected in
+    let at = (goal.at.returns-clause-told g c).After-limit_protected-2 in
     let weight = its_weight g at in
     rw (← c.self.view_is)
     (and_moved (also_for (λ e some. (
       subst (λ n. 0 < n) c.gained_in-gained.ensures (omega (arith, some, weight)),
       omega (arith, some, weight),
     )) c.give_up.ensures.told)
-    (balanced-same c.limits_of-followed.result.protected (entries_of c.give_up.new.store) (entries_of c.limit_protected.new.self)
-    (ap (λ s. s.entries) c.limit_protected.ensures.step)))
+    (balanced-same c.limits_of-followed.result.protected (entries_of c.give_up.new.store) (entries_of c.limit_protected-2.new.self)
+    (ap (λ s. s.entries) c.limit_protected-2.ensures.step)))
