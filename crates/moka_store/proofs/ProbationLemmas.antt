@@ -1,5 +1,5 @@
 -- Lemmas on an entry that is used and stays in probation: no mark stands at it, and no part weighs more or less.
-use Rattle.std.proofs.Common.{◌≡◌, ◌<◌, ◌+◌, ◌-◌, ◌^◌, ℕ, Bool, nat_eq, List, length, Some, false, refl, sym, true, ap, arith}
+use Rattle.std.proofs.Common.{◌≡◌, ◌<◌, ◌+◌, ◌-◌, ◌^◌, ℕ, Bool, nat_eq, List, length, Some, refl, sym, true, ap, arith}
 use Rattle.std.specs.Cmp.{IsEquivalence}
 use Rattle.std.specs.Map.{lookup, remove_entry, set_value}
 use Rattle.moka_list.specs.HashIndex.{HashIndex}

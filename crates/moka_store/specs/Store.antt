@@ -10,7 +10,7 @@ use Rattle.moka_unsync_model.specs.Contents.{Contents, Write, after_moving, entr
 use Rattle.moka_unsync_model.specs.Contents.{without}
 use Rattle.moka_unsync_model.specs.Contents.{write_of, writes_without}
 use Rattle.moka_unsync_model.specs.Insert.{after_arrival, after_update}
-use Rattle.moka_unsync_model.specs.Lookup.{after_using}
+use Rattle.moka_unsync_model.specs.Lookup.{after_using, used_part}
 
 -- the entries in three parts, probation, protected and the window, each in order of use and under the ids of their nodes; the writes in their order, if
 -- they are kept; and how many entries fit with no allocation
@@ -44,6 +44,11 @@ module _ {K V : Type 0} where
     pub keeps : new.keeps_writes ≡ old.keeps_writes
     pub capacity : new.capacity ≡ old.capacity
     pub fewer : length new.nodes ≤ length old.nodes
+
+  -- the entry of the node is of probation, and stays there if it is used
+  abbrev pub StaysInProbation : Store K V → ℕ → ℕ → Type 0
+  StaysInProbation store id room =
+      (e : Entry K V) × (lookup (nat_eq id) store.nodes ≡ Some e) × (e.part ≡ Probation) × (used_part room Probation e.weight ≡ Probation)
 
   -- these ids are those of nodes, and all nodes of this hash are among them
   pub record AreCandidates (store : Store K V) (hash : ℕ) (ids : List ℕ) : Type 0 where

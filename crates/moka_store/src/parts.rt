@@ -1,5 +1,5 @@
 // The three parts of the list of all entries: the first node of each, and their weights; and the order of writing, which is kept if there is a time to live.
-ghost use Rattle.std.specs.Prelude.{◌≡◌, ◌≢◌, ◌<◌, ◌≤◌, ◌+◌, ◌-◌, ◌^◌, IfSome, None, Some, false, length, nat_eq, true};
+ghost use Rattle.std.specs.Prelude.{◌≡◌, ◌≢◌, ◌<◌, ◌≤◌, ◌+◌, ◌-◌, ◌^◌, ◌&&◌, IfSome, None, Some, false, length, nat_eq, nat_le, nat_lt, true};
 ghost use Rattle.moka_list.specs.IdList.{is_listed};
 ghost use Rattle.std.specs.List.{IsDistinct};
 ghost use Rattle.std.specs.Map.{keys_of, lookup, remove_entry, values_of};
@@ -7,6 +7,7 @@ ghost use Rattle.moka_list.specs.Nodes.{IsIn, next_id};
 ghost use Rattle.moka_unsync_model.specs.declared.entry.Entry.{Entry as EntryValue};
 ghost use Rattle.moka_unsync_model.specs.declared.entry.Part.TheVariants.{Probation};
 ghost use Rattle.moka_unsync_model.specs.Contents.{InOrder, is_protected, is_window, protected_of};
+ghost use Rattle.moka_unsync_model.specs.Lookup.{used_part};
 ghost use Rattle.moka_store.specs.Store.{is_of};
 ghost use Rattle.moka_store.specs.Nodes.{AreMarks, Demotes, IsBalanced, behind, latest_node, moved, passed, share, weights_of, with_mark};
 ghost use Rattle.moka_store.specs.Nodes.{write_added, write_last, write_left};
@@ -14,6 +15,7 @@ ghost use Rattle.moka_store.specs.Nodes.{write_added, write_last, write_left};
 use moka_list::chain::{Chain, IdList, NodeId};
 use moka_unsync_model::entry::{Entry, Part};
 use std::alloc::Allocator;
+use std::mem::replace;
 
 /// Tells if two parts are the same.
 #[inline(always)]
@@ -26,6 +28,46 @@ pub(crate) fn is_of(part: Part, other: Part) -> bool
         (Part::Window, Part::Window) => true,
         _ => false,
     }
+}
+
+/// Returns the part of an entry after it was used.
+#[inline(always)]
+pub(crate) fn used_part(room: u64, part: Part, weight: u32) -> Part
+    ensures { result ≡ used_part room part weight }
+{
+    if matches!(part, Part::Window) {
+        return Part::Window;
+    }
+    if may_be_protected(room, weight) {
+        return Part::Protected;
+    }
+    Part::Probation
+}
+
+/// Returns `true` if main has room for a protected entry of this weight.
+#[inline(always)]
+pub(crate) fn may_be_protected(room: u64, weight: u32) -> bool
+    ensures { result ≡ (nat_lt 0 room && nat_le weight room) }
+{
+    0 < room && u64::from(weight) <= room
+}
+
+/// Replaces an entry's value, weight, moments and part, and keeps its key. Returns the other key and the old value.
+#[inline]
+pub(crate) fn rewrite<K: Drop, V: Drop>(
+    entry: &mut Entry<K, V>,
+    part: Part,
+    update: Entry<K, V>,
+) -> (K, V)
+    ensures entry { entry.new ≡ record update { key = entry.old.key; hash = entry.old.hash; part = part } }
+    ensures left { result ≡ (update.key, entry.old.value) }
+{
+    let value = replace(&mut entry.value, update.value);
+    entry.weight = update.weight;
+    entry.part = part;
+    entry.accessed = update.accessed;
+    entry.modified = update.modified;
+    (update.key, value)
 }
 
 /// The first node after probation, and the first of the window.

@@ -1,20 +1,21 @@
 //! The entries of a cache: one list in order of use with its three parts, one in order of writing, and an index by hash. Only this module finds, adds,
 //! changes and removes entries.
-ghost use Rattle.std.specs.Prelude.{◌≡◌, ◌≤◌, ◌<◌, ◌+◌, ◌-◌, ◌^◌, ◌++◌, ◌==◌, ◌&&◌, ℕ, [], length, nat_eq, nat_le, nat_lt};
+ghost use Rattle.std.specs.Prelude.{◌≡◌, ◌≤◌, ◌<◌, ◌+◌, ◌-◌, ◌^◌, ◌++◌, ◌==◌, ◌&&◌, ℕ, [], length, nat_eq};
 ghost use Rattle.std.specs.Prelude.{IfOk, IfSome, IsNone, IsOk, IsSome, None, OnOk, Some, option_map};
 ghost use Rattle.std.specs.List.{IsDistinct};
 ghost use Rattle.std.specs.Map.{keys_of, lookup};
 ghost use Rattle.moka_list.specs.Nodes.{first_id, next_id};
 ghost use Rattle.moka_common.specs.Settings.{keeps_writes};
 ghost use Rattle.moka_unsync_model.specs.Contents.{InOrder, balanced, entry_at, entry_keys, no_contents, total_weight, window_of, writes_without};
-ghost use Rattle.moka_unsync_model.specs.declared.entry.Entry.{Entry as EntryValue};
 ghost use Rattle.moka_unsync_model.specs.declared.entry.Part.TheVariants.{Probation};
-ghost use Rattle.moka_unsync_model.specs.Lookup.{used_part};
 ghost use Rattle.moka_store.specs.Nodes.{start_of};
-ghost use Rattle.moka_store.specs.Store.{AreCandidates, Continues, Enters, HasHash, IsFound, IsFront, IsFrontOf, IsOldest, Promotes, Removes, Replaces, Updates, Uses};
+ghost use Rattle.moka_store.specs.Store.{AreCandidates, Continues, Enters, HasHash, IsFound, IsFront, IsFrontOf, IsOldest, Promotes, Removes, Replaces, StaysInProbation, Updates, Uses};
 ghost use Rattle.moka_store.specs.Store.{contents_of, entries_of, is_of, those_of};
 
-use crate::parts::{Marks, Weights, add_write, attach, balance, is_of, remove_write, write_again};
+use crate::parts::{
+    Marks, Weights, add_write, attach, balance, is_of, may_be_protected, remove_write, rewrite,
+    used_part, write_again,
+};
 use moka_common::error::OutOfMemory;
 use moka_common::policy::Policy;
 use moka_common::time::Instant;
@@ -268,7 +269,7 @@ impl<K: Eq + Drop, V: Drop, A: Allocator + Clone + Drop> Store<K, V, A> {
     /// Does what `touch` does for an entry that stays in probation. No mark stands at it, and its part weighs the same.
     #[inline(always)]
     fn use_in_probation(&mut self, id: NodeId, room: u64, now: Instant)
-        requires stays { (e : EntryValue K V) × (lookup (nat_eq id) self.old.nodes ≡ Some e) × (e.part ≡ Probation) × (used_part room Probation e.weight ≡ Probation) }
+        requires stays { StaysInProbation self.old id room }
         ensures { Uses K.eq self.old id room now self.new }
     {
         let entry = self.entries.get_mut(id);
@@ -386,40 +387,4 @@ impl<K: Eq + Drop, V: Drop, A: Allocator + Clone + Drop> Store<K, V, A> {
         self.index.remove(id.number(), entry.hash);
         entry
     }
-}
-
-/// Returns the part of an entry after it was used.
-#[inline(always)]
-fn used_part(room: u64, part: Part, weight: u32) -> Part
-    ensures { result ≡ used_part room part weight }
-{
-    if matches!(part, Part::Window) {
-        return Part::Window;
-    }
-    if may_be_protected(room, weight) {
-        return Part::Protected;
-    }
-    Part::Probation
-}
-
-/// Returns `true` if main has room for a protected entry of this weight.
-#[inline(always)]
-fn may_be_protected(room: u64, weight: u32) -> bool
-    ensures { result ≡ (nat_lt 0 room && nat_le weight room) }
-{
-    0 < room && u64::from(weight) <= room
-}
-
-/// Replaces an entry's value, weight, moments and part, and keeps its key. Returns the other key and the old value.
-#[inline]
-fn rewrite<K: Drop, V: Drop>(entry: &mut Entry<K, V>, part: Part, update: Entry<K, V>) -> (K, V)
-    ensures entry { entry.new ≡ record update { key = entry.old.key; hash = entry.old.hash; part = part } }
-    ensures left { result ≡ (update.key, entry.old.value) }
-{
-    let value = replace(&mut entry.value, update.value);
-    entry.weight = update.weight;
-    entry.part = part;
-    entry.accessed = update.accessed;
-    entry.modified = update.modified;
-    (update.key, value)
 }

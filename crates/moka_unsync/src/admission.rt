@@ -1,25 +1,22 @@
 // Admission of new entries by TinyLFU, size-aware as in Caffeine. A new entry first enters the window, if there is one; entries that leave the window are
 // the candidates for main.
-ghost use Rattle.std.specs.Prelude.{◌≡◌, ◌<◌, ◌≤◌, ◌-◌, ◌+◌, ◌^◌, ◌++◌, ◌∷◌, ◌⊎◌, [], IfSome, List, None, Some, false, is_some, length, option_map};
-ghost use Rattle.moka_common.specs.Admission.{outvoted};
-ghost use Rattle.moka_common.specs.Prefix.{shortest_prefix};
-ghost use Rattle.moka_common.specs.Sketch.{estimate};
-ghost use Rattle.moka_unsync_model.specs.Contents.{after_moving, entry_at, entry_keys, is_window, main_of, total_weight, window_of, writes_without};
+ghost use Rattle.std.specs.Prelude.{◌≡◌, ◌<◌, ◌≤◌, ◌-◌, ◌+◌, ◌++◌, ◌∷◌, [], IfSome, List, None, Some, false, is_some, length, option_map};
+ghost use Rattle.moka_unsync_model.specs.Contents.{after_moving, entry_at, main_of, total_weight, window_of, writes_without};
 ghost use Rattle.moka_unsync_model.specs.declared.entry.Entry.{Entry as EntryValue};
 ghost use Rattle.moka_unsync_model.specs.declared.entry.Part.TheVariants.{Probation, Window};
 ghost use Rattle.moka_unsync_model.specs.Insert.{after_admission, after_arrival, after_entering, after_entering_judged, after_entry};
 ghost use Rattle.moka_unsync_model.specs.Shares.{main_limit};
 ghost use Rattle.moka_unsync_model.specs.Told.{IsAbove, TellsPut, TellsWhatLeft, unplaced};
 ghost use Rattle.moka_unsync_model.specs.declared.listener.Cause.TheVariants.{Size};
-ghost use Rattle.std.specs.List.{IsDistinct};
 ghost use Rattle.std.specs.List.Sorted.{IsPermutation};
 ghost use Rattle.moka_unsync_model.specs.Cleanup.{least_recent};
 ghost use Rattle.moka_unsync_model.specs.Window.{after_candidate, after_candidates, after_judgements, after_judging, excess, victims_of};
 ghost use Rattle.moka_store.specs.Store.{Continues, IsFrontOf, contents_of, entries_of};
-ghost use Rattle.moka_unsync.specs.Turns.{after_eviction_of, counted};
+ghost use Rattle.moka_unsync.specs.Turns.{after_eviction_of};
 
 use crate::leaving::{evict, leave, main_front};
 use crate::memory::{Memory, remember};
+use crate::victims::{main_limit, victim_count};
 use moka_common::frequency_sketch::FrequencySketch;
 use moka_list::chain::NodeId;
 use moka_store::store::Store;
@@ -57,113 +54,6 @@ pub(crate) fn admit<K: Eq + Drop, V: Drop, A: Allocator + Clone + Drop, L: Liste
     };
     enter_for(store, count, new, listener);
     true
-}
-
-/// Returns the number of LRU entries of main to evict for `new`, or `None` if it is rejected.
-#[inline]
-fn victim_count<K: Eq + Drop, V: Drop, A: Allocator + Clone + Drop>(
-    store: &Store<K, V, A>,
-    limit: Option<u64>,
-    sketch: &FrequencySketch<A>,
-    new: &Entry<K, V>,
-) -> Option<usize>
-    ensures victims { counted (main_of (entries_of store.now)) result ≡ victims_of limit sketch.now new.now (main_of (entries_of store.now)) }
-    ensures above { (result ≡ Some 0) ⊎ IsAbove limit (total_weight (main_of (entries_of store.now)) + new.now.weight) }
-{
-    let Some(limit) = limit else {
-        return Some(0);
-    };
-    if main_weight(store) + u64::from(new.weight) <= limit {
-        return Some(0);
-    }
-    if u64::from(new.weight) > limit {
-        return None;
-    }
-    victims_outweighed_by(store, sketch, new)
-}
-
-/// Returns the total weight of main's entries.
-#[inline(always)]
-pub(crate) fn main_weight<K: Eq + Drop, V: Drop, A: Allocator + Clone + Drop>(
-    store: &Store<K, V, A>,
-) -> u64
-    ensures value { result ≡ total_weight (main_of (entries_of store.now)) }
-    ensures small { result + (2 ^ 32 - 1) < 2 ^ 64 }
-    ensures once { IsDistinct K.eq (entry_keys (entries_of store.now)) }
-{
-    store.weight() - store.window_weight()
-}
-
-/// Returns the number of LRU entries of main to evict for `new`, or `None` if it isn't used more often than all of them together.
-fn victims_outweighed_by<K: Eq + Drop, V: Drop, A: Allocator + Clone + Drop>(
-    store: &Store<K, V, A>,
-    sketch: &FrequencySketch<A>,
-    new: &Entry<K, V>,
-) -> Option<usize>
-    ensures { counted (main_of (entries_of store.now)) result
-        ≡ outvoted (λ e. e.weight) (λ e. estimate sketch.now e.hash) (estimate sketch.now new.now.hash)
-        (shortest_prefix (λ e. e.weight) new.now.weight (main_of (entries_of store.now))) }
-{
-    let candidate = sketch.frequency(new.hash);
-    if candidate == 0 {
-        return None;
-    }
-    if let Some(id) = store.front() {
-        let victim = store.get(id);
-        // Nearly always main's first entry is heavy enough alone.
-        if 0 < new.weight && new.weight <= victim.weight && !is_windowed(victim) {
-            if candidate <= sketch.frequency(victim.hash) {
-                return None;
-            }
-            return Some(1);
-        }
-    }
-    several_outweighed_by(store, sketch, new, candidate)
-}
-
-/// Does what `victims_outweighed_by` does for any number of victims. `candidate` is the new entry's frequency.
-#[cold]
-#[inline(never)]
-fn several_outweighed_by<K: Eq + Drop, V: Drop, A: Allocator + Clone + Drop>(
-    store: &Store<K, V, A>,
-    sketch: &FrequencySketch<A>,
-    new: &Entry<K, V>,
-    candidate: u8,
-) -> Option<usize>
-    requires { candidate ≡ estimate sketch.now new.now.hash }
-    ensures { counted (main_of (entries_of store.now)) result
-        ≡ outvoted (λ e. e.weight) (λ e. estimate sketch.now e.hash) (estimate sketch.now new.now.hash)
-        (shortest_prefix (λ e. e.weight) new.now.weight (main_of (entries_of store.now))) }
-{
-    let mut shortfall = new.weight;
-    let mut victims_frequency = 0;
-    let mut count = 0;
-    let mut entries = store.iter();
-    // The candidate's frequency is at most 15, so few votes are read before they are as many.
-    while victims_frequency < candidate {
-        if shortfall == 0 {
-            return Some(count);
-        }
-        let Some(victim) = entries.next() else {
-            return None;
-        };
-        if is_windowed(victim) {
-            // Main ends here.
-            return None;
-        }
-        victims_frequency += sketch.frequency(victim.hash);
-        shortfall = shortfall.saturating_sub(victim.weight);
-        count += 1;
-    }
-    None
-}
-
-/// Returns `true` if an entry is in the window.
-#[inline(always)]
-pub(crate) fn is_windowed<K: Drop, V: Drop>(entry: &Entry<K, V>) -> bool
-    ensures { result ≡ is_window entry.now.part }
-{
-    matches!(entry.part, Part::Window)
 }
 
 /// Evicts `count` LRU entries of main and stores the new one in the last one's node.
@@ -287,14 +177,6 @@ fn insert_and_drain<K: Eq + Drop, V: Drop, A: Allocator + Clone + Drop, L: Liste
     new.part = Part::Window;
     store.push(new);
     Some(Part::Window)
-}
-
-/// Returns the weight limit of main.
-#[inline(always)]
-pub(crate) fn main_limit(limits: &PartLimits) -> u64
-    ensures { result ≡ main_limit limits.now }
-{
-    limits.all.saturating_sub(limits.window)
 }
 
 /// Returns the weight that has to leave the window once an entry of this weight is in it.

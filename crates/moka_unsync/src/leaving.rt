@@ -9,8 +9,8 @@ ghost use Rattle.moka_unsync_model.specs.declared.listener.Cause.TheVariants.{Si
 ghost use Rattle.moka_store.specs.Store.{Continues, IsFront, Removes, contents_of, entries_of};
 ghost use Rattle.moka_unsync.specs.Turns.{IsTurn, after_eviction_of};
 
-use crate::admission::is_windowed;
 use crate::memory::Memory;
+use crate::victims::is_windowed;
 use moka_list::chain::NodeId;
 use moka_store::store::Store;
 use moka_unsync_model::entry::Entry;

@@ -11,6 +11,7 @@ pub mod notifying_cache;
 mod part_limits;
 mod removal;
 pub mod runs;
+mod victims;
 mod walk;
 
 pub use moka_unsync_model::{constants, entry, history, laws, listener, shares};

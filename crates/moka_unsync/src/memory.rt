@@ -8,8 +8,8 @@ ghost use Rattle.moka_unsync_model.specs.Window.{after_judging};
 ghost use Rattle.moka_unsync.specs.Cached.{beside};
 ghost use Rattle.moka_unsync.specs.Turns.{counted};
 
-use crate::admission::is_windowed;
 use crate::part_limits::{most_extra, slack_of};
+use crate::victims::is_windowed;
 use moka_common::error::OutOfMemory;
 use moka_store::store::Store;
 use moka_unsync_model::constants::{LEAST_TAGS, WORDS_A_TAG};

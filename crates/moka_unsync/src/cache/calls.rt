@@ -41,8 +41,8 @@ impl<
         self.contains_notifying(key, hash, now, &mut NoListener)
     }
 
-    /// Returns `true` if the key has an unexpired entry, as `contains_key` does, by the key's hash: an owner of many caches with one hash state hashes once.
-    /// The listener gets what leaves.
+    /// Returns `true` if the key has an unexpired entry, as `contains_key` does, by the key's hash. The listener gets what leaves. An owner of many caches with
+    /// one hash state hashes once.
     pub fn contains_notifying<L: Listener<K, V>>(
         &mut self,
         key: &K,

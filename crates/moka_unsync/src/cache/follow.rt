@@ -7,10 +7,10 @@ ghost use Rattle.moka_unsync_model.specs.Told.{TellsWhatLeft};
 ghost use Rattle.moka_unsync_model.specs.declared.listener.Cause.TheVariants.{Size};
 ghost use Rattle.moka_unsync.specs.Cached.{after_following, gained_in};
 
-use crate::admission::{main_limit, main_weight};
 use crate::cache::Cache;
 use crate::leaving::give_up;
 use crate::part_limits::limits_of;
+use crate::victims::{main_limit, main_weight};
 use moka_unsync_model::entry::Part;
 use moka_unsync_model::listener::Listener;
 use moka_unsync_model::shares::PartLimits;

@@ -2,7 +2,7 @@ use Rattle.std.proofs.Common.{length}
 use Rattle.moka_common.specs.Sketch.{estimate}
 use Rattle.moka_store.specs.Store.{entries_of}
 use Rattle.moka_unsync.proofs.AdmissionLemmas.{IsMainWalk}
-use Rattle.moka_unsync.proofs.admission.several_outweighed_by.Given as goal
+use Rattle.moka_unsync.proofs.victims.several_outweighed_by.Given as goal
 
 abbrev pub invariant-loop-victims_frequency : goal.invariant-loop-victims_frequency
 invariant-loop-victims_frequency g l =

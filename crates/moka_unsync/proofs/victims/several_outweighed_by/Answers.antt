@@ -4,7 +4,7 @@ use Rattle.moka_common.specs.Sketch.{estimate}
 use Rattle.moka_store.specs.Store.{entries_of}
 use Rattle.moka_unsync.proofs.AdmissionLemmas.{IsMainWalk, main_and_window, main_end, main_next, main_over, main_shorter, main_start, walk_counts, walk_enough, walk_lost}
 use Rattle.moka_unsync.proofs.AdmissionLemmas.{walk_short, walk_step}
-use Rattle.moka_unsync.proofs.admission.several_outweighed_by.Goals as goal
+use Rattle.moka_unsync.proofs.victims.several_outweighed_by.Goals as goal
 
 pub loop-victims_frequency-init : goal.loop-victims_frequency-init
 loop-victims_frequency-init g c =
