@@ -1,0 +1,4 @@
+pub mod EntryLemmas
+mod TurnLemmas
+pub mod StepLemmas
+pub mod LawLemmas

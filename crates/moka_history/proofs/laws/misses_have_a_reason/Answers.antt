@@ -1,0 +1,8 @@
+use Rattle.moka_common.specs.Keys.{keys_by}
+use Rattle.moka_history.proofs.LawLemmas.{misses_have_a_reason}
+use Rattle.moka_history.proofs.laws.misses_have_a_reason.Goals as goal
+
+pub returns : goal.returns
+returns g c weigher settings =
+    misses_have_a_reason (keys_by (record { eq = g.K.PartialEq.eq; hash_input = g.K.Hash.hash_input }) g.S.BuildHasher g.S.Hasher.Hasher)
+    g.met.K.Eq.laws (g.W.WeighShared.weighs weigher) settings

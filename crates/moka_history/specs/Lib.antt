@@ -1,0 +1,4 @@
+pub mod Steps
+pub mod LastWrite
+pub mod Cause
+pub mod Laws
