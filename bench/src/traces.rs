@@ -214,16 +214,18 @@ impl Zipf {
     }
 }
 
-/// Returns a trace that reads through, with keys in a Zipf distribution. It has 100 keys and two calls for each entry of the capacity, and at least two
-/// million calls.
+/// Returns the trace of `zipf_one_percent` with two calls for each entry of the capacity, and at least two million.
 pub fn growing(entries: u64) -> Trace {
+    zipf_one_percent(entries, CALLS.max(2 * entries as usize))
+}
+
+/// Returns a trace that reads through, with a hundred keys in a Zipf distribution for each entry of the capacity.
+pub fn zipf_one_percent(entries: u64, calls: usize) -> Trace {
     let zipf = Zipf::new(100 * entries);
     let mut random = Random(1);
-    let ranks: Vec<u64> = (0..CALLS.max(2 * entries as usize))
-        .map(|_| zipf.next(&mut random))
-        .collect();
+    let ranks: Vec<u64> = (0..calls).map(|_| zipf.next(&mut random)).collect();
     read_through(
-        &format!("Zipf 1%, {entries}"),
+        &format!("{ZIPF_ONE}, {entries}"),
         Settings::with_capacity(entries),
         &ranks,
     )
@@ -313,7 +315,7 @@ pub fn single_calls(entries: u64) -> Vec<Trace> {
 }
 
 /// Returns the traces of `single_calls`, with `calls` calls each.
-fn single_calls_of(entries: u64, calls: usize) -> Vec<Trace> {
+pub fn single_calls_of(entries: u64, calls: usize) -> Vec<Trace> {
     let single = |name: &str, kind: u32, number: &mut dyn FnMut(u64) -> u64, fits_a_map| {
         let filling = (0..entries).map(|number| operation(INSERT, number));
         let counted = (0..calls as u64).map(|call| operation(kind, number(call)));
