@@ -3,8 +3,8 @@
 //! The best possible cache is Belady's, which knows all later calls.
 use mini_moka_bench::caffeine_model::model_hits;
 use mini_moka_bench::further_traces::further_traces;
-use mini_moka_bench::hit_plot::{plot, Panel};
 use mini_moka_bench::hit_traces::{hit_traces, KEYS};
+use mini_moka_bench::panels::{plot, Axes, Panel};
 use mini_moka_bench::port;
 use mini_moka_bench::rust_sides::{lru_cache, original, play, Multiply};
 use mini_moka_bench::table::{print_head, print_row};
@@ -17,7 +17,17 @@ use std::process::{Command, ExitCode, Stdio};
 /// Capacities, in tenths of a percent of the keys.
 const SHARES: [u64; 5] = [1, 5, 10, 50, 100];
 
-const SHARE_NAMES: [&str; 5] = ["0.1%", "0.5%", "1%", "5%", "10%"];
+/// The capacities, and hits in percent.
+const AXES: Axes = Axes {
+    columns: &["0.1%", "0.5%", "1%", "5%", "10%"],
+    heights: &[
+        (0.0, "0"),
+        (25.0, "25"),
+        (50.0, "50"),
+        (75.0, "75"),
+        (100.0, "100"),
+    ],
+};
 
 const SIDES: [(&str, &str); 11] = [
     ("best possible", "#999999"),
@@ -171,7 +181,7 @@ fn main() -> ExitCode {
                 .into_iter()
                 .map(|hits| hits.map(|hits| 100.0 * hits as f64 / keys.len() as f64))
                 .collect();
-            let mut cells = vec![trace.name.to_string(), SHARE_NAMES[index].to_string()];
+            let mut cells = vec![trace.name.to_string(), AXES.columns[index].to_string()];
             for (side, percent) in percents.iter().enumerate() {
                 cells.push(percent.map_or("-".into(), |percent| format!("{percent:.1}")));
                 ratios[side].extend(percent);
@@ -181,11 +191,11 @@ fn main() -> ExitCode {
         if number < count_drawn {
             panels.push(Panel {
                 name: trace.name.into(),
-                ratios,
+                heights: ratios,
             });
         }
     }
-    if let Err(error) = std::fs::write(file, plot(&panels, &SHARE_NAMES, &SIDES)) {
+    if let Err(error) = std::fs::write(file, plot(&panels, &AXES, &SIDES)) {
         eprintln!("{file}: {error}");
         return ExitCode::FAILURE;
     }

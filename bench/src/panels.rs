@@ -1,4 +1,4 @@
-//! Draws hit ratios over capacities as SVG, with a panel for each trace.
+//! Draws lines over columns as SVG, in panels with the same axes.
 
 const COLUMNS: usize = 2;
 const WIDTH: f64 = 400.0;
@@ -10,40 +10,45 @@ const BOTTOM: f64 = 35.0;
 /// Height of a line of the legend.
 const LINE: f64 = 24.0;
 
-/// A trace's name, and its lines: for each side the hit ratios, in percent, at each capacity.
+/// A panel's name, and its lines: for each side the heights at each column, in percent of the panel's.
 pub struct Panel {
     pub name: String,
-    pub ratios: Vec<Vec<f64>>,
+    pub heights: Vec<Vec<f64>>,
+}
+
+/// Labels of the axes: those of the columns, and those at some heights.
+pub struct Axes<'a> {
+    pub columns: &'a [&'a str],
+    pub heights: &'a [(f64, &'a str)],
 }
 
 fn text(x: f64, y: f64, anchor: &str, words: &str) -> String {
     format!("<text x=\"{x:.0}\" y=\"{y:.0}\" text-anchor=\"{anchor}\">{words}</text>\n")
 }
 
-fn panel(panel: &Panel, capacities: &[&str], colours: &[&str], left: f64, top: f64) -> String {
-    let x = |index: usize| {
-        left + LEFT + (WIDTH - LEFT - RIGHT) * index as f64 / (capacities.len() - 1) as f64
-    };
-    let y = |ratio: f64| top + HEIGHT - BOTTOM - (HEIGHT - TOP - BOTTOM) * ratio / 100.0;
+fn panel(panel: &Panel, axes: &Axes, colours: &[&str], left: f64, top: f64) -> String {
+    let last = axes.columns.len() - 1;
+    let x = |index: usize| left + LEFT + (WIDTH - LEFT - RIGHT) * index as f64 / last as f64;
+    let y = |height: f64| top + HEIGHT - BOTTOM - (HEIGHT - TOP - BOTTOM) * height / 100.0;
     let mut out = text(left + LEFT, top + TOP - 12.0, "start", &panel.name);
-    for step in [0.0, 25.0, 50.0, 75.0, 100.0] {
+    for (height, label) in axes.heights {
         out += &format!(
             "<line x1=\"{:.0}\" y1=\"{:.0}\" x2=\"{:.0}\" y2=\"{:.0}\" stroke=\"#ddd\"/>\n",
             x(0),
-            y(step),
-            x(capacities.len() - 1),
-            y(step)
+            y(*height),
+            x(last),
+            y(*height)
         );
-        out += &text(x(0) - 8.0, y(step) + 4.0, "end", &format!("{step:.0}"));
+        out += &text(x(0) - 8.0, y(*height) + 4.0, "end", label);
     }
-    for (index, capacity) in capacities.iter().enumerate() {
-        out += &text(x(index), top + HEIGHT - BOTTOM + 18.0, "middle", capacity);
+    for (index, column) in axes.columns.iter().enumerate() {
+        out += &text(x(index), top + HEIGHT - BOTTOM + 18.0, "middle", column);
     }
-    for (ratios, colour) in panel.ratios.iter().zip(colours) {
-        let points: Vec<String> = ratios
+    for (heights, colour) in panel.heights.iter().zip(colours) {
+        let points: Vec<String> = heights
             .iter()
             .enumerate()
-            .map(|(index, ratio)| format!("{:.1},{:.1}", x(index), y(*ratio)))
+            .map(|(index, height)| format!("{:.1},{:.1}", x(index), y(*height)))
             .collect();
         out += &format!(
             "<polyline points=\"{}\" fill=\"none\" stroke=\"{colour}\" stroke-width=\"2\"/>\n",
@@ -73,7 +78,7 @@ fn legend(sides: &[(&str, &str)], width: f64, top: f64) -> (String, f64) {
 }
 
 /// Draws the panels, two in a row, and a legend. Each side has a name and a colour.
-pub fn plot(panels: &[Panel], capacities: &[&str], sides: &[(&str, &str)]) -> String {
+pub fn plot(panels: &[Panel], axes: &Axes, sides: &[(&str, &str)]) -> String {
     let colours: Vec<&str> = sides.iter().map(|side| side.1).collect();
     let rows = panels.len().div_ceil(COLUMNS) as f64;
     let width = WIDTH * COLUMNS as f64;
@@ -87,7 +92,7 @@ pub fn plot(panels: &[Panel], capacities: &[&str], sides: &[(&str, &str)]) -> St
         let (column, row) = (index % COLUMNS, index / COLUMNS);
         out += &panel(
             each,
-            capacities,
+            axes,
             &colours,
             WIDTH * column as f64,
             HEIGHT * row as f64,
