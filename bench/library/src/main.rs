@@ -11,6 +11,7 @@
 mod callgrind;
 #[path = "../../src/memory.rs"]
 mod memory;
+mod sides;
 #[allow(dead_code)]
 #[path = "../../src/table.rs"]
 mod table;
@@ -18,6 +19,7 @@ mod table;
 #[path = "../../src/traces.rs"]
 mod traces;
 
+use sides::{LruNumbers, OriginalNumbers, PackageNumbers, Side};
 use std::hint::black_box;
 use std::path::{Path, PathBuf};
 use std::process::Command;
@@ -28,26 +30,7 @@ const REPEATS: usize = 5;
 /// Number of calls that instructions are counted for: those of twice as many calls, less those of this many.
 const COUNTED_CALLS: usize = 100_000;
 
-/// A cache that traces are played on.
-trait Side {
-    /// Looks the key up, and reads its value. Returns `true` if it was found.
-    fn get(&mut self, key: u64) -> bool;
-    fn insert(&mut self, key: u64);
-}
-
 type Make = fn(capacity: u64) -> Box<dyn Side>;
-
-struct PackageNumbers(mini_moka_proved::NumberCache);
-
-impl Side for PackageNumbers {
-    fn get(&mut self, key: u64) -> bool {
-        black_box(self.0.get(key)).is_some()
-    }
-
-    fn insert(&mut self, key: u64) {
-        self.0.insert(key, key).expect("memory is available");
-    }
-}
 
 fn package_numbers(capacity: u64) -> Box<dyn Side> {
     let builder = mini_moka_proved::NumberCache::builder().max_capacity(capacity);
@@ -55,33 +38,9 @@ fn package_numbers(capacity: u64) -> Box<dyn Side> {
     Box::new(PackageNumbers(cache))
 }
 
-struct OriginalNumbers(mini_moka::unsync::Cache<u64, u64>);
-
-impl Side for OriginalNumbers {
-    fn get(&mut self, key: u64) -> bool {
-        black_box(self.0.get(&key).copied()).is_some()
-    }
-
-    fn insert(&mut self, key: u64) {
-        self.0.insert(key, key);
-    }
-}
-
 fn original_numbers(capacity: u64) -> Box<dyn Side> {
     let cache = mini_moka::unsync::Cache::new(capacity);
     Box::new(OriginalNumbers(cache))
-}
-
-struct LruNumbers(lru::LruCache<u64, u64>);
-
-impl Side for LruNumbers {
-    fn get(&mut self, key: u64) -> bool {
-        black_box(self.0.get(&key).copied()).is_some()
-    }
-
-    fn insert(&mut self, key: u64) {
-        self.0.put(key, key);
-    }
 }
 
 fn lru_numbers(capacity: u64) -> Box<dyn Side> {
