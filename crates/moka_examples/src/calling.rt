@@ -132,8 +132,8 @@ pub fn forget<
     R: Wait,
 >(rt: &R, session: &mut NotifyingSession<K, V, L, S, W>, key: &K, now: Instant)
     ensures { (call : Transition K V S W) × (call.request ≡ Invalidate key.now now)
-        × (at session.new.session.knows.mine (place_of session.old.session.cache.plan (keys_by K.Hash S.BuildHasher S.Hasher.Hasher) key.now)
-        ≡ (call ∷ []) ∷ at session.old.session.knows.mine (place_of session.old.session.cache.plan (keys_by K.Hash S.BuildHasher S.Hasher.Hasher) key.now))
+        × (at session.new.knows.mine (place_of session.old.cache.plan (keys_by K.Hash S.BuildHasher S.Hasher.Hasher) key.now)
+        ≡ (call ∷ []) ∷ at session.old.knows.mine (place_of session.old.cache.plan (keys_by K.Hash S.BuildHasher S.Hasher.Hasher) key.now))
         × TellsInvalidate L.hears (keys_by K.Hash S.BuildHasher S.Hasher.Hasher) call.before now key.now session.old.listener session.new.listener }
 {
     session.invalidate(rt, key, now);

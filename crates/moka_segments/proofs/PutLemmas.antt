@@ -13,18 +13,23 @@ use Rattle.moka_segments.specs.Put.{TellsGot, put_answer, visit_of}
 use Rattle.moka_segments.specs.Tells.{GetsOrInserts, PutsBehind}
 use Rattle.moka_segments.proofs.CallLemmas.{Befit, call_of, one_call}
 
-module _ {K V S W : Type 0} (keys : Keys K S) (weighs : W → K → V → ℕ → W → Type 0) (rules : Rules K V) (ready : W → Type 0) (plan : Plan S) (i : ℕ) (is_clone : V → V → Type 0) (makes : V → Type 0)
+module _ {K V S W : Type 0} (keys : Keys K S) (weighs : W → K → V → ℕ → W → Type 0) (rules : Rules K V) (ready : W → Type 0) (plan : Plan S) (i : ℕ)
+    (is_clone : V → V → Type 0) (makes : V → Type 0)
     (before : CacheState K V S W) (key : K) (now : ℕ) (between after : CacheState K V S W) where
   module _ (by : ℕ) (place : place_of plan keys key ≡ i) (owns : rules.owns by key) (holds : (value : V) → makes value → rules.holds key value) where
-    got_befits : (found : Option V) (put : Option (V × Bool)) → put ≡ None → Befit keys weighs rules ready plan i by (visit_of before key now found between put after)
-    got_befits found put is = subst (λ p. Befit keys weighs rules ready plan i by (visit_of before key now found between p after)) (sym is) ((place, tt), (tt, tt))
+    got_befits : (found : Option V) (put : Option (V × Bool)) → put ≡ None → Befit keys weighs rules ready plan i by (visit_of before key now found between
+        put after)
+    got_befits found put is = subst (λ p. Befit keys weighs rules ready plan i by (visit_of before key now found between p after)) (sym is)
+        ((place, tt), (tt, tt))
 
     put_befits : (found : Option V) (put : Option (V × Bool)) (value : V) (b : Bool) → makes value → put ≡ Some (value, b)
         → Befit keys weighs rules ready plan i by (visit_of before key now found between put after)
     put_befits found put value b made is =
-        subst (λ p. Befit keys weighs rules ready plan i by (visit_of before key now found between p after)) (sym is) ((place, (place, tt)), ((holds value made, owns), (tt, tt)))
+        subst (λ p. Befit keys weighs rules ready plan i by (visit_of before key now found between p after)) (sym is)
+        ((place, (place, tt)), ((holds value made, owns), (tt, tt)))
 
-    ok_befits : (found : Option V) (put : Option (V × Bool)) (value : V) → (((found ≡ Some value) × (put ≡ None)) ⊎ (makes value × (found ≡ None) × (put ≡ Some (value, true))))
+    ok_befits : (found : Option V) (put : Option (V × Bool)) (value : V) → (((found ≡ Some value) × (put ≡ None))
+        ⊎ (makes value × (found ≡ None) × (put ≡ Some (value, true))))
         → Befit keys weighs rules ready plan i by (visit_of before key now found between put after)
     ok_befits found put value (inl t) = got_befits found put t.1
     ok_befits found put value (inr t) = put_befits found put value true t.0 t.2
@@ -47,23 +52,28 @@ module _ {K V S W : Type 0} (keys : Keys K S) (weighs : W → K → V → ℕ �
     befits found put (Err error) told = err_befits found put told.0 told.1
 
   module _ (v w : Knows K V S W) where
-    got : (found : Option V) (put : Option (V × Bool)) (f : Option V) → found ≡ f → put ≡ None → Visits keys weighs rules plan v i (visit_of before key now found between put after) w
+    got : (found : Option V) (put : Option (V × Bool)) (f : Option V) → found ≡ f → put ≡ None
+        → Visits keys weighs rules plan v i (visit_of before key now found between put after) w
         → Makes keys weighs rules plan v i (Get key now) (Found f) w
     got found put f e none m =
-        one_call keys weighs rules ready plan v w i (call_of before (Get key now) (Found f) after) (Get key now) (Found f) refl refl
-        (subst (λ (z : Option V × Option (V × Bool)). Visits keys weighs rules plan v i (visit_of before key now z.0 between z.1 after) w) (λ j. (e j, none j)) m)
+        one_call keys weighs rules ready plan i v w (call_of before (Get key now) (Found f) after) (Get key now) (Found f) refl refl
+        (subst (λ (z : Option V × Option (V × Bool)). Visits keys weighs rules plan v i (visit_of before key now z.0 between z.1 after) w)
+        (λ j. (e j, none j)) m)
 
     put_behind : (found : Option V) (put : Option (V × Bool)) (value : V) (b : Bool) → found ≡ None → put ≡ Some (value, b)
-        → Visits keys weighs rules plan v i (visit_of before key now found between put after) w → PutsBehind keys weighs rules plan v i key value now (put_answer b) w
+        → Visits keys weighs rules plan v i (visit_of before key now found between put after) w
+        → PutsBehind keys weighs rules plan v i key value now (put_answer b) w
     put_behind found put value b e is m = record {
       get = call_of before (Get key now) (Found None) between;
       insert = call_of between (Insert key value now) (put_answer b) after;
       asked = (refl, refl);
       answered = (refl, refl);
-      made = subst (λ (z : Option V × Option (V × Bool)). Visits keys weighs rules plan v i (visit_of before key now z.0 between z.1 after) w) (λ j. (e j, is j)) m;
+      made = subst (λ (z : Option V × Option (V × Bool)). Visits keys weighs rules plan v i (visit_of before key now z.0 between z.1 after) w)
+          (λ j. (e j, is j)) m;
     }
 
-    ok_tells : (found : Option V) (put : Option (V × Bool)) (value : V) → (((found ≡ Some value) × (put ≡ None)) ⊎ (makes value × (found ≡ None) × (put ≡ Some (value, true))))
+    ok_tells : (found : Option V) (put : Option (V × Bool)) (value : V) → (((found ≡ Some value) × (put ≡ None))
+        ⊎ (makes value × (found ≡ None) × (put ≡ Some (value, true))))
         → Visits keys weighs rules plan v i (visit_of before key now found between put after) w
         → Makes keys weighs rules plan v i (Get key now) (Found (Some value)) w ⊎ (makes value × PutsBehind keys weighs rules plan v i key value now Done w)
     ok_tells found put value (inl t) m = inl (got found put (Some value) t.0 t.1 m)
@@ -85,12 +95,14 @@ module _ {K V S W : Type 0} (keys : Keys K S) (weighs : W → K → V → ℕ �
 
     -- what they tell
     tells : (found : Option V) (put : Option (V × Bool)) (result : Result V InsertError) → TellsGot is_clone makes found put result
-        → Visits keys weighs rules plan v i (visit_of before key now found between put after) w → GetsOrInserts keys weighs rules plan is_clone makes v i key now result w
+        → Visits keys weighs rules plan v i (visit_of before key now found between put after) w
+        → GetsOrInserts keys weighs rules plan is_clone makes v i key now result w
     tells found put (Ok copy) told m = (told.0, told.1, ok_tells found put told.0 told.2 m)
     tells found put (Err error) told m = (told.0, err_tells found put told.0 told.1 m)
 
     -- in the segment of the key
-    pub tells_there : place_of plan keys key ≡ i → (found : Option V) (put : Option (V × Bool)) (result : Result V InsertError) → TellsGot is_clone makes found put result
+    pub tells_there : place_of plan keys key ≡ i → (found : Option V) (put : Option (V × Bool)) (result : Result V InsertError)
+        → TellsGot is_clone makes found put result
         → Visits keys weighs rules plan v i (visit_of before key now found between put after) w
         → GetsOrInserts keys weighs rules plan is_clone makes v (place_of plan keys key) key now result w
     tells_there place found put result told m =

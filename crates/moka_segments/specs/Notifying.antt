@@ -8,15 +8,12 @@ use Rattle.moka_unsync_model.specs.Step.{Answer, Request, ContainsKey, Done, Get
 use Rattle.moka_unsync_model.specs.Told.{TellsWhatLeft}
 use Rattle.moka_unsync_model.specs.ToldCalls.{TellsInsert, TellsInvalidate, TellsLook, TellsRemove}
 use Rattle.moka_segments.specs.Visits.{Lists, at}
+use Rattle.moka_segments.specs.declared.plan.Plan.{Plan}
+use Rattle.moka_segments.specs.Plan.{place_of}
 use Rattle.moka_segments.specs.Builder.{Builder}
-use Rattle.moka_segments.specs.History.{Log, Visit}
+use Rattle.moka_segments.specs.History.{Knows, Log, Visit}
 use Rattle.moka_segments.specs.Put.{put_answer}
-use Rattle.moka_segments.specs.Session.{Cache, Session}
-
--- a session, and its listener as it is by now
-pub record NotifyingSession (K V S W L : Type 0) : Type 0 where
-  pub session : Session K V S W
-  pub listener : L
+use Rattle.moka_segments.specs.Session.{Cache}
 
 -- a cache, and the listener of which each session gets a clone
 pub record NotifyingCache (S L : Type 0) : Type 0 where
@@ -56,6 +53,10 @@ module _ {L K V S W : Type 0} (hears : L → K → V → Cause → L → Type 0)
   abbrev pub TellsLast : Log K V S W → L → L → Type 0
   TellsLast [] before after = ⊥
   TellsLast (visit ∷ earlier) before after = TellsVisit visit.1 before after
+
+  -- the visit that stands last in the history of a key's segment tells
+  pub record TellsAt (plan : Plan S) (key : K) (knows : Knows K V S W) (before after : L) : Type 0 where
+    pub last : TellsLast (at knows.seen (place_of plan keys key)) before after
 
   -- the visits that stand last in the histories of so many segments tell, one segment after another
   abbrev pub TellsEach : Lists (ℕ × Visit K V S W) → ℕ → L → L → Type 0

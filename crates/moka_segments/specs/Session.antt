@@ -10,10 +10,11 @@ pub record Cache (S : Type 0) : Type 0 where
   pub plan : Plan S
   pub id : TableId
 
--- of which cache a session is, and what it knows of it
-pub record Session (K V S W : Type 0) : Type 0 where
+-- of which cache a session is, what it knows of it, and its listener as it is by now
+pub record Session (K V S W L : Type 0) : Type 0 where
   pub cache : Cache S
   pub knows : Knows K V S W
+  pub listener : L
 
 -- of which cache a note is, and of each segment a history that its session had seen
 pub record Note (K V S W : Type 0) : Type 0 where

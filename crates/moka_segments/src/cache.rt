@@ -18,7 +18,7 @@ use crate::rule::{Rule, Unruled};
 use crate::session::Session;
 use crate::shared::Shared;
 use crate::weigher::Weighing;
-use crate::{all, call};
+use crate::{all, call, make};
 use moka_common::error::{InsertError, OutOfMemory};
 use moka_common::hash::FixedState;
 use moka_common::policy::Policy;
@@ -89,11 +89,15 @@ impl<
 > SegmentedCache<K, V, S, W, P> {
     /// Returns a new session, which has seen nothing and made no call.
     pub fn session(&self) -> Result<Session<K, V, S, W, P>, OutOfMemory>
-        ensures { IfOk result (λ session. (seat : ℕ) × (session ≡ record { cache = self.now; knows = newcomer self.now.plan (guest seat) })) }
+        ensures { IfOk result (λ session. (seat : ℕ) × (session.cache ≡ self.now) × (session.knows ≡ newcomer self.now.plan (guest seat))) }
     {
         let shared = Arc::try_clone(&self.shared)?;
         let caller = come(&shared.table.shared);
-        Ok(Session { shared, caller })
+        Ok(Session {
+            shared,
+            caller,
+            listener: NoListener,
+        })
     }
 
     /// Returns the limits of the cache.
@@ -159,7 +163,7 @@ impl<
     {
         let shared = &*self.shared;
         let mut caller = come(&shared.table.shared);
-        call::get_or_insert_with(rt, shared, &mut caller, key, now, make, &mut NoListener)
+        make::get_or_insert_with(rt, shared, &mut caller, key, now, make, &mut NoListener)
     }
 }
 
@@ -184,14 +188,7 @@ impl<
     {
         let shared = &*self.shared;
         let mut caller = come(&shared.table.shared);
-        snapshot(
-            rt,
-            alloc,
-            &shared.table.shared,
-            &mut caller,
-            shared.plan.count,
-            now,
-        )
+        snapshot(rt, alloc, shared, &mut caller, now)
     }
 }
 
@@ -256,13 +253,7 @@ impl<
     {
         let shared = &*self.shared;
         let mut caller = come(&shared.table.shared);
-        all::invalidate_all(
-            rt,
-            &shared.table.shared,
-            &mut caller,
-            shared.plan.count,
-            &mut NoListener,
-        );
+        all::invalidate_all(rt, shared, &mut caller, &mut NoListener);
     }
 
     /// Removes the entries for which the predicate returns `true`, one segment after another. It is called once for each entry, in order of use, and copied
@@ -279,14 +270,7 @@ impl<
     {
         let shared = &*self.shared;
         let mut caller = come(&shared.table.shared);
-        invalidate_entries_if(
-            rt,
-            &shared.table.shared,
-            &mut caller,
-            shared.plan.count,
-            predicate,
-            &mut NoListener,
-        );
+        invalidate_entries_if(rt, shared, &mut caller, predicate, &mut NoListener);
     }
 
     /// Returns the number of entries, counted one segment after another.
@@ -296,7 +280,7 @@ impl<
     {
         let shared = &*self.shared;
         let mut caller = come(&shared.table.shared);
-        all::entry_count(rt, &shared.table.shared, &mut caller, shared.plan.count)
+        all::entry_count(rt, shared, &mut caller)
     }
 
     /// Returns the weight of all entries, summed up one segment after another. Without a weigher each weighs 1.
@@ -306,6 +290,6 @@ impl<
     {
         let shared = &*self.shared;
         let mut caller = come(&shared.table.shared);
-        all::weighted_size(rt, &shared.table.shared, &mut caller, shared.plan.count)
+        all::weighted_size(rt, shared, &mut caller)
     }
 }

@@ -1,28 +1,63 @@
-//! Calls of one key: its hash is taken once, and tells the segment.
-ghost use Rattle.std.specs.Prelude.{◌≡◌};
+//! Calls of one key, each a visit to the key's segment: the key is hashed once, and the call is noted as the lock is given back.
+ghost use Rattle.std.specs.Prelude.{◌≡◌, ◌*◌, [], Option, option_copied, option_map};
 ghost use Rattle.moka_common.specs.Keys.{keys_by};
 ghost use Rattle.moka_unsync_model.specs.Step.{Done, Invalidate};
 ghost use Rattle.moka_segments.specs.Calls.{Makes};
-ghost use Rattle.moka_segments.specs.Notifying.{TellsLast};
+ghost use Rattle.moka_segments.specs.Notifying.{TellsAt};
 ghost use Rattle.moka_segments.specs.Plan.{place_of};
-ghost use Rattle.moka_segments.specs.Tells.{Gets, GetsOrInserts, Inserts, Looks, Peeks, Removes};
-ghost use Rattle.moka_segments.specs.Visits.{IsIdle, at};
+ghost use Rattle.moka_segments.specs.Tells.{Gets, Inserts, Looks, Peeks, Removes, TellsClone};
+ghost use Rattle.moka_segments.specs.Visits.{IsIdle, IsPlace};
 
 use crate::account::Caller;
 use crate::plan::segment_of;
+use crate::row::{leave, lock};
 use crate::rule::Rule;
 use crate::shared::Shared;
-use crate::weigher::{Asks, Weighing};
-use crate::{make, visit};
+use crate::weigher::Weighing;
 use moka_common::error::{InsertError, OutOfMemory};
 use moka_common::time::Instant;
-use moka_unsync_model::history::{
-    contains_as_get, hits_are_current, inserts_enter_or_are_rejected, last_writes_are_inserts,
-    misses_have_a_reason, peeks_are_current, remove_as_get,
-};
 use moka_unsync_model::listener::Listener;
 use std::hash::{BuildHasher, Hash};
+use std::marker::Brand;
+use std::snapshot::Snapshot;
 use std::sync::Wait;
+
+/// Returns the hash of a key, and its segment.
+#[inline]
+pub(crate) fn place_of<
+    K: Eq + Hash + Drop,
+    V: Drop,
+    S: BuildHasher + Drop,
+    W: Weighing<K, V>,
+    P: Rule<K, V>,
+>(shared: &Shared<K, V, S, W, P>, key: &K) -> (u64, usize)
+    ensures hash { result.0 ≡ (keys_by K.Hash S.BuildHasher S.Hasher.Hasher).hash_of shared.now.table.shared.key.hash_state key.now }
+    ensures place { place_of shared.now.table.shared.key (keys_by K.Hash S.BuildHasher S.Hasher.Hasher) key.now ≡ result.1 }
+    ensures inside { IsPlace shared.now.table.shared.table_id result.1 }
+{
+    let hash = shared.plan.hash_state.hash_one(key);
+    (hash, segment_of(hash, shared.plan.count))
+}
+
+/// Clones what was found, and returns a snapshot of it for the proofs.
+#[inline]
+pub(crate) fn looked<V: Clone>(
+    found: Option<&V>,
+) -> (Result<Option<V>, OutOfMemory>, Option<Snapshot<V>>)
+    ensures told { TellsClone V.is_clone (option_copied found.entry) result.0 }
+    ensures seen { option_map (λ s. s.value) result.1 ≡ option_copied found.entry }
+{
+    match found {
+        None => (Ok(None), None),
+        Some(value) => {
+            let seen = Snapshot::of(value);
+            match value.clone() {
+                Ok(copy) => (Ok(Some(copy)), Some(seen)),
+                Err(_) => (Err(OutOfMemory), Some(seen)),
+            }
+        }
+    }
+}
 
 /// Returns a clone of the value of the key's unexpired entry, if there is one, and counts as a use.
 #[inline]
@@ -48,15 +83,18 @@ pub(crate) fn get<
     ensures idle { IsIdle shared.now.table.shared.key me.new.me }
     ensures made { Gets (keys_by K.Hash S.BuildHasher S.Hasher.Hasher) W.weighs P.rules shared.now.table.shared.key V.is_clone me.old.me.0
         key.now now result me.new.me.0 }
-    ensures told { TellsLast L.hears (keys_by K.Hash S.BuildHasher S.Hasher.Hasher) (at me.new.me.0.seen (place_of
-        shared.now.table.shared.key (keys_by K.Hash S.BuildHasher S.Hasher.Hasher) key.now)) listener.old listener.new }
+    ensures told { TellsAt L.hears (keys_by K.Hash S.BuildHasher S.Hasher.Hasher) shared.now.table.shared.key key.now me.new.me.0 listener.old
+        listener.new }
 {
-    hits_are_current::<K, V, S, Asks<W>>();
-    misses_have_a_reason::<K, V, S, Asks<W>>();
-    last_writes_are_inserts::<K, V, S>();
-    let hash = shared.plan.hash_state.hash_one(key);
-    let i = segment_of(hash, shared.plan.count);
-    visit::get(rt, &shared.table.shared, me, i, key, hash, now, listener)
+    let row = &shared.table.shared;
+    let (hash, i) = place_of(shared, key);
+    lock(rt, row, me, i);
+    let cache = me.slot_mut(row, i);
+    let before = Snapshot::of(&*cache);
+    let (found, told) = looked(cache.get_notifying(key, hash, now, listener));
+    let after = Snapshot::of(&*cache);
+    leave::<_, _, _, _, _, Brand>(row, me, i, (before, after, key, now, told));
+    found
 }
 
 /// Returns a clone of the value of the key's unexpired entry, if there is one, without counting as a use.
@@ -82,11 +120,15 @@ pub(crate) fn peek<
     ensures made { Peeks (keys_by K.Hash S.BuildHasher S.Hasher.Hasher) W.weighs P.rules shared.now.table.shared.key V.is_clone me.old.me.0
         key.now now result me.new.me.0 }
 {
-    peeks_are_current::<K, V, S, Asks<W>>();
-    last_writes_are_inserts::<K, V, S>();
-    let hash = shared.plan.hash_state.hash_one(key);
-    let i = segment_of(hash, shared.plan.count);
-    visit::peek(rt, &shared.table.shared, me, i, key, hash, now)
+    let row = &shared.table.shared;
+    let (hash, i) = place_of(shared, key);
+    lock(rt, row, me, i);
+    let cache = me.slot_mut(row, i);
+    let before = Snapshot::of(&*cache);
+    let (found, told) = looked(cache.peek_hashed(key, hash, now));
+    let after = Snapshot::of(&*cache);
+    leave::<_, _, _, _, _, Brand>(row, me, i, (before, after, key, now, told));
+    found
 }
 
 /// Returns `true` if the key has an unexpired entry.
@@ -113,14 +155,18 @@ pub(crate) fn contains_key<
     ensures idle { IsIdle shared.now.table.shared.key me.new.me }
     ensures made { Looks (keys_by K.Hash S.BuildHasher S.Hasher.Hasher) W.weighs P.rules shared.now.table.shared.key me.old.me.0 key.now now
         result me.new.me.0 }
-    ensures told { TellsLast L.hears (keys_by K.Hash S.BuildHasher S.Hasher.Hasher) (at me.new.me.0.seen (place_of
-        shared.now.table.shared.key (keys_by K.Hash S.BuildHasher S.Hasher.Hasher) key.now)) listener.old listener.new }
+    ensures told { TellsAt L.hears (keys_by K.Hash S.BuildHasher S.Hasher.Hasher) shared.now.table.shared.key key.now me.new.me.0 listener.old
+        listener.new }
 {
-    hits_are_current::<K, V, S, Asks<W>>();
-    contains_as_get::<K, V, S, Asks<W>>();
-    let hash = shared.plan.hash_state.hash_one(key);
-    let i = segment_of(hash, shared.plan.count);
-    visit::contains_key(rt, &shared.table.shared, me, i, key, hash, now, listener)
+    let row = &shared.table.shared;
+    let (hash, i) = place_of(shared, key);
+    lock(rt, row, me, i);
+    let cache = me.slot_mut(row, i);
+    let before = Snapshot::of(&*cache);
+    let found = cache.contains_notifying(key, hash, now, listener);
+    let after = Snapshot::of(&*cache);
+    leave::<_, _, _, _, _, Brand>(row, me, i, (before, after, key, now, found));
+    found
 }
 
 /// Puts the value at the key.
@@ -150,23 +196,20 @@ pub(crate) fn insert<
     ensures idle { IsIdle shared.now.table.shared.key me.new.me }
     ensures made { Inserts (keys_by K.Hash S.BuildHasher S.Hasher.Hasher) W.weighs P.rules shared.now.table.shared.key me.old.me.0 key value
         now result me.new.me.0 }
-    ensures told { TellsLast L.hears (keys_by K.Hash S.BuildHasher S.Hasher.Hasher) (at me.new.me.0.seen (place_of
-        shared.now.table.shared.key (keys_by K.Hash S.BuildHasher S.Hasher.Hasher) key)) listener.old listener.new }
+    ensures told { TellsAt L.hears (keys_by K.Hash S.BuildHasher S.Hasher.Hasher) shared.now.table.shared.key key me.new.me.0 listener.old
+        listener.new }
 {
-    inserts_enter_or_are_rejected::<K, V, S, Asks<W>>();
-    let hash = shared.plan.hash_state.hash_one(&key);
-    let i = segment_of(hash, shared.plan.count);
-    visit::insert(
-        rt,
-        &shared.table.shared,
-        me,
-        i,
-        key,
-        hash,
-        value,
-        now,
-        listener,
-    )
+    let row = &shared.table.shared;
+    let (hash, i) = place_of(shared, &key);
+    lock(rt, row, me, i);
+    let cache = me.slot_mut(row, i);
+    let before = Snapshot::of(&*cache);
+    let asked = Snapshot::of(&key);
+    let given = Snapshot::of(&value);
+    let found = cache.insert_notifying(key, hash, value, now, listener);
+    let after = Snapshot::of(&*cache);
+    leave::<_, _, _, _, _, Brand>(row, me, i, (before, after, asked, given, now, found));
+    found
 }
 
 /// Removes the entry of the key.
@@ -194,12 +237,17 @@ pub(crate) fn invalidate<
     ensures idle { IsIdle shared.now.table.shared.key me.new.me }
     ensures made { Makes (keys_by K.Hash S.BuildHasher S.Hasher.Hasher) W.weighs P.rules shared.now.table.shared.key me.old.me.0 (place_of
         shared.now.table.shared.key (keys_by K.Hash S.BuildHasher S.Hasher.Hasher) key.now) (Invalidate key.now now) Done me.new.me.0 }
-    ensures told { TellsLast L.hears (keys_by K.Hash S.BuildHasher S.Hasher.Hasher) (at me.new.me.0.seen (place_of
-        shared.now.table.shared.key (keys_by K.Hash S.BuildHasher S.Hasher.Hasher) key.now)) listener.old listener.new }
+    ensures told { TellsAt L.hears (keys_by K.Hash S.BuildHasher S.Hasher.Hasher) shared.now.table.shared.key key.now me.new.me.0 listener.old
+        listener.new }
 {
-    let hash = shared.plan.hash_state.hash_one(key);
-    let i = segment_of(hash, shared.plan.count);
-    visit::invalidate(rt, &shared.table.shared, me, i, key, hash, now, listener);
+    let row = &shared.table.shared;
+    let (hash, i) = place_of(shared, key);
+    lock(rt, row, me, i);
+    let cache = me.slot_mut(row, i);
+    let before = Snapshot::of(&*cache);
+    cache.invalidate_notifying(key, hash, now, listener);
+    let after = Snapshot::of(&*cache);
+    leave::<_, _, _, _, _, Brand>(row, me, i, (before, after, key, now));
 }
 
 /// Removes the entry of the key, and returns its value, unless it is expired.
@@ -227,61 +275,17 @@ pub(crate) fn remove<
     ensures idle { IsIdle shared.now.table.shared.key me.new.me }
     ensures made { Removes (keys_by K.Hash S.BuildHasher S.Hasher.Hasher) W.weighs P.rules shared.now.table.shared.key me.old.me.0 key.now
         now result me.new.me.0 }
-    ensures told { TellsLast L.hears (keys_by K.Hash S.BuildHasher S.Hasher.Hasher) (at me.new.me.0.seen (place_of
-        shared.now.table.shared.key (keys_by K.Hash S.BuildHasher S.Hasher.Hasher) key.now)) listener.old listener.new }
+    ensures told { TellsAt L.hears (keys_by K.Hash S.BuildHasher S.Hasher.Hasher) shared.now.table.shared.key key.now me.new.me.0 listener.old
+        listener.new }
 {
-    hits_are_current::<K, V, S, Asks<W>>();
-    remove_as_get::<K, V, S, Asks<W>>();
-    last_writes_are_inserts::<K, V, S>();
-    let hash = shared.plan.hash_state.hash_one(key);
-    let i = segment_of(hash, shared.plan.count);
-    visit::remove(rt, &shared.table.shared, me, i, key, hash, now, listener)
-}
-
-/// Returns a clone of the value of the key, or of one that is made and inserted.
-#[inline]
-pub(crate) fn get_or_insert_with<
-    K: Eq + Hash + Drop,
-    V: Clone + Drop,
-    S: BuildHasher + Drop,
-    W: Weighing<K, V>,
-    P: Rule<K, V>,
-    F: FnOnce() -> V,
-    L: Listener<K, V>,
-    R: Wait,
->(
-    rt: &R,
-    shared: &Shared<K, V, S, W, P>,
-    me: &mut Caller<K, V, S, W>,
-    key: K,
-    now: Instant,
-    make: F,
-    listener: &mut L,
-) -> Result<V, InsertError>
-    requires table { me.old.table_id ≡ shared.now.table.shared.table_id }
-    requires idle { IsIdle shared.now.table.shared.key me.old.me }
-    requires make { F.pre make }
-    requires holds { (value : V) → F.post make value → P.rules.holds key value }
-    requires owns { P.rules.owns me.old.me.0.by key }
-    ensures same { me.new.table_id ≡ me.old.table_id }
-    ensures idle { IsIdle shared.now.table.shared.key me.new.me }
-    ensures made { GetsOrInserts (keys_by K.Hash S.BuildHasher S.Hasher.Hasher) W.weighs P.rules shared.now.table.shared.key V.is_clone
-        (F.post make) me.old.me.0
-        (place_of shared.now.table.shared.key (keys_by K.Hash S.BuildHasher S.Hasher.Hasher) key) key now result me.new.me.0 }
-    ensures told { TellsLast L.hears (keys_by K.Hash S.BuildHasher S.Hasher.Hasher) (at me.new.me.0.seen (place_of
-        shared.now.table.shared.key (keys_by K.Hash S.BuildHasher S.Hasher.Hasher) key)) listener.old listener.new }
-{
-    let hash = shared.plan.hash_state.hash_one(&key);
-    let i = segment_of(hash, shared.plan.count);
-    make::get_or_insert_with(
-        rt,
-        &shared.table.shared,
-        me,
-        i,
-        key,
-        hash,
-        now,
-        make,
-        listener,
-    )
+    let row = &shared.table.shared;
+    let (hash, i) = place_of(shared, key);
+    lock(rt, row, me, i);
+    let cache = me.slot_mut(row, i);
+    let before = Snapshot::of(&*cache);
+    let found = cache.remove_notifying(key, hash, now, listener);
+    let told = Snapshot::of(&found);
+    let after = Snapshot::of(&*cache);
+    leave::<_, _, _, _, _, Brand>(row, me, i, (before, after, key, now, told));
+    found
 }

@@ -1,5 +1,5 @@
 //! Invalidation by a predicate, one segment after another.
-ghost use Rattle.std.specs.Prelude.{◌≡◌, ◌≢◌, ◌*◌, ◌≤◌, ◌^◌, ℕ};
+ghost use Rattle.std.specs.Prelude.{◌≡◌, ◌≢◌, ◌*◌, ◌^◌, ℕ};
 ghost use Rattle.moka_common.specs.Keys.{keys_by};
 ghost use Rattle.moka_segments.specs.Calls.{SameIn};
 ghost use Rattle.moka_segments.specs.Notifying.{TellsEach, TellsLast};
@@ -9,6 +9,7 @@ ghost use Rattle.moka_segments.specs.Visits.{IsIdle, IsPlace, at};
 use crate::account::{Caller, Segments};
 use crate::row::{leave, lock};
 use crate::rule::Rule;
+use crate::shared::Shared;
 use crate::weigher::Weighing;
 use moka_unsync_model::listener::Listener;
 use std::hash::{BuildHasher, Hash};
@@ -54,7 +55,7 @@ fn invalidate_entries_if_in<
 }
 
 /// Removes the entries for which the predicate returns `true`, one segment after another.
-pub fn invalidate_entries_if<
+pub(crate) fn invalidate_entries_if<
     K: Eq + Hash + Drop,
     V: Drop,
     S: BuildHasher + Drop,
@@ -65,24 +66,22 @@ pub fn invalidate_entries_if<
     R: Wait,
 >(
     rt: &R,
-    row: &Segments<K, V, S, W, P>,
+    shared: &Shared<K, V, S, W, P>,
     me: &mut Caller<K, V, S, W>,
-    count: usize,
     predicate: F,
     listener: &mut L,
 )
-    requires table { me.old.table_id ≡ row.now.table_id }
-    requires sized { (count ≤ 2 ^ 32) × (row.now.table_id.slots ≡ count) × (row.now.table_id.words ≡ count * 16) }
-    requires idle { IsIdle row.now.key me.old.me }
+    requires table { me.old.table_id ≡ shared.now.table.shared.table_id }
+    requires idle { IsIdle shared.now.table.shared.key me.old.me }
     requires predicate { F.IsAlwaysCallable predicate }
     requires owns { (key : K) → P.rules.owns me.old.me.0.by key }
     ensures same { (me.new.table_id ≡ me.old.table_id) × (me.new.me.0.by ≡ me.old.me.0.by) }
-    ensures idle { IsIdle row.now.key me.new.me }
-    ensures made { InvalidatesAllIf (keys_by K.Hash S.BuildHasher S.Hasher.Hasher) W.weighs P.rules row.now.key F.step predicate me.old.me.0
-        count me.new.me.0 }
-    ensures told { TellsEach L.hears (keys_by K.Hash S.BuildHasher S.Hasher.Hasher) me.new.me.0.seen count listener.old listener.new }
+    ensures idle { IsIdle shared.now.table.shared.key me.new.me }
+    ensures made { InvalidatesAllIf (keys_by K.Hash S.BuildHasher S.Hasher.Hasher) W.weighs P.rules shared.now.table.shared.key F.step predicate me.old.me.0
+        shared.now.plan.count me.new.me.0 }
+    ensures told { TellsEach L.hears (keys_by K.Hash S.BuildHasher S.Hasher.Hasher) me.new.me.0.seen shared.now.plan.count listener.old listener.new }
 {
-    for i in 0..count {
-        invalidate_entries_if_in(rt, row, me, i, predicate, listener);
+    for i in 0..shared.plan.count {
+        invalidate_entries_if_in(rt, &shared.table.shared, me, i, predicate, listener);
     }
 }

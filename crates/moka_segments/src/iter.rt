@@ -1,5 +1,5 @@
 //! Snapshots of a cache: clones of its live pairs.
-ghost use Rattle.std.specs.Prelude.{◌≡◌, ◌*◌, ◌≤◌, ◌^◌, IfOk, List, OnOk};
+ghost use Rattle.std.specs.Prelude.{◌≡◌, ◌*◌, ◌^◌, IfOk, List, OnOk};
 ghost use Rattle.std.specs.List.{AppendsClones};
 ghost use Rattle.moka_common.specs.Keys.{keys_by};
 ghost use Rattle.moka_unsync_model.specs.Step.{Iterate, Pairs};
@@ -10,11 +10,11 @@ ghost use Rattle.moka_segments.specs.Visits.{IsIdle, IsPlace};
 use crate::account::{Caller, Segments};
 use crate::row::{leave, leave_unsaid, lock};
 use crate::rule::Rule;
-use crate::weigher::{Asks, Weighing};
+use crate::shared::Shared;
+use crate::weigher::Weighing;
 use moka_common::error::OutOfMemory;
 use moka_common::time::Instant;
 use moka_unsync::cache::Iter;
-use moka_unsync_model::history::{last_writes_are_inserts, pairs_are_current};
 use std::alloc::{AllocError, Global};
 use std::hash::{BuildHasher, Hash};
 use std::marker::Brand;
@@ -61,11 +61,10 @@ fn add_segment<
     lock(rt, row, me, i);
     let cache = me.slot_mut(row, i);
     let before = Snapshot::of(&*cache);
-    let moment = Snapshot::of(&now);
     match add_clones(pairs, cache.iter(now)) {
         Ok(()) => {
             let after = Snapshot::of(&*cache);
-            leave::<_, _, _, _, _, Brand>(row, me, i, (before, after, moment));
+            leave::<_, _, _, _, _, Brand>(row, me, i, (before, after, now));
             Ok(())
         }
         Err(_) => {
@@ -76,7 +75,7 @@ fn add_segment<
 }
 
 /// Clones the live pairs of all segments, one segment after another.
-pub fn snapshot<
+pub(crate) fn snapshot<
     K: Eq + Hash + Clone + Drop,
     V: Clone + Drop,
     S: BuildHasher + Drop,
@@ -86,24 +85,20 @@ pub fn snapshot<
 >(
     rt: &R,
     alloc: Global,
-    row: &Segments<K, V, S, W, P>,
+    shared: &Shared<K, V, S, W, P>,
     me: &mut Caller<K, V, S, W>,
-    count: usize,
     now: Instant,
 ) -> Result<Vec<(K, V)>, OutOfMemory>
-    requires table { me.old.table_id ≡ row.now.table_id }
-    requires sized { (count ≤ 2 ^ 32) × (row.now.table_id.slots ≡ count) × (row.now.table_id.words ≡ count * 16) }
-    requires idle { IsIdle row.now.key me.old.me }
+    requires table { me.old.table_id ≡ shared.now.table.shared.table_id }
+    requires idle { IsIdle shared.now.table.shared.key me.old.me }
     ensures same { (me.new.table_id ≡ me.old.table_id) × (me.new.me.0.by ≡ me.old.me.0.by) }
-    ensures idle { IsIdle row.now.key me.new.me }
-    ensures made { IfOk result (λ pairs. TellsSnapshot (keys_by K.Hash S.BuildHasher S.Hasher.Hasher) W.weighs P.rules row.now.key K.is_clone
-        V.is_clone me.old.me.0 count now pairs.items me.new.me.0) }
+    ensures idle { IsIdle shared.now.table.shared.key me.new.me }
+    ensures made { IfOk result (λ pairs. TellsSnapshot (keys_by K.Hash S.BuildHasher S.Hasher.Hasher) W.weighs P.rules shared.now.table.shared.key K.is_clone
+        V.is_clone me.old.me.0 shared.now.plan.count now pairs.items me.new.me.0) }
 {
-    pairs_are_current::<K, V, S, Asks<W>>();
-    last_writes_are_inserts::<K, V, S>();
     let mut all = Vec::new(alloc);
-    for i in 0..count {
-        add_segment(rt, &mut all, row, me, i, now)?;
+    for i in 0..shared.plan.count {
+        add_segment(rt, &mut all, &shared.table.shared, me, i, now)?;
     }
     Ok(all)
 }

@@ -2,19 +2,18 @@
 #![tactic(auto)]
 
 pub mod account;
-pub mod all;
+mod all;
 mod assemble;
 pub mod builder;
 pub mod cache;
 mod call;
 pub mod constants;
 pub mod error;
-pub mod invalidate_if;
-pub mod iter;
+mod invalidate_if;
+mod iter;
 mod make;
 pub mod note;
 pub mod notifying_cache;
-pub mod notifying_session;
 pub mod own;
 pub mod owners;
 pub mod plan;
@@ -23,5 +22,5 @@ pub mod rule;
 pub mod seats;
 pub mod session;
 pub mod shared;
-pub mod visit;
+mod visit;
 pub mod weigher;

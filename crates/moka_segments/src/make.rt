@@ -2,16 +2,17 @@
 ghost use Rattle.std.specs.Prelude.{◌≡◌, option_map};
 ghost use Rattle.moka_common.specs.Keys.{keys_by};
 ghost use Rattle.moka_unsync_model.specs.History.{Leads};
-ghost use Rattle.moka_segments.specs.Notifying.{TellsIfPut, TellsLast, TellsVisit};
+ghost use Rattle.moka_segments.specs.Notifying.{TellsAt, TellsIfPut, TellsVisit};
 ghost use Rattle.moka_segments.specs.Plan.{place_of};
 ghost use Rattle.moka_segments.specs.Put.{IsPut, TellsGot, TellsPut, visit_of};
 ghost use Rattle.moka_segments.specs.Tells.{GetsOrInserts};
-ghost use Rattle.moka_segments.specs.Visits.{IsIdle, IsPlace, at};
+ghost use Rattle.moka_segments.specs.Visits.{IsIdle};
 
-use crate::account::{Caller, Segments};
+use crate::account::Caller;
+use crate::call::{looked, place_of};
 use crate::row::{leave, lock};
 use crate::rule::Rule;
-use crate::visit::looked;
+use crate::shared::Shared;
 use crate::weigher::{Asks, Weighing};
 use moka_common::error::InsertError;
 use moka_common::time::Instant;
@@ -108,7 +109,7 @@ fn get_or_put<
 }
 
 /// Returns a clone of the value of a key, or of one that is made and inserted under the lock of the segment.
-pub fn get_or_insert_with<
+pub(crate) fn get_or_insert_with<
     K: Eq + Hash + Drop,
     V: Clone + Drop,
     S: BuildHasher + Drop,
@@ -119,36 +120,34 @@ pub fn get_or_insert_with<
     R: Wait,
 >(
     rt: &R,
-    row: &Segments<K, V, S, W, P>,
+    shared: &Shared<K, V, S, W, P>,
     me: &mut Caller<K, V, S, W>,
-    i: usize,
     key: K,
-    hash: u64,
     now: Instant,
     make: F,
     listener: &mut L,
 ) -> Result<V, InsertError>
-    requires table { (me.old.table_id ≡ row.now.table_id) × IsPlace row.now.table_id i }
-    requires idle { IsIdle row.now.key me.old.me }
-    requires hashed { hash ≡ (keys_by K.Hash S.BuildHasher S.Hasher.Hasher).hash_of row.now.key.hash_state key }
-    requires place { place_of row.now.key (keys_by K.Hash S.BuildHasher S.Hasher.Hasher) key ≡ i }
+    requires table { me.old.table_id ≡ shared.now.table.shared.table_id }
+    requires idle { IsIdle shared.now.table.shared.key me.old.me }
     requires make { F.pre make }
     requires holds { (value : V) → F.post make value → P.rules.holds key value }
     requires owns { P.rules.owns me.old.me.0.by key }
-    ensures same { (me.new.table_id ≡ me.old.table_id) × (me.new.me.0.by ≡ me.old.me.0.by) }
-    ensures idle { IsIdle row.now.key me.new.me }
-    ensures made { GetsOrInserts (keys_by K.Hash S.BuildHasher S.Hasher.Hasher) W.weighs P.rules row.now.key V.is_clone (F.post make) me.old.me.0
-        (place_of row.now.key (keys_by K.Hash S.BuildHasher S.Hasher.Hasher) key) key now result me.new.me.0 }
-    ensures told { TellsLast L.hears (keys_by K.Hash S.BuildHasher S.Hasher.Hasher) (at me.new.me.0.seen (place_of row.now.key
-        (keys_by K.Hash S.BuildHasher S.Hasher.Hasher) key)) listener.old listener.new }
+    ensures same { me.new.table_id ≡ me.old.table_id }
+    ensures idle { IsIdle shared.now.table.shared.key me.new.me }
+    ensures made { GetsOrInserts (keys_by K.Hash S.BuildHasher S.Hasher.Hasher) W.weighs P.rules shared.now.table.shared.key V.is_clone
+        (F.post make) me.old.me.0
+        (place_of shared.now.table.shared.key (keys_by K.Hash S.BuildHasher S.Hasher.Hasher) key) key now result me.new.me.0 }
+    ensures told { TellsAt L.hears (keys_by K.Hash S.BuildHasher S.Hasher.Hasher) shared.now.table.shared.key key me.new.me.0 listener.old
+        listener.new }
 {
+    let row = &shared.table.shared;
+    let (hash, i) = place_of(shared, &key);
     lock(rt, row, me, i);
     let cache = me.slot_mut(row, i);
     let before = Snapshot::of(&*cache);
     let asked = Snapshot::of(&key);
-    let moment = Snapshot::of(&now);
     let (result, noted) = get_or_put(cache, key, hash, now, make, listener);
     let after = Snapshot::of(&*cache);
-    leave::<_, _, _, _, _, Brand>(row, me, i, (before, after, asked, moment, noted));
+    leave::<_, _, _, _, _, Brand>(row, me, i, (before, after, asked, now, noted));
     result
 }

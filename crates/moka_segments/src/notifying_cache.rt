@@ -3,8 +3,8 @@ ghost use Rattle.std.specs.Prelude.{◌≡◌, ℕ, IfOk};
 ghost use Rattle.moka_segments.specs.Visits.{guest, newcomer};
 
 use crate::cache::SegmentedCache;
-use crate::notifying_session::NotifyingSession;
 use crate::rule::{Rule, Unruled};
+use crate::session::NotifyingSession;
 use crate::weigher::Weighing;
 use moka_common::error::OutOfMemory;
 use moka_common::hash::FixedState;
@@ -119,11 +119,7 @@ impl<
 > NotifyingCache<K, V, L, S, W, P> {
     /// Returns a new session, which has seen nothing and made no call, with a clone of the listener.
     pub fn session(&self) -> Result<NotifyingSession<K, V, L, S, W, P>, OutOfMemory>
-        ensures session { IfOk result (λ made. (seat : ℕ) × (made.session ≡ record {
-          cache = self.now.cache;
-          knows = newcomer self.now.cache.plan
-              (guest seat);
-        })) }
+        ensures session { IfOk result (λ made. (seat : ℕ) × (made.cache ≡ self.now.cache) × (made.knows ≡ newcomer self.now.cache.plan (guest seat))) }
         ensures listener { IfOk result (λ made. L.is_clone self.now.listener made.listener) }
     {
         let session = self.cache.session()?;

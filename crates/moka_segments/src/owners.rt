@@ -11,6 +11,7 @@ use crate::weigher::Weighing;
 use moka_common::error::OutOfMemory;
 use moka_common::hash::FixedState;
 use moka_common::weigh::UnitWeight;
+use moka_unsync_model::listener::NoListener;
 use std::hash::{BuildHasher, Hash};
 use std::marker::Model;
 use std::sync::Arc;
@@ -57,12 +58,16 @@ impl<K: Eq + Hash + Drop, V: Drop, S: BuildHasher + Drop, W: Weighing<K, V>, P: 
     /// Returns the session of the next owner, which has seen nothing and made no call.
     pub fn session(&mut self) -> Result<Session<K, V, S, W, P>, OutOfMemory>
         ensures same { self.new.cache ≡ self.old.cache }
-        ensures ok { IfOk result (λ session. (session ≡ record { cache = self.old.cache; knows = newcomer self.old.cache.plan (owner self.old.next) })
-            × (self.new.next ≡ self.old.next + 1)) }
+        ensures ok { IfOk result (λ session. (session.cache ≡ self.old.cache) × (session.knows ≡ newcomer self.old.cache.plan (owner
+            self.old.next)) × (self.new.next ≡ self.old.next + 1)) }
         ensures err { IfErr result (λ error. self.new ≡ self.old) }
     {
         let shared = Arc::try_clone(&self.shared)?;
         let caller = deal(&shared.table.shared, &mut self.dealer);
-        Ok(Session { shared, caller })
+        Ok(Session {
+            shared,
+            caller,
+            listener: NoListener,
+        })
     }
 }

@@ -3,27 +3,28 @@ ghost use Rattle.std.specs.Prelude.{◌≡◌, IfOk};
 ghost use Rattle.moka_common.specs.Keys.{keys_by};
 ghost use Rattle.moka_unsync_model.specs.Step.{Done, EntryCount, Invalidate, InvalidateAll, WeightedSize};
 ghost use Rattle.moka_segments.specs.Calls.{Makes, MakesAll, Sums};
+ghost use Rattle.moka_segments.specs.Kept.{Hears};
+ghost use Rattle.moka_segments.specs.Notifying.{TellsAt, TellsEach};
 ghost use Rattle.moka_segments.specs.Plan.{place_of};
 ghost use Rattle.moka_segments.specs.Tells.{Gets, GetsOrInserts, Inserts, Looks, Peeks, Removes};
 ghost use Rattle.moka_segments.specs.TellsAll.{InvalidatesAllIf, TellsSnapshot};
-ghost use Rattle.moka_segments.specs.Kept.{Hears};
 
-mod notifying;
+mod listener;
 
 use crate::account::Caller;
+use crate::invalidate_if::invalidate_entries_if;
 use crate::iter::snapshot;
 use crate::note::Note;
-use crate::notifying_session::NotifyingSession;
 use crate::rule::{Rule, Unruled};
 use crate::shared::Shared;
 use crate::weigher::Weighing;
-use crate::{all, call, seats as note};
+use crate::{all, call, make, seats as note};
 use moka_common::error::{InsertError, OutOfMemory};
 use moka_common::hash::FixedState;
 use moka_common::policy::Policy;
 use moka_common::time::Instant;
 use moka_common::weigh::UnitWeight;
-use moka_unsync_model::listener::NoListener;
+use moka_unsync_model::listener::{Listener, NoListener};
 use std::alloc::Global;
 use std::hash::{BuildHasher, Hash};
 use std::marker::Model;
@@ -34,6 +35,19 @@ use std::sync::{Arc, Wait};
 /// A clause sees its cache and what it knows: its number, of each segment a history that it has seen, and its own visits there. Each call comes, in the
 /// history, after all that the session had seen, so what is proved of the cache for one thread holds at that place. The calls of a session that learned a note
 /// (`note` and `learn`) come after what that had seen, too.
+///
+/// Its listener gets each entry that leaves in a call of the session: within the call, once, with its cause.
+///
+/// ```
+/// let mut session = cache.session()?.with_listener(Statistics::default());
+/// session.insert(rt, 7, 1, now)?;
+/// session.insert(rt, 7, 2, now)?;
+/// let replaced = session.listener().replaced;
+/// ```
+///
+/// The listener is called under the lock of the entry's segment, so it must not call the cache, which would wait for itself. It doesn't get a value that
+/// `remove` returns, since the caller has it. Nor does it get the key and value of an insert that is refused memory. What leaves in the calls of another
+/// session goes to that one's listener.
 #[derive(Drop)]
 pub struct Session<
     K: Eq + Hash + Drop,
@@ -41,23 +55,42 @@ pub struct Session<
     S: BuildHasher + Drop = FixedState,
     W: Weighing<K, V> = UnitWeight,
     P: Rule<K, V> = Unruled,
+    L: Drop = NoListener,
 > {
     pub(crate) shared: Arc<Shared<K, V, S, W, P>>,
     pub(crate) caller: Caller<K, V, S, W>,
+    pub(crate) listener: L,
 }
 
-impl<K: Eq + Hash + Drop, V: Drop, S: BuildHasher + Drop, W: Weighing<K, V>, P: Rule<K, V>> Model
-    for Session<K, V, S, W, P> {
+/// A session with a listener.
+pub type NotifyingSession<K, V, L, S = FixedState, W = UnitWeight, P = Unruled> = Session<
+    K,
+    V,
+    S,
+    W,
+    P,
+    L,
+>;
+
+impl<
+    K: Eq + Hash + Drop,
+    V: Drop,
+    S: BuildHasher + Drop,
+    W: Weighing<K, V>,
+    P: Rule<K, V>,
+    L: Drop,
+> Model for Session<K, V, S, W, P, L> {
     ghost use Rattle.std.specs.Prelude.{◌≡◌};
     ghost use Rattle.std.specs.Arc.{arc_value};
     ghost use Rattle.moka_segments.specs.Visits.{IsIdle};
     ghost use Rattle.moka_segments.specs.Session.{Session as SessionValue};
 
-    ghost Value = { SessionValue K V S W };
+    ghost Value = { SessionValue K V S W L };
 
     ghost view = { λ s. record {
       cache = record { plan = (arc_value s.shared).table.shared.key; id = (arc_value s.shared).table.shared.table_id };
       knows = s.caller.me.0;
+      listener = s.listener;
     } };
 
     ghost invariant = { λ s. (s.caller.table_id ≡ (arc_value s.shared).table.shared.table_id) × IsIdle (arc_value s.shared).table.shared.key
@@ -70,23 +103,24 @@ impl<
     S: BuildHasher + Drop,
     W: Weighing<K, V>,
     P: Rule<K, V>,
-> Session<K, V, S, W, P> {
+    L: Listener<K, V> + Drop,
+> Session<K, V, S, W, P, L> {
     /// Returns a clone of the value of the key, if it has an unexpired entry, which becomes the most recently used one of its segment.
     pub fn get<R: Wait>(&mut self, rt: &R, key: &K, now: Instant) -> Result<Option<V>, OutOfMemory>
         ensures same { self.new.cache ≡ self.old.cache }
         ensures made { Gets (keys_by K.Hash S.BuildHasher S.Hasher.Hasher) W.weighs P.rules self.old.cache.plan V.is_clone self.old.knows
             key.now now result self.new.knows }
+        ensures told { TellsAt L.hears (keys_by K.Hash S.BuildHasher S.Hasher.Hasher) self.old.cache.plan key.now self.new.knows
+            self.old.listener self.new.listener }
     {
-        self.get_notifying(rt, key, now, &mut NoListener)
-    }
-
-    /// Returns a clone of the value of the key, if it has an unexpired entry. It doesn't count as a use of the key.
-    pub fn peek<R: Wait>(&mut self, rt: &R, key: &K, now: Instant) -> Result<Option<V>, OutOfMemory>
-        ensures same { self.new.cache ≡ self.old.cache }
-        ensures made { Peeks (keys_by K.Hash S.BuildHasher S.Hasher.Hasher) W.weighs P.rules self.old.cache.plan V.is_clone self.old.knows
-            key.now now result self.new.knows }
-    {
-        call::peek(rt, &*self.shared, &mut self.caller, key, now)
+        call::get(
+            rt,
+            &*self.shared,
+            &mut self.caller,
+            key,
+            now,
+            &mut self.listener,
+        )
     }
 
     /// Returns a clone of the value of the key. If the key has no unexpired entry, `make` is called, and its value is inserted, as by `insert`; a clone of it
@@ -108,8 +142,37 @@ impl<
         ensures made { GetsOrInserts (keys_by K.Hash S.BuildHasher S.Hasher.Hasher) W.weighs P.rules self.old.cache.plan V.is_clone (F.post
             make) self.old.knows (place_of self.old.cache.plan (keys_by K.Hash S.BuildHasher S.Hasher.Hasher) key) key now result
             self.new.knows }
+        ensures told { TellsAt L.hears (keys_by K.Hash S.BuildHasher S.Hasher.Hasher) self.old.cache.plan key self.new.knows self.old.listener
+            self.new.listener }
     {
-        self.get_or_insert_notifying(rt, key, now, make, &mut NoListener)
+        make::get_or_insert_with(
+            rt,
+            &*self.shared,
+            &mut self.caller,
+            key,
+            now,
+            make,
+            &mut self.listener,
+        )
+    }
+}
+
+impl<
+    K: Eq + Hash + Drop,
+    V: Clone + Drop,
+    S: BuildHasher + Drop,
+    W: Weighing<K, V>,
+    P: Rule<K, V>,
+    L: Drop,
+> Session<K, V, S, W, P, L> {
+    /// Returns a clone of the value of the key, if it has an unexpired entry. It doesn't count as a use of the key.
+    pub fn peek<R: Wait>(&mut self, rt: &R, key: &K, now: Instant) -> Result<Option<V>, OutOfMemory>
+        ensures same { self.new.cache ≡ self.old.cache }
+        ensures made { Peeks (keys_by K.Hash S.BuildHasher S.Hasher.Hasher) W.weighs P.rules self.old.cache.plan V.is_clone self.old.knows
+            key.now now result self.new.knows }
+        ensures listener { self.new.listener ≡ self.old.listener }
+    {
+        call::peek(rt, &*self.shared, &mut self.caller, key, now)
     }
 }
 
@@ -119,7 +182,8 @@ impl<
     S: BuildHasher + Drop,
     W: Weighing<K, V>,
     P: Rule<K, V>,
-> Session<K, V, S, W, P> {
+    L: Drop,
+> Session<K, V, S, W, P, L> {
     /// Clones the live pairs, one segment after another: those of a segment as they are at one moment, in its order of use. Each key comes once.
     /// If memory is refused for the list or a clone, it returns `OutOfMemory`, and the cache is as it was.
     pub fn iter<R: Wait>(
@@ -131,37 +195,40 @@ impl<
         ensures same { self.new.cache ≡ self.old.cache }
         ensures made { IfOk result (λ pairs. TellsSnapshot (keys_by K.Hash S.BuildHasher S.Hasher.Hasher) W.weighs P.rules self.old.cache.plan
             K.is_clone V.is_clone self.old.knows self.old.cache.plan.count now pairs.items self.new.knows) }
+        ensures listener { self.new.listener ≡ self.old.listener }
     {
-        let shared = &*self.shared;
-        snapshot(
-            rt,
-            alloc,
-            &shared.table.shared,
-            &mut self.caller,
-            shared.plan.count,
-            now,
-        )
+        snapshot(rt, alloc, &*self.shared, &mut self.caller, now)
     }
 }
 
-impl<K: Eq + Hash + Drop, V: Drop, S: BuildHasher + Drop, W: Weighing<K, V>, P: Rule<K, V>> Session<
-    K,
-    V,
-    S,
-    W,
-    P,
-> {
+impl<
+    K: Eq + Hash + Drop,
+    V: Drop,
+    S: BuildHasher + Drop,
+    W: Weighing<K, V>,
+    P: Rule<K, V>,
+    L: Listener<K, V> + Drop,
+> Session<K, V, S, W, P, L> {
     /// Returns `true` if the key has an unexpired entry. It doesn't count as a use of the key.
     pub fn contains_key<R: Wait>(&mut self, rt: &R, key: &K, now: Instant) -> bool
         ensures same { self.new.cache ≡ self.old.cache }
         ensures made { Looks (keys_by K.Hash S.BuildHasher S.Hasher.Hasher) W.weighs P.rules self.old.cache.plan self.old.knows key.now now
             result self.new.knows }
+        ensures told { TellsAt L.hears (keys_by K.Hash S.BuildHasher S.Hasher.Hasher) self.old.cache.plan key.now self.new.knows
+            self.old.listener self.new.listener }
     {
-        self.contains_notifying(rt, key, now, &mut NoListener)
+        call::contains_key(
+            rt,
+            &*self.shared,
+            &mut self.caller,
+            key,
+            now,
+            &mut self.listener,
+        )
     }
 
     /// Puts the value at the key. The admission policy of the segment may reject a new entry, which is `Ok` as well. If memory is refused, the entries are as
-    /// they were.
+    /// they were. If it replaces a value, the listener gets the old value with the new key.
     pub fn insert<R: Wait>(
         &mut self,
         rt: &R,
@@ -174,8 +241,18 @@ impl<K: Eq + Hash + Drop, V: Drop, S: BuildHasher + Drop, W: Weighing<K, V>, P: 
         ensures same { self.new.cache ≡ self.old.cache }
         ensures made { Inserts (keys_by K.Hash S.BuildHasher S.Hasher.Hasher) W.weighs P.rules self.old.cache.plan self.old.knows key value
             now result self.new.knows }
+        ensures told { TellsAt L.hears (keys_by K.Hash S.BuildHasher S.Hasher.Hasher) self.old.cache.plan key self.new.knows self.old.listener
+            self.new.listener }
     {
-        self.insert_notifying(rt, key, value, now, &mut NoListener)
+        call::insert(
+            rt,
+            &*self.shared,
+            &mut self.caller,
+            key,
+            value,
+            now,
+            &mut self.listener,
+        )
     }
 
     /// Removes the entry of the key, if it has one.
@@ -184,18 +261,36 @@ impl<K: Eq + Hash + Drop, V: Drop, S: BuildHasher + Drop, W: Weighing<K, V>, P: 
         ensures same { self.new.cache ≡ self.old.cache }
         ensures made { Makes (keys_by K.Hash S.BuildHasher S.Hasher.Hasher) W.weighs P.rules self.old.cache.plan self.old.knows (place_of
             self.old.cache.plan (keys_by K.Hash S.BuildHasher S.Hasher.Hasher) key.now) (Invalidate key.now now) Done self.new.knows }
+        ensures told { TellsAt L.hears (keys_by K.Hash S.BuildHasher S.Hasher.Hasher) self.old.cache.plan key.now self.new.knows
+            self.old.listener self.new.listener }
     {
-        self.invalidate_notifying(rt, key, now, &mut NoListener);
+        call::invalidate(
+            rt,
+            &*self.shared,
+            &mut self.caller,
+            key,
+            now,
+            &mut self.listener,
+        );
     }
 
-    /// Removes the entry of the key, if it has one, and returns its value, unless it is expired. The value is moved out.
+    /// Removes the entry of the key, if it has one, and returns its value, unless it is expired. The value is moved out, so the listener doesn't get it.
     pub fn remove<R: Wait>(&mut self, rt: &R, key: &K, now: Instant) -> Option<V>
         requires owns { P.rules.owns self.old.knows.by key.now }
         ensures same { self.new.cache ≡ self.old.cache }
         ensures made { Removes (keys_by K.Hash S.BuildHasher S.Hasher.Hasher) W.weighs P.rules self.old.cache.plan self.old.knows key.now
             now result self.new.knows }
+        ensures told { TellsAt L.hears (keys_by K.Hash S.BuildHasher S.Hasher.Hasher) self.old.cache.plan key.now self.new.knows
+            self.old.listener self.new.listener }
     {
-        self.remove_notifying(rt, key, now, &mut NoListener)
+        call::remove(
+            rt,
+            &*self.shared,
+            &mut self.caller,
+            key,
+            now,
+            &mut self.listener,
+        )
     }
 
     /// Removes all entries, one segment after another.
@@ -204,8 +299,10 @@ impl<K: Eq + Hash + Drop, V: Drop, S: BuildHasher + Drop, W: Weighing<K, V>, P: 
         ensures same { self.new.cache ≡ self.old.cache }
         ensures made { MakesAll (keys_by K.Hash S.BuildHasher S.Hasher.Hasher) W.weighs P.rules self.old.cache.plan self.old.knows
             self.old.cache.plan.count (λ _. InvalidateAll) (λ _. Done) self.new.knows }
+        ensures told { TellsEach L.hears (keys_by K.Hash S.BuildHasher S.Hasher.Hasher) self.new.knows.seen self.old.cache.plan.count
+            self.old.listener self.new.listener }
     {
-        self.invalidate_all_notifying(rt, &mut NoListener);
+        all::invalidate_all(rt, &*self.shared, &mut self.caller, &mut self.listener);
     }
 
     /// Removes the entries for which the predicate returns `true`, one segment after another. It is called once for each entry, in order of use, and copied
@@ -220,23 +317,35 @@ impl<K: Eq + Hash + Drop, V: Drop, S: BuildHasher + Drop, W: Weighing<K, V>, P: 
         ensures same { self.new.cache ≡ self.old.cache }
         ensures made { InvalidatesAllIf (keys_by K.Hash S.BuildHasher S.Hasher.Hasher) W.weighs P.rules self.old.cache.plan F.step predicate
             self.old.knows self.old.cache.plan.count self.new.knows }
+        ensures told { TellsEach L.hears (keys_by K.Hash S.BuildHasher S.Hasher.Hasher) self.new.knows.seen self.old.cache.plan.count
+            self.old.listener self.new.listener }
     {
-        self.invalidate_entries_if_notifying(rt, predicate, &mut NoListener);
+        invalidate_entries_if(
+            rt,
+            &*self.shared,
+            &mut self.caller,
+            predicate,
+            &mut self.listener,
+        );
     }
+}
 
+impl<
+    K: Eq + Hash + Drop,
+    V: Drop,
+    S: BuildHasher + Drop,
+    W: Weighing<K, V>,
+    P: Rule<K, V>,
+    L: Drop,
+> Session<K, V, S, W, P, L> {
     /// Returns the number of entries, counted one segment after another.
     pub fn entry_count<R: Wait>(&mut self, rt: &R) -> u64
         ensures same { self.new.cache ≡ self.old.cache }
         ensures made { Sums (keys_by K.Hash S.BuildHasher S.Hasher.Hasher) W.weighs P.rules self.old.cache.plan self.old.knows
             self.old.cache.plan.count EntryCount result self.new.knows }
+        ensures listener { self.new.listener ≡ self.old.listener }
     {
-        let shared = &*self.shared;
-        all::entry_count(
-            rt,
-            &shared.table.shared,
-            &mut self.caller,
-            shared.plan.count,
-        )
+        all::entry_count(rt, &*self.shared, &mut self.caller)
     }
 
     /// Returns the weight of all entries, summed up one segment after another. Without a weigher each weighs 1.
@@ -244,21 +353,9 @@ impl<K: Eq + Hash + Drop, V: Drop, S: BuildHasher + Drop, W: Weighing<K, V>, P: 
         ensures same { self.new.cache ≡ self.old.cache }
         ensures made { Sums (keys_by K.Hash S.BuildHasher S.Hasher.Hasher) W.weighs P.rules self.old.cache.plan self.old.knows
             self.old.cache.plan.count WeightedSize result self.new.knows }
+        ensures listener { self.new.listener ≡ self.old.listener }
     {
-        let shared = &*self.shared;
-        all::weighted_size(
-            rt,
-            &shared.table.shared,
-            &mut self.caller,
-            shared.plan.count,
-        )
-    }
-
-    /// Turns it into a session that gives a listener each entry that leaves in its calls.
-    pub fn with_listener<L: Drop>(self, listener: L) -> NotifyingSession<K, V, L, S, W, P>
-        ensures { result ≡ record { session = self; listener = listener } }
-    {
-        NotifyingSession::new(self, listener)
+        all::weighted_size(rt, &*self.shared, &mut self.caller)
     }
 
     /// Returns the limits of the cache.
@@ -285,6 +382,7 @@ impl<K: Eq + Hash + Drop, V: Drop, S: BuildHasher + Drop, W: Weighing<K, V>, P: 
         requires { note.id ≡ self.old.cache.id }
         ensures same { self.new.cache ≡ self.old.cache }
         ensures told { Hears self.old.knows note.seen self.new.knows }
+        ensures listener { self.new.listener ≡ self.old.listener }
     {
         let shared = &*self.shared;
         note::learn(&shared.table.shared, &mut self.caller, note.teller);

@@ -4,7 +4,7 @@ use moka_common::hash::FixedState;
 use moka_common::time::Instant;
 use moka_segments::cache::SegmentedCache;
 use moka_segments::notifying_cache::NotifyingCache;
-use moka_segments::notifying_session::NotifyingSession;
+use moka_segments::session::NotifyingSession;
 use moka_unsync_model::listener::Statistics;
 use std::alloc::Global;
 use std::sync::Wait;
@@ -98,28 +98,24 @@ fn counts<R: Wait>(rt: &R, cache: &Squares) -> Result<[u64; 4], Fail> {
     ])
 }
 
-/// Returns what calls with a listener beside the session find, and its counts; then those of a session with a listener of its own.
-fn told_beside<R: Wait>(rt: &R, alloc: Global) -> Result<(([Option<u64>; 3], u64), u64), Fail> {
+/// Returns what a session with a listener of its own finds, and its counts; then those of the next listener of the session.
+fn told_in_turn<R: Wait>(rt: &R, alloc: Global) -> Result<(([Option<u64>; 3], u64), u64), Fail> {
     let mut session = SegmentedCache::builder(alloc)
         .max_capacity(4)
         .build()?
-        .session()?;
-    let mut counts = Statistics::default();
-    session.insert_notifying(rt, 1, 4, at(0), &mut counts)?;
-    session.insert_notifying(rt, 1, 5, at(0), &mut counts)?;
+        .session()?
+        .with_listener(Statistics::default());
+    session.insert(rt, 1, 4, at(0))?;
+    session.insert(rt, 1, 5, at(0))?;
     let found = [
-        session.get_notifying(rt, &1, at(0), &mut counts)?,
-        session
-            .get_or_insert_notifying(rt, 1, at(0), || 8, &mut counts)
-            .ok(),
-        session
-            .get_or_insert_notifying(rt, 2, at(0), || 9, &mut counts)
-            .ok(),
+        session.get(rt, &1, at(0))?,
+        session.get_or_insert_with(rt, 1, at(0), || 8).ok(),
+        session.get_or_insert_with(rt, 2, at(0), || 9).ok(),
     ];
-    let mut told = session.with_listener(Statistics::default());
-    told.insert(rt, 2, 7, at(0))?;
-    told.invalidate(rt, &1, at(0));
-    Ok(((found, digits(&counts)), digits(told.listener())))
+    let counts = session.replace_listener(Statistics::default());
+    session.insert(rt, 2, 7, at(0))?;
+    session.invalidate(rt, &1, at(0));
+    Ok(((found, digits(&counts)), digits(session.listener())))
 }
 
 /// Inserts keys, from one on, and returns the number of entries that left for want of room or were not let in.
@@ -182,9 +178,9 @@ fn threads_are_told_of_all_that_leaves(rt: HostRuntime) -> Result<(), Fail> {
 }
 
 #[test]
-fn a_call_tells_a_listener_beside_its_session(rt: HostRuntime) -> Result<(), Fail> {
+fn a_session_tells_its_listeners_in_turn(rt: HostRuntime) -> Result<(), Fail> {
     let wanted = (([Some(5), Some(5), Some(9)], 10), 110);
-    assert_eq!(rt; told_beside(&rt, rt.alloc())?, wanted);
+    assert_eq!(rt; told_in_turn(&rt, rt.alloc())?, wanted);
     Ok(())
 }
 

@@ -11,7 +11,7 @@ returns g c =
     let made = c.invalidate.ensures.made.made in
     let before = c.args.session.now.listener in
     let after = c.invalidate.new.self.listener in
-    let (between, same, tells) = subst (λ log. TellsLast hears keys log before after) made.visit.seen c.invalidate.ensures.told in (
+    let (between, same, tells) = subst (λ log. TellsLast hears keys log before after) made.visit.seen c.invalidate.ensures.told.last in (
       made.call,
       made.asked,
       made.visit.mine,

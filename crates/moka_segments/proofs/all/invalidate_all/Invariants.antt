@@ -1,13 +1,17 @@
 use Rattle.std.proofs.Common.{◌≡◌}
-use Rattle.moka_common.specs.Keys.{keys_by}
+use Rattle.moka_common.specs.Keys.{Keys, keys_by}
 use Rattle.moka_unsync_model.specs.Step.{Done, InvalidateAll}
 use Rattle.moka_segments.specs.Notifying.{TellsEach}
 use Rattle.moka_segments.specs.Visits.{IsIdle}
 use Rattle.moka_segments.specs.Calls.{MakesAll}
+use Rattle.moka_segments.proofs.all.invalidate_all.Given.{Over}
 use Rattle.moka_segments.proofs.all.invalidate_all.Given as goal
+
+abbrev keys_of : (g : Over) → Keys g.row.K.Denot g.row.S.Denot
+keys_of g = keys_by (record { eq = g.K.PartialEq.eq; hash_input = g.K.Hash.hash_input }) g.S.BuildHasher g.S.Hasher.Hasher
 
 abbrev pub invariant-loop-i : goal.invariant-loop-i
 invariant-loop-i g l =
-    (l.me.table_id ≡ l.fn.me.table_id) × (l.me.me.0.by ≡ l.fn.me.me.0.by) × IsIdle l.row.key l.me.me
-    × MakesAll (keys_by (record { eq = g.K.PartialEq.eq; hash_input = g.K.Hash.hash_input }) g.S.BuildHasher g.S.Hasher.Hasher) g.W.Weighing.weighs g.P.Rule.rules l.row.key l.fn.me.me.0 l.i (λ _. InvalidateAll) (λ _. Done) l.me.me.0
-    × TellsEach g.L.Listener.hears (keys_by (record { eq = g.K.PartialEq.eq; hash_input = g.K.Hash.hash_input }) g.S.BuildHasher g.S.Hasher.Hasher) l.me.me.0.seen l.i l.fn.listener l.listener
+    (l.me.table_id ≡ l.fn.me.table_id) × (l.me.me.0.by ≡ l.fn.me.me.0.by) × IsIdle l.shared.table.shared.key l.me.me
+    × MakesAll (keys_of g) g.W.Weighing.weighs g.P.Rule.rules l.shared.table.shared.key l.fn.me.me.0 l.i (λ _. InvalidateAll) (λ _. Done) l.me.me.0
+    × TellsEach g.L.Listener.hears (keys_of g) l.me.me.0.seen l.i l.fn.listener l.listener

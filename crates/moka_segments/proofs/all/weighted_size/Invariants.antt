@@ -1,11 +1,15 @@
 use Rattle.std.proofs.Common.{◌≡◌}
-use Rattle.moka_common.specs.Keys.{keys_by}
+use Rattle.moka_common.specs.Keys.{Keys, keys_by}
 use Rattle.moka_unsync_model.specs.Step.{WeightedSize}
 use Rattle.moka_segments.specs.Visits.{IsIdle}
 use Rattle.moka_segments.specs.Calls.{Sums}
+use Rattle.moka_segments.proofs.all.weighted_size.Given.{Over}
 use Rattle.moka_segments.proofs.all.weighted_size.Given as goal
+
+abbrev keys_of : (g : Over) → Keys g.row.K.Denot g.row.S.Denot
+keys_of g = keys_by (record { eq = g.K.PartialEq.eq; hash_input = g.K.Hash.hash_input }) g.S.BuildHasher g.S.Hasher.Hasher
 
 abbrev pub invariant-loop-i : goal.invariant-loop-i
 invariant-loop-i g l =
-    (l.me.table_id ≡ l.fn.me.table_id) × (l.me.me.0.by ≡ l.fn.me.me.0.by) × IsIdle l.row.key l.me.me
-    × Sums (keys_by (record { eq = g.K.PartialEq.eq; hash_input = g.K.Hash.hash_input }) g.S.BuildHasher g.S.Hasher.Hasher) g.W.Weighing.weighs g.P.Rule.rules l.row.key l.fn.me.me.0 l.i WeightedSize l.sum l.me.me.0
+    (l.me.table_id ≡ l.fn.me.table_id) × (l.me.me.0.by ≡ l.fn.me.me.0.by) × IsIdle l.shared.table.shared.key l.me.me
+    × Sums (keys_of g) g.W.Weighing.weighs g.P.Rule.rules l.shared.table.shared.key l.fn.me.me.0 l.i WeightedSize l.sum l.me.me.0

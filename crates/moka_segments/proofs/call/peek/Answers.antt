@@ -1,16 +1,60 @@
-use Rattle.std.proofs.Common.{◌≡◌, rules}
+use Rattle.std.specs.Prelude.{option_copied, option_map}
+use Rattle.std.proofs.Common.{◌∙◌, ◌∷◌, [], ap, refl}
 use Rattle.moka_common.specs.Keys.{Keys, keys_by}
+use Rattle.moka_unsync_model.specs.Step.{Found, Peek}
+use Rattle.moka_segments.proofs.CallLemmas.{Called, Entered, call_of, enters, first_held, holds_lock, idle_again, its_hash, kept, makes}
 use Rattle.moka_segments.proofs.LawLemmas.{peeks}
-use Rattle.moka_segments.specs.Plan.{place_of}
 use Rattle.moka_segments.proofs.call.peek.Given.{Over}
+use Rattle.moka_segments.proofs.call.peek.Goals.{After-of-after}
 use Rattle.moka_segments.proofs.call.peek.Goals as goal
 
 abbrev keys_of : (g : Over) → Keys g.row.K.Denot g.row.S.Denot
 keys_of g = keys_by (record { eq = g.K.PartialEq.eq; hash_input = g.K.Hash.hash_input }) g.S.BuildHasher g.S.Hasher.Hasher
 
-pub returns-clause-made : goal.returns-clause-made
-returns-clause-made g c =
-    let v = c.args.me.now.me.0 in
-    let w = c.peek.new.me.me.0 in
-    let place : place_of c.args.shared.now.table.shared.key (keys_of g) c.args.key.now ≡ c.segment_of-i.result = search rules in
-    peeks (keys_of g) g.W.Weighing.weighs g.P.Rule.rules c.args.shared.now.table.shared.key g.met.P.Rule.agree c.peeks_are_current.ensures c.last_writes_are_inserts.ensures g.V.Clone.is_clone v w c.segment_of-i.result c.args.key.now c.args.now c.peek.result place c.peek.ensures.made
+pub lock-requires : goal.lock-requires
+lock-requires g c = record { table = (c.requires.table, c.place_of-hash.ensures.inside); idle = c.requires.idle }
+
+pub slot_mut-cache-requires : goal.slot_mut-cache-requires
+slot_mut-cache-requires g c = (c.lock.ensures.same ∙ c.requires.table, first_held c.lock.ensures.got)
+
+pub peek_hashed-requires : goal.peek_hashed-requires
+peek_hashed-requires g c =
+    its_hash c.place_of-hash.result.0 c.args.key.now
+    (enters (keys_of g) g.W.Weighing.weighs g.P.Rule.rules g.W.Weighing.ready c.args.shared.now.table.shared.key c.place_of-hash.result.1
+    c.args.me.now.me c.lock.new.me.me c.slot_mut-cache.result.now c.lock.ensures.got c.requires.idle.3 c.slot_mut-cache.ensures.value)
+    c.place_of-hash.ensures.hash
+
+-- the cache that was found
+its_cache : (g : Over) (c : After-of-after g) → Entered (keys_of g) g.W.Weighing.weighs g.P.Rule.rules g.W.Weighing.ready
+    c.args.shared.now.table.shared.key c.place_of-hash.result.1 c.args.me.now.me.0 c.lock.new.me.me c.slot_mut-cache.result.now
+its_cache g c =
+    enters (keys_of g) g.W.Weighing.weighs g.P.Rule.rules g.W.Weighing.ready c.args.shared.now.table.shared.key c.place_of-hash.result.1
+    c.args.me.now.me c.lock.new.me.me c.slot_mut-cache.result.now c.lock.ensures.got c.requires.idle.3 c.slot_mut-cache.ensures.value
+
+-- what the visit did, and how it is noted
+its_call : (g : Over) (c : After-of-after g) → Called (keys_of g) g.W.Weighing.weighs g.P.Rule.rules g.W.Weighing.ready
+    c.args.shared.now.table.shared.key c.place_of-hash.result.1 c.args.me.now.me.0 c.lock.new.me.me c.slot_mut-cache.result.now c.slot_mut-cache.result.now
+    (call_of c.slot_mut-cache.result.now (Peek c.args.key.now c.args.now) (Found (option_copied c.peek_hashed.result)) c.slot_mut-cache.result.now ∷ [])
+    (call_of c.of-before.result.value (Peek c.args.key.now c.args.now) (Found (option_map (λ s. s.value) c.looked-found.result.1)) c.of-after.result.value ∷ [])
+its_call g c = record {
+  entered = its_cache g c;
+  leads = (refl, (ap Found c.peek_hashed.ensures, refl), refl);
+  befit = ((c.place_of-hash.ensures.place, tt), (tt, tt));
+  can = (its_cache g c).account.1;
+  noted = λ j. call_of (c.of-before.ensures j) (Peek c.args.key.now c.args.now) (Found (c.looked-found.ensures.seen j)) (c.of-after.ensures j) ∷ [];
+}
+
+pub leave-requires : goal.leave-requires
+leave-requires g c =
+    let d = its_call g (goal.at.leave-requires g c).After-of-after in
+    record { table = (c.lock.ensures.same ∙ c.requires.table, c.place_of-hash.ensures.inside); held = holds_lock d c.requires.idle.2; kept = kept d }
+
+pub returns : goal.returns
+returns g c =
+    let d = its_call g (goal.at.returns g c).After-of-after in
+    record {
+      same = c.leave.ensures.same ∙ c.lock.ensures.same;
+      idle = idle_again c.leave.new.me.me d c.requires.idle.2 c.requires.idle.3 c.leave.ensures.left;
+      made = peeks g.met.K.Eq.laws g.met.P.Rule.agree c.place_of-hash.ensures.place
+          c.looked-found.ensures.told (makes c.leave.new.me.me d c.leave.ensures.left);
+    }

@@ -1,23 +1,62 @@
-use Rattle.std.proofs.Common.{◌≡◌, rules, subst, sym}
+use Rattle.std.proofs.Common.{◌∙◌, ◌∷◌, [], ap, refl, subst, sym}
 use Rattle.moka_common.specs.Keys.{Keys, keys_by}
+use Rattle.moka_unsync_model.specs.Step.{Found, Remove}
+use Rattle.moka_segments.proofs.CallLemmas.{Called, Entered, call_of, enters, first_held, holds_lock, idle_again, its_hash, kept, makes}
 use Rattle.moka_segments.proofs.LawLemmas.{removes}
-use Rattle.moka_segments.specs.Notifying.{TellsLast}
-use Rattle.moka_segments.specs.Plan.{place_of}
-use Rattle.moka_segments.specs.Visits.{at}
+use Rattle.moka_segments.proofs.NotifyLemmas.{key_tells}
 use Rattle.moka_segments.proofs.call.remove.Given.{Over}
+use Rattle.moka_segments.proofs.call.remove.Goals.{After-of-after}
 use Rattle.moka_segments.proofs.call.remove.Goals as goal
 
 abbrev keys_of : (g : Over) → Keys g.row.K.Denot g.row.S.Denot
 keys_of g = keys_by (record { eq = g.K.PartialEq.eq; hash_input = g.K.Hash.hash_input }) g.S.BuildHasher g.S.Hasher.Hasher
 
-pub returns-clause-made : goal.returns-clause-made
-returns-clause-made g c =
-    let v = c.args.me.now.me.0 in
-    let w = c.remove.new.me.me.0 in
-    let place : place_of c.args.shared.now.table.shared.key (keys_of g) c.args.key.now ≡ c.segment_of-i.result = search rules in
-    removes (keys_of g) g.W.Weighing.weighs g.P.Rule.rules c.args.shared.now.table.shared.key g.met.P.Rule.agree c.hits_are_current.ensures c.remove_as_get.ensures c.last_writes_are_inserts.ensures v w c.segment_of-i.result c.args.key.now c.args.now c.remove.result place c.remove.ensures.made
+pub lock-requires : goal.lock-requires
+lock-requires g c = record { table = (c.requires.table, c.place_of-hash.ensures.inside); idle = c.requires.idle }
 
-pub returns-clause-told : goal.returns-clause-told
-returns-clause-told g c =
-    let place : place_of c.args.shared.now.table.shared.key (keys_of g) c.args.key.now ≡ c.segment_of-i.result = search rules in
-    subst (λ i. TellsLast g.L.Listener.hears (keys_of g) (at c.remove.new.me.me.0.seen i) c.args.listener.now c.remove.new.listener) (sym place) c.remove.ensures.told
+pub slot_mut-cache-requires : goal.slot_mut-cache-requires
+slot_mut-cache-requires g c = (c.lock.ensures.same ∙ c.requires.table, first_held c.lock.ensures.got)
+
+pub remove_notifying-found-requires : goal.remove_notifying-found-requires
+remove_notifying-found-requires g c =
+    its_hash c.place_of-hash.result.0 c.args.key.now
+    (enters (keys_of g) g.W.Weighing.weighs g.P.Rule.rules g.W.Weighing.ready c.args.shared.now.table.shared.key c.place_of-hash.result.1
+    c.args.me.now.me c.lock.new.me.me c.slot_mut-cache.result.now c.lock.ensures.got c.requires.idle.3 c.slot_mut-cache.ensures.value)
+    c.place_of-hash.ensures.hash
+
+-- the cache that was found
+its_cache : (g : Over) (c : After-of-after g) → Entered (keys_of g) g.W.Weighing.weighs g.P.Rule.rules g.W.Weighing.ready
+    c.args.shared.now.table.shared.key c.place_of-hash.result.1 c.args.me.now.me.0 c.lock.new.me.me c.slot_mut-cache.result.now
+its_cache g c =
+    enters (keys_of g) g.W.Weighing.weighs g.P.Rule.rules g.W.Weighing.ready c.args.shared.now.table.shared.key c.place_of-hash.result.1
+    c.args.me.now.me c.lock.new.me.me c.slot_mut-cache.result.now c.lock.ensures.got c.requires.idle.3 c.slot_mut-cache.ensures.value
+
+-- what the visit did, and how it is noted
+its_call : (g : Over) (c : After-of-after g) → Called (keys_of g) g.W.Weighing.weighs g.P.Rule.rules g.W.Weighing.ready
+    c.args.shared.now.table.shared.key c.place_of-hash.result.1 c.args.me.now.me.0 c.lock.new.me.me c.slot_mut-cache.result.now
+    c.remove_notifying-found.new.self (call_of c.slot_mut-cache.result.now (Remove c.args.key.now c.args.now) (Found c.remove_notifying-found.result)
+    c.remove_notifying-found.new.self ∷ []) (call_of c.of-before.result.value (Remove c.args.key.now c.args.now) (Found c.of-told.result.value)
+    c.of-after.result.value ∷ [])
+its_call g c = record {
+  entered = its_cache g c;
+  leads = (refl, (ap Found c.remove_notifying-found.ensures.value, c.remove_notifying-found.ensures.step), refl);
+  befit = ((c.place_of-hash.ensures.place, tt), (c.requires.owns, tt));
+  can = subst (λ x. g.W.Weighing.ready x.weigher) (sym c.remove_notifying-found.ensures.step) (its_cache g c).account.1;
+  noted = λ j. call_of (c.of-before.ensures j) (Remove c.args.key.now c.args.now) (Found (c.of-told.ensures j)) (c.of-after.ensures j) ∷ [];
+}
+
+pub leave-requires : goal.leave-requires
+leave-requires g c =
+    let d = its_call g (goal.at.leave-requires g c).After-of-after in
+    record { table = (c.lock.ensures.same ∙ c.requires.table, c.place_of-hash.ensures.inside); held = holds_lock d c.requires.idle.2; kept = kept d }
+
+pub returns : goal.returns
+returns g c =
+    let d = its_call g (goal.at.returns g c).After-of-after in
+    record {
+      same = c.leave.ensures.same ∙ c.lock.ensures.same;
+      idle = idle_again c.leave.new.me.me d c.requires.idle.2 c.requires.idle.3 c.leave.ensures.left;
+      made = removes g.met.K.Eq.laws g.met.P.Rule.agree c.place_of-hash.ensures.place (makes c.leave.new.me.me d c.leave.ensures.left);
+      told = key_tells g.L.Listener.hears c.leave.new.me.me c.args.key.now c.args.listener.now c.remove_notifying-found.new.listener
+          c.place_of-hash.ensures.place d c.leave.ensures.left c.remove_notifying-found.ensures.told;
+    }

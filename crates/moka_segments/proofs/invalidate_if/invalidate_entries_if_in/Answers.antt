@@ -1,10 +1,8 @@
-use Rattle.std.proofs.Common.{◌≡◌, ◌∙◌, ◌∷◌, [], ap, refl, subst, sym}
+use Rattle.std.proofs.Common.{◌∙◌, ◌∷◌, [], List, Bool, refl, subst, sym}
 use Rattle.moka_common.specs.Keys.{Keys, keys_by}
-use Rattle.moka_unsync_model.specs.Step.{Done, InvalidateEntriesIf, IsStep}
-use Rattle.atomic_table.specs.Table.{rest}
-use Rattle.moka_segments.specs.History.{IsAccount}
+use Rattle.moka_unsync_model.specs.Step.{Done, InvalidateEntriesIf}
 use Rattle.moka_segments.specs.TellsAll.{leavers}
-use Rattle.moka_segments.proofs.CallLemmas.{call_of, none_behind, same_head, stands, visited}
+use Rattle.moka_segments.proofs.CallLemmas.{Called, Entered, call_of, enters, first_held, holds_lock, idle_again, kept, same_visitor, stands}
 use Rattle.moka_segments.proofs.IfLemmas.{if_step}
 use Rattle.moka_segments.proofs.NotifyLemmas.{call_tells}
 use Rattle.moka_segments.proofs.invalidate_if.invalidate_entries_if_in.Given.{Over}
@@ -14,69 +12,72 @@ use Rattle.moka_segments.proofs.invalidate_if.invalidate_entries_if_in.Goals as 
 abbrev keys_of : (g : Over) → Keys g.row.K.Denot g.row.S.Denot
 keys_of g = keys_by (record { eq = g.K.PartialEq.eq; hash_input = g.K.Hash.hash_input }) g.S.BuildHasher g.S.Hasher.Hasher
 
+pub lock-requires : goal.lock-requires
+lock-requires g c = record { table = c.requires.table; idle = c.requires.idle }
+
 pub slot_mut-cache-requires : goal.slot_mut-cache-requires
-slot_mut-cache-requires g c =
-    let got = c.lock.ensures.got in
-    (c.lock.ensures.same ∙ c.requires.table.0, (got.content, ap (λ m. m.1) got.now ∙ ap (λ l. (c.args.i, got.content) ∷ rest l) (sym (ap (λ m. m.1) got.now))))
+slot_mut-cache-requires g c = (c.lock.ensures.same ∙ c.requires.table.0, first_held c.lock.ensures.got)
 
--- the account that was found
-its_account : (g : Over) (c : After-of-after g) → IsAccount (keys_of g) g.W.Weighing.weighs g.P.Rule.rules g.W.Weighing.ready c.args.row.now.key c.args.i c.lock.ensures.got.log c.slot_mut-cache.result.now
-its_account g c =
-    let got = c.lock.ensures.got in
-    subst (λ x. IsAccount (keys_of g) g.W.Weighing.weighs g.P.Rule.rules g.W.Weighing.ready c.args.row.now.key c.args.i got.log x) (sym (same_head c.args.i c.slot_mut-cache.result.now got.content c.lock.new.me.me.1 c.slot_mut-cache.ensures.value (ap (λ m. m.1) got.now))) (got.kept c.args.row.now.key c.requires.idle.3)
+-- which entries left
+abbrev left_of : (g : Over) (c : After-of-after g) → List Bool
+left_of g c = leavers g.K.PartialEq.eq c.slot_mut-cache.result.now.contents.entries c.invalidate_entries_if_notifying.new.self.contents.entries
 
--- the step that was made
-its_step : (g : Over) (c : After-of-after g) → IsStep (keys_of g) g.W.Weighing.weighs c.slot_mut-cache.result.now (InvalidateEntriesIf (leavers g.K.PartialEq.eq c.slot_mut-cache.result.now.contents.entries c.invalidate_entries_if_notifying.new.self.contents.entries)) Done c.invalidate_entries_if_notifying.new.self
-its_step g c = if_step (keys_of g) g.met.K.Eq.laws g.W.Weighing.weighs c.slot_mut-cache.result.now c.invalidate_entries_if_notifying.new.self c.invalidate_entries_if_notifying.ensures.step.0 c.invalidate_entries_if_notifying.ensures.step.2
+-- the cache that was found
+its_cache : (g : Over) (c : After-of-after g) → Entered (keys_of g) g.W.Weighing.weighs g.P.Rule.rules g.W.Weighing.ready c.args.row.now.key
+    c.args.i c.args.me.now.me.0 c.lock.new.me.me c.slot_mut-cache.result.now
+its_cache g c =
+    enters (keys_of g) g.W.Weighing.weighs g.P.Rule.rules g.W.Weighing.ready c.args.row.now.key c.args.i
+    c.args.me.now.me c.lock.new.me.me c.slot_mut-cache.result.now c.lock.ensures.got c.requires.idle.3 c.slot_mut-cache.ensures.value
 
--- the call, as it is noted
-its_call : (g : Over) (c : After-of-after g)
-    → call_of c.of-before.result.value (InvalidateEntriesIf (leavers g.K.PartialEq.eq c.of-before.result.value.contents.entries c.of-after.result.value.contents.entries)) Done c.of-after.result.value
-    ≡ call_of c.slot_mut-cache.result.now (InvalidateEntriesIf (leavers g.K.PartialEq.eq c.slot_mut-cache.result.now.contents.entries c.invalidate_entries_if_notifying.new.self.contents.entries)) Done c.invalidate_entries_if_notifying.new.self
+-- what the visit did, and how it is noted
+its_call : (g : Over) (c : After-of-after g) → Called (keys_of g) g.W.Weighing.weighs g.P.Rule.rules g.W.Weighing.ready
+    c.args.row.now.key c.args.i c.args.me.now.me.0 c.lock.new.me.me c.slot_mut-cache.result.now c.invalidate_entries_if_notifying.new.self
+    (call_of c.slot_mut-cache.result.now (InvalidateEntriesIf (left_of g c)) Done c.invalidate_entries_if_notifying.new.self ∷ [])
+    (call_of c.of-before.result.value
+    (InvalidateEntriesIf (leavers g.K.PartialEq.eq c.of-before.result.value.contents.entries c.of-after.result.value.contents.entries)) Done
+    c.of-after.result.value ∷ [])
 its_call g c =
-    λ j. call_of (c.of-before.ensures j) (InvalidateEntriesIf (leavers g.K.PartialEq.eq (c.of-before.ensures j).contents.entries (c.of-after.ensures j).contents.entries)) Done (c.of-after.ensures j)
-
-its_ready : (g : Over) (c : After-of-after g) → g.W.Weighing.ready c.invalidate_entries_if_notifying.new.self.weigher
-its_ready g c = subst (λ x. g.W.Weighing.ready x.weigher) (sym c.invalidate_entries_if_notifying.ensures.step.2) (its_account g c).1
-
-pub leave-requires-clause-kept : goal.leave-requires-clause-kept
-leave-requires-clause-kept g c =
-    let d = (goal.at.leave-requires-clause-kept g c).After-of-after in
-    let got = c.lock.ensures.got in (
-      c.invalidate_entries_if_notifying.new.self,
-      none_behind c.args.i got.content c.invalidate_entries_if_notifying.new.self c.lock.new.me.me.1 (ap (λ m. m.1) got.now),
-      visited (keys_of g) g.W.Weighing.weighs g.P.Rule.rules g.W.Weighing.ready c.args.row.now.key c.args.i c.args.me.now.me.0 c.lock.new.me.me.0 got.log c.slot_mut-cache.result.now c.invalidate_entries_if_notifying.new.self _
-          (call_of c.slot_mut-cache.result.now (InvalidateEntriesIf (leavers g.K.PartialEq.eq c.slot_mut-cache.result.now.contents.entries c.invalidate_entries_if_notifying.new.self.contents.entries)) Done c.invalidate_entries_if_notifying.new.self ∷ []) (ap (λ m. m.0) got.now) (its_account g d) (refl, its_step g d, refl) ((tt, tt), (c.requires.owns, tt)) (its_ready g d) (ap (λ k. k ∷ []) (its_call g d)),
-    )
-
-pub returns-clause-made : goal.returns-clause-made
-returns-clause-made g c =
-    let d = (goal.at.returns-clause-made g c).After-of-after in
-    let got = c.lock.ensures.got in
-    let all =
-    (stands (keys_of g) g.W.Weighing.weighs g.P.Rule.rules g.W.Weighing.ready c.args.row.now.key c.args.i c.args.me.now.me.0 c.lock.new.me.me.0 c.leave.new.me.me.0 got.log c.slot_mut-cache.result.now c.invalidate_entries_if_notifying.new.self _
-    (call_of c.slot_mut-cache.result.now (InvalidateEntriesIf (leavers g.K.PartialEq.eq c.slot_mut-cache.result.now.contents.entries c.invalidate_entries_if_notifying.new.self.contents.entries)) Done c.invalidate_entries_if_notifying.new.self ∷ []) (ap (λ m. m.0) got.now) (its_account g d) (refl, its_step g d, refl) ((tt, tt), (c.requires.owns, tt)) (its_ready g d) (ap (λ k. k ∷ []) (its_call g d)) got.saw got.own
-    (ap (λ m. m.0) c.leave.ensures.left)) in
+    let step = c.invalidate_entries_if_notifying.ensures.step in
     record {
-      answers = (leavers g.K.PartialEq.eq c.slot_mut-cache.result.now.contents.entries c.invalidate_entries_if_notifying.new.self.contents.entries);
-      made = record { call = call_of c.slot_mut-cache.result.now (InvalidateEntriesIf (leavers g.K.PartialEq.eq c.slot_mut-cache.result.now.contents.entries c.invalidate_entries_if_notifying.new.self.contents.entries)) Done c.invalidate_entries_if_notifying.new.self; asked = refl; answered = refl; visit = all.made };
-      told = c.invalidate_entries_if_notifying.ensures.step.0;
-      asked = c.invalidate_entries_if_notifying.ensures.step.1;
-      left = c.invalidate_entries_if_notifying.ensures.step.2;
+      entered = its_cache g c;
+      leads = (
+        refl,
+        if_step (keys_of g) g.met.K.Eq.laws g.W.Weighing.weighs c.slot_mut-cache.result.now c.invalidate_entries_if_notifying.new.self step.0 step.2,
+        refl,
+      );
+      befit = ((tt, tt), (c.requires.owns, tt));
+      can = subst (λ x. g.W.Weighing.ready x.weigher) (sym step.2) (its_cache g c).account.1;
+      noted = λ j. call_of (c.of-before.ensures j)
+          (InvalidateEntriesIf (leavers g.K.PartialEq.eq (c.of-before.ensures j).contents.entries (c.of-after.ensures j).contents.entries)) Done
+          (c.of-after.ensures j) ∷ [];
     }
 
-pub returns-clause-others : goal.returns-clause-others
-returns-clause-others g c =
-    let d = (goal.at.returns-clause-others g c).After-of-after in
-    let got = c.lock.ensures.got in
-    let all =
-    (stands (keys_of g) g.W.Weighing.weighs g.P.Rule.rules g.W.Weighing.ready c.args.row.now.key c.args.i c.args.me.now.me.0 c.lock.new.me.me.0 c.leave.new.me.me.0 got.log c.slot_mut-cache.result.now c.invalidate_entries_if_notifying.new.self _
-    (call_of c.slot_mut-cache.result.now (InvalidateEntriesIf (leavers g.K.PartialEq.eq c.slot_mut-cache.result.now.contents.entries c.invalidate_entries_if_notifying.new.self.contents.entries)) Done c.invalidate_entries_if_notifying.new.self ∷ []) (ap (λ m. m.0) got.now) (its_account g d) (refl, its_step g d, refl) ((tt, tt), (c.requires.owns, tt)) (its_ready g d) (ap (λ k. k ∷ []) (its_call g d)) got.saw got.own
-    (ap (λ m. m.0) c.leave.ensures.left)) in
-    all.others
+pub leave-requires : goal.leave-requires
+leave-requires g c =
+    let d = its_call g (goal.at.leave-requires g c).After-of-after in
+    record { table = (c.lock.ensures.same ∙ c.requires.table.0, c.requires.table.1); held = holds_lock d c.requires.idle.2; kept = kept d }
 
-pub returns-clause-told : goal.returns-clause-told
-returns-clause-told g c =
-    let d = (goal.at.returns-clause-told g c).After-of-after in
-    call_tells g.L.Listener.hears (keys_of g) c.args.i c.lock.new.me.me.0 c.leave.new.me.me.0 _ (call_of c.slot_mut-cache.result.now (InvalidateEntriesIf (leavers g.K.PartialEq.eq c.slot_mut-cache.result.now.contents.entries c.invalidate_entries_if_notifying.new.self.contents.entries)) Done c.invalidate_entries_if_notifying.new.self)
-    c.args.listener.now c.invalidate_entries_if_notifying.new.listener (ap (λ m. m.0) c.leave.ensures.left) (ap (λ k. k ∷ []) (its_call g d)) c.invalidate_entries_if_notifying.ensures.told
+pub returns : goal.returns
+returns g c =
+    let e = (goal.at.returns g c).After-of-after in
+    let d = its_call g e in
+    let all = stands c.leave.new.me.me d c.leave.ensures.left in
+    record {
+      same = (c.leave.ensures.same ∙ c.lock.ensures.same, same_visitor c.leave.new.me.me d c.leave.ensures.left);
+      idle = idle_again c.leave.new.me.me d c.requires.idle.2 c.requires.idle.3 c.leave.ensures.left;
+      made = record {
+        answers = left_of g e;
+        made = record {
+          call = call_of c.slot_mut-cache.result.now (InvalidateEntriesIf (left_of g e)) Done c.invalidate_entries_if_notifying.new.self;
+          asked = refl;
+          answered = refl;
+          visit = all.made;
+        };
+        told = c.invalidate_entries_if_notifying.ensures.step.0;
+        asked = c.invalidate_entries_if_notifying.ensures.step.1;
+        left = c.invalidate_entries_if_notifying.ensures.step.2;
+      };
+      others = all.others;
+      told = call_tells g.L.Listener.hears c.leave.new.me.me c.args.listener.now c.invalidate_entries_if_notifying.new.listener d
+          c.leave.ensures.left c.invalidate_entries_if_notifying.ensures.told;
+    }

@@ -1,8 +1,9 @@
 use Rattle.std.proofs.Common.{[], ◌∷◌, Some}
 use Rattle.moka_unsync_model.specs.Step.{EntryCount, Number}
+use Rattle.moka_segments.proofs.CallLemmas.{call_of}
 use Rattle.moka_segments.proofs.visit.entry_count.Given as goal
 
 abbrev pub ghosts-leave : goal.ghosts-leave
 ghosts-leave g a = record {
-  entry = Some (record { before = a._about.0.value; request = EntryCount; answer = Number a._about.2.value; after = a._about.1.value } ∷ []);
+  entry = Some (call_of a._about.0.value EntryCount (Number a._about.2) a._about.1.value ∷ []);
 }

@@ -1,9 +1,7 @@
-use Rattle.std.proofs.Common.{◌≡◌, ◌∙◌, ◌∷◌, [], ap, refl, subst, sym}
+use Rattle.std.proofs.Common.{◌∙◌, ◌∷◌, [], ap, refl}
 use Rattle.moka_common.specs.Keys.{Keys, keys_by}
-use Rattle.moka_unsync_model.specs.Step.{IsStep, Number, WeightedSize}
-use Rattle.atomic_table.specs.Table.{rest}
-use Rattle.moka_segments.specs.History.{IsAccount}
-use Rattle.moka_segments.proofs.CallLemmas.{call_of, none_behind, one_call, same_head, stands, visited}
+use Rattle.moka_unsync_model.specs.Step.{Number, WeightedSize}
+use Rattle.moka_segments.proofs.CallLemmas.{Called, Entered, call_of, enters, first_held, holds_lock, idle_again, kept, makes, same_visitor}
 use Rattle.moka_segments.proofs.visit.weighted_size.Given.{Over}
 use Rattle.moka_segments.proofs.visit.weighted_size.Goals.{After-of-after}
 use Rattle.moka_segments.proofs.visit.weighted_size.Goals as goal
@@ -11,45 +9,42 @@ use Rattle.moka_segments.proofs.visit.weighted_size.Goals as goal
 abbrev keys_of : (g : Over) → Keys g.row.K.Denot g.row.S.Denot
 keys_of g = keys_by (record { eq = g.K.PartialEq.eq; hash_input = g.K.Hash.hash_input }) g.S.BuildHasher g.S.Hasher.Hasher
 
+pub lock-requires : goal.lock-requires
+lock-requires g c = record { table = c.requires.table; idle = c.requires.idle }
+
 pub slot_mut-cache-requires : goal.slot_mut-cache-requires
-slot_mut-cache-requires g c =
-    let got = c.lock.ensures.got in
-    (c.lock.ensures.same ∙ c.requires.table.0, (got.content, ap (λ m. m.1) got.now ∙ ap (λ l. (c.args.i, got.content) ∷ rest l) (sym (ap (λ m. m.1) got.now))))
+slot_mut-cache-requires g c = (c.lock.ensures.same ∙ c.requires.table.0, first_held c.lock.ensures.got)
 
--- the account that was found
-its_account : (g : Over) (c : After-of-after g) → IsAccount (keys_of g) g.W.Weighing.weighs g.P.Rule.rules g.W.Weighing.ready c.args.row.now.key c.args.i c.lock.ensures.got.log c.slot_mut-cache.result.now
-its_account g c =
-    let got = c.lock.ensures.got in
-    subst (λ x. IsAccount (keys_of g) g.W.Weighing.weighs g.P.Rule.rules g.W.Weighing.ready c.args.row.now.key c.args.i got.log x) (sym (same_head c.args.i c.slot_mut-cache.result.now got.content c.lock.new.me.me.1 c.slot_mut-cache.ensures.value (ap (λ m. m.1) got.now))) (got.kept c.args.row.now.key c.requires.idle.3)
+-- the cache that was found
+its_cache : (g : Over) (c : After-of-after g) → Entered (keys_of g) g.W.Weighing.weighs g.P.Rule.rules g.W.Weighing.ready c.args.row.now.key
+    c.args.i c.args.me.now.me.0 c.lock.new.me.me c.slot_mut-cache.result.now
+its_cache g c =
+    enters (keys_of g) g.W.Weighing.weighs g.P.Rule.rules g.W.Weighing.ready c.args.row.now.key c.args.i
+    c.args.me.now.me c.lock.new.me.me c.slot_mut-cache.result.now c.lock.ensures.got c.requires.idle.3 c.slot_mut-cache.ensures.value
 
--- the step that was made
-its_step : (g : Over) (c : After-of-after g) → IsStep (keys_of g) g.W.Weighing.weighs c.slot_mut-cache.result.now WeightedSize (Number c.weighted_size-found.result) c.slot_mut-cache.result.now
-its_step g c = (ap Number c.weighted_size-found.ensures, refl)
+-- what the visit did, and how it is noted
+its_call : (g : Over) (c : After-of-after g) → Called (keys_of g) g.W.Weighing.weighs g.P.Rule.rules g.W.Weighing.ready
+    c.args.row.now.key c.args.i c.args.me.now.me.0 c.lock.new.me.me c.slot_mut-cache.result.now c.slot_mut-cache.result.now
+    (call_of c.slot_mut-cache.result.now WeightedSize (Number c.weighted_size-found.result) c.slot_mut-cache.result.now ∷ [])
+    (call_of c.of-before.result.value WeightedSize (Number c.weighted_size-found.result) c.of-after.result.value ∷ [])
+its_call g c = record {
+  entered = its_cache g c;
+  leads = (refl, (ap Number c.weighted_size-found.ensures, refl), refl);
+  befit = ((tt, tt), (tt, tt));
+  can = (its_cache g c).account.1;
+  noted = λ j. call_of (c.of-before.ensures j) WeightedSize (Number c.weighted_size-found.result) (c.of-after.ensures j) ∷ [];
+}
 
--- the call, as it is noted
-its_call : (g : Over) (c : After-of-after g)
-    → call_of c.of-before.result.value WeightedSize (Number c.of-told.result.value) c.of-after.result.value
-    ≡ call_of c.slot_mut-cache.result.now WeightedSize (Number c.weighted_size-found.result) c.slot_mut-cache.result.now
-its_call g c = λ j. call_of (c.of-before.ensures j) WeightedSize (Number (c.of-told.ensures j)) (c.of-after.ensures j)
+pub leave-requires : goal.leave-requires
+leave-requires g c =
+    let d = its_call g (goal.at.leave-requires g c).After-of-after in
+    record { table = (c.lock.ensures.same ∙ c.requires.table.0, c.requires.table.1); held = holds_lock d c.requires.idle.2; kept = kept d }
 
-its_ready : (g : Over) (c : After-of-after g) → g.W.Weighing.ready c.slot_mut-cache.result.now.weigher
-its_ready g c = (its_account g c).1
-
-pub leave-requires-clause-kept : goal.leave-requires-clause-kept
-leave-requires-clause-kept g c =
-    let d = (goal.at.leave-requires-clause-kept g c).After-of-after in
-    let got = c.lock.ensures.got in (
-      c.slot_mut-cache.result.now,
-      none_behind c.args.i got.content c.slot_mut-cache.result.now c.lock.new.me.me.1 (ap (λ m. m.1) got.now),
-      visited (keys_of g) g.W.Weighing.weighs g.P.Rule.rules g.W.Weighing.ready c.args.row.now.key c.args.i c.args.me.now.me.0 c.lock.new.me.me.0 got.log c.slot_mut-cache.result.now c.slot_mut-cache.result.now _
-          (call_of c.slot_mut-cache.result.now WeightedSize (Number c.weighted_size-found.result) c.slot_mut-cache.result.now ∷ []) (ap (λ m. m.0) got.now) (its_account g d) (refl, its_step g d, refl) ((tt, tt), (tt, tt)) (its_ready g d) (ap (λ k. k ∷ []) (its_call g d)),
-    )
-
-pub returns-clause-made : goal.returns-clause-made
-returns-clause-made g c =
-    let d = (goal.at.returns-clause-made g c).After-of-after in
-    let got = c.lock.ensures.got in
-    one_call (keys_of g) g.W.Weighing.weighs g.P.Rule.rules g.W.Weighing.ready c.args.row.now.key c.args.me.now.me.0 c.leave.new.me.me.0 c.args.i (call_of c.slot_mut-cache.result.now WeightedSize (Number c.weighted_size-found.result) c.slot_mut-cache.result.now) WeightedSize (Number c.weighted_size-found.result) refl refl
-    (stands (keys_of g) g.W.Weighing.weighs g.P.Rule.rules g.W.Weighing.ready c.args.row.now.key c.args.i c.args.me.now.me.0 c.lock.new.me.me.0 c.leave.new.me.me.0 got.log c.slot_mut-cache.result.now c.slot_mut-cache.result.now _
-    (call_of c.slot_mut-cache.result.now WeightedSize (Number c.weighted_size-found.result) c.slot_mut-cache.result.now ∷ []) (ap (λ m. m.0) got.now) (its_account g d) (refl, its_step g d, refl) ((tt, tt), (tt, tt)) (its_ready g d) (ap (λ k. k ∷ []) (its_call g d)) got.saw got.own
-    (ap (λ m. m.0) c.leave.ensures.left))
+pub returns : goal.returns
+returns g c =
+    let d = its_call g (goal.at.returns g c).After-of-after in
+    record {
+      same = (c.leave.ensures.same ∙ c.lock.ensures.same, same_visitor c.leave.new.me.me d c.leave.ensures.left);
+      idle = idle_again c.leave.new.me.me d c.requires.idle.2 c.requires.idle.3 c.leave.ensures.left;
+      made = makes c.leave.new.me.me d c.leave.ensures.left;
+    }
