@@ -8,4 +8,4 @@ pub use Rattle.moka_segments.specs.Tells
 pub use Rattle.moka_segments.specs.TellsAll
 pub use Rattle.moka_segments.specs.Notifying
 pub use Rattle.moka_segments.specs.Session
-pub use Rattle.moka_segments.specs.Visits
+pub use Rattle.moka_row.specs.Visits

@@ -6,8 +6,8 @@ use Rattle.std.proofs.Math.Seq.{get_or-append_seam}
 use Rattle.std.proofs.lemmas.List.{append-nil, length-append}
 use Rattle.moka_common.specs.Keys.{Keys}
 use Rattle.moka_unsync_model.specs.Step.{Answer, Request, Iterate, Number, Pairs}
-use Rattle.moka_segments.specs.Visits.{visits_by}
-use Rattle.moka_segments.proofs.Rules.{same_or}
+use Rattle.moka_row.specs.Visits.{visits_by}
+use Rattle.moka_row.proofs.Rules.{same_or}
 use Rattle.moka_segments.specs.declared.plan.Plan.{Plan}
 use Rattle.moka_segments.specs.Rules.{Rules}
 use Rattle.moka_segments.specs.History.{IsLedBy, Knows, Log, Visit, joined}

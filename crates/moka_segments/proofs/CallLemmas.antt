@@ -7,9 +7,9 @@ use Rattle.moka_unsync_model.specs.CacheState.{CacheState, new_cache}
 use Rattle.moka_unsync_model.specs.Step.{Answer, Insert, IsStep, Request}
 use Rattle.moka_unsync_model.specs.History.{Leads, Transition}
 use Rattle.moka_unsync_model.proofs.MapLemmas.{settings-step}
-use Rattle.moka_segments.specs.Visits.{GoesOn, IsIdle, Known, Visits as Visitor, at, at_lock, after_visit, noted, put, visits_by}
-use Rattle.moka_segments.specs.Kept.{Got}
-use Rattle.moka_segments.proofs.Rules.{put_here, put_else}
+use Rattle.moka_row.specs.Visits.{GoesOn, IsIdle, Known, Visits as Visitor, at, at_lock, after_visit, noted, put, visits_by}
+use Rattle.moka_row.specs.Kept.{Got}
+use Rattle.moka_row.proofs.Rules.{put_here, put_else}
 use Rattle.atomic_table.specs.Table.{Me, rest}
 use Rattle.moka_segments.specs.declared.plan.Plan.{Plan}
 use Rattle.moka_segments.specs.Plan.{settings_of}

@@ -10,7 +10,7 @@ use Rattle.moka_unsync_model.specs.Step.{Done, Found, Truth}
 use Rattle.moka_unsync_model.specs.History.{Exchange, exchange_of, LastWritesAreInserts, HitsAreCurrent, IsCurrent, LastWrite, Leads, PeeksAreCurrent}
 use Rattle.moka_unsync_model.specs.History.{RemoveAsGet, Transition, chosen_keys, exchanges, is_invalidated, is_over, is_written, last_write}
 use Rattle.moka_unsync_model.specs.Removal.{IsMissing, MissesHaveAReason}
-use Rattle.moka_segments.specs.Visits.{at, visits_by}
+use Rattle.moka_row.specs.Visits.{at, visits_by}
 use Rattle.std.specs.Cmp.{IsEquivalence}
 use Rattle.moka_segments.specs.declared.plan.Plan.{Plan}
 use Rattle.moka_segments.specs.Plan.{place_of, settings_of}

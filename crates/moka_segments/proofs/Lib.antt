@@ -1,4 +1,3 @@
-pub mod Rules
 pub mod CallLemmas
 pub mod OwnLemmas
 pub mod LawLemmas

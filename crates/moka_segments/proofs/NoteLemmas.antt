@@ -3,7 +3,7 @@ use Rattle.std.proofs.Common.{◌≡◌, ◌∙◌, ◌++◌, ℕ, Option, Ok, a
 use Rattle.moka_common.specs.declared.error.OutOfMemory as error
 use Rattle.moka_common.specs.Keys.{Keys}
 use Rattle.moka_unsync_model.specs.History.{IsCurrent, exchanges}
-use Rattle.moka_segments.specs.Visits.{GoesOn, at}
+use Rattle.moka_row.specs.Visits.{GoesOn, at}
 use Rattle.moka_segments.specs.declared.plan.Plan.{Plan}
 use Rattle.moka_segments.specs.History.{Knows, Log, calls, rest}
 use Rattle.moka_segments.specs.Plan.{place_of}

@@ -10,13 +10,13 @@ use Rattle.atomic_table.specs.Table.{Me}
 use Rattle.moka_segments.specs.declared.plan.Plan.{Plan}
 use Rattle.moka_segments.specs.Plan.{place_of}
 use Rattle.moka_segments.specs.Rules.{Rules}
-use Rattle.moka_segments.specs.Visits.{Lists, after_visit, at}
+use Rattle.moka_row.specs.Visits.{Lists, after_visit, at}
 use Rattle.moka_segments.specs.History.{Knows, Log, Visit}
 use Rattle.moka_segments.specs.Calls.{SameIn}
 use Rattle.moka_segments.specs.Tells.{answer_of}
 use Rattle.moka_segments.specs.Notifying.{TellsAt, TellsCall, TellsEach, TellsInserted, TellsLast, TellsVisit}
 use Rattle.moka_segments.proofs.CallLemmas.{Called}
-use Rattle.moka_segments.proofs.Rules.{put_here}
+use Rattle.moka_row.proofs.Rules.{put_here}
 
 module _ {L K V S W : Type 0} (hears : L → K → V → Cause → L → Type 0) (keys : Keys K S) where
   -- what an insert tells, by its result

@@ -5,7 +5,7 @@ use Rattle.moka_common.specs.Keys.{Keys}
 use Rattle.moka_unsync_model.specs.Step.{Answer, Request, Get, Insert, Done, Found}
 use Rattle.moka_unsync_model.specs.History.{LastWrite, Transition, chosen_keys, exchanges, is_invalidated, is_written, known_after, last_write, used_at}
 use Rattle.std.specs.Cmp.{IsEquivalence}
-use Rattle.moka_segments.specs.Visits.{visits_by}
+use Rattle.moka_row.specs.Visits.{visits_by}
 use Rattle.moka_segments.specs.History.{Every, OnlyBy, Spares, calls, joined, value_written}
 
 abbrev value_of : {V : Type 0} → Option (LastWrite V) → Option V

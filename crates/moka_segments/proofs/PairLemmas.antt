@@ -16,8 +16,8 @@ use Rattle.moka_unsync_model.specs.Step.{Iterate, Pairs}
 use Rattle.moka_unsync_model.specs.History.{Exchange, IsCurrent, LastWritesAreInserts, PairsAreCurrent, Transition, exchange_of, exchanges}
 use Rattle.moka_unsync_model.proofs.HistoryLemmas.{once-run}
 use Rattle.moka_unsync_model.proofs.KeyLemmas.{none_stand}
-use Rattle.moka_segments.specs.Visits.{at}
-use Rattle.moka_segments.proofs.Rules.{same_or}
+use Rattle.moka_row.specs.Visits.{at}
+use Rattle.moka_row.proofs.Rules.{same_or}
 use Rattle.moka_segments.specs.declared.plan.Plan.{Plan}
 use Rattle.moka_segments.specs.Plan.{place_of, segment_of, settings_of}
 use Rattle.moka_segments.specs.Rules.{Rules}

@@ -9,7 +9,7 @@ use lib.ListN.{get_elem?}
 use Rattle.moka_common.specs.Keys.{Keys}
 use Rattle.moka_unsync.specs.Builder.{reserved}
 use Rattle.moka_unsync_model.specs.CacheState.{CacheState, new_cache}
-use Rattle.moka_segments.proofs.Rules.{at_end}
+use Rattle.moka_row.proofs.Rules.{at_end}
 use Rattle.moka_segments.specs.declared.plan.Plan.{Plan}
 use Rattle.moka_segments.specs.Plan.{settings_of, share, total}
 use Rattle.moka_segments.specs.Rules.{Rules}

@@ -1,6 +1,6 @@
 -- A call of the cache itself is one of a guest.
 use Rattle.std.proofs.Common.{◌≡◌, ℕ, ◌∙◌, ap, subst}
-use Rattle.moka_segments.specs.Visits.{guest, newcomer}
+use Rattle.moka_row.specs.Visits.{guest, newcomer}
 use Rattle.moka_segments.specs.declared.plan.Plan.{Plan}
 use Rattle.moka_segments.specs.History.{Knows}
 use Rattle.moka_segments.specs.Session.{ByGuest}

@@ -6,8 +6,8 @@ use Rattle.moka_common.specs.declared.error.OutOfMemory as error
 use Rattle.moka_common.specs.Keys.{Keys}
 use Rattle.moka_unsync_model.specs.Step.{Insert, Done}
 use Rattle.moka_unsync_model.specs.History.{exchanges}
-use Rattle.moka_segments.specs.Visits.{at}
-use Rattle.moka_segments.specs.Kept.{Hears}
+use Rattle.moka_row.specs.Visits.{at}
+use Rattle.moka_row.specs.Kept.{Hears}
 use Rattle.moka_segments.specs.declared.plan.Plan.{Plan}
 use Rattle.moka_segments.specs.Plan.{place_of}
 use Rattle.moka_segments.specs.Rules.{Rules}

@@ -6,7 +6,7 @@ use Rattle.moka_common.specs.Keys.{Keys}
 use Rattle.moka_unsync_model.specs.CacheState.{CacheState}
 use Rattle.moka_unsync_model.specs.Step.{Answer, Request, Iterate, Number, Pairs}
 use Rattle.moka_unsync_model.specs.History.{Transition}
-use Rattle.moka_segments.specs.Visits.{at, visits_by}
+use Rattle.moka_row.specs.Visits.{at, visits_by}
 use Rattle.moka_segments.specs.declared.plan.Plan.{Plan}
 use Rattle.moka_segments.specs.Rules.{Rules}
 use Rattle.moka_segments.specs.History.{IsAccount, IsLedBy, Knows, Log, Visit, joined}

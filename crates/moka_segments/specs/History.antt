@@ -5,7 +5,7 @@ use Rattle.moka_unsync.specs.Builder.{reserved}
 use Rattle.moka_unsync_model.specs.CacheState.{CacheState, new_cache}
 use Rattle.moka_unsync_model.specs.Step.{Request, Get, Peek, ContainsKey, Insert, Invalidate, Remove}
 use Rattle.moka_unsync_model.specs.History.{Exchange, Leads, Transition, chosen_keys, is_invalidated, is_written, last_write}
-use Rattle.moka_segments.specs.Visits.{Known}
+use Rattle.moka_row.specs.Visits.{Known}
 use Rattle.moka_segments.specs.declared.plan.Plan.{Plan}
 use Rattle.moka_segments.specs.Plan.{place_of, settings_of, share}
 use Rattle.moka_segments.specs.Rules.{IsPermitted, Rules}

@@ -1,5 +1,3 @@
-pub mod Visits
-pub mod Kept
 pub mod Plan
 pub mod Builder
 pub mod Rules

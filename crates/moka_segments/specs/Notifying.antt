@@ -7,7 +7,7 @@ use Rattle.moka_unsync_model.specs.CacheState.{CacheState}
 use Rattle.moka_unsync_model.specs.Step.{Answer, Request, ContainsKey, Done, Get, Insert, Invalidate, InvalidateAll, InvalidateEntriesIf, Remove}
 use Rattle.moka_unsync_model.specs.Told.{TellsWhatLeft}
 use Rattle.moka_unsync_model.specs.ToldCalls.{TellsInsert, TellsInvalidate, TellsLook, TellsRemove}
-use Rattle.moka_segments.specs.Visits.{Lists, at}
+use Rattle.moka_row.specs.Visits.{Lists, at}
 use Rattle.moka_segments.specs.declared.plan.Plan.{Plan}
 use Rattle.moka_segments.specs.Plan.{place_of}
 use Rattle.moka_segments.specs.Builder.{Builder}

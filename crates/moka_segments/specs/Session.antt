@@ -1,7 +1,7 @@
 -- What a clause sees of a cache of segments, and of a session.
 use Rattle.std.specs.Prelude.{ℕ}
 use Rattle.atomic_table.specs.Seated.{TableId}
-use Rattle.moka_segments.specs.Visits.{Lists, guest, newcomer}
+use Rattle.moka_row.specs.Visits.{Lists, guest, newcomer}
 use Rattle.moka_segments.specs.declared.plan.Plan.{Plan}
 use Rattle.moka_segments.specs.History.{Knows, Visit}
 

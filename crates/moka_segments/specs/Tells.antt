@@ -9,7 +9,7 @@ use Rattle.moka_unsync_model.specs.Contents.{entry_at}
 use Rattle.moka_unsync_model.specs.Step.{Answer, ContainsKey, Get, Insert, Peek, Remove, Done, Found, OutOfMemory, Truth}
 use Rattle.moka_unsync_model.specs.History.{IsCurrent, LastWrite, Transition, exchanges, is_over, last_write}
 use Rattle.moka_unsync_model.specs.Removal.{IsMissing, IsRejected, last_write_of}
-use Rattle.moka_segments.specs.Visits.{at}
+use Rattle.moka_row.specs.Visits.{at}
 use Rattle.moka_segments.specs.declared.plan.Plan.{Plan}
 use Rattle.moka_segments.specs.Plan.{place_of}
 use Rattle.moka_segments.specs.Rules.{IsOwner, Rules}

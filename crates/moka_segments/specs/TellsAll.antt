@@ -8,7 +8,7 @@ use Rattle.moka_unsync_model.specs.Contents.{entry_at}
 use Rattle.moka_unsync_model.specs.Invalidate.{AnswersInTurn, after_invalidate_if}
 use Rattle.moka_unsync_model.specs.Step.{InvalidateEntriesIf, Done}
 use Rattle.moka_unsync_model.specs.History.{IsCurrent, exchanges}
-use Rattle.moka_segments.specs.Visits.{at}
+use Rattle.moka_row.specs.Visits.{at}
 use Rattle.moka_segments.specs.declared.plan.Plan.{Plan}
 use Rattle.moka_segments.specs.Plan.{place_of}
 use Rattle.moka_segments.specs.Rules.{Rules}

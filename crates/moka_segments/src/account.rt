@@ -1,8 +1,8 @@
 //! The account of a segment: its cache is what the calls of its history lead to.
 use crate::plan::Plan;
-use crate::row::{Account, Row, RowTable, Visitor};
 use crate::rule::Rule;
 use crate::weigher::{Asks, Weighing};
+use moka_row::row::{Account, Row, RowTable, Visitor};
 use moka_unsync::cache::Cache;
 use std::hash::{BuildHasher, Hash};
 use std::marker::{Model, PhantomData};

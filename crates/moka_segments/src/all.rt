@@ -4,7 +4,7 @@ ghost use Rattle.moka_common.specs.Keys.{keys_by};
 ghost use Rattle.moka_unsync_model.specs.Step.{Done, EntryCount, InvalidateAll, WeightedSize};
 ghost use Rattle.moka_segments.specs.Calls.{MakesAll, Sums};
 ghost use Rattle.moka_segments.specs.Notifying.{TellsEach};
-ghost use Rattle.moka_segments.specs.Visits.{IsIdle};
+ghost use Rattle.moka_row.specs.Visits.{IsIdle};
 
 use crate::account::Caller;
 use crate::rule::Rule;

@@ -6,16 +6,16 @@ ghost use Rattle.moka_segments.specs.Calls.{Makes};
 ghost use Rattle.moka_segments.specs.Notifying.{TellsAt};
 ghost use Rattle.moka_segments.specs.Plan.{place_of};
 ghost use Rattle.moka_segments.specs.Tells.{Gets, Inserts, Looks, Peeks, Removes, TellsClone};
-ghost use Rattle.moka_segments.specs.Visits.{IsIdle, IsPlace};
+ghost use Rattle.moka_row.specs.Visits.{IsIdle, IsPlace};
 
 use crate::account::Caller;
 use crate::plan::segment_of;
-use crate::row::{leave, lock};
 use crate::rule::Rule;
 use crate::shared::Shared;
 use crate::weigher::Weighing;
 use moka_common::error::{InsertError, OutOfMemory};
 use moka_common::time::Instant;
+use moka_row::row::{leave, lock};
 use moka_unsync_model::listener::Listener;
 use std::hash::{BuildHasher, Hash};
 use std::marker::Brand;

@@ -4,13 +4,13 @@ ghost use Rattle.moka_common.specs.Keys.{keys_by};
 ghost use Rattle.moka_segments.specs.Calls.{SameIn};
 ghost use Rattle.moka_segments.specs.Notifying.{TellsEach, TellsLast};
 ghost use Rattle.moka_segments.specs.TellsAll.{InvalidatesAllIf, InvalidatesIf};
-ghost use Rattle.moka_segments.specs.Visits.{IsIdle, IsPlace, at};
+ghost use Rattle.moka_row.specs.Visits.{IsIdle, IsPlace, at};
 
 use crate::account::{Caller, Segments};
-use crate::row::{leave, lock};
 use crate::rule::Rule;
 use crate::shared::Shared;
 use crate::weigher::Weighing;
+use moka_row::row::{leave, lock};
 use moka_unsync_model::listener::Listener;
 use std::hash::{BuildHasher, Hash};
 use std::marker::Brand;

@@ -5,15 +5,15 @@ ghost use Rattle.moka_common.specs.Keys.{keys_by};
 ghost use Rattle.moka_unsync_model.specs.Step.{Iterate, Pairs};
 ghost use Rattle.moka_segments.specs.Calls.{Makes};
 ghost use Rattle.moka_segments.specs.TellsAll.{IsPairClone, TellsSnapshot};
-ghost use Rattle.moka_segments.specs.Visits.{IsIdle, IsPlace};
+ghost use Rattle.moka_row.specs.Visits.{IsIdle, IsPlace};
 
 use crate::account::{Caller, Segments};
-use crate::row::{leave, leave_unsaid, lock};
 use crate::rule::Rule;
 use crate::shared::Shared;
 use crate::weigher::Weighing;
 use moka_common::error::OutOfMemory;
 use moka_common::time::Instant;
+use moka_row::row::{leave, leave_unsaid, lock};
 use moka_unsync::cache::Iter;
 use std::alloc::{AllocError, Global};
 use std::hash::{BuildHasher, Hash};

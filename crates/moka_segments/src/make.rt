@@ -6,16 +6,16 @@ ghost use Rattle.moka_segments.specs.Notifying.{TellsAt, TellsIfPut, TellsVisit}
 ghost use Rattle.moka_segments.specs.Plan.{place_of};
 ghost use Rattle.moka_segments.specs.Put.{IsPut, TellsGot, TellsPut, visit_of};
 ghost use Rattle.moka_segments.specs.Tells.{GetsOrInserts};
-ghost use Rattle.moka_segments.specs.Visits.{IsIdle};
+ghost use Rattle.moka_row.specs.Visits.{IsIdle};
 
 use crate::account::Caller;
 use crate::call::{looked, place_of};
-use crate::row::{leave, lock};
 use crate::rule::Rule;
 use crate::shared::Shared;
 use crate::weigher::{Asks, Weighing};
 use moka_common::error::InsertError;
 use moka_common::time::Instant;
+use moka_row::row::{leave, lock};
 use moka_unsync::cache::Cache;
 use moka_unsync_model::listener::Listener;
 use std::hash::{BuildHasher, Hash};

@@ -1,6 +1,6 @@
 //! A cache of segments whose sessions have listeners.
 ghost use Rattle.std.specs.Prelude.{◌≡◌, ℕ, IfOk};
-ghost use Rattle.moka_segments.specs.Visits.{guest, newcomer};
+ghost use Rattle.moka_row.specs.Visits.{guest, newcomer};
 
 use crate::cache::SegmentedCache;
 use crate::rule::{Rule, Unruled};

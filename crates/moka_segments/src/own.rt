@@ -3,7 +3,7 @@ ghost use Rattle.std.specs.Prelude.{◌≡◌, IfSome};
 ghost use Rattle.moka_common.specs.Keys.{keys_by};
 ghost use Rattle.moka_segments.specs.Plan.{place_of};
 ghost use Rattle.moka_segments.specs.Tells.{FindsFromNote, FindsOwn, FindsTold};
-ghost use Rattle.moka_segments.specs.Visits.{at};
+ghost use Rattle.moka_row.specs.Visits.{at};
 
 use crate::note::Note;
 use crate::rule::Rule;

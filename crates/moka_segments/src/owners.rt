@@ -1,16 +1,16 @@
 //! Sessions with numbers that are known.
 ghost use Rattle.std.specs.Prelude.{◌≡◌, ◌+◌, IfErr, IfOk};
-ghost use Rattle.moka_segments.specs.Visits.{newcomer, owner};
+ghost use Rattle.moka_row.specs.Visits.{newcomer, owner};
 
 use crate::account::Caller;
 use crate::rule::{Rule, Unruled};
-use crate::seats::deal;
 use crate::session::Session;
 use crate::shared::Shared;
 use crate::weigher::Weighing;
 use moka_common::error::OutOfMemory;
 use moka_common::hash::FixedState;
 use moka_common::weigh::UnitWeight;
+use moka_row::seats::deal;
 use moka_unsync_model::listener::NoListener;
 use std::hash::{BuildHasher, Hash};
 use std::marker::Model;
@@ -34,7 +34,7 @@ impl<K: Eq + Hash + Drop, V: Drop, S: BuildHasher + Drop, W: Weighing<K, V>, P: 
     for Owners<K, V, S, W, P> {
     ghost use Rattle.std.specs.Prelude.{◌≡◌, Some, []};
     ghost use Rattle.std.specs.Arc.{arc_value};
-    ghost use Rattle.moka_segments.specs.Visits.{Deals};
+    ghost use Rattle.moka_row.specs.Visits.{Deals};
     ghost use Rattle.moka_segments.specs.Session.{Owners as OwnersValue};
 
     ghost Value = { OwnersValue S };

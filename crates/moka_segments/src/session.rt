@@ -3,7 +3,7 @@ ghost use Rattle.std.specs.Prelude.{◌≡◌, IfOk};
 ghost use Rattle.moka_common.specs.Keys.{keys_by};
 ghost use Rattle.moka_unsync_model.specs.Step.{Done, EntryCount, Invalidate, InvalidateAll, WeightedSize};
 ghost use Rattle.moka_segments.specs.Calls.{Makes, MakesAll, Sums};
-ghost use Rattle.moka_segments.specs.Kept.{Hears};
+ghost use Rattle.moka_row.specs.Kept.{Hears};
 ghost use Rattle.moka_segments.specs.Notifying.{TellsAt, TellsEach};
 ghost use Rattle.moka_segments.specs.Plan.{place_of};
 ghost use Rattle.moka_segments.specs.Tells.{Gets, GetsOrInserts, Inserts, Looks, Peeks, Removes};
@@ -18,12 +18,13 @@ use crate::note::Note;
 use crate::rule::{Rule, Unruled};
 use crate::shared::Shared;
 use crate::weigher::Weighing;
-use crate::{all, call, make, seats as note};
+use crate::{all, call, make};
 use moka_common::error::{InsertError, OutOfMemory};
 use moka_common::hash::FixedState;
 use moka_common::policy::Policy;
 use moka_common::time::Instant;
 use moka_common::weigh::UnitWeight;
+use moka_row::seats;
 use moka_unsync_model::listener::{Listener, NoListener};
 use std::alloc::Global;
 use std::hash::{BuildHasher, Hash};
@@ -82,7 +83,7 @@ impl<
 > Model for Session<K, V, S, W, P, L> {
     ghost use Rattle.std.specs.Prelude.{◌≡◌};
     ghost use Rattle.std.specs.Arc.{arc_value};
-    ghost use Rattle.moka_segments.specs.Visits.{IsIdle};
+    ghost use Rattle.moka_row.specs.Visits.{IsIdle};
     ghost use Rattle.moka_segments.specs.Session.{Session as SessionValue};
 
     ghost Value = { SessionValue K V S W L };
@@ -372,7 +373,7 @@ impl<
     {
         let shared = &*self.shared;
         Note {
-            teller: note::note(&shared.table.shared, &mut self.caller),
+            teller: seats::note(&shared.table.shared, &mut self.caller),
         }
     }
 
@@ -385,6 +386,6 @@ impl<
         ensures listener { self.new.listener ≡ self.old.listener }
     {
         let shared = &*self.shared;
-        note::learn(&shared.table.shared, &mut self.caller, note.teller);
+        seats::learn(&shared.table.shared, &mut self.caller, note.teller);
     }
 }

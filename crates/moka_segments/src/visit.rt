@@ -4,12 +4,12 @@ ghost use Rattle.moka_common.specs.Keys.{keys_by};
 ghost use Rattle.moka_unsync_model.specs.Step.{Done, EntryCount, InvalidateAll, Number, WeightedSize};
 ghost use Rattle.moka_segments.specs.Calls.{Makes};
 ghost use Rattle.moka_segments.specs.Notifying.{TellsLast};
-ghost use Rattle.moka_segments.specs.Visits.{IsIdle, IsPlace, at};
+ghost use Rattle.moka_row.specs.Visits.{IsIdle, IsPlace, at};
 
 use crate::account::{Caller, Segments};
-use crate::row::{leave, lock};
 use crate::rule::Rule;
 use crate::weigher::Weighing;
+use moka_row::row::{leave, lock};
 use moka_unsync_model::listener::Listener;
 use std::hash::{BuildHasher, Hash};
 use std::marker::Brand;

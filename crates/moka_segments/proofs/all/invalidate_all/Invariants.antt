@@ -2,7 +2,7 @@ use Rattle.std.proofs.Common.{◌≡◌}
 use Rattle.moka_common.specs.Keys.{Keys, keys_by}
 use Rattle.moka_unsync_model.specs.Step.{Done, InvalidateAll}
 use Rattle.moka_segments.specs.Notifying.{TellsEach}
-use Rattle.moka_segments.specs.Visits.{IsIdle}
+use Rattle.moka_row.specs.Visits.{IsIdle}
 use Rattle.moka_segments.specs.Calls.{MakesAll}
 use Rattle.moka_segments.proofs.all.invalidate_all.Given.{Over}
 use Rattle.moka_segments.proofs.all.invalidate_all.Given as goal

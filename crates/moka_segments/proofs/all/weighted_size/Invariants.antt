@@ -1,7 +1,7 @@
 use Rattle.std.proofs.Common.{◌≡◌}
 use Rattle.moka_common.specs.Keys.{Keys, keys_by}
 use Rattle.moka_unsync_model.specs.Step.{WeightedSize}
-use Rattle.moka_segments.specs.Visits.{IsIdle}
+use Rattle.moka_row.specs.Visits.{IsIdle}
 use Rattle.moka_segments.specs.Calls.{Sums}
 use Rattle.moka_segments.proofs.all.weighted_size.Given.{Over}
 use Rattle.moka_segments.proofs.all.weighted_size.Given as goal

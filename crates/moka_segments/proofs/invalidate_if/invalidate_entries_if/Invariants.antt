@@ -1,7 +1,7 @@
 use Rattle.std.proofs.Common.{◌≡◌}
 use Rattle.moka_common.specs.Keys.{Keys, keys_by}
 use Rattle.moka_segments.specs.Notifying.{TellsEach}
-use Rattle.moka_segments.specs.Visits.{IsIdle}
+use Rattle.moka_row.specs.Visits.{IsIdle}
 use Rattle.moka_segments.specs.TellsAll.{InvalidatesAllIf}
 use Rattle.moka_segments.proofs.invalidate_if.invalidate_entries_if.Given.{Over}
 use Rattle.moka_segments.proofs.invalidate_if.invalidate_entries_if.Given as goal

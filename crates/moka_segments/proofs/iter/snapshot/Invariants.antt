@@ -1,6 +1,6 @@
 use Rattle.std.proofs.Common.{◌≡◌}
 use Rattle.moka_common.specs.Keys.{Keys, keys_by}
-use Rattle.moka_segments.specs.Visits.{IsIdle}
+use Rattle.moka_row.specs.Visits.{IsIdle}
 use Rattle.moka_segments.specs.TellsAll.{TellsSnapshot}
 use Rattle.moka_segments.proofs.iter.snapshot.Given.{Over}
 use Rattle.moka_segments.proofs.iter.snapshot.Given as goal

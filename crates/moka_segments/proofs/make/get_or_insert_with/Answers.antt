@@ -4,7 +4,7 @@ use Rattle.moka_common.specs.Keys.{Keys, keys_by}
 use Rattle.moka_segments.specs.History.{Visit}
 use Rattle.moka_segments.specs.Notifying.{TellsLast}
 use Rattle.moka_segments.specs.Put.{visit_of}
-use Rattle.moka_segments.specs.Visits.{at}
+use Rattle.moka_row.specs.Visits.{at}
 use Rattle.moka_segments.proofs.CallLemmas.{Called, enters, first_held, holds_lock, idle_again, its_hash, kept, stands}
 use Rattle.moka_segments.proofs.NotifyLemmas.{visit_tells}
 use Rattle.moka_segments.proofs.PutLemmas.{befits, tells_there}

@@ -2,7 +2,7 @@ use Rattle.std.proofs.Common.{ap, subst}
 use Rattle.moka_common.specs.Keys.{keys_by}
 use Rattle.moka_segments.specs.Plan.{place_of}
 use Rattle.moka_segments.specs.Tells.{Gets}
-use Rattle.moka_segments.specs.Visits.{at}
+use Rattle.moka_row.specs.Visits.{at}
 use Rattle.moka_segments.proofs.NoteLemmas.{finds_from_note}
 use Rattle.moka_segments.proofs.own.learn_and_read.Goals as goal
 

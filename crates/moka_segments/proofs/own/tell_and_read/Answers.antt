@@ -1,7 +1,7 @@
 use Rattle.std.proofs.Common.{◌≡◌, ◌∙◌, ap, subst}
 use Rattle.moka_common.specs.Keys.{keys_by}
 use Rattle.moka_unsync_model.specs.Step.{Insert}
-use Rattle.moka_segments.specs.Kept.{Hears}
+use Rattle.moka_row.specs.Kept.{Hears}
 use Rattle.moka_segments.specs.Plan.{place_of}
 use Rattle.moka_segments.specs.Calls.{Makes}
 use Rattle.moka_segments.specs.Tells.{Gets, answer_of}

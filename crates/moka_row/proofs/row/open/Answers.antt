@@ -1,6 +1,6 @@
 use Rattle.std.proofs.Common.{◌*◌, ◌≡◌, length, rules}
-use Rattle.moka_segments.proofs.Rules.{begins}
-use Rattle.moka_segments.proofs.row.open.Goals as goal
+use Rattle.moka_row.proofs.Rules.{begins}
+use Rattle.moka_row.proofs.row.open.Goals as goal
 
 pub new-requires : goal.new-requires
 new-requires g c =

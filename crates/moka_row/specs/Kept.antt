@@ -3,7 +3,7 @@ use Rattle.std.specs.Prelude.{◌≡◌, ◌⊎◌, ◌==◌, ℕ, ◌*◌, ◌<
 use mathlib.Core.Option.{some}
 use lib.ListN.{get_elem?}
 use Rattle.atomic_table.specs.Table.{State, Step, Me}
-use Rattle.moka_segments.specs.Visits.{Deals, GoesOn, Known, Lists, Visits, after_visit, at, at_lock, blank, guest, owner, visits_by}
+use Rattle.moka_row.specs.Visits.{Deals, GoesOn, Known, Lists, Visits, after_visit, at, at_lock, blank, guest, owner, visits_by}
 
 -- the number of a seat's visitor: it is a guest, or an owner whose name was handed out for this seat
 abbrev pub IsNumbered : (ℕ → ℕ) → ℕ → ℕ → ℕ → Type 0

@@ -1,10 +1,10 @@
 use Rattle.std.proofs.Common.{ap, rules, subst}
 use mathlib.Core.Option.{none}
 use Rattle.atomic_table.specs.Table.{step}
-use Rattle.moka_segments.specs.Visits.{Known, after_telling}
-use Rattle.moka_segments.specs.Kept.{Hears}
-use Rattle.moka_segments.proofs.Rules.{hears, tells}
-use Rattle.moka_segments.proofs.seats.learn.Goals as goal
+use Rattle.moka_row.specs.Visits.{Known, after_telling}
+use Rattle.moka_row.specs.Kept.{Hears}
+use Rattle.moka_row.proofs.Rules.{hears, tells}
+use Rattle.moka_row.proofs.seats.learn.Goals as goal
 
 pub join_seat-requires : goal.join_seat-requires
 join_seat-requires g c = (c.requires.table.0, c.requires.note.0, c.requires.note.1, c.requires.table.1, tells g.P.Account.holds _ _ _ _ _)

@@ -1,5 +1,5 @@
 use Rattle.std.proofs.Common.{◌≡◌}
-use Rattle.moka_segments.proofs.row.wait_for.Given as goal
+use Rattle.moka_row.proofs.row.wait_for.Given as goal
 
 abbrev pub invariant-loop-look : goal.invariant-loop-look
 invariant-loop-look g l = (l.me.me ≡ l.fn.me.me) × (l.me.table_id ≡ l.fn.me.table_id)

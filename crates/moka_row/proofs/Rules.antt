@@ -1,5 +1,7 @@
 -- Each step keeps the histories.
-use Rattle.std.proofs.Common.{◌≡◌, ◌≢◌, ◌⊎◌, ℕ, zero, suc, ◌+◌, ◌*◌, ◌<◌, ◌≤◌, ◌==◌, List, [], ◌∷◌, ◌++◌, map, length, set, get_or, get_or-set_same, get_or-set_other, Bool, true, false, true≢false, refl, sym, ap, ◌∙◌, subst, ⊎_elim, inl, inr, arith, eqb-true, eq-eqb, ne_eqb, if◌then◌else◌, Option, Some, None, MatchBool}
+use Rattle.std.proofs.Common.{◌≡◌, ◌≢◌, ◌⊎◌, ℕ, zero, suc, ◌+◌, ◌*◌, ◌<◌, ◌≤◌, ◌==◌, List, [], ◌∷◌, ◌++◌, map, length, set, get_or, get_or-set_same}
+use Rattle.std.proofs.Common.{get_or-set_other, Bool, true, false, true≢false, refl, sym, ap, ◌∙◌, subst, ⊎_elim, inl, inr, arith, eqb-true, eq-eqb, ne_eqb}
+use Rattle.std.proofs.Common.{if◌then◌else◌, Option, Some, None, MatchBool}
 use Rattle.std.specs.Prelude.{slice_index}
 use mathlib.Core.Option.{none, some, some-ne-none, some-injective}
 use lib.ListN.{get_elem?}
@@ -10,8 +12,9 @@ use Rattle.atomic_table.proofs.Lists.{at_set, set_here, set_else, some_there}
 use Rattle.std.proofs.lemmas.Bool.Decides.{nat_tests}
 use Rattle.std.specs.Prelude.{nat_lt}
 use Rattle.atomic_table.specs.Table.{Joins, Splits}
-use Rattle.moka_segments.specs.Visits.{Known, Lists, at, put, longer, taken_in, visits_by, GoesOn, noted, said, Role, Visits, Tells, Deals, newcomer, dealer, guest, owner, at_lock, after_visit, after_dealing, next_owner, note_of, told, after_telling, after_hearing}
-use Rattle.moka_segments.specs.Kept.{IsNumbered, Fits, Kept, Got, Tried, Left, Came, Heard}
+use Rattle.moka_row.specs.Visits.{Known, Lists, at, put, longer, taken_in, visits_by, GoesOn, noted, said, Role, Visits, Tells, Deals, newcomer, dealer, guest}
+use Rattle.moka_row.specs.Visits.{owner, at_lock, after_visit, after_dealing, next_owner, note_of, told, after_telling, after_hearing}
+use Rattle.moka_row.specs.Kept.{IsNumbered, Fits, Kept, Got, Tried, Left, Came, Heard}
 
 -- lists
 
@@ -140,10 +143,12 @@ owner_to_come seat_of next seat name by (inr e) far same = let g = e.1 in let h 
 
 module _ {E : Type 0} where
   -- a history that went on from what was seen does so after one more visit
-  further : (i by : ℕ) (entry : Option E) (logs : ℕ → List (ℕ × E)) (seen : List (ℕ × E)) (k : ℕ) → GoesOn seen (logs k) → GoesOn seen (change logs i (noted by entry (logs i)) k)
+  further : (i by : ℕ) (entry : Option E) (logs : ℕ → List (ℕ × E)) (seen : List (ℕ × E)) (k : ℕ) → GoesOn seen (logs k)
+      → GoesOn seen (change logs i (noted by entry (logs i)) k)
   further i by entry logs seen k goes = same_or k i
       (λ same. subst (λ m. GoesOn seen (change logs i (noted by entry (logs i)) m)) (sym same)
-      (subst (GoesOn seen) (sym (change_here logs i (noted by entry (logs i)))) (goes_further by entry seen (logs i) (subst (λ m. GoesOn seen (logs m)) same goes))))
+      (subst (GoesOn seen) (sym (change_here logs i (noted by entry (logs i)))) (goes_further by entry seen (logs i) (subst (λ m. GoesOn seen
+      (logs m)) same goes))))
       (λ other. subst (GoesOn seen) (sym (change_else logs i k (noted by entry (logs i)) other)) goes)
 
   -- who has made no visit has made none after one more of another
@@ -160,7 +165,8 @@ module _ {E : Type 0} where
   behind [] (y ∷ others) shorter long e le = absurd (let m = ap length e in let l = length-append others long in omega arith)
   behind (x ∷ more) (y ∷ others) shorter long e le = behind more others shorter long (tail_same x y (more ++ shorter) (others ++ long) e) le
 
-  goes_longer : (seen told log : List (ℕ × E)) → GoesOn seen log → GoesOn told log → GoesOn seen (longer seen told) × GoesOn told (longer seen told) × GoesOn (longer seen told) log
+  goes_longer : (seen told log : List (ℕ × E)) → GoesOn seen log → GoesOn told log → GoesOn seen (longer seen told) × GoesOn told (longer seen told)
+      × GoesOn (longer seen told) log
   goes_longer seen told log a b = go (nat_lt (length seen) (length told)) refl
     where
       go : (c : Bool) → nat_lt (length seen) (length told) ≡ c
@@ -177,7 +183,8 @@ module _ {E : Type 0} where
       → (at (taken_in lists others among) k ≡ longer (at lists k) (at others k)) ⊎ ((at (taken_in lists others among) k ≡ at lists k) × (at among k ≡ []))
   at_taken lists others [] k = inr (refl, refl)
   at_taken lists others (p ∷ among) k = same_or k p.0
-      (λ same. inl (subst (λ m. at (put (taken_in lists others among) p.0 (longer (at lists p.0) (at others p.0))) m ≡ longer (at lists m) (at others m)) (sym same)
+      (λ same. inl (subst (λ m. at (put (taken_in lists others among) p.0 (longer (at lists p.0) (at others p.0))) m ≡ longer (at lists m) (at others m))
+      (sym same)
       (put_here (taken_in lists others among) p.0 (longer (at lists p.0) (at others p.0)))))
       (λ apart.
       let past = put_else (taken_in lists others among) p.0 k (longer (at lists p.0) (at others p.0)) apart in
@@ -207,7 +214,12 @@ module _ {T E K : Type 0} (Holds : K → ℕ → List (ℕ × E) → T → Type 
     seat_of = λ name. 0;
     next = 0;
     sized = sized ∙ ap (λ n. n * 16) (sym (length_map some values));
-    free = λ i lt zero. let there = some_there values i (let l = length_map some values in omega arith) in (there.0, there.1, all i there.0 (only values i there.0 there.1));
+    free = λ i lt zero. let there = some_there values i (let l = length_map some values in omega arith) in (
+      there.0,
+      there.1,
+      all i there.0
+          (only values i there.0 there.1),
+    );
     views = one;
     no_guests = λ seat i far. refl;
     no_owners = λ name i far. refl;
@@ -263,7 +275,8 @@ module _ {T E K : Type 0} (Holds : K → ℕ → List (ℕ × E) → T → Type 
       )
 
   -- the visitors, where one has another view
-  fits_set : (plan : K) (has : ℕ → ℕ) (logs : ℕ → List (ℕ × E)) (seat_of : ℕ → ℕ) (next : ℕ) (words : List ℕ) (views : List (Known E K)) (by : ℕ) (w : Known E K)
+  fits_set : (plan : K) (has : ℕ → ℕ) (logs : ℕ → List (ℕ × E)) (seat_of : ℕ
+      → ℕ) (next : ℕ) (words : List ℕ) (views : List (Known E K)) (by : ℕ) (w : Known E K)
       → ((j : ℕ) (u : Known E K) → j ≢ by → get_elem? views j ≡ some u → Fits plan has logs seat_of next words j u) → Fits plan has logs seat_of next words by w
       → (j : ℕ) (u : Known E K) → get_elem? (set views by w) j ≡ some u → Fits plan has logs seat_of next words j u
   fits_set plan has logs seat_of next words views by w others mine j u e =
@@ -291,7 +304,8 @@ module _ {T E K : Type 0} (Holds : K → ℕ → List (ℕ × E) → T → Type 
       let homes = set s.homes i none in
       let w = at_lock i (h.logs i) v in
       let here : get_or words (i * 16) 0 ≡ f 0 = get_or-set_same s.words (i * 16) (f 0) 0 in_words in
-      let away : (j : ℕ) → j ≢ i → get_or words (j * 16) 0 ≡ get_or s.words (j * 16) 0 = λ j apart. get_or-set_other s.words (i * 16) (j * 16) (f 0) 0 (times j i apart) in (
+      let away : (j : ℕ) → j ≢ i → get_or words (j * 16) 0 ≡ get_or s.words (j * 16) 0 = λ j apart. get_or-set_other s.words (i * 16) (j * 16) (f 0) 0
+      (times j i apart) in (
         x,
         at_home.1,
         record {
@@ -321,10 +335,12 @@ module _ {T E K : Type 0} (Holds : K → ℕ → List (ℕ × E) → T → Type 
                 deals = own.deals;
                 told = own.told;
                 saw = λ k. same_or k i
-                    (λ same. goes_itself (at w.seen k) (h.logs k) (subst (λ m. at (put v.seen i (h.logs i)) m ≡ h.logs m) (sym same) (put_here v.seen i (h.logs i))))
+                    (λ same. goes_itself (at w.seen k) (h.logs k) (subst (λ m. at (put v.seen i (h.logs i)) m ≡ h.logs m) (sym same) (put_here v.seen i
+                    (h.logs i))))
                     (λ apart. subst (λ l. GoesOn l (h.logs k)) (sym (put_else v.seen i k (h.logs i) apart)) (own.saw k));
                 own = own.own;
-                holds = λ k held. let same : i ≡ k = held_is i k held in subst (λ m. (change h.has i id m ≡ id) × (at (put v.seen i (h.logs i)) m ≡ h.logs m) × (get_or words (m * 16) 0 ≡ 0 → ⊥)) same
+                holds = λ k held. let same : i ≡ k = held_is i k held in subst (λ m. (change h.has i id m ≡ id) × (at (put v.seen i (h.logs i)) m ≡ h.logs m)
+                    × (get_or words (m * 16) 0 ≡ 0 → ⊥)) same
                     (change_here h.has i id, put_here v.seen i (h.logs i), λ zero. changes (sym here ∙ zero));
               });
           no_guests = λ seat k far. h.no_guests seat k (let m = length-set s.views id w in omega arith);
@@ -351,8 +367,10 @@ module _ {T E K : Type 0} (Holds : K → ℕ → List (ℕ × E) → T → Type 
       let in_words : i * 16 < length s.words = let z = h.sized in omega arith in
       let words : List ℕ = set s.words (i * 16) m in
       let here : get_or words (i * 16) 0 ≡ m = get_or-set_same s.words (i * 16) m 0 in_words in
-      let away : (j : ℕ) → j ≢ i → get_or words (j * 16) 0 ≡ get_or s.words (j * 16) 0 = λ j apart. get_or-set_other s.words (i * 16) (j * 16) m 0 (times j i apart) in
-      let again : (j : ℕ) (u : Known E K) → get_elem? s.views j ≡ some u → Fits plan h.has h.logs h.seat_of h.next words j u = λ j u is. let old = h.views j u is in record {
+      let away : (j : ℕ) → j ≢ i → get_or words (j * 16) 0 ≡ get_or s.words (j * 16) 0 = λ j apart. get_or-set_other s.words (i * 16) (j * 16) m 0
+      (times j i apart) in
+      let again : (j : ℕ) (u : Known E K) → get_elem? s.views j ≡ some u
+      → Fits plan h.has h.logs h.seat_of h.next words j u = λ j u is. let old = h.views j u is in record {
         visits = old.visits;
         deals = old.deals;
         saw = old.saw;
@@ -384,7 +402,8 @@ module _ {T E K : Type 0} (Holds : K → ℕ → List (ℕ × E) → T → Type 
   tries_free : (plan : K) (slots id i : ℕ) (v : Known E K) (f : ℕ → ℕ) (st : Step T) → i < slots → v.held ≡ None → v.role ≡ Visits
       → ((n : ℕ) → f n ≡ 0 → ⊥) → st.word ≡ i * 16
       → Allows (Kept Holds plan) slots id (v, []) (i * 16) f (Tried Holds st (v, []))
-  tries_free plan slots id i v f st inside unheld role busy word = λ s h long there small. pick s h long there (slice_index s.words (i * 16)) refl (slice_index s.words (i * 16) == 0) refl
+  tries_free plan slots id i v f st inside unheld role busy word = λ s h long there small. pick s h long there (slice_index s.words (i * 16)) refl
+      (slice_index s.words (i * 16) == 0) refl
     where
       pick : (s : State T (Known E K)) → (h : Kept Holds plan s) → length s.homes ≡ slots → get_elem? s.views id ≡ some v
           → (n : ℕ) → slice_index s.words (i * 16) ≡ n → (b : Bool) → (n == 0) ≡ b
@@ -397,7 +416,8 @@ module _ {T E K : Type 0} (Holds : K → ℕ → List (ℕ × E) → T → Type 
             takes i g.0,
             g.1,
             g.2,
-            (λ k k_word. let was : Me T (Known E K) = (v, []) in let is_now : Me T (Known E K) = (at_lock i (h.logs i) v, (i, g.0) ∷ []) in subst (λ b. MatchBool b (Got Holds k was is_now) (is_now ≡ was)) (sym e)
+            (λ k k_word. let was : Me T (Known E K) = (v, []) in let is_now : Me T (Known E K) = (at_lock i (h.logs i) v, (i, g.0) ∷ []) in subst
+                (λ b. MatchBool b (Got Holds k was is_now) (is_now ≡ was)) (sym e)
                 (subst (λ k. Got Holds k (v, []) (at_lock i (h.logs i) v, (i, g.0) ∷ [])) (times_is i k (sym word ∙ k_word)) g.3)),
           )
       pick s h long there n is false e = (
@@ -431,7 +451,8 @@ module _ {T E K : Type 0} (Holds : K → ℕ → List (ℕ × E) → T → Type 
           let words : List ℕ = set s.words (i * 16) 0 in
           let log = noted v.by entry (h.logs i) in
           let logs = change h.logs i log in
-          let away : (j : ℕ) → j ≢ i → get_or words (j * 16) 0 ≡ get_or s.words (j * 16) 0 = λ j apart. get_or-set_other s.words (i * 16) (j * 16) 0 0 (times j i apart) in
+          let away : (j : ℕ) → j ≢ i → get_or words (j * 16) 0 ≡ get_or s.words (j * 16) 0 = λ j apart. get_or-set_other s.words (i * 16) (j * 16) 0 0
+          (times j i apart) in
           let same_log : noted v.by entry (at v.seen i) ≡ log = ap (noted v.by entry) had.1 in (
             w,
             gives,
@@ -443,8 +464,12 @@ module _ {T E K : Type 0} (Holds : K → ℕ → List (ℕ × E) → T → Type 
               next = h.next;
               sized = length-set s.words (i * 16) 0 ∙ (h.sized ∙ ap (λ n. n * 16) (sym (length-set s.homes i (some x))));
               free = λ j j_lt j_free. same_or j i
-                  (λ same. subst (λ k. (y : T) × (get_elem? (set s.homes i (some x)) k ≡ some (some y)) × Holds plan k (logs k) y) (sym same)
-                  (x, set_here s.homes i (some x) lt, subst (λ l. Holds plan i l x) (sym (change_here h.logs i log)) (subst (λ l. Holds plan i l x) same_log kept)))
+                  (λ same. subst (λ k. (y : T) × (get_elem? (set s.homes i (some x)) k ≡ some (some y)) × Holds plan k (logs k) y) (sym same) (
+                    x,
+                    set_here s.homes i (some x) lt,
+                    subst (λ l. Holds plan i l x) (sym (change_here h.logs i log)) (subst
+                        (λ l. Holds plan i l x) same_log kept),
+                  ))
                   (λ apart.
                   let was = h.free j (let l = length-set s.homes i (some x) in omega arith) (sym (away j apart) ∙ j_free) in
                   (was.0, set_else s.homes i j (some x) apart ∙ was.1, subst (λ l. Holds plan j l was.0) (sym (change_else h.logs i j log apart)) was.2));
@@ -455,7 +480,8 @@ module _ {T E K : Type 0} (Holds : K → ℕ → List (ℕ × E) → T → Type 
                     saw = λ k. further i v.by entry h.logs (at u.seen k) k (old.saw k);
                     told = λ k. further i v.by entry h.logs (at u.heard k) k (old.told k);
                     own = λ is k. same_or k i
-                        (λ same. subst (λ m. visits_by u.by (logs m) ≡ at u.mine m) (sym same) (ap (visits_by u.by) (change_here h.logs i log) ∙ others_of v.by u.by entry (h.logs i) (at u.mine i)
+                        (λ same. subst (λ m. visits_by u.by (logs m) ≡ at u.mine m) (sym same) (ap (visits_by u.by) (change_here h.logs i log)
+                        ∙ others_of v.by u.by entry (h.logs i) (at u.mine i)
                         (numbers_apart h.seat_of h.next j id u.by v.by (old.visits is).1 (own.visits role).1 apart) (old.own is i)))
                         (λ other. ap (visits_by u.by) (change_else h.logs i k log other) ∙ old.own is k);
                     holds = λ k its. let its_had = old.holds k its in same_or k i
@@ -469,11 +495,17 @@ module _ {T E K : Type 0} (Holds : K → ℕ → List (ℕ × E) → T → Type 
                     saw = λ k. same_or k i
                         (λ same. subst (λ m. GoesOn (at w.seen m) (logs m)) (sym same)
                         (goes_itself (at w.seen i) (logs i) (put_here v.seen i (noted v.by entry (at v.seen i)) ∙ (same_log ∙ sym (change_here h.logs i log)))))
-                        (λ other. subst (λ (z : List (ℕ × E) × List (ℕ × E)). GoesOn z.0 z.1) (λ m. (sym (put_else v.seen i k (noted v.by entry (at v.seen i)) other) m, sym (change_else h.logs i k log other) m)) (own.saw k));
+                        (λ other. subst (λ (z : List (ℕ × E) × List (ℕ × E)). GoesOn z.0 z.1) (λ m. (
+                          sym (put_else v.seen i k (noted v.by entry
+                              (at v.seen i)) other) m,
+                          sym (change_else h.logs i k log other) m,
+                        )) (own.saw k));
                     own = λ is k. same_or k i
                         (λ same. subst (λ m. visits_by v.by (logs m) ≡ at w.mine m) (sym same)
-                        (ap (visits_by v.by) (change_here h.logs i log) ∙ (mine_of v.by entry (h.logs i) (at v.mine i) (own.own role i) ∙ sym (put_here v.mine i (said entry (at v.mine i))))))
-                        (λ other. ap (visits_by v.by) (change_else h.logs i k log other) ∙ (own.own role k ∙ sym (put_else v.mine i k (said entry (at v.mine i)) other)));
+                        (ap (visits_by v.by) (change_here h.logs i log) ∙ (mine_of v.by entry (h.logs i) (at v.mine i) (own.own role i)
+                        ∙ sym (put_here v.mine i (said entry (at v.mine i))))))
+                        (λ other. ap (visits_by v.by) (change_else h.logs i k log other) ∙ (own.own role k
+                        ∙ sym (put_else v.mine i k (said entry (at v.mine i)) other)));
                     holds = λ k its. absurd (none_held None k refl its);
                   });
               no_guests = λ seat k far.
@@ -483,12 +515,14 @@ module _ {T E K : Type 0} (Holds : K → ℕ → List (ℕ × E) → T → Type 
                   (numbers_apart h.seat_of h.next seat id (guest seat) v.by (inl refl) (own.visits role).1 (λ same. omega arith))
                   (h.no_guests seat i (omega arith)) (h.no_guests seat k (omega arith));
               no_owners = λ name k far.
-                  unsaid i v.by (owner name) entry h.logs k (owner_to_come h.seat_of h.next id name v.by (own.visits role).1 far) (h.no_owners name i far) (h.no_owners name k far);
+                  unsaid i v.by (owner name) entry h.logs k (owner_to_come h.seat_of h.next id name v.by (own.visits role).1 far) (h.no_owners name i far)
+                  (h.no_owners name k far);
             },
             (λ k k_word. let new : Me T (Known E K) = (w, []) in subst (λ q. new ≡ (after_visit q entry v, [])) (times_is i k (sym word ∙ k_word)) refl),
           )
 
-  pub leaves : (plan : K) (slots id i : ℕ) (me : Me T (Known E K)) (x : T) (entry : Option E) (st : Step T) → i < slots → me.0.held ≡ Some i → me.0.role ≡ Visits → me.1 ≡ (i, x) ∷ []
+  pub leaves : (plan : K) (slots id i : ℕ) (me : Me T (Known E K)) (x : T) (entry : Option E) (st : Step T) → i < slots → me.0.held ≡ Some i
+      → me.0.role ≡ Visits → me.1 ≡ (i, x) ∷ []
       → Holds plan i (noted me.0.by entry (at me.0.seen i)) x → st.word ≡ i * 16
       → Allows (Kept Holds plan) slots id me (i * 16) (λ _. 0) (Left entry st me)
   leaves plan slots id i me x entry st inside held role has kept word =
@@ -497,12 +531,14 @@ module _ {T E K : Type 0} (Holds : K → ℕ → List (ℕ × E) → T → Type 
 
   -- the views, where a new seat has this one
   fits_more : (plan : K) (has : ℕ → ℕ) (logs : ℕ → List (ℕ × E)) (seat_of : ℕ → ℕ) (next : ℕ) (words : List ℕ) (views : List (Known E K)) (w : Known E K)
-      → ((j : ℕ) (u : Known E K) → get_elem? views j ≡ some u → Fits plan has logs seat_of next words j u) → Fits plan has logs seat_of next words (length views) w
+      → ((j : ℕ) (u : Known E K) → get_elem? views j ≡ some u → Fits plan has logs seat_of next words j u)
+      → Fits plan has logs seat_of next words (length views) w
       → (j : ℕ) (u : Known E K) → get_elem? (views ++ w ∷ []) j ≡ some u → Fits plan has logs seat_of next words j u
   fits_more plan has logs seat_of next words views w others mine j u e =
       ⊎_elim
       (λ (was : get_elem? views j ≡ some u). others j u was)
-      (λ (last : (j ≡ length views) × (w ≡ u)). subst (λ (y : ℕ × Known E K). Fits plan has logs seat_of next words y.0 y.1) (λ i. (sym last.0 i, last.1 i)) mine)
+      (λ (last : (j ≡ length views) × (w ≡ u)). subst (λ (y : ℕ × Known E K). Fits plan has logs seat_of next words y.0 y.1) (λ i.
+      (sym last.0 i, last.1 i)) mine)
       (at_end views w u j e)
 
   -- an owner's number is handed out
@@ -623,7 +659,8 @@ module _ {T E K : Type 0} (Holds : K → ℕ → List (ℕ × E) → T → Type 
       }
 
   -- and taken in
-  hears_at : (plan : K) (slots id : ℕ) (v : Known E K) (out : List (ℕ × T)) (st : Step T) → Allows (Kept Holds plan) slots id (v, out) 0 (λ n. n) (Heard st (v, out))
+  hears_at : (plan : K) (slots id : ℕ) (v : Known E K) (out : List (ℕ × T)) (st : Step T)
+      → Allows (Kept Holds plan) slots id (v, out) 0 (λ n. n) (Heard st (v, out))
   hears_at plan slots id v out st s h long there small =
       let own = h.views id v there in
       let w = after_hearing v in
@@ -688,7 +725,8 @@ module _ {T E K : Type 0} (Holds : K → ℕ → List (ℕ × E) → T → Type 
 
 pub busy_if : (n : ℕ) → either (n == 0) 1 n ≡ 0 → ⊥
 busy_if zero e = let z : 1 ≡ 0 = e in absurd (omega arith)
-busy_if (suc n) e = let f : (suc n == 0) ≡ false = ne_eqb (suc n) 0 (λ z. omega arith) in let z : (suc n ≡ 0) = sym (ap (λ b. either b 1 (suc n)) f) ∙ e in absurd (omega arith)
+busy_if (suc n) e = let f : (suc n == 0) ≡ false = ne_eqb (suc n) 0 (λ z. omega arith) in let z : (suc n ≡ 0) = sym (ap (λ b. either b 1 (suc n)) f)
+    ∙ e in absurd (omega arith)
 
 pub two_is_not : ℕ → (let two : ℕ = 2 in two ≡ 0) → ⊥
 two_is_not n e = cc

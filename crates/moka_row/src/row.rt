@@ -2,13 +2,13 @@
 ghost use Rattle.std.specs.Prelude.{◌≡◌, ◌*◌, ◌<◌, ℕ, [], ◌∷◌, Option, Some, None, MatchBool, IfOk, ◌≤◌, ◌^◌, vec_len};
 ghost use mathlib.Core.Option.{some};
 ghost use lib.ListN.{get_elem?};
-ghost use Rattle.moka_segments.specs.Visits.{IsIdle, IsPlace, Visits};
-ghost use Rattle.moka_segments.specs.Kept.{Came, Got, Left, Tried};
-ghost use Rattle.moka_segments.specs.Visits.{after_visit, at, dealer, guest, newcomer, noted};
+ghost use Rattle.moka_row.specs.Visits.{IsIdle, IsPlace, Visits};
+ghost use Rattle.moka_row.specs.Kept.{Came, Got, Left, Tried};
+ghost use Rattle.moka_row.specs.Visits.{after_visit, at, dealer, guest, newcomer, noted};
 
 use atomic_table::{Play, Refused, Seat, Shared, Table, TableRule};
 use crossbeam_utils::Backoff;
-use std::alloc::{AllocError, Global};
+use std::alloc::{AllocError, Allocator, Global};
 use std::marker::{Brand, Model, PhantomData};
 use std::sync::Wait;
 
@@ -38,7 +38,7 @@ pub struct Known<E, K> {
 }
 
 impl<E, K> Model for Known<E, K> {
-    ghost use Rattle.moka_segments.specs.Visits.{Known as KnownState, newcomer};
+    ghost use Rattle.moka_row.specs.Visits.{Known as KnownState, newcomer};
 
     ghost Value = { KnownState E K };
 
@@ -51,8 +51,8 @@ pub struct Ruled<P> {
 }
 
 impl<T, E, K, P: Account<T, E, K>> TableRule<T, Known<E, K>, K> for Ruled<P> {
-    ghost use Rattle.moka_segments.specs.Visits.{dealer};
-    ghost use Rattle.moka_segments.specs.Kept.{Kept};
+    ghost use Rattle.moka_row.specs.Visits.{dealer};
+    ghost use Rattle.moka_row.specs.Kept.{Kept};
 
     ghost holds = { λ plan s. Kept P.holds plan s };
 
@@ -81,7 +81,7 @@ impl<T, E, K, P: Account<T, E, K>> Play<T, Known<E, K>> for Tries<P> {
     ghost then = { Tried P.holds };
 }
 
-/// An entry that a visit leaves in the history. The proof of a call picks it.
+/// An entry that a visit leaves in the history. A call with `Brand` has the one that its proof picks, or none.
 pub trait Entry<E> {
     ghost use Rattle.std.specs.Prelude.{Option};
 
@@ -199,7 +199,10 @@ fn pause() -> Backoff {
     backoff
 }
 
-/// Gives the lock back, after a visit that leaves an entry, or none.
+/// Gives the lock back, after a visit that leaves the entry of `N` in the history, or none.
+///
+/// A call passes `Brand` for `N`, and its proof picks the entry. `_about` takes what the entry names, such as snapshots of the value before and after, since a
+/// pick sees the arguments of its call and nothing else.
 #[inline]
 pub fn leave<X: Drop, T, E, K, P: Account<T, E, K>, N: Entry<E>>(
     row: &Row<T, E, K, P>,
@@ -243,21 +246,24 @@ pub fn leave_unsaid<T, E, K, P: Account<T, E, K>>(
 }
 
 /// A row with its memory.
-pub type RowTable<T, E, K, P> = Table<T, Known<E, K>, K, Ruled<P>, Global>;
+pub type RowTable<T, E, K, P, A = Global> = Table<T, Known<E, K>, K, Ruled<P>, A>;
 
 /// Opens a row of these values, each with an empty history, and returns it with the seat that deals out the owners' numbers.
-pub fn open<T: Drop, E, K, P: Account<T, E, K>>(
-    alloc: Global,
-    values: Vec<T>,
+///
+/// Memory may be refused: for the words of the locks, for the values in their new place, or for a copy of the allocator. The values are dropped then. The row
+/// of n values takes 128 n bytes for its locks.
+pub fn open<T: Drop, E, K, P: Account<T, E, K>, A: Allocator + Clone + Drop>(
+    alloc: A,
+    values: Vec<T, A>,
     plan: &K,
-) -> Result<(RowTable<T, E, K, P>, Visitor<T, E, K>), AllocError>
+) -> Result<(RowTable<T, E, K, P, A>, Visitor<T, E, K>), AllocError>
     requires few { vec_len values ≤ 2 ^ 32 }
     requires begins { (i : ℕ) (x : T) → get_elem? values.items i ≡ some x → P.holds plan.now i [] x }
     ensures table { IfOk result (λ r. (r.0.shared.table_id.slots ≡ vec_len values) × (r.0.shared.table_id.words ≡ vec_len values * 16) ×
         (r.0.shared.key ≡ plan.now)) }
     ensures dealer { IfOk result (λ r. (r.1.table_id ≡ r.0.shared.table_id) × (r.1.me ≡ (dealer plan.now 0, []))) }
 {
-    let words = vec![in alloc; 0u64; values.len() * STRIDE]?;
+    let words = vec![in alloc.clone()?; 0u64; values.len() * STRIDE]?;
     match Table::new(alloc, words.as_slice(), values, plan) {
         Ok(opened) => Ok(opened),
         Err(Refused { slots }) => {

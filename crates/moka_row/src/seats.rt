@@ -1,7 +1,7 @@
 //! Seats made of others: owners by number, and notes of what was seen.
 ghost use Rattle.std.specs.Prelude.{◌≡◌, ◌*◌, ◌<◌, []};
-ghost use Rattle.moka_segments.specs.Visits.{Deals, after_dealing, next_owner, note_of};
-ghost use Rattle.moka_segments.specs.Kept.{Hears};
+ghost use Rattle.moka_row.specs.Visits.{Deals, after_dealing, next_owner, note_of};
+ghost use Rattle.moka_row.specs.Kept.{Hears};
 
 use crate::row::{Account, Known, Row, Visitor};
 use atomic_table::{Join, Play, Split};
@@ -10,7 +10,7 @@ use atomic_table::{Join, Play, Split};
 pub struct Dealing;
 
 impl<E, K> Split<Known<E, K>> for Dealing {
-    ghost use Rattle.moka_segments.specs.Visits.{after_dealing, next_owner};
+    ghost use Rattle.moka_row.specs.Visits.{after_dealing, next_owner};
 
     ghost left = { λ v. after_dealing v };
 
@@ -36,7 +36,7 @@ pub fn deal<T, E, K, P: Account<T, E, K>>(
 pub struct Notes;
 
 impl<E, K> Split<Known<E, K>> for Notes {
-    ghost use Rattle.moka_segments.specs.Visits.{note_of};
+    ghost use Rattle.moka_row.specs.Visits.{note_of};
 
     ghost left = { λ v. v };
 
@@ -60,7 +60,7 @@ pub fn note<T, E, K, P: Account<T, E, K>>(
 pub struct Telling;
 
 impl<E, K> Join<Known<E, K>> for Telling {
-    ghost use Rattle.moka_segments.specs.Visits.{after_telling, told};
+    ghost use Rattle.moka_row.specs.Visits.{after_telling, told};
 
     ghost both = { λ v note. after_telling v note };
 
@@ -71,7 +71,7 @@ impl<E, K> Join<Known<E, K>> for Telling {
 pub struct Hearing;
 
 impl<T, E, K> Play<T, Known<E, K>> for Hearing {
-    ghost use Rattle.moka_segments.specs.Kept.{Heard};
+    ghost use Rattle.moka_row.specs.Kept.{Heard};
 
     ghost then = { Heard };
 }
