@@ -42,7 +42,8 @@ module _ {K V S W : Type 0} (keys : Keys K S) (weighs : W → K → V → ℕ �
   }
 
   -- and stands behind those in others
-  from_before : (v u w : Knows K V S W) (i : ℕ) (visit : Visit K V S W) → SameIn v i u → u.by ≡ v.by → VisitsIn keys weighs rules plan u i visit w → VisitsIn keys weighs rules plan v i visit w
+  from_before : (v u w : Knows K V S W) (i : ℕ) (visit : Visit K V S W) → SameIn v i u → u.by ≡ v.by → VisitsIn keys weighs rules plan u i visit w
+      → VisitsIn keys weighs rules plan v i visit w
   from_before v u w i visit still same m = record {
     cache = m.cache;
     since = m.since;
@@ -58,7 +59,8 @@ module _ {K V S W : Type 0} (keys : Keys K S) (weighs : W → K → V → ℕ �
 
   -- one segment more
   pub one_more : (v u w : Knows K V S W) (count : ℕ) (requests : ℕ → Request K V) (answers : ℕ → Answer K V) (request : Request K V) (answer : Answer K V)
-      → MakesAll keys weighs rules plan v count requests answers u → Makes keys weighs rules plan u count request answer w → requests count ≡ request → answers count ≡ answer
+      → MakesAll keys weighs rules plan v count requests answers u → Makes keys weighs rules plan u count request answer w → requests count ≡ request
+      → answers count ≡ answer
       → MakesAll keys weighs rules plan v (count + 1) requests answers w
   one_more v u w count requests answers request answer all m asks is = record {
     made = λ i lt. same_or i count
@@ -82,8 +84,10 @@ module _ {K V S W : Type 0} (keys : Keys K S) (weighs : W → K → V → ℕ �
   }
 
   -- with other requests and answers that are the same so far
-  pub so_far_same : (v u : Knows K V S W) (count : ℕ) (requests asked : ℕ → Request K V) (answers other : ℕ → Answer K V) → ((i : ℕ) → i < count → requests i ≡ asked i)
-      → ((i : ℕ) → i < count → answers i ≡ other i) → MakesAll keys weighs rules plan v count requests answers u → MakesAll keys weighs rules plan v count asked other u
+  pub so_far_same : (v u : Knows K V S W) (count : ℕ) (requests asked : ℕ → Request K V) (answers other : ℕ → Answer K V) → ((i : ℕ) → i < count
+      → requests i ≡ asked i)
+      → ((i : ℕ) → i < count → answers i ≡ other i) → MakesAll keys weighs rules plan v count requests answers u
+      → MakesAll keys weighs rules plan v count asked other u
   so_far_same v u count requests asked answers other asks same all = record {
     made = λ i lt.
         let was = all.made i lt in
@@ -96,17 +100,20 @@ module _ {K V S W : Type 0} (keys : Keys K S) (weighs : W → K → V → ℕ �
   no_sum v request = record { numbers = []; whole = refl; made = none_yet v (λ i. request) (λ i. Number (slice_index [] i)); told = refl }
 
   pub sums_more : (v u w : Knows K V S W) (count : ℕ) (request : Request K V) (so_far number result : ℕ) → Sums keys weighs rules plan v count request so_far u
-      → Makes keys weighs rules plan u count request (Number number) w → result ≡ min (so_far + number) (2 ^ 64 - 1) → Sums keys weighs rules plan v (count + 1) request result w
+      → Makes keys weighs rules plan u count request (Number number) w → result ≡ min (so_far + number) (2 ^ 64 - 1)
+      → Sums keys weighs rules plan v (count + 1) request result w
   sums_more v u w count request so_far number result s m told =
       let numbers : List ℕ = s.numbers ++ number ∷ [] in
-      let below : (i : ℕ) → i < count → slice_index s.numbers i ≡ slice_index numbers i = λ i lt. sym (get_or-append s.numbers (number ∷ []) 0 i (let l = s.whole in omega arith)) in
+      let below : (i : ℕ) → i < count → slice_index s.numbers i ≡ slice_index numbers i = λ i lt. sym (get_or-append s.numbers (number ∷ []) 0 i
+      (let l = s.whole in omega arith)) in
       let here : slice_index numbers count ≡ number = ap (λ (n : ℕ). slice_index numbers n) (sym s.whole) ∙ get_or-append_seam s.numbers number [] 0 in
       let added : sum numbers ≡ sum s.numbers + number = sum_more s.numbers number in
       record {
         numbers = numbers;
         whole = let l = length-append s.numbers (number ∷ []) in let whole = s.whole in omega arith;
         made = one_more v u w count (λ i. request) (λ i. Number (slice_index numbers i)) request (Number number)
-            (so_far_same v u count (λ i. request) (λ i. request) (λ i. Number (slice_index s.numbers i)) (λ i. Number (slice_index numbers i)) (λ i lt. refl) (λ i lt. ap Number (below i lt)) s.made)
+            (so_far_same v u count (λ i. request) (λ i. request) (λ i. Number (slice_index s.numbers i)) (λ i. Number (slice_index numbers i)) (λ i lt. refl)
+            (λ i lt. ap Number (below i lt)) s.made)
             m refl (ap Number here);
         told = let t = s.told in omega (arith, added, told);
       }
@@ -118,13 +125,15 @@ module _ {K V S W : Type 0} (keys : Keys K S) (weighs : W → K → V → ℕ �
       → Makes keys weighs rules plan u count (Iterate now) (Pairs part) w → Copies keys weighs rules plan v (count + 1) now (so_far ++ part) w
   parts_more v u w count now so_far part s m =
       let parts : List (List (K × V)) = s.parts ++ part ∷ [] in
-      let below : (i : ℕ) → i < count → slice_index_or s.parts i [] ≡ slice_index_or parts i [] = λ i lt. sym (get_or-append s.parts (part ∷ []) [] i (let l = s.whole in omega arith)) in
+      let below : (i : ℕ) → i < count → slice_index_or s.parts i [] ≡ slice_index_or parts i [] = λ i lt. sym (get_or-append s.parts (part ∷ []) [] i
+      (let l = s.whole in omega arith)) in
       let here : slice_index_or parts count [] ≡ part = ap (λ (n : ℕ). slice_index_or parts n []) (sym s.whole) ∙ get_or-append_seam s.parts part [] [] in
       record {
         parts = parts;
         whole = let l = length-append s.parts (part ∷ []) in let whole = s.whole in omega arith;
         made = one_more v u w count (λ i. Iterate now) (λ i. Pairs (slice_index_or parts i [])) (Iterate now) (Pairs part)
-            (so_far_same v u count (λ i. Iterate now) (λ i. Iterate now) (λ i. Pairs (slice_index_or s.parts i [])) (λ i. Pairs (slice_index_or parts i [])) (λ i lt. refl) (λ i lt. ap Pairs (below i lt)) s.made)
+            (so_far_same v u count (λ i. Iterate now) (λ i. Iterate now) (λ i. Pairs (slice_index_or s.parts i [])) (λ i. Pairs (slice_index_or parts i []))
+            (λ i lt. refl) (λ i lt. ap Pairs (below i lt)) s.made)
             m refl (ap Pairs here);
         told = ap (λ l. l ++ part) s.told ∙ joined_more s.parts part;
       }
@@ -134,7 +143,8 @@ module _ {K V S W : Type 0} (keys : Keys K S) (weighs : W → K → V → ℕ �
     none_yet_if v = record { made = λ i lt. absurd (omega arith); later = λ i le. (refl, refl); same = refl }
 
     -- a predicate was asked in one segment more
-    pub one_more_if : (v u w : Knows K V S W) (count : ℕ) → InvalidatesAllIf keys weighs rules plan asks predicate v count u → InvalidatesIf keys weighs rules plan asks predicate u count w
+    pub one_more_if : (v u w : Knows K V S W) (count : ℕ) → InvalidatesAllIf keys weighs rules plan asks predicate v count u
+        → InvalidatesIf keys weighs rules plan asks predicate u count w
         → ((j : ℕ) → j ≢ count → SameIn u j w) → InvalidatesAllIf keys weighs rules plan asks predicate v (count + 1) w
     one_more_if v u w count all m others = record {
       made = λ i lt. same_or i count

@@ -1,5 +1,6 @@
 -- The answers of a predicate by which entries left are told by which entries stand after it.
-use Rattle.std.proofs.Common.{◌≡◌, ℕ, suc, Bool, true, false, cond, not, ◌&&◌, ◌||◌, List, [], ◌∷◌, length, filter, is_some, map, Option, Some, None, refl, sym, ap, ◌∙◌}
+use Rattle.std.proofs.Common.{◌≡◌, ℕ, suc, Bool, true, false, cond, not, ◌&&◌, ◌||◌, List, [], ◌∷◌, length, filter, is_some, map, Option, Some, None, refl, sym}
+use Rattle.std.proofs.Common.{ap, ◌∙◌}
 use Rattle.std.specs.Cmp.{IsEquivalence}
 use Rattle.std.specs.List.{list_any}
 use Rattle.moka_common.specs.Keys.{Keys}
@@ -28,7 +29,11 @@ none_of-any eq (k ∷ keys) key = ap (λ b. not (eq k key) && b) (none_of-any eq
 
 -- what is left once the entries of keys have left goes by which keys they are
 leaving_by : {K V : Type 0} (eq : K → K → Bool) (keys : List K) (contents : Contents K V)
-    → after_leaving eq keys contents ≡ record { entries = filter (λ e. none_of eq keys e.key) contents.entries; written = filter (λ w. none_of eq keys w.key) contents.written }
+    → after_leaving eq keys contents ≡ record {
+      entries = filter (λ e. none_of eq keys e.key) contents.entries;
+      written = filter
+          (λ w. none_of eq keys w.key) contents.written;
+    }
 leaving_by eq [] contents = λ i. record { entries = filter-all contents.entries i; written = filter-all contents.written i }
 leaving_by eq (key ∷ keys) contents =
     leaving_by eq keys (without eq contents key)
@@ -37,12 +42,15 @@ leaving_by eq (key ∷ keys) contents =
       written = filter-both (λ w. not (eq key w.key)) (λ w. none_of eq keys w.key) contents.written i;
     })
 
-leaving_alike : {K V : Type 0} (eq : K → K → Bool) (keys others : List K) (contents : Contents K V) → ((key : K) → list_any (λ k. eq k key) keys ≡ list_any (λ k. eq k key) others)
+leaving_alike : {K V : Type 0} (eq : K → K → Bool) (keys others : List K) (contents : Contents K V) → ((key : K)
+    → list_any (λ k. eq k key) keys ≡ list_any (λ k. eq k key) others)
     → after_leaving eq keys contents ≡ after_leaving eq others contents
 leaving_alike {K = K} eq keys others contents same =
-    let alike : (key : K) → none_of eq keys key ≡ none_of eq others key = λ key. none_of-any eq keys key ∙ (ap not (same key) ∙ sym (none_of-any eq others key)) in
+    let alike : (key : K) → none_of eq keys key ≡ none_of eq others key = λ key. none_of-any eq keys key ∙ (ap not (same key)
+    ∙ sym (none_of-any eq others key)) in
     leaving_by eq keys contents
-    ∙ ((λ i. record { entries = filter (λ e. alike e.key i) contents.entries; written = filter (λ w. alike w.key i) contents.written }) ∙ sym (leaving_by eq others contents))
+    ∙ ((λ i. record { entries = filter (λ e. alike e.key i) contents.entries; written = filter (λ w. alike w.key i) contents.written })
+    ∙ sym (leaving_by eq others contents))
 
 -- the answers of a test choose what passes it
 chosen_by : {X : Type 0} (test : X → Bool) (xs : List X) → chosen (map test xs) xs ≡ filter test xs
@@ -67,7 +75,8 @@ chosen_some test [] [] any = any
 chosen_some test [] (x ∷ xs) any = absurd (cc)
 chosen_some test (true ∷ answers) [] any = any
 chosen_some test (false ∷ answers) [] any = any
-chosen_some test (true ∷ answers) (x ∷ xs) any = either_some (test x) (list_any test (chosen answers xs)) (list_any test xs) (λ there. chosen_some test answers xs there) any
+chosen_some test (true ∷ answers) (x ∷ xs) any = either_some (test x) (list_any test (chosen answers xs)) (list_any test xs)
+    (λ there. chosen_some test answers xs there) any
 chosen_some test (false ∷ answers) (x ∷ xs) any = or_some (test x) (list_any test xs) (chosen_some test answers xs any)
 
 -- tests that agree on each choose the same
@@ -85,7 +94,8 @@ module _ {K V : Type 0} (eq : K → K → Bool) (laws : IsEquivalence eq) where
   each_stands [] = tt
   each_stands (e ∷ es) = (
     ap (λ b. is_some (cond b (Some e) (entry_at eq e.key es))) (laws.refl e.key),
-    every_of (λ x. is_some (entry_at eq x.key es) ≡ true) (λ x. is_some (entry_at eq x.key (e ∷ es)) ≡ true) es (λ x there. more (eq x.key e.key) (entry_at eq x.key es) there) (each_stands es),
+    every_of (λ x. is_some (entry_at eq x.key es) ≡ true) (λ x. is_some (entry_at eq x.key (e ∷ es)) ≡ true) es (λ x there. more (eq x.key e.key)
+        (entry_at eq x.key es) there) (each_stands es),
   )
     where
       more : (b : Bool) (o : Option (Entry K V)) → is_some o ≡ true → is_some (cond b (Some e) o) ≡ true
@@ -113,18 +123,22 @@ module _ {K V : Type 0} (eq : K → K → Bool) (laws : IsEquivalence eq) where
         both_false true = refl
         both_false false = refl
 
-        go : list_any (λ e. eq e.key key) (filter (λ e. left e.key) es) ≡ (list_any (λ e. eq e.key key) es && left key) → (a : Bool) → eq e.key key ≡ a → (b : Bool) → left e.key ≡ b
-            → list_any (λ e. eq e.key key) (cond b (e ∷ filter (λ e. left e.key) es) (filter (λ e. left e.key) es)) ≡ ((a || list_any (λ e. eq e.key key) es) && left key)
+        go : list_any (λ e. eq e.key key) (filter (λ e. left e.key) es) ≡ (list_any (λ e. eq e.key key) es && left key) → (a : Bool) → eq e.key key ≡ a
+            → (b : Bool) → left e.key ≡ b
+            → list_any (λ e. eq e.key key) (cond b (e ∷ filter (λ e. left e.key) es) (filter (λ e. left e.key) es)) ≡ ((a || list_any
+            (λ e. eq e.key key) es) && left key)
         go ih true same true is = ap (λ c. c || list_any (λ e. eq e.key key) (filter (λ e. left e.key) es)) same ∙ (sym is ∙ left_alike e.key key same)
         go ih true same false is =
             ih
-            ∙ (ap (λ c. list_any (λ e. eq e.key key) es && c) (sym (left_alike e.key key same) ∙ is) ∙ (both_false (list_any (λ e. eq e.key key) es) ∙ (sym is ∙ left_alike e.key key same)))
+            ∙ (ap (λ c. list_any (λ e. eq e.key key) es && c) (sym (left_alike e.key key same) ∙ is) ∙ (both_false (list_any (λ e. eq e.key key) es)
+            ∙ (sym is ∙ left_alike e.key key same)))
         go ih false apart true is = ap (λ c. c || list_any (λ e. eq e.key key) (filter (λ e. left e.key) es)) apart ∙ ih
         go ih false apart false is = ih
 
   -- which entries stand no more tells by which answers they left
   told_by_standing : (answers : List Bool) (contents : Contents K V)
-      → (key : K) → list_any (λ k. eq k key) (entry_keys (chosen (leavers eq contents.entries (after_leaving eq (entry_keys (chosen answers contents.entries)) contents).entries) contents.entries))
+      → (key : K) → list_any (λ k. eq k key) (entry_keys (chosen (leavers eq contents.entries (after_leaving eq (entry_keys
+      (chosen answers contents.entries)) contents).entries) contents.entries))
       ≡ list_any (λ k. eq k key) (entry_keys (chosen answers contents.entries))
   told_by_standing answers contents key =
       let es = contents.entries in
@@ -132,13 +146,16 @@ module _ {K V : Type 0} (eq : K → K → Bool) (laws : IsEquivalence eq) where
       let after = (after_leaving eq (entry_keys gone) contents).entries in
       let stand_or_left : Every (λ e. not (is_some (entry_at eq e.key after)) ≡ left gone e.key) es =
       every_of (λ e. is_some (entry_at eq e.key es) ≡ true) (λ e. not (is_some (entry_at eq e.key after)) ≡ left gone e.key) es
-      (λ e there. ap (λ o. not (is_some o)) (entry_at-leaving laws (λ x. x.key) gone contents e.key) ∙ not_left (left gone e.key) (entry_at eq e.key es) there) (each_stands es) in
+      (λ e there. ap (λ o. not (is_some o)) (entry_at-leaving laws (λ x. x.key) gone contents e.key)
+      ∙ not_left (left gone e.key) (entry_at eq e.key es) there) (each_stands es) in
       let those : chosen (leavers eq es after) es ≡ filter (λ e. left gone e.key) es =
-      chosen_by (λ e. not (is_some (entry_at eq e.key after))) es ∙ filter_alike (λ e. not (is_some (entry_at eq e.key after))) (λ e. left gone e.key) es stand_or_left in
+      chosen_by (λ e. not (is_some (entry_at eq e.key after))) es ∙ filter_alike (λ e. not (is_some (entry_at eq e.key after)))
+      (λ e. left gone e.key) es stand_or_left in
       ap (λ l. list_any (λ k. eq k key) (entry_keys l)) those
       ∙ (any-key (λ k. eq k key) (filter (λ e. left gone e.key) es)
       ∙ (left_of_those gone key es
-      ∙ (there_if (left gone key) (list_any (λ e. eq e.key key) es) (λ any. chosen_some (λ e. eq e.key key) answers es any) ∙ sym (any-key (λ k. eq k key) gone))))
+      ∙ (there_if (left gone key) (list_any (λ e. eq e.key key) es) (λ any. chosen_some (λ e. eq e.key key) answers es any)
+      ∙ sym (any-key (λ k. eq k key) gone))))
     where
       not_left : (b : Bool) (o : Option (Entry K V)) → is_some o ≡ true → not (is_some (cond b None o)) ≡ b
       not_left true o there = refl

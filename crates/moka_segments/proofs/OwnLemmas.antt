@@ -11,7 +11,8 @@ use Rattle.moka_segments.specs.History.{Every, OnlyBy, Spares, calls, joined, va
 abbrev value_of : {V : Type 0} → Option (LastWrite V) → Option V
 value_of known = option_map (λ write. write.value) known
 
-value_if : {V : Type 0} (b : Bool) (x known other : Option (LastWrite V)) → value_of known ≡ value_of other → value_of (if b then x else known) ≡ value_of (if b then x else other)
+value_if : {V : Type 0} (b : Bool) (x known other : Option (LastWrite V)) → value_of known ≡ value_of other
+    → value_of (if b then x else known) ≡ value_of (if b then x else other)
 value_if true x known other e = refl
 value_if false x known other e = e
 
@@ -28,7 +29,8 @@ module _ {K V S : Type 0} (keys : Keys K S) where
   -- what a call does to the value goes by the value alone
   by_value : (request : Request K V) (answer : Answer K V) (chosen : List K) (key : K) (known other : Option (LastWrite V)) → value_of known ≡ value_of other
       → value_of (known_after keys request answer chosen key known) ≡ value_of (known_after keys request answer chosen key other)
-  by_value (Insert at_key value now) Done chosen key known other e = value_if (keys.eq at_key key) (Some (record { value = value; written = now; used = now })) known other e
+  by_value (Insert at_key value now) Done chosen key known other e = value_if (keys.eq at_key key) (Some
+      (record { value = value; written = now; used = now })) known other e
   by_value (Get at_key now) (Found (Some value)) chosen key known other e =
       used_if (keys.eq at_key key) now known other e ∙ sym (used_if (keys.eq at_key key) now other other refl)
   by_value request answer chosen key known other e = value_if (is_invalidated keys request chosen key) None known other e
@@ -37,7 +39,8 @@ module _ {K V S : Type 0} (keys : Keys K S) where
   spared : (request : Request K V) (answer : Answer K V) (chosen : List K) (key : K) (known : Option (LastWrite V))
       → is_written keys request answer key ≡ false → is_invalidated keys request chosen key ≡ false
       → value_of (known_after keys request answer chosen key known) ≡ value_of known
-  spared (Insert at_key value now) Done chosen key known unwritten valid = ap (λ b. value_of (if b then Some (record { value = value; written = now; used = now }) else known)) unwritten
+  spared (Insert at_key value now) Done chosen key known unwritten valid = ap (λ b. value_of (if b then Some
+      (record { value = value; written = now; used = now }) else known)) unwritten
   spared (Get at_key now) (Found (Some value)) chosen key known unwritten valid = used_if (keys.eq at_key key) now known known refl
   spared request answer chosen key known unwritten valid = ap (λ b. value_of (if b then None else known)) valid
 
@@ -53,13 +56,15 @@ module _ {K V S : Type 0} (keys : Keys K S) where
         → value_written keys key (exchanges (visit ++ past)) ≡ value_written keys key (exchanges past)
     spared_all key [] past all = refl
     spared_all key (call ∷ visit) past all =
-        spared call.request call.answer (chosen_keys call.request call.before.contents.entries) key (last_write keys key (exchanges (visit ++ past))) all.0.0 all.0.1
+        spared call.request call.answer (chosen_keys call.request call.before.contents.entries) key (last_write keys key (exchanges
+        (visit ++ past))) all.0.0 all.0.1
         ∙ spared_all key visit past all.1
 
     step : (by : ℕ) (key : K) (visit : ℕ × List (Transition K V S W)) (log : List (ℕ × List (Transition K V S W))) (b : Bool) → (visit.0 == by) ≡ b
         → ((visit.0 == by) ≡ false → Every (Spares keys key) visit.1)
         → value_written keys key (exchanges (calls log)) ≡ value_written keys key (exchanges (joined (visits_by by log)))
-        → value_written keys key (exchanges (visit.1 ++ calls log)) ≡ value_written keys key (exchanges (joined (if b then (visit.1 ∷ visits_by by log) else visits_by by log)))
+        → value_written keys key (exchanges (visit.1 ++ calls log)) ≡ value_written keys key (exchanges (joined (if b then
+        (visit.1 ∷ visits_by by log) else visits_by by log)))
     step by key visit log true is spares e = behind key visit.1 (calls log) (joined (visits_by by log)) e
     step by key visit log false is spares e = spared_all key visit.1 (calls log) (spares is) ∙ e
 
@@ -74,8 +79,10 @@ module _ {K V S : Type 0} (keys : Keys K S) where
     spared_visits key (visit ∷ visits) log all = spared_all key visit.1 (calls (visits ++ log)) all.0 ∙ spared_visits key visits log all.1
 
     -- an accepted insert writes
-    pub written : IsEquivalence keys.eq → (key : K) (value : V) (now : ℕ) (call : Transition K V S W) (past : List (Transition K V S W)) → call.request ≡ Insert key value now → call.answer ≡ Done
+    pub written : IsEquivalence keys.eq → (key : K) (value : V) (now : ℕ) (call : Transition K V S W) (past : List (Transition K V S W))
+        → call.request ≡ Insert key value now → call.answer ≡ Done
         → value_written keys key (exchanges (call ∷ past)) ≡ Some value
     written laws key value now call past asked answered =
-        (λ j. value_of (known_after keys (asked j) (answered j) (chosen_keys call.request call.before.contents.entries) key (last_write keys key (exchanges past))))
+        (λ j. value_of (known_after keys (asked j) (answered j) (chosen_keys call.request call.before.contents.entries) key (last_write keys key
+        (exchanges past))))
         ∙ ap (λ b. value_of (if b then Some (record { value = value; written = now; used = now }) else last_write keys key (exchanges past))) (laws.refl key)

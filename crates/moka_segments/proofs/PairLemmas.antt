@@ -29,7 +29,8 @@ use Rattle.moka_segments.proofs.CallLemmas.{every_both}
 use Rattle.moka_segments.proofs.LawLemmas.{parts, rest_is, step_of}
 
 -- what holds pair by pair of two lists and of two others holds of both together
-pub zipped_both : {A B : Type 0} (R : A → B → Type 0) (xs : List A) (ys : List B) (us : List A) (vs : List B) → AllZip R xs ys → AllZip R us vs → AllZip R (xs ++ us) (ys ++ vs)
+pub zipped_both : {A B : Type 0} (R : A → B → Type 0) (xs : List A) (ys : List B) (us : List A) (vs : List B) → AllZip R xs ys → AllZip R us vs
+    → AllZip R (xs ++ us) (ys ++ vs)
 zipped_both R [] [] us vs a b = b
 zipped_both R [] (y ∷ ys) us vs a b = absurd a
 zipped_both R (x ∷ xs) [] us vs a b = absurd a
@@ -53,11 +54,13 @@ module _ {K V : Type 0} (eq : K → K → Bool) where
   apart_both key [] ys a b = b
   apart_both key (x ∷ xs) ys a b = (a.0, apart_both key xs ys a.1 b)
 
-  distinct_both : (xs ys : List (K × V)) → IsDistinct eq (keys_in xs) → IsDistinct eq (keys_in ys) → Every (λ x. AllByRecursion (λ y. eq x.0 y ≡ false) (keys_in ys)) xs
+  distinct_both : (xs ys : List (K × V)) → IsDistinct eq (keys_in xs) → IsDistinct eq (keys_in ys)
+      → Every (λ x. AllByRecursion (λ y. eq x.0 y ≡ false) (keys_in ys)) xs
       → IsDistinct eq (keys_in (xs ++ ys))
   distinct_both [] ys a b apart = b
   distinct_both (x ∷ xs) ys a b apart =
-      IsDistinct-cons eq x.0 (keys_in (xs ++ ys)) (apart_both x.0 xs ys (IsDistinct-head eq x.0 (keys_in xs) a) apart.0) (distinct_both xs ys (IsDistinct-tail eq x.0 (keys_in xs) a) b apart.1)
+      IsDistinct-cons eq x.0 (keys_in (xs ++ ys)) (apart_both x.0 xs ys (IsDistinct-head eq x.0 (keys_in xs) a) apart.0) (distinct_both xs ys
+      (IsDistinct-tail eq x.0 (keys_in xs) a) b apart.1)
 
   -- some of the entries, as pairs
   apart_some : (key : K) (test : Entry K V → Bool) (es : List (Entry K V)) → AllByRecursion (λ y. eq key y ≡ false) (entry_keys es)
@@ -65,7 +68,8 @@ module _ {K V : Type 0} (eq : K → K → Bool) where
   apart_some key test [] a = tt
   apart_some key test (e ∷ es) a = go (test e) (apart_some key test es a.1)
     where
-      go : (b : Bool) → AllByRecursion (λ y. eq key y ≡ false) (keys_in (pairs_of (filter test es))) → AllByRecursion (λ y. eq key y ≡ false) (keys_in (pairs_of (cond b (e ∷ filter test es) (filter test es))))
+      go : (b : Bool) → AllByRecursion (λ y. eq key y ≡ false) (keys_in (pairs_of (filter test es)))
+          → AllByRecursion (λ y. eq key y ≡ false) (keys_in (pairs_of (cond b (e ∷ filter test es) (filter test es))))
       go true more = (a.0, more)
       go false more = more
 
@@ -82,7 +86,8 @@ module _ {K V S W : Type 0} (keys : Keys K S) (weighs : W → K → V → ℕ �
   same_place : (x y : K) → keys.eq x y ≡ true → place_of plan keys x ≡ place_of plan keys y
   same_place x y same = ap (λ hash. segment_of hash plan.count) (respects plan.hash_state x y same)
 
-  apart_places : (i : ℕ) (key : K) (ys : List (K × V)) → place_of plan keys key < i → Every (λ p. place_of plan keys p.0 ≡ i) ys → AllByRecursion (λ y. keys.eq key y ≡ false) (map (λ p. p.0) ys)
+  apart_places : (i : ℕ) (key : K) (ys : List (K × V)) → place_of plan keys key < i → Every (λ p. place_of plan keys p.0 ≡ i) ys
+      → AllByRecursion (λ y. keys.eq key y ≡ false) (map (λ p. p.0) ys)
   apart_places i key [] lt all = tt
   apart_places i key (y ∷ ys) lt all = (go (keys.eq key y.0) refl, apart_places i key ys lt all.1)
     where
@@ -94,21 +99,26 @@ module _ {K V S W : Type 0} (keys : Keys K S) (weighs : W → K → V → ℕ �
     -- each pair is current
     pairs_current : PairsAreCurrent keys weighs → Every (λ p. IsCurrent keys plan.policy now (exchanges (calls (rest (at w.seen i)))) p.0 p.1) pairs
     pairs_current law =
-        subst (λ (log : Log K V S W). Every (λ p. IsCurrent keys plan.policy now (exchanges (calls log)) p.0 p.1) pairs) (sym (rest_is keys weighs rules plan v w i (Iterate now) (Pairs pairs) m))
+        subst (λ (log : Log K V S W). Every (λ p. IsCurrent keys plan.policy now (exchanges (calls log)) p.0 p.1) pairs) (sym
+        (rest_is keys weighs rules plan v w i (Iterate now) (Pairs pairs) m))
         (every_of_all (λ p. IsCurrent keys plan.policy now (exchanges (calls (m.visit.since ++ at v.seen i))) p.0 p.1) pairs
-        (law (settings_of plan i) plan.shares m.visit.history.weigher m.visit.history.capacity (calls (m.visit.since ++ at v.seen i)) m.call.before m.call.after now pairs
+        (law (settings_of plan i) plan.shares m.visit.history.weigher m.visit.history.capacity (calls
+        (m.visit.since ++ at v.seen i)) m.call.before m.call.after now pairs
         (parts keys weighs rules plan v w i (Iterate now) (Pairs pairs) m).2 (step_of keys weighs rules plan v w i (Iterate now) (Pairs pairs) m)))
 
     -- so its key is of the segment
-    own_at : (since : List (Exchange K V)) (insert : Exchange K V) (earlier : List (Exchange K V)) (past : List (Transition K V S W)) → exchanges past ≡ since ++ insert ∷ earlier
+    own_at : (since : List (Exchange K V)) (insert : Exchange K V) (earlier : List (Exchange K V)) (past : List (Transition K V S W))
+        → exchanges past ≡ since ++ insert ∷ earlier
         → Every (λ call. IsOfSegment keys plan i call.request) past → IsOfSegment keys plan i insert.request
     own_at [] insert earlier [] parts all = absurd (cc)
-    own_at [] insert earlier (call ∷ past) parts all = subst (λ (e : Exchange K V). IsOfSegment keys plan i e.request) (head_same (exchange_of call) insert (exchanges past) earlier parts) all.0
+    own_at [] insert earlier (call ∷ past) parts all = subst (λ (e : Exchange K V). IsOfSegment keys plan i e.request) (head_same (exchange_of call) insert
+        (exchanges past) earlier parts) all.0
       where
         head_same : {X : Type 0} (x y : X) (xs ys : List X) → x ∷ xs ≡ y ∷ ys → x ≡ y
         head_same x y xs ys e = cc
     own_at (e ∷ since) insert earlier [] parts all = absurd (cc)
-    own_at (e ∷ since) insert earlier (call ∷ past) parts all = own_at since insert earlier past (tail_same (exchange_of call) e (exchanges past) (since ++ insert ∷ earlier) parts) all.1
+    own_at (e ∷ since) insert earlier (call ∷ past) parts all = own_at since insert earlier past (tail_same (exchange_of call) e (exchanges past)
+        (since ++ insert ∷ earlier) parts) all.1
       where
         tail_same : {X : Type 0} (x y : X) (xs ys : List X) → x ∷ xs ≡ y ∷ ys → xs ≡ ys
         tail_same x y xs ys e = cc
@@ -119,8 +129,10 @@ module _ {K V S W : Type 0} (keys : Keys K S) (weighs : W → K → V → ℕ �
         let own : Every (λ call. IsOfSegment keys plan i call.request) (m.call ∷ calls log) =
         subst (λ (l : Log K V S W). Every (λ call. IsOfSegment keys plan i call.request) (calls l)) m.visit.seen m.visit.history.own in
         let before : Every (λ call. IsOfSegment keys plan i call.request) (calls (rest (at w.seen i))) =
-        subst (λ (l : Log K V S W). Every (λ call. IsOfSegment keys plan i call.request) (calls l)) (sym (rest_is keys weighs rules plan v w i (Iterate now) (Pairs pairs) m)) own.1 in
-        every_with (λ p. IsCurrent keys plan.policy now (exchanges (calls (rest (at w.seen i)))) p.0 p.1) (λ p. place_of plan keys p.0 ≡ i) (λ p. Unit {0}) pairs
+        subst (λ (l : Log K V S W). Every (λ call. IsOfSegment keys plan i call.request) (calls l)) (sym (rest_is keys weighs rules plan v w i (Iterate now)
+        (Pairs pairs) m)) own.1 in
+        every_with (λ p. IsCurrent keys plan.policy now (exchanges (calls (rest (at w.seen i)))) p.0 p.1) (λ p. place_of plan keys p.0 ≡ i)
+        (λ p. Unit {0}) pairs
         (λ p is.
         let last = writes (exchanges (calls (rest (at w.seen i)))) p.0 is.0 is.1 in
         let insert : IsOfSegment keys plan i last.insert.request = own_at last.since last.insert last.earlier (calls (rest (at w.seen i))) last.parts before in
@@ -131,7 +143,8 @@ module _ {K V S W : Type 0} (keys : Keys K S) (weighs : W → K → V → ℕ �
     pairs_once : IsDistinct keys.eq (map (λ p. p.0) pairs)
     pairs_once =
         let led = parts keys weighs rules plan v w i (Iterate now) (Pairs pairs) m in
-        let once = once-run keys laws weighs (settings_of plan i) plan.shares m.visit.history.weigher m.visit.history.capacity (calls (m.visit.since ++ at v.seen i)) m.call.before led.2 in
+        let once = once-run keys laws weighs (settings_of plan i) plan.shares m.visit.history.weigher m.visit.history.capacity (calls
+        (m.visit.since ++ at v.seen i)) m.call.before led.2 in
         let told = (step_of keys weighs rules plan v w i (Iterate now) (Pairs pairs) m).0 in
         subst (λ (l : List (K × V)). IsDistinct keys.eq (map (λ p. p.0) l)) (sym (pairs_same pairs (pairs_at m.call.before now) told))
         (distinct_some keys.eq (λ e. not (is_expired m.call.before.settings.policy now e)) m.call.before.contents.entries once)
@@ -140,10 +153,17 @@ module _ {K V S W : Type 0} (keys : Keys K S) (weighs : W → K → V → ℕ �
         pairs_same x y e = cc
 
   pub no_snapshot : (v : Knows K V S W) (now : ℕ) → Snapshots keys weighs rules plan v 0 now [] v
-  no_snapshot v now = record { copies = no_parts keys weighs rules plan v now; placed = tt; once = none_stand keys laws weighs; current = λ i lt. absurd (omega arith) }
+  no_snapshot v now = record {
+    copies = no_parts keys weighs rules plan v now;
+    placed = tt;
+    once = none_stand keys laws weighs;
+    current = λ i lt. absurd
+        (omega arith);
+  }
 
   -- one segment more
-  pub snapshot_more : PairsAreCurrent keys weighs → LastWritesAreInserts keys V → (v u w : Knows K V S W) (count now : ℕ) (so_far part : List (K × V)) → Snapshots keys weighs rules plan v count now so_far u
+  pub snapshot_more : PairsAreCurrent keys weighs → LastWritesAreInserts keys V → (v u w : Knows K V S W) (count now : ℕ) (so_far part : List (K × V))
+      → Snapshots keys weighs rules plan v count now so_far u
       → Makes keys weighs rules plan u count (Iterate now) (Pairs part) w → Snapshots keys weighs rules plan v (count + 1) now (so_far ++ part) w
   snapshot_more law writes v u w count now so_far part s m =
       let here = pairs_placed u w count now part m.made law writes in
@@ -154,7 +174,8 @@ module _ {K V S W : Type 0} (keys : Keys K S) (weighs : W → K → V → ℕ �
             (every_with (λ p. place_of plan keys p.0 < count) (λ p. place_of plan keys p.0 < count + 1) (λ p. Unit {0}) so_far (λ p lt. omega arith) s.placed)
             (every_with (λ p. place_of plan keys p.0 ≡ count) (λ p. place_of plan keys p.0 < count + 1) (λ p. Unit {0}) part (λ p e. omega arith) here);
         once = distinct_both keys.eq so_far part s.once (pairs_once u w count now part m.made)
-            (every_with (λ p. place_of plan keys p.0 < count) (λ p. AllByRecursion (λ y. keys.eq p.0 y ≡ false) (map (λ q. q.0) part)) (λ p. Unit {0}) so_far (λ p lt. apart_places count p.0 part lt here) s.placed);
+            (every_with (λ p. place_of plan keys p.0 < count) (λ p. AllByRecursion (λ y. keys.eq p.0 y ≡ false) (map (λ q. q.0) part)) (λ p. Unit {0}) so_far
+            (λ p lt. apart_places count p.0 part lt here) s.placed);
         current = λ i lt. same_or i count
             (λ is. subst (λ k. Every (λ p. IsCurrent keys plan.policy now (exchanges (calls (rest (at w.seen k)))) p.0 p.1) (slice_index_or all k [])) (sym is)
             (subst (λ (l : List (K × V)). Every (λ p. IsCurrent keys plan.policy now (exchanges (calls (rest (at w.seen count)))) p.0 p.1) l)

@@ -1,5 +1,6 @@
 -- The parts of a limit, and the caches of a plan.
-use Rattle.std.proofs.Common.{◌≡◌, ℕ, zero, suc, ◌+◌, ◌*◌, ◌/◌, ◌%◌, ◌<◌, ◌≤◌, ◌∙◌, List, [], ◌∷◌, ◌++◌, length, Bool, true, false, ap, arith, refl, subst, sym, ⊎_elim, if◌then◌else◌}
+use Rattle.std.proofs.Common.{◌≡◌, ℕ, zero, suc, ◌+◌, ◌*◌, ◌/◌, ◌%◌, ◌<◌, ◌≤◌, ◌∙◌, List, [], ◌∷◌, ◌++◌, length, Bool, true, false, ap, arith, refl, subst, sym}
+use Rattle.std.proofs.Common.{⊎_elim, if◌then◌else◌}
 use Rattle.std.specs.Prelude.{nat_lt}
 use Rattle.std.proofs.lemmas.Bool.Decides.{nat_tests}
 use Rattle.std.proofs.Math.Nat.{mod-lt}
@@ -28,7 +29,8 @@ high : (limit count n : ℕ) → limit % count ≤ n → total (share limit coun
 high limit count zero le = let e : limit / count * 0 + limit % count ≡ 0 = omega arith in sym e
 high limit count (suc n) le = go (nat_lt n (limit % count)) refl (high limit count n)
   where
-    go : (b : Bool) → nat_lt n (limit % count) ≡ b → (limit % count ≤ n → total (share limit count) n ≡ limit / count * n + limit % count) → total (share limit count) (suc n) ≡ limit / count * suc n + limit % count
+    go : (b : Bool) → nat_lt n (limit % count) ≡ b → (limit % count ≤ n → total (share limit count) n ≡ limit / count * n + limit % count)
+        → total (share limit count) (suc n) ≡ limit / count * suc n + limit % count
     go true is less =
         let lt : n < limit % count = grind (arith, nat_tests, is) in
         let all = low limit count (suc n) (omega arith) in
@@ -45,8 +47,10 @@ shares limit count any = high limit count count (let m = mod-lt limit any in ome
 
 module _ {K V S W : Type 0} (keys : Keys K S) (weighs : W → K → V → ℕ → W → Type 0) (rules : Rules K V) (ready : W → Type 0) where
   -- one more cache
-  pub one_more_cache : (plan : Plan S) (caches : List (CacheState K V S W)) (x : CacheState K V S W) (i : ℕ) (weigher : W) → AreCaches keys weighs rules plan ready caches
-      → length caches ≡ i → x ≡ new_cache (settings_of plan i) plan.shares weigher x.capacity → reserved (share plan.initial_capacity plan.count i) ≤ x.capacity → ready weigher → AreCaches keys weighs rules plan ready (caches ++ x ∷ [])
+  pub one_more_cache : (plan : Plan S) (caches : List (CacheState K V S W)) (x : CacheState K V S W) (i : ℕ) (weigher : W)
+      → AreCaches keys weighs rules plan ready caches
+      → length caches ≡ i → x ≡ new_cache (settings_of plan i) plan.shares weigher x.capacity
+      → reserved (share plan.initial_capacity plan.count i) ≤ x.capacity → ready weigher → AreCaches keys weighs rules plan ready (caches ++ x ∷ [])
   one_more_cache plan caches x i weigher all here new room is_ready j y there =
       ⊎_elim
       (λ (was : get_elem? caches j ≡ some y). all j y was)

@@ -20,7 +20,8 @@ use Rattle.moka_segments.proofs.OwnLemmas.{spared_visits, written}
 module _ {K V S W : Type 0} (keys : Keys K S) (weighs : W → K → V → ℕ → W → Type 0) (rules : Rules K V) (plan : Plan S) where
   -- v writes and is u then; a is told of it and is b then; b reads and is w then
   pub finds_told : IsEquivalence keys.eq → (is_clone : V → V → Type 0) (v u a b w : Knows K V S W) (key : K) (value : V) (now : ℕ) (found : Option V)
-      → Makes keys weighs rules plan v (place_of plan keys key) (Insert key value now) Done u → Hears a u.seen b → Gets keys weighs rules plan is_clone b key now (Ok found) w
+      → Makes keys weighs rules plan v (place_of plan keys key) (Insert key value now) Done u → Hears a u.seen b
+      → Gets keys weighs rules plan is_clone b key now (Ok found) w
       → FindsTold keys weighs rules plan is_clone a.by v.by key value found w
   finds_told laws is_clone v u a b w key value now found m heard got =
       let i = place_of plan keys key in
@@ -33,7 +34,8 @@ module _ {K V S W : Type 0} (keys : Keys K S) (weighs : W → K → V → ℕ �
       let whole : second.visit.since ++ at b.seen i ≡ between ++ (v.by, first.call ∷ []) ∷ earlier =
       ap (λ (l : Log K V S W). second.visit.since ++ l) here ∙ sym (append_assoc second.visit.since more ((v.by, first.call ∷ []) ∷ earlier)) in
       let past : rest (at w.seen i) ≡ between ++ (v.by, first.call ∷ []) ∷ earlier = ap rest second.visit.seen ∙ whole in
-      let wrote : value_written keys key (exchanges (calls ((v.by, first.call ∷ []) ∷ earlier))) ≡ Some value = written keys laws key value now first.call (calls earlier) first.asked first.answered in
+      let wrote : value_written keys key (exchanges (calls ((v.by, first.call ∷ []) ∷ earlier))) ≡ Some value = written keys laws key value now first.call
+      (calls earlier) first.asked first.answered in
       record {
         write = first.call ∷ [];
         read = second.call ∷ [];
@@ -41,10 +43,13 @@ module _ {K V S W : Type 0} (keys : Keys K S) (weighs : W → K → V → ℕ �
         earlier = earlier;
         seen = second.visit.seen ∙ (λ k. (heard.same.2 k, second.call ∷ []) ∷ whole k);
         told = λ copy is spares.
-            let told : TellsClone {E = error.OutOfMemory} is_clone got.found (Ok (Some copy)) = subst (λ f. TellsClone {E = error.OutOfMemory} is_clone got.found (Ok f)) is got.told in
+            let told : TellsClone {E = error.OutOfMemory} is_clone got.found (Ok (Some copy)) = subst
+            (λ f. TellsClone {E = error.OutOfMemory} is_clone got.found (Ok f)) is got.told in
             let current = got.hit told.0 told.1 in
-            let now_written : value_written keys key (exchanges (calls (rest (at w.seen i)))) ≡ Some told.0 = ap (option_map (λ write. write.value)) current.1 ∙ ap Some current.2 in
+            let now_written : value_written keys key (exchanges (calls (rest (at w.seen i)))) ≡ Some told.0 = ap (option_map
+            (λ write. write.value)) current.1 ∙ ap Some current.2 in
             let last : value_written keys key (exchanges (calls (rest (at w.seen i)))) ≡ Some value =
-            ap (λ (l : Log K V S W). value_written keys key (exchanges (calls l))) past ∙ (spared_visits keys key between ((v.by, first.call ∷ []) ∷ earlier) spares ∙ wrote) in
+            ap (λ (l : Log K V S W). value_written keys key (exchanges (calls l))) past
+            ∙ (spared_visits keys key between ((v.by, first.call ∷ []) ∷ earlier) spares ∙ wrote) in
             subst (λ x. is_clone x copy) (sym (some_is value told.0 (sym last ∙ now_written))) told.2;
       }

@@ -52,7 +52,8 @@ pub(crate) fn entry_count<
     requires idle { IsIdle shared.now.table.shared.key me.old.me }
     ensures same { (me.new.table_id ≡ me.old.table_id) × (me.new.me.0.by ≡ me.old.me.0.by) }
     ensures idle { IsIdle shared.now.table.shared.key me.new.me }
-    ensures made { Sums (keys_by K.Hash S.BuildHasher S.Hasher.Hasher) W.weighs P.rules shared.now.table.shared.key me.old.me.0 shared.now.plan.count EntryCount result me.new.me.0 }
+    ensures made { Sums (keys_by K.Hash S.BuildHasher S.Hasher.Hasher) W.weighs P.rules shared.now.table.shared.key me.old.me.0
+        shared.now.plan.count EntryCount result me.new.me.0 }
 {
     let mut sum: u64 = 0;
     for i in 0..shared.plan.count {
@@ -74,7 +75,8 @@ pub(crate) fn weighted_size<
     requires idle { IsIdle shared.now.table.shared.key me.old.me }
     ensures same { (me.new.table_id ≡ me.old.table_id) × (me.new.me.0.by ≡ me.old.me.0.by) }
     ensures idle { IsIdle shared.now.table.shared.key me.new.me }
-    ensures made { Sums (keys_by K.Hash S.BuildHasher S.Hasher.Hasher) W.weighs P.rules shared.now.table.shared.key me.old.me.0 shared.now.plan.count WeightedSize result
+    ensures made { Sums (keys_by K.Hash S.BuildHasher S.Hasher.Hasher) W.weighs P.rules shared.now.table.shared.key me.old.me.0
+        shared.now.plan.count WeightedSize result
         me.new.me.0 }
 {
     let mut sum: u64 = 0;

@@ -12,6 +12,8 @@ returns-clause-found g c =
     let plan = c.args.me.now.cache.plan in
     finds_from_note keys g.W.Weighing.weighs g.P.Rule.rules plan g.V.Clone.is_clone c.learn.new.self.knows c.get.new.self.knows c.args.key.now c.args.now
     c.in-Ok.found (at c.args.note.seen (place_of plan keys c.args.key.now)) (c.learn.ensures.told.learns (place_of plan keys c.args.key.now))
-    (subst (λ r. Gets keys g.W.Weighing.weighs g.P.Rule.rules plan g.V.Clone.is_clone c.learn.new.self.knows c.args.key.now c.args.now r c.get.new.self.knows) c.in-Ok.is
-    (subst (λ p. Gets keys g.W.Weighing.weighs g.P.Rule.rules p g.V.Clone.is_clone c.learn.new.self.knows c.args.key.now c.args.now c.get.result c.get.new.self.knows)
+    (subst (λ r. Gets keys g.W.Weighing.weighs g.P.Rule.rules plan g.V.Clone.is_clone c.learn.new.self.knows c.args.key.now c.args.now r c.get.new.self.knows)
+    c.in-Ok.is
+    (subst (λ p. Gets keys g.W.Weighing.weighs g.P.Rule.rules p g.V.Clone.is_clone c.learn.new.self.knows c.args.key.now c.args.now c.get.result
+    c.get.new.self.knows)
     (ap (λ k. k.plan) c.learn.ensures.same) c.get.ensures.made))

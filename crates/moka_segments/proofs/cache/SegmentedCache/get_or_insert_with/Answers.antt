@@ -13,7 +13,9 @@ keys_of g = keys_by (record { eq = g.K.PartialEq.eq; hash_input = g.K.Hash.hash_
 
 pub returns : goal.returns
 returns g c = record {
-  made = by_guest (λ (p : Plan g.row.S.Denot) (v w : Knows g.row.K.Denot g.row.V.Denot g.row.S.Denot g.row.W.Denot). GetsOrInserts (keys_of g) g.W.Weighing.weighs g.P.Rule.rules p g.V.Clone.is_clone (goal.F-post g c.args.make) v (place_of p (keys_of g) c.args.key) c.args.key c.args.now c.get_or_insert_with.result w)
+  made = by_guest (λ (p : Plan g.row.S.Denot) (v w : Knows g.row.K.Denot g.row.V.Denot g.row.S.Denot g.row.W.Denot). GetsOrInserts
+      (keys_of g) g.W.Weighing.weighs g.P.Rule.rules p g.V.Clone.is_clone (goal.F-post g c.args.make) v (place_of p
+      (keys_of g) c.args.key) c.args.key c.args.now c.get_or_insert_with.result w)
       c.deref-shared.result.now.table.shared.key c.args.self.now.plan c.come-caller.ensures.new.0 c.come-caller.result.me.0 c.get_or_insert_with.new.me.me.0
       (ap (λ m. m.0) c.come-caller.ensures.new.1) (search rules) c.get_or_insert_with.ensures.made;
 }

@@ -12,8 +12,11 @@ keys_of g = keys_by (record { eq = g.K.PartialEq.eq; hash_input = g.K.Hash.hash_
 
 pub returns : goal.returns
 returns g c = record {
-  made = by_guest (λ (p : Plan g.row.S.Denot) (v w : Knows g.row.K.Denot g.row.V.Denot g.row.S.Denot g.row.W.Denot). InvalidatesAllIf (keys_of g) g.W.Weighing.weighs g.P.Rule.rules p (goal.F-step g) c.args.predicate v p.count w)
+  made = by_guest (λ (p : Plan g.row.S.Denot) (v w : Knows g.row.K.Denot g.row.V.Denot g.row.S.Denot g.row.W.Denot). InvalidatesAllIf
+      (keys_of g) g.W.Weighing.weighs g.P.Rule.rules p (goal.F-step g) c.args.predicate v p.count w)
       c.deref-shared.result.now.table.shared.key c.args.self.now.plan c.come-caller.ensures.new.0 c.come-caller.result.me.0 c.invalidate_entries_if.new.me.me.0
-      (ap (λ m. m.0) c.come-caller.ensures.new.1) (search rules) (subst (λ n. InvalidatesAllIf (keys_of g) g.W.Weighing.weighs g.P.Rule.rules c.deref-shared.result.now.table.shared.key (goal.F-step g) c.args.predicate c.come-caller.result.me.0 n c.invalidate_entries_if.new.me.me.0)
+      (ap (λ m. m.0) c.come-caller.ensures.new.1) (search rules) (subst (λ n. InvalidatesAllIf
+      (keys_of g) g.W.Weighing.weighs g.P.Rule.rules c.deref-shared.result.now.table.shared.key
+      (goal.F-step g) c.args.predicate c.come-caller.result.me.0 n c.invalidate_entries_if.new.me.me.0)
       (ap (λ p. p.count) (sym c.deref-shared.result.now.planned)) c.invalidate_entries_if.ensures.made);
 }
