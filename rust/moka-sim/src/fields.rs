@@ -79,7 +79,14 @@ fn quoted_field(line: &[u8]) -> Option<(Cow<'_, [u8]>, &[u8])> {
 
 /// Returns a field without the blanks around it.
 pub fn trimmed(field: &[u8]) -> &[u8] {
-    field.trim_ascii()
+    let is_text = |byte: &u8| !byte.is_ascii_whitespace();
+    match (
+        field.iter().position(is_text),
+        field.iter().rposition(is_text),
+    ) {
+        (Some(first), Some(last)) => &field[first..=last],
+        _ => &[],
+    }
 }
 
 /// A unit of time, as nanoseconds.
