@@ -431,7 +431,7 @@ impl Cache {
     }
 
     /// Returns the current moment of the cache's clock. If the cache has no duration, it is always
-    /// zero, or that of its [`ManualClock`](crate::ManualClock).
+    /// zero, or that of its [`ManualClock`].
     pub fn now(&self) -> Duration {
         self.shared.clock.elapsed()
     }
