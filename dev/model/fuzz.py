@@ -1455,7 +1455,6 @@ def gen_saturated(r, mode):
     s.tickets = None
     one = " 1" if weighed else ""
     lines = [s.first()]
-    first = 0
     settle = ["0 sync"] if mode == "recorded" else []
     if mode == "recorded" and weighed:
         lines += ["0 insert 0 v 0", "0 sync", "0 insert 0 v %d" % (limit * r.randint(100, 190)), "0 sync"]
