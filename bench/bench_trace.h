@@ -56,14 +56,14 @@ enum bench_trace_status {
  * MOKA_TRACE_DONE, the outcome is unchanged. No pointer may be null, not even that of zero operations.
  */
 uint32_t bench_trace_play(const struct bench_trace_settings *settings, const struct bench_trace_operation *operations,
-                         size_t count, struct bench_trace_outcome *outcome);
+                          size_t count, struct bench_trace_outcome *outcome);
 
 /*
  * Plays the operations on a core of the shared cache, by whole calls of one caller, and ends with a whole maintenance. An insert
  * allocates its key and its value, and a removal allocates its key. The rest is as for bench_trace_play.
  */
 uint32_t bench_trace_play_core(const struct bench_trace_settings *settings, const struct bench_trace_operation *operations,
-                              size_t count, struct bench_trace_outcome *outcome);
+                               size_t count, struct bench_trace_outcome *outcome);
 
 /*
  * Makes a sketch for a capacity, counts all hashes `counts` times, and then reads them `reads` times. `sum` gets the sum of the
@@ -71,7 +71,7 @@ uint32_t bench_trace_play_core(const struct bench_trace_settings *settings, cons
  * the status is MOKA_TRACE_DONE. No pointer may be null.
  */
 uint32_t bench_trace_sketch(uint32_t capacity, const uint64_t *hashes, size_t hash_count, size_t counts, size_t reads,
-                           uint64_t *sum);
+                            uint64_t *sum);
 
 enum bench_trace_aging_load {
     MOKA_TRACE_IN_LANES = 0, /* by the loop that the sketch uses */
@@ -106,10 +106,10 @@ enum bench_trace_index_load {
  * `sought`. `sum` gets the sum of the ids that were found. `hashes` may have no duplicates.
  */
 uint32_t bench_trace_index(uint32_t load, const uint64_t *hashes, size_t hash_count, const uint64_t *sought,
-                          size_t sought_count, size_t rounds, uint64_t *sum);
+                           size_t sought_count, size_t rounds, uint64_t *sum);
 
 /* Plays the loads of bench_trace_index on std's map from hashes to ids. */
 uint32_t bench_trace_index_by_map(uint32_t load, const uint64_t *hashes, size_t hash_count, const uint64_t *sought,
-                                 size_t sought_count, size_t rounds, uint64_t *sum);
+                                  size_t sought_count, size_t rounds, uint64_t *sum);
 
 #endif

@@ -24,7 +24,7 @@ static const struct bench_trace_outcome before = {9, 9, 9, 9};
 
 /* Key 7 has the value 5 and then 6, key 8 has 4 and then 9. Three look-ups find 5, 4 and 5. */
 static const struct bench_trace_operation each_kind[] = {
-    {7, 5, MOKA_TRACE_INSERT},       {7, 0, MOKA_TRACE_GET},           {8, 4, MOKA_TRACE_READ_THROUGH},
+    {7, 5, MOKA_TRACE_INSERT},       {7, 0, MOKA_TRACE_GET},            {8, 4, MOKA_TRACE_READ_THROUGH},
     {8, 3, MOKA_TRACE_READ_THROUGH}, {7, 6, MOKA_TRACE_GET_AND_INSERT}, {8, 9, MOKA_TRACE_REMOVE_AND_INSERT},
 };
 
