@@ -36,16 +36,16 @@ static const struct bench_trace_operation strange[] = {{7, 5, MOKA_TRACE_INSERT}
 
 /* At a capacity of one, key 8 is rejected when it was looked up only as often as 7, and then replaces it. Then 7 is rejected for the same reason. */
 static const struct trace traces[] = {
-    {"each kind", bench_trace_play, {NONE, NONE, NONE, 0, TICK, false, false, 1, 0}, each_kind, 6, MOKA_TRACE_DONE, {3, 14, 2, 2}},
-    {"each kind on a core", bench_trace_play_core, {NONE, NONE, NONE, 0, TICK, false, false, 1, 0}, each_kind, 6, MOKA_TRACE_DONE, {3, 14, 2, 2}},
-    {"weighed", bench_trace_play, {NONE, NONE, NONE, 0, TICK, true, false, 1, 0}, each_kind, 6, MOKA_TRACE_DONE, {3, 14, 2, 15}},
-    {"std's hashes", bench_trace_play, {NONE, NONE, NONE, 0, TICK, false, true, 1, 0}, each_kind, 6, MOKA_TRACE_DONE, {3, 14, 2, 2}},
-    {"one entry", bench_trace_play, {1, NONE, NONE, 0, TICK, false, false, 1, 0}, each_kind, 6, MOKA_TRACE_DONE, {1, 5, 1, 1}},
-    {"time to live", bench_trace_play, {NONE, 20, NONE, 0, TICK, false, false, 1, 0}, looks, 3, MOKA_TRACE_DONE, {1, 5, 0, 0}},
-    {"time to idle", bench_trace_play, {NONE, NONE, 20, 0, TICK, false, false, 1, 0}, looks, 3, MOKA_TRACE_DONE, {2, 10, 1, 1}},
-    {"no such window", bench_trace_play, {NONE, NONE, NONE, 0, TICK, false, false, 101, 0}, looks, 3, MOKA_TRACE_SHARE_TOO_LARGE, {9, 9, 9, 9}},
-    {"no such segment", bench_trace_play, {NONE, NONE, NONE, 0, TICK, false, false, 1, 101}, looks, 3, MOKA_TRACE_SHARE_TOO_LARGE, {9, 9, 9, 9}},
-    {"no kind", bench_trace_play, {NONE, NONE, NONE, 0, TICK, false, false, 1, 0}, strange, 2, MOKA_TRACE_UNKNOWN_KIND, {9, 9, 9, 9}},
+    {"each kind", bench_trace_play, {NONE, NONE, NONE, 0, TICK, false, false, 1, 0, false}, each_kind, 6, MOKA_TRACE_DONE, {3, 14, 2, 2}},
+    {"each kind on a core", bench_trace_play_core, {NONE, NONE, NONE, 0, TICK, false, false, 1, 0, false}, each_kind, 6, MOKA_TRACE_DONE, {3, 14, 2, 2}},
+    {"weighed", bench_trace_play, {NONE, NONE, NONE, 0, TICK, true, false, 1, 0, false}, each_kind, 6, MOKA_TRACE_DONE, {3, 14, 2, 15}},
+    {"std's hashes", bench_trace_play, {NONE, NONE, NONE, 0, TICK, false, true, 1, 0, false}, each_kind, 6, MOKA_TRACE_DONE, {3, 14, 2, 2}},
+    {"one entry", bench_trace_play, {1, NONE, NONE, 0, TICK, false, false, 1, 0, false}, each_kind, 6, MOKA_TRACE_DONE, {1, 5, 1, 1}},
+    {"time to live", bench_trace_play, {NONE, 20, NONE, 0, TICK, false, false, 1, 0, false}, looks, 3, MOKA_TRACE_DONE, {1, 5, 0, 0}},
+    {"time to idle", bench_trace_play, {NONE, NONE, 20, 0, TICK, false, false, 1, 0, false}, looks, 3, MOKA_TRACE_DONE, {2, 10, 1, 1}},
+    {"no such window", bench_trace_play, {NONE, NONE, NONE, 0, TICK, false, false, 101, 0, false}, looks, 3, MOKA_TRACE_SHARE_TOO_LARGE, {9, 9, 9, 9}},
+    {"no such segment", bench_trace_play, {NONE, NONE, NONE, 0, TICK, false, false, 1, 101, false}, looks, 3, MOKA_TRACE_SHARE_TOO_LARGE, {9, 9, 9, 9}},
+    {"no kind", bench_trace_play, {NONE, NONE, NONE, 0, TICK, false, false, 1, 0, false}, strange, 2, MOKA_TRACE_UNKNOWN_KIND, {9, 9, 9, 9}},
 };
 
 /* Returns 1 and prints both values if they differ, else 0. */

@@ -33,9 +33,9 @@ int main(void) {
         hashes[i] = i * 0x9e3779b97f4a7c15u;
     for (size_t i = 0; i < 1000; i++)
         words[i] = next() * next();
-    struct bench_trace_settings plain = {300, MOKA_TRACE_UNLIMITED, MOKA_TRACE_UNLIMITED, 0, 0, false, false, 1, 0};
-    struct bench_trace_settings expiring = {300, 5000, 2000, 0, 1, true, true, 1, 0};
-    struct bench_trace_settings segmented = {300, MOKA_TRACE_UNLIMITED, MOKA_TRACE_UNLIMITED, 0, 0, false, false, 20, 80};
+    struct bench_trace_settings plain = {300, MOKA_TRACE_UNLIMITED, MOKA_TRACE_UNLIMITED, 0, 0, false, false, 1, 0, false};
+    struct bench_trace_settings expiring = {300, 5000, 2000, 0, 1, true, true, 1, 0, false};
+    struct bench_trace_settings segmented = {300, MOKA_TRACE_UNLIMITED, MOKA_TRACE_UNLIMITED, 0, 0, false, false, 20, 80, false};
     uint32_t failed = 0;
     failed |= plays(bench_trace_play, plain, operations) | plays(bench_trace_play, expiring, operations);
     failed |= plays(bench_trace_play, segmented, operations);
