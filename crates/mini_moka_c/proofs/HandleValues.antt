@@ -46,10 +46,12 @@ word_good p c h fits = (both_tt (has_ty ty_ptr (ptr_val p)) (has_ty (layout Z) h
 
 module _ {M : Type 1} {𝓤 : Ura M} {𝓛 : Logic 𝓤} {K : Type 0} {Γ : List (Item 𝓤)} {G : Goal 𝓤 𝓛.H} where
   pub handle_out : K → (d : Handle) (vs : List Val)
-      → ((h : Val) → vs ≡ word d.at d.is_open h ∷ [] → Good (layout Z) h → Seq K 𝓛 (‵ (held d.is_open d.value (box_owns (ghosts.dealloc_token d.alloc) kept.the_row d.at)) ∷ ‵ (Z.own_val d.alloc (h ∷ [])) ∷ Γ) G)
+      → ((h : Val) → vs ≡ word d.at d.is_open h ∷ [] → Good (layout Z) h → Seq K 𝓛 (‵ (held d.is_open d.value (box_owns
+      (ghosts.dealloc_token d.alloc) kept.the_row d.at)) ∷ ‵ (Z.own_val d.alloc (h ∷ [])) ∷ Γ) G)
       → Seq K 𝓛 (‵ ((handle.the_row).own_val d vs) ∷ Γ) G
   handle_out t d vs k =
-      fsplit t $ fpick t (λ vss. fsplit t $ feq_l t (λ ev. fsplit t $ feq_l t (λ ep. fsplit t $ feq_l t (λ ec. fsplit t $ handle_tells al t d.alloc vss.1.1.0 (λ h ea fits. move t (1 ∷ []) $ drop t $ move t (1 ∷ []) $
+      fsplit t $ fpick t (λ vss. fsplit t $ feq_l t (λ ev. fsplit t $ feq_l t (λ ep. fsplit t $ feq_l t (λ ec. fsplit t $
+      handle_tells al t d.alloc vss.1.1.0 (λ h ea fits. move t (1 ∷ []) $ drop t $ move t (1 ∷ []) $
       k h (subst (λ (ws : List Val). vs ≡ vstruct (of_list (ptr_val d.at ∷ vbool d.is_open ∷ (ws ++ []))) ∷ []) ea
       (subst (λ (cs : List Val). vs ≡ vstruct (of_list (ptr_val d.at ∷ (cs ++ (vss.1.1.0 ++ [])))) ∷ []) ec
       (subst (λ (ps : List Val). vs ≡ vstruct (of_list (ps ++ (vss.1.0 ++ (vss.1.1.0 ++ [])))) ∷ []) ep ev))) fits)))))
@@ -58,9 +60,16 @@ module _ {M : Type 1} {𝓤 : Ura M} {𝓛 : Logic 𝓤} {K : Type 0} {Γ : List
       → Step K 𝓛 (‵ ((handle.the_row).own_val (record { at = p; is_open = c; alloc = a; value = x }) (word p c h ∷ [])) ∷ Γ) G
       (‵ (held c x (box_owns (ghosts.dealloc_token a) kept.the_row p)) ∷ ‵ (Z.own_val a (h ∷ [])) ∷ Γ) G
   handle_in t p c h a x = step (λ s. let v : Val = word p c h in
-      nothing t $ move t (2 ∷ 0 ∷ []) $ fjoin t $ feq_i t (List Val) (vbool c ∷ []) (vbool c ∷ []) refl $ fjoin t $ feq_i t (List Val) (ptr_val p ∷ []) (ptr_val p ∷ []) refl $ fjoin t $
+      nothing t $ move t (2 ∷ 0 ∷ []) $ fjoin t $ feq_i t (List Val) (vbool c ∷ []) (vbool c ∷ []) refl $ fjoin t $
+      feq_i t (List Val) (ptr_val p ∷ []) (ptr_val p ∷ []) refl $ fjoin t $
       feq_i t (List Val) (v ∷ []) (v ∷ []) refl $ fjoin t $
-      fpack t (Valss (RawPtr ∷ bool ∷ Z ∷ [])) (within (shape handle.the_type) (p, (c, (((tt, tt), tt), tt))) (v ∷ [])) (ptr_val p ∷ [], (vbool c ∷ [], (h ∷ [], tt))) $ fjoin t $ s)
+      fpack t (Valss (RawPtr ∷ bool ∷ Z ∷ [])) (within (shape handle.the_type) (p, (c, (((tt, tt), tt), tt))) (v ∷ [])) (
+        ptr_val p ∷ [],
+        (
+          vbool c ∷ [],
+          (h ∷ [], tt),
+        ),
+      ) $ fjoin t $ s)
 
   -- a handle is closed, or it is open and owns a value
   pub held_is : K → (c : Bool) (x : Option AnyCache) (own : AnyCache → Fml)

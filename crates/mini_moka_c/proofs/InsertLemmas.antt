@@ -81,7 +81,8 @@ module _ {K V S W : Type 0} (keys : Keys K S) (laws : IsEquivalence keys.eq) {L 
       by : (o : Option (Entry K V)) → entry_at keys.eq key (kept hears keys old now).entries ≡ o
           → TellsNew hears keys old now o key value new t.between b → answer b ≡ inserted_of (is_some (entry_at keys.eq key new.contents.entries))
       by None is put =
-          put-told hears answer turns (main_max (windowed old) (windowed new) old.settings.policy.max_capacity) (is_some (entry_at keys.eq key new.contents.entries))
+          put-told hears answer turns (main_max (windowed old) (windowed new) old.settings.policy.max_capacity) (is_some
+          (entry_at keys.eq key new.contents.entries))
           (new_entry keys old.settings.hash_state key value put.0 now) (kept hears keys old now).entries new.contents.entries t.between b before put.1
       by (Some there) is heard-it =
           turns t.between b key there.value (cause_at old.settings.policy now there cause.Replaced) heard-it

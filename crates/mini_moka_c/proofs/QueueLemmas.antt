@@ -1,5 +1,6 @@
 -- What a queue gets, by what the listener gets whose part it is.
-use Rattle.std.proofs.Common.{◌≡◌, ◌∙◌, ◌≤◌, ◌==◌, ℕ, Bool, List, [], ◌∷◌, ◌++◌, Option, None, Some, ap, arith, if◌then◌else◌, length, nat_lt, refl, subst, sym, true, false}
+use Rattle.std.proofs.Common.{◌≡◌, ◌∙◌, ◌≤◌, ◌==◌, ℕ, Bool, List, [], ◌∷◌, ◌++◌, Option, None, Some, ap, arith, if◌then◌else◌, length, nat_lt, refl, subst, sym}
+use Rattle.std.proofs.Common.{true, false}
 use Rattle.std.proofs.lemmas.Bool.{ltb-true}
 use Rattle.std.proofs.lemmas.List.{length-append}
 use Rattle.circular_buffer.specs.Buffer.{buffer}
@@ -87,7 +88,8 @@ module _ {K V S W : Type 0} (keys : Keys K S) (old : CacheState K V S W) (now : 
   insert_queued key value new t = record {
     between = t.between.removed;
     cleanup = cleanup-gotten hears_leaving queues (λ l. l.removed) turned keys.eq old.settings.policy now old.contents a t.between t.cleanup;
-    put = new-gotten hears_leaving queues (λ l. l.removed) turned keys old now (entry_at keys.eq key (kept queues keys old now).entries) key value new t.between b t.put;
+    put = new-gotten hears_leaving queues (λ l. l.removed) turned keys old now (entry_at keys.eq key
+        (kept queues keys old now).entries) key value new t.between b t.put;
   }
 
   -- of an invalidation

@@ -1,5 +1,6 @@
 -- What is counted, by what a listener gets.
-use Rattle.std.proofs.Common.{◌≡◌, ◌∙◌, ◌+◌, ◌-◌, ℕ, Bool, List, [], ◌∷◌, ◌++◌, Option, None, Some, ap, arith, if◌then◌else◌, is_some, length, option_map, true, false}
+use Rattle.std.proofs.Common.{◌≡◌, ◌∙◌, ◌+◌, ◌-◌, ℕ, Bool, List, [], ◌∷◌, ◌++◌, Option, None, Some, ap, arith, if◌then◌else◌, is_some, length, option_map, true}
+use Rattle.std.proofs.Common.{false}
 use Rattle.std.proofs.lemmas.List.{length-append, length-map}
 use Rattle.std.proofs.lemmas.List.Sorted.{length_permutation}
 use Rattle.std.specs.List.Sorted.{IsPermutation}
@@ -96,7 +97,8 @@ module _ {K V S W : Type 0} (keys : Keys K S) {L : Type 0} (hears : L → K → 
           → counts b ≡ with_put old.settings.policy now o (is_some (entry_at keys.eq key new.contents.entries)) (length (kept hears keys old now).entries)
           (length new.contents.entries) (counts t.between)
       by None put =
-          put-counted hears counts turns old.settings.policy now (main_max (windowed old) (windowed new) old.settings.policy.max_capacity) (is_some (entry_at keys.eq key new.contents.entries))
+          put-counted hears counts turns old.settings.policy now (main_max (windowed old) (windowed new) old.settings.policy.max_capacity) (is_some
+          (entry_at keys.eq key new.contents.entries))
           (new_entry keys old.settings.hash_state key value put.0 now) (kept hears keys old now).entries new.contents.entries t.between b put.1
       by (Some there) heard-it = turns t.between b key there.value (cause_at old.settings.policy now there cause.Replaced) heard-it
 

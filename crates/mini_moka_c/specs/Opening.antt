@@ -58,7 +58,8 @@ pub record IsBytesNew (settings : ByteSettings) (bytes : ByteCache) : Type 0 whe
     hash_state = record { low = settings.seed_low; high = settings.seed_high };
     policy = bytes.cache.settings.policy;
     is_weighed = settings.is_weighed;
-  }) (shares_of settings.window_share settings.protected_share settings.is_adaptive) (if settings.is_weighed then weight.Bytes else weight.Entry) bytes.cache.capacity
+  }) (shares_of settings.window_share settings.protected_share settings.is_adaptive)
+      (if settings.is_weighed then weight.Bytes else weight.Entry) bytes.cache.capacity
   pub room : reserved settings.initial_capacity ≤ bytes.cache.capacity
   pub counts : bytes.leaving.statistics ≡ no_statistics
   pub removed : bytes.leaving.removed ≡ empty_queue settings.removed_room

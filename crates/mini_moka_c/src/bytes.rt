@@ -12,7 +12,8 @@ use moka_common::error::OutOfMemory;
 use moka_common::time::Instant;
 use std::alloc::Global;
 
-/// Opens a closed handle with a new cache of bytes. If a duration is 0, a share is above 100 or memory is refused it stays closed, and an open handle stays as it is: `ALREADY_OPEN`.
+/// Opens a closed handle with a new cache of bytes. If a duration is 0, a share is above 100 or memory is refused it stays closed, and an open handle
+/// stays as it is: `ALREADY_OPEN`.
 #[unsafe(no_mangle)]
 pub extern "C" fn mini_moka_open(alloc: Global, handle: &mut Handle, settings: &ByteSettings) -> u32
     ensures { IsOpening (settings_fault settings.now.time_to_live settings.now.time_to_idle settings.now.window_share settings.now.protected_share)
@@ -32,7 +33,8 @@ pub extern "C" fn mini_moka_open(alloc: Global, handle: &mut Handle, settings: &
 
 /// Makes a new cache of the settings in a box. The error is a status: settings are at fault, or memory is refused.
 fn cache_of(alloc: Global, settings: &ByteSettings) -> Result<Box<AnyCache>, u32>
-    ensures ok { IfOk result (λ kept. (settings_fault settings.now.time_to_live settings.now.time_to_idle settings.now.window_share settings.now.protected_share ≡ None)
+    ensures ok { IfOk result (λ kept.
+        (settings_fault settings.now.time_to_live settings.now.time_to_idle settings.now.window_share settings.now.protected_share ≡ None)
         × IsBytesKept settings.now kept.value) }
     ensures err { IfErr result (λ status. status
         ≡ refusal_of (settings_fault settings.now.time_to_live settings.now.time_to_idle settings.now.window_share settings.now.protected_share)) }

@@ -14,8 +14,8 @@ use crate::steps::NumberStep;
 use moka_common::time::Instant;
 use std::alloc::Global;
 
-/// Opens a closed handle with a new cache of numbers. If a duration is 0, a share is above 100 or memory is refused it stays closed, and an open handle stays as it is:
-/// `ALREADY_OPEN`.
+/// Opens a closed handle with a new cache of numbers. If a duration is 0, a share is above 100 or memory is refused it stays closed, and an open handle
+/// stays as it is: `ALREADY_OPEN`.
 #[unsafe(no_mangle)]
 pub extern "C" fn mini_moka_u64_open(
     alloc: Global,
@@ -39,7 +39,8 @@ pub extern "C" fn mini_moka_u64_open(
 
 /// Makes a new cache of the settings in a box. The error is a status: settings are at fault, or memory is refused.
 fn cache_of(alloc: Global, settings: &NumberSettings) -> Result<Box<AnyCache>, u32>
-    ensures ok { IfOk result (λ kept. (settings_fault settings.now.time_to_live settings.now.time_to_idle settings.now.window_share settings.now.protected_share ≡ None)
+    ensures ok { IfOk result (λ kept.
+        (settings_fault settings.now.time_to_live settings.now.time_to_idle settings.now.window_share settings.now.protected_share ≡ None)
         × IsNumbersKept settings.now kept.value) }
     ensures err { IfErr result (λ status. status
         ≡ refusal_of (settings_fault settings.now.time_to_live settings.now.time_to_idle settings.now.window_share settings.now.protected_share)) }

@@ -1,10 +1,9 @@
 -- What stands at a key once the entries of a shard have changed.
-use Rattle.std.proofs.Common.{◌≡◌, Bool, true, false, not, cond, List, [], ◌∷◌, ◌++◌, map, Option, Some, None, refl, sym, ◌∙◌, ap, inl, inr}
+use Rattle.std.proofs.Common.{◌≡◌, Bool, true, false, not, cond, List, [], ◌∷◌, map, Option, Some, None, refl, sym, ◌∙◌, ap, inl, inr}
 use Rattle.std.specs.Cmp.{IsEquivalence}
-use Rattle.std.specs.List.{find, filter, IsDistinct, AllByRecursion}
+use Rattle.std.specs.List.{find, IsDistinct}
 use Rattle.std.specs.Option.{option_map}
-use Rattle.std.proofs.lemmas.Bool.{cases_Bool, false_from_ne_true, false≢true}
-use Rattle.std.proofs.lemmas.Map.Keys.{IsDistinct-head, IsDistinct-tail}
+use Rattle.std.proofs.lemmas.Bool.{both_ways, false_from_ne_true, false≢true}
 use Rattle.moka_sync_model.specs.declared.ticket.Ticket.{Ticket}
 use Rattle.moka_sync_model.specs.Ticket.{same_ticket, without, changed, AreApart}
 use Rattle.moka_sync_model.specs.Entry.{Entry, entry_at, entry_of}
@@ -12,63 +11,10 @@ use Rattle.moka_sync_model.specs.MapStep.{AddsEntry}
 use Rattle.moka_sync_model.proofs.ListLemmas.{find-changed}
 use Rattle.moka_sync_model.proofs.TicketLemmas.{cases_ticket, same_is, same_self}
 use Rattle.moka_sync_model.proofs.EventLemmas.{entry_of-found}
-
-both_ways : (b : Bool) → b ≡ false → b ≡ true → ⊥
-both_ways b f t = false≢true (sym f ∙ t)
-
-module _ {X : Type 0} (p : X → Bool) where
-  find-added_other : (xs ys : List X) (x : X) → p x ≡ false → find p (xs ++ x ∷ ys) ≡ find p (xs ++ ys)
-  find-added_other [] ys x fails = rw fails
-  find-added_other (z ∷ xs) ys x fails = ap (λ o. cond (p z) (Some z) o) (find-added_other xs ys x fails)
-
-  find-added : (xs ys : List X) (x : X) → p x ≡ true → find p (xs ++ ys) ≡ None → find p (xs ++ x ∷ ys) ≡ Some x
-  find-added [] ys x passes none = rw passes
-  find-added (z ∷ xs) ys x passes none =
-      elim (cases_Bool (p z)) [
-        | inl first ↦ let found : Some z ≡ None = rw first at none in absurd (cc)
-        | inr later ↦ rw later (find-added xs ys x passes (rw later at none))
-      ]
-
-  -- what a search finds passes
-  pub find-passes : (xs : List X) (x : X) → find p xs ≡ Some x → p x ≡ true
-  find-passes [] x found = absurd (cc)
-  find-passes (y ∷ ys) x found =
-      elim (cases_Bool (p y)) [
-        | inl passes ↦ let is : Some y ≡ Some x = rw passes at found in let same : y ≡ x = cc in ap p (sym same) ∙ passes
-        | inr fails ↦ find-passes ys x (rw fails at found)
-      ]
-
-module _ {X : Type 0} (p q : X → Bool) where
-  -- what is found among those kept was kept
-  find-kept : (xs : List X) (x : X) → find p (filter q xs) ≡ Some x → q x ≡ true
-  find-kept [] x found = absurd (cc)
-  find-kept (y ∷ ys) x found =
-      elim (cases_Bool (q y)) [
-        | inl kept ↦
-            elim (cases_Bool (p y)) [
-              | inl here ↦ let is : Some y ≡ Some x = rw (kept, here) at found in let same : y ≡ x = cc in ap q (sym same) ∙ kept
-              | inr there ↦ find-kept ys x (rw (kept, there) at found)
-            ]
-        | inr gone ↦ find-kept ys x (rw gone at found)
-      ]
-
-  -- what is found and kept is found still
-  find-still : (xs : List X) (x : X) → find p xs ≡ Some x → q x ≡ true → find p (filter q xs) ≡ Some x
-  find-still [] x found kept = absurd (cc)
-  find-still (y ∷ ys) x found kept =
-      elim (cases_Bool (p y)) [
-        | inl here ↦
-            let is : Some y ≡ Some x = rw here at found in
-            let same : y ≡ x = cc in
-            let stays : q y ≡ true = ap q same ∙ kept in
-            rw stays (rw here is)
-        | inr there ↦
-            let ih = find-still ys x (rw there at found) kept in
-            elim (cases_Bool (q y)) [
-              | inl stays ↦ rw stays (rw there ih)
-              | inr gone ↦ rw gone ih
-            ]
-      ]
+use Rattle.moka_sync_model.proofs.AdditionLemmas.{find-added, find-added_other}
+use Rattle.moka_sync_model.proofs.CauseLemmas.{find-passes}
+use Rattle.moka_sync_model.proofs.MildLemmas.{found_before}
+use Rattle.moka_sync_model.proofs.ValueLemmas.{find-kept, find-still}
 
 module _ {K V : Type 0} (eq : K → K → Bool) (laws : IsEquivalence eq) where
   -- equal keys find the same
@@ -80,35 +26,6 @@ module _ {K V : Type 0} (eq : K → K → Bool) (laws : IsEquivalence eq) where
   other_key key k e differ here =
       false_from_ne_true (eq key e.key)
       (λ there. both_ways (eq key k) differ (laws.congr key e.key k there ∙ laws.symm e.key k ∙ here))
-
-  -- what is found after some have left was found before
-  pub found_before : (q : Entry K V → Bool) (key : K) (es : List (Entry K V)) (e : Entry K V) → IsDistinct eq (map (λ e. e.key) es)
-      → entry_at eq key (filter q es) ≡ Some e → entry_at eq key es ≡ Some e
-  found_before q key [] e once found = absurd (cc)
-  found_before q key (x ∷ es) e once found =
-      elim (cases_Bool (q x)) [
-        | inl kept ↦
-            elim (cases_Bool (eq key x.key)) [
-              | inl here ↦ rw here (rw (kept, here) at found)
-              | inr there ↦
-                  rw there (found_before q key es e (IsDistinct-tail eq x.key (map (λ e. e.key) es) once) (rw (kept, there) at found))
-            ]
-        | inr gone ↦
-            elim (cases_Bool (eq key x.key)) [
-              | inl here ↦ absurd (apart es e (IsDistinct-head eq x.key (map (λ e. e.key) es) once) here (rw gone at found))
-              | inr there ↦ rw there (found_before q key es e (IsDistinct-tail eq x.key (map (λ e. e.key) es) once) (rw gone at found))
-            ]
-      ]
-    where
-      apart : (ys : List (Entry K V)) (e : Entry K V) → AllByRecursion (λ k. eq x.key k ≡ false) (map (λ e. e.key) ys)
-          → eq key x.key ≡ true → entry_at eq key (filter q ys) ≡ Some e → ⊥
-      apart [] e differ here found = cc found
-      apart (y ∷ ys) e differ here found =
-          let other : eq key y.key ≡ false = laws.congr key x.key y.key here ∙ differ.0 in
-          elim (cases_Bool (q y)) [
-            | inl kept ↦ apart ys e differ.1 here (rw (kept, other) at found)
-            | inr gone ↦ apart ys e differ.1 here (rw gone at found)
-          ]
 
   module _ (es : List (Entry K V)) (keys_apart : IsDistinct eq (map (λ e. e.key) es)) (apart : AreApart (λ e. e.ticket) es) where
     -- an entry of another key is of another ticket
@@ -157,7 +74,7 @@ module _ {K V : Type 0} (eq : K → K → Bool) (laws : IsEquivalence eq) where
 
     -- where one leaves, who stands then stood before
     pub still_before : (t : Ticket) (key : K) (x : Entry K V) → entry_at eq key (without (λ y. y.ticket) t es) ≡ Some x → entry_at eq key es ≡ Some x
-    still_before t key x found = found_before (λ y. not (same_ticket t y.ticket)) key es x keys_apart found
+    still_before t key x found = found_before eq laws (λ y. not (same_ticket t y.ticket)) key es x keys_apart found
 
     pub none_before : (t : Ticket) (key : K) → entry_at eq key es ≡ None → entry_at eq key (without (λ y. y.ticket) t es) ≡ None
     none_before t key none = by (entry_at eq key (without (λ y. y.ticket) t es)) refl

@@ -5,8 +5,8 @@ ghost use Rattle.moka_history.specs.Laws.{HitsAreCurrent, InsertsStand, MissesHa
 use moka_sync_model::weigh::WeighShared;
 use std::hash::{BuildHasher, Hash};
 
-/// A hit is the value last written at the key, and it is live. No invalidation or removal has ended it, neither of its durations has passed, and no invalidation
-/// of all hides it.
+/// A hit is the value last written at the key, and it is live. No invalidation or removal has ended it, neither of its durations has passed, and no
+/// invalidation of all hides it.
 pub fn hits_are_current<K: Eq + Hash, V, S: BuildHasher, W: WeighShared<K, V>>()
     ensures { (weigher : _) → (settings : _) → HitsAreCurrent V (keys_by K.Hash S.BuildHasher S.Hasher.Hasher) (W.weighs weigher) settings }
 {}

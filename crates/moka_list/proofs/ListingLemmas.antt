@@ -15,7 +15,8 @@ use Rattle.moka_list.specs.Listing.{IsListing, ids_of, marked, walk_ids}
 use Rattle.moka_list.specs.Links.{IsPlace, Lengthened, LinkedBack, Unlinked, links_at, next_at, prev_at}
 use Rattle.moka_list.specs.Nodes.{AreApart, follower}
 use Rattle.moka_list.proofs.ChainLemmas.{threaded-pushed, threaded-unlinked}
-use Rattle.moka_list.proofs.ItemLemmas.{absent_head, absent_tail, differs, distinct_from_apart, found_cons, found_same, length-remove, lookup-push, lookup-remove_other}
+use Rattle.moka_list.proofs.ItemLemmas.{absent_head, absent_tail, differs, distinct_from_apart, found_cons, found_same, length-remove, lookup-push}
+use Rattle.moka_list.proofs.ItemLemmas.{lookup-remove_other}
 use Rattle.moka_list.proofs.ItemLemmas.{lookup-remove_same, nat_eq-same, remove-other, remove-same}
 use Rattle.moka_list.proofs.NodesLemmas.{follower_behind, follower_place, last_place, preceder_place}
 
@@ -276,7 +277,8 @@ module _ {A : Type 0} {links : LinkTable A} (len : ℕ) (h : IsListing links (id
 pub few_listed : {A : Type 0} {links : LinkTable A} {ids : List ℕ} → IsListing links ids → length ids ≤ NONE
 few_listed {links = links} {ids = ids} h =
     let fits : length ids ≤ length links.links.items =
-    length-le_from_distinct_below ids (length links.links.items) (subst (IsDistinct nat_eq) (keys-marked ids) (distinct_from_apart (marked ids) h.threaded.apart))
+    length-le_from_distinct_below ids (length links.links.items) (subst (IsDistinct nat_eq) (keys-marked ids) (distinct_from_apart
+    (marked ids) h.threaded.apart))
     (λ q found. h.linked q (ap is_some (marked-at ids q found))) in
     omega (arith, fits, h.numbered)
   where

@@ -148,7 +148,8 @@ module _ (old : List Group) (ids : ℕ) (far : Bool) (id hash cell : ℕ) (probe
       none_more count true is = absurd (false≢true (sym is))
       none_more count false is = omega arith
 
-  pub added_near : (new : List Group) (home distance : ℕ) → home ≡ home_group (length old) hash → distance ≡ steps (length old) home (cell / 10) → distance < 255
+  pub added_near : (new : List Group) (home distance : ℕ) → home ≡ home_group (length old) hash → distance ≡ steps (length old) home (cell / 10)
+      → distance < 255
       → CountsWay mid home distance new → IsAdded old ids far id hash new far
   added_near new home distance is_home is_distance near counts =
       let n = length old in let at = cell / 10 in

@@ -23,7 +23,8 @@ use Rattle.moka_sync_model.specs.Turn.Plan.{Plan, Alone, AtReads, AtWrites, AtEn
 use Rattle.moka_sync_model.specs.Turn.Apply.{after_present_upsert, after_upsert}
 use Rattle.moka_sync_model.specs.Turn.Admission.{after_entering, after_removing, after_scan, after_verdict, after_victim}
 use Rattle.moka_sync_model.specs.Turn.Admission.{is_admitted, next_seen, removing_or_enter}
-use Rattle.moka_sync_model.specs.Turn.Expiry.{access_front, after_eviction, after_front, after_pass, eviction_front, is_past_tti_or_hidden, is_past_ttl_or_hidden}
+use Rattle.moka_sync_model.specs.Turn.Expiry.{access_front, after_eviction, after_front, after_pass, eviction_front, is_past_tti_or_hidden}
+use Rattle.moka_sync_model.specs.Turn.Expiry.{is_past_ttl_or_hidden}
 use Rattle.moka_sync_model.specs.Turn.Expiry.{write_front}
 use Rattle.moka_sync_model.specs.Turn.Turn.{after_more_reads, after_more_writes, after_read_taken, after_write_taken}
 use Rattle.moka_sync_model.specs.Turn.Turn.{next_published, turn_at}

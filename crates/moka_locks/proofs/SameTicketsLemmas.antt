@@ -25,7 +25,8 @@ use Rattle.moka_sync_model.specs.Turn.Plan.{Plan, Alone, AtReads, AtWrites, AtEn
 use Rattle.moka_sync_model.specs.Turn.Apply.{after_present_upsert, after_upsert}
 use Rattle.moka_sync_model.specs.Turn.Admission.{absent_of, after_entering, after_removing, after_scan, after_verdict, after_victim}
 use Rattle.moka_sync_model.specs.Turn.Admission.{is_admitted, next_seen}
-use Rattle.moka_sync_model.specs.Turn.Expiry.{access_front, after_eviction, after_front, after_pass, eviction_front, is_past_tti_or_hidden, is_past_ttl_or_hidden}
+use Rattle.moka_sync_model.specs.Turn.Expiry.{access_front, after_eviction, after_front, after_pass, eviction_front, is_past_tti_or_hidden}
+use Rattle.moka_sync_model.specs.Turn.Expiry.{is_past_ttl_or_hidden}
 use Rattle.moka_sync_model.specs.Turn.Expiry.{write_front}
 use Rattle.moka_sync_model.specs.Turn.Turn.{after_read_taken, after_write_taken, turn_at}
 use Rattle.moka_sync_model.proofs.OrdersLemmas.{ChangesNode-recharged, ChangesNode-without, Reorders, Reorders-all_used, Reorders-renewed}

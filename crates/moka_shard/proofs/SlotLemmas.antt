@@ -325,7 +325,8 @@ module _ {K V : Type 0} where
     set_others j other = get_or-set_other slots i j o None other
 
 module _ {K V S : Type 0} (keys : Keys K S) (holds : K → V → Type 0) {state : S} {number next : ℕ} {slots : List (Option (Entry K V))}
-    {index : HashIndex} (s : AreSlots keys state number next slots × IsIndexed slots index × AllMeet holds (entries_in slots)) (i : ℕ) (e : Entry K V) (here : entry_in slots i ≡ Some e) where
+    {index : HashIndex} (s : AreSlots keys state number next slots × IsIndexed slots index
+    × AllMeet holds (entries_in slots)) (i : ℕ) (e : Entry K V) (here : entry_in slots i ≡ Some e) where
   -- an entry is rewritten, with its key and its ticket, and a value that meets the rule
   pub rewritten : (x : Entry K V) → x.key ≡ e.key → x.ticket ≡ e.ticket → holds x.key x.value
       → AreSlots keys state number next (set slots i (Some x)) × IsIndexed (set slots i (Some x)) index

@@ -9,7 +9,8 @@ ghost use Rattle.moka_common.specs.Settings.{keeps_writes};
 ghost use Rattle.moka_unsync_model.specs.Contents.{InOrder, balanced, entry_at, entry_keys, no_contents, total_weight, window_of, writes_without};
 ghost use Rattle.moka_unsync_model.specs.declared.entry.Part.TheVariants.{Probation};
 ghost use Rattle.moka_store.specs.Nodes.{start_of};
-ghost use Rattle.moka_store.specs.Store.{AreCandidates, Continues, Enters, HasHash, IsFound, IsFront, IsFrontOf, IsOldest, Promotes, Removes, Replaces, StaysInProbation, Updates, Uses};
+ghost use Rattle.moka_store.specs.Store.{AreCandidates, Continues, Enters, HasHash, IsFound, IsFront, IsFrontOf, IsOldest, Promotes, Removes, Replaces};
+ghost use Rattle.moka_store.specs.Store.{StaysInProbation, Updates, Uses};
 ghost use Rattle.moka_store.specs.Store.{contents_of, entries_of, is_of, those_of};
 
 use crate::parts::{

@@ -12,14 +12,14 @@ mod PassLemmas
 mod TurnLemmas
 mod StepForms
 pub mod EventLemmas
-mod AdditionLemmas
+pub mod AdditionLemmas
 mod RunLemmas
 mod QueueTurnLemmas
 pub mod ConsistentLemmas
-mod CauseLemmas
+pub mod CauseLemmas
 mod QuiescentLemmas
-mod MildLemmas
-mod ValueLemmas
+pub mod MildLemmas
+pub mod ValueLemmas
 mod WrittenLemmas
 mod TurnsLeftLemmas
 pub mod EndLemmas

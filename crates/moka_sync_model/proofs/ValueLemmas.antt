@@ -28,7 +28,7 @@ use Rattle.moka_sync_model.proofs.MildLemmas.{found_before}
 
 module _ {X : Type 0} (p q : X → Bool) where
   -- what is found among those kept was kept
-  find-kept : (xs : List X) (x : X) → find p (filter q xs) ≡ Some x → q x ≡ true
+  pub find-kept : (xs : List X) (x : X) → find p (filter q xs) ≡ Some x → q x ≡ true
   find-kept [] x found = absurd (cc)
   find-kept (y ∷ ys) x found =
       elim (cases_Bool (q y)) [
@@ -41,7 +41,7 @@ module _ {X : Type 0} (p q : X → Bool) where
       ]
 
   -- what is found and kept is found still
-  find-still : (xs : List X) (x : X) → find p xs ≡ Some x → q x ≡ true → find p (filter q xs) ≡ Some x
+  pub find-still : (xs : List X) (x : X) → find p xs ≡ Some x → q x ≡ true → find p (filter q xs) ≡ Some x
   find-still [] x found kept = absurd (cc)
   find-still (y ∷ ys) x found kept =
       elim (cases_Bool (p y)) [

@@ -1,5 +1,6 @@
 -- Lemmas on the walk through the entries that would give way to another, and on those that do.
-use Rattle.std.proofs.Common.{◌≡◌, ◌<◌, ◌≤◌, ◌+◌, ◌-◌, ℕ, zero, suc, Bool, true, false, not, cond, nat_eq, List, [], ◌∷◌, ◌++◌, All, length, take, nat_lt, Option, Some}
+use Rattle.std.proofs.Common.{◌≡◌, ◌<◌, ◌≤◌, ◌+◌, ◌-◌, ℕ, zero, suc, Bool, true, false, not, cond, nat_eq, List, [], ◌∷◌, ◌++◌, All, length, take, nat_lt}
+use Rattle.std.proofs.Common.{Option, Some}
 use Rattle.std.proofs.Common.{None, drop, option_map, unwrap_or, append-nil, refl, sym, ap, ◌∙◌, arith, subst}
 use Rattle.std.proofs.lemmas.Bool.{cond-true, cond-false, false≢true, le-ltb, lt-ltb}
 use Rattle.std.proofs.lemmas.List.Elements.{All-head, All-tail, filter_passes}
@@ -12,7 +13,8 @@ use Rattle.moka_unsync_model.specs.declared.entry.Entry.{Entry}
 use Rattle.std.specs.Map.{lookup}
 use Rattle.moka_unsync_model.specs.declared.entry.Part.{Part}
 use Rattle.moka_unsync_model.specs.declared.entry.Part.TheVariants.{Probation, Protected, Window}
-use Rattle.moka_unsync_model.specs.Contents.{Contents, InOrder, after_leaving, entry_at, entry_keys, is_window, main_of, probation_of, protected_of, window_of, without}
+use Rattle.moka_unsync_model.specs.Contents.{Contents, InOrder, after_leaving, entry_at, entry_keys, is_window, main_of, probation_of, protected_of, window_of}
+use Rattle.moka_unsync_model.specs.Contents.{without}
 use Rattle.moka_unsync_model.specs.Insert.{after_arrival}
 use Rattle.moka_unsync_model.proofs.ContentsLemmas.{absent-leaving}
 use Rattle.moka_unsync_model.proofs.PartLemmas.{order-parts, order-window}
@@ -81,16 +83,19 @@ module _ {X : Type 0} (weight votes_of : X → ℕ) where
   taken (x ∷ seen) rest = ap (λ l. x ∷ l) (taken seen rest)
 
   -- enough was seen, and the candidate has more votes
-  pub walk_enough : (candidate enough : ℕ) (all rest : List X) (count shortfall victims_frequency : ℕ) → IsWalk enough all rest count shortfall victims_frequency
+  pub walk_enough : (candidate enough : ℕ) (all rest : List X) (count shortfall victims_frequency : ℕ)
+      → IsWalk enough all rest count shortfall victims_frequency
       → shortfall ≡ 0 → victims_frequency < candidate → counted all (Some count) ≡ outvoted weight votes_of candidate (shortest_prefix weight enough all)
   walk_enough candidate enough all rest count shortfall victims_frequency w none above =
       ap Some (ap (λ n. take n all) w.number ∙ (ap (take (length w.seen)) w.parts ∙ taken w.seen rest))
       ∙ sym (ap (outvoted weight votes_of candidate) (w.prefix
       ∙ (ap (λ n. option_map (λ p. w.seen ++ p) (shortest_prefix weight n rest)) none ∙ ap Some (append-nil w.seen)))
-      ∙ cond-true (nat_lt (sum_by votes_of w.seen) candidate) (Some w.seen) None (lt-ltb (sum_by votes_of w.seen) candidate (subst (λ v. v < candidate) w.sum above)))
+      ∙ cond-true (nat_lt (sum_by votes_of w.seen) candidate) (Some w.seen) None (lt-ltb (sum_by votes_of w.seen) candidate (subst
+      (λ v. v < candidate) w.sum above)))
 
   -- all were seen, and not enough
-  pub walk_short : (candidate enough : ℕ) (all : List X) (count shortfall victims_frequency : ℕ) → IsWalk enough all [] count shortfall victims_frequency → 0 < shortfall
+  pub walk_short : (candidate enough : ℕ) (all : List X) (count shortfall victims_frequency : ℕ) → IsWalk enough all [] count shortfall victims_frequency
+      → 0 < shortfall
       → None ≡ outvoted weight votes_of candidate (shortest_prefix weight enough all)
   walk_short candidate enough all count shortfall victims_frequency w some =
       sym (ap (outvoted weight votes_of candidate) (w.prefix ∙ ap (option_map (λ p. w.seen ++ p)) (nothing shortfall some)))
@@ -117,7 +122,8 @@ module _ {K V : Type 0} where
   -- a walk through main has the rest of main before it, and then the window
   abbrev pub IsMainWalk : (Entry K V → ℕ) → ℕ → List (Entry K V) → List (Entry K V) → ℕ → ℕ → ℕ → Type 0
   IsMainWalk votes_of enough all rest count shortfall victims_frequency =
-      (ahead : List (Entry K V)) × (rest ≡ ahead ++ window_of all) × IsWalk (λ e. e.weight) votes_of enough (main_of all) ahead count shortfall victims_frequency
+      (ahead : List (Entry K V)) × (rest ≡ ahead ++ window_of all) × IsWalk (λ e. e.weight) votes_of enough
+      (main_of all) ahead count shortfall victims_frequency
 
   pub main_start : (votes_of : Entry K V → ℕ) (enough : ℕ) (all : List (Entry K V)) → all ≡ main_of all ++ window_of all
       → IsMainWalk votes_of enough all all 0 enough 0
@@ -177,7 +183,8 @@ module _ {K V : Type 0} where
 
   -- where nothing is ahead, main is over too
   pub main_end : (votes_of : Entry K V → ℕ) (enough : ℕ) (all : List (Entry K V)) (count shortfall victims_frequency : ℕ)
-      → IsMainWalk votes_of enough all [] count shortfall victims_frequency → IsWalk (λ e. e.weight) votes_of enough (main_of all) [] count shortfall victims_frequency
+      → IsMainWalk votes_of enough all [] count shortfall victims_frequency
+      → IsWalk (λ e. e.weight) votes_of enough (main_of all) [] count shortfall victims_frequency
   main_end votes_of enough all count shortfall victims_frequency w = by w.0 w.1 w.2
     where
       by : (ahead : List (Entry K V)) → [] ≡ ahead ++ window_of all
@@ -309,7 +316,8 @@ module _ {K V : Type 0} (votes_of : Entry K V → ℕ) (candidate enough : ℕ) 
   pub alone_outweighed : votes_of x < candidate
       → counted (main_of es) (Some 1) ≡ outvoted (λ e. e.weight) votes_of candidate (shortest_prefix (λ e. e.weight) enough (main_of es))
   alone_outweighed above =
-      walk_enough (λ e. e.weight) votes_of candidate enough (main_of es) (main_of rest) 1 (enough - x.weight) (0 + votes_of x) alone (omega (arith, heavy)) (omega (arith, above))
+      walk_enough (λ e. e.weight) votes_of candidate enough (main_of es) (main_of rest) 1 (enough - x.weight) (0 + votes_of x) alone (omega (arith, heavy))
+      (omega (arith, above))
 
   -- and for no other
   pub alone_holds : candidate ≤ votes_of x → None ≡ outvoted (λ e. e.weight) votes_of candidate (shortest_prefix (λ e. e.weight) enough (main_of es))

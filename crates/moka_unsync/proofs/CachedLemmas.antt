@@ -173,7 +173,8 @@ module _ {K V S : Type 0} {keys : Keys K S} {state : S} {policy : Policy} {share
       P : Entry K V → Type 0
       P e = e.hash ≡ keys.hash_of state e.key
 
-      all : (Q : Entry K V → Type 0) → ((e : Entry K V) (part : Part) → is_protected part ≡ false → Q e → Q (record e { part = part })) → Q new → All Q (entries_of old)
+      all : (Q : Entry K V → Type 0) → ((e : Entry K V) (part : Part) → is_protected part ≡ false → Q e → Q (record e { part = part })) → Q new
+          → All Q (entries_of old)
           → (w : Option PartLimits) → IsPut keys.eq old.keeps_writes w policy.max_capacity sketch new (contents_of old) stays (contents_of after)
           → All Q (entries_of after)
       all Q moves here those None p =

@@ -1,5 +1,6 @@
 -- Lemmas on limits that follow what is remembered, and on the tables beside a sketch.
-use Rattle.std.proofs.Common.{◌≡◌, ◌∙◌, ◌<◌, ◌-◌, ◌==◌, ℕ, zero, suc, Bool, true, false, cond, nat_lt, List, [], ◌∷◌, map, Option, None, Some, option_map, unwrap_or}
+use Rattle.std.proofs.Common.{◌≡◌, ◌∙◌, ◌<◌, ◌-◌, ◌==◌, ℕ, zero, suc, Bool, true, false, cond, nat_lt, List, [], ◌∷◌, map, Option, None, Some, option_map}
+use Rattle.std.proofs.Common.{unwrap_or}
 use Rattle.std.proofs.Common.{ap, arith, is_some, refl, subst, sym, inl, inr}
 use Rattle.std.proofs.lemmas.Bool.{cases_Bool, cond-false, cond-true, eqb-true, false≢true}
 use Rattle.std.specs.Cmp.{IsEquivalence}
@@ -16,7 +17,8 @@ use Rattle.moka_unsync_model.specs.declared.entry.Part.TheVariants.{Probation}
 use Rattle.moka_unsync_model.specs.declared.shares.PartLimits.{PartLimits}
 use Rattle.moka_unsync_model.specs.declared.shares.Shares.{Shares}
 use Rattle.moka_unsync_model.specs.Cleanup.{least_recent}
-use Rattle.moka_unsync_model.specs.Contents.{Contents, after_leaving, balanced, demoted, entry_at, entry_keys, is_protected, is_window, main_of, protected_of, total_weight}
+use Rattle.moka_unsync_model.specs.Contents.{Contents, after_leaving, balanced, demoted, entry_at, entry_keys, is_protected, is_window, main_of, protected_of}
+use Rattle.moka_unsync_model.specs.Contents.{total_weight}
 use Rattle.moka_unsync_model.specs.Memory.{Memory, after_remembering, at_most, made_tables}
 use Rattle.moka_unsync_model.specs.Shares.{hundredths, limits_of, main_limit, windowed_limits}
 use Rattle.moka_unsync_model.specs.Told.{partless, unplaced}
@@ -115,7 +117,8 @@ some_table None words is some = absurd (some is)
 some_table (Some table) words is some = (table, refl)
 
 -- where it had one, none are
-pub asked_before : (sketch : Option Table) (table : Table) → sketch ≡ Some table → (max : Option ℕ) (load : Load) (other : Option Table) (memory : Option Memory)
+pub asked_before : (sketch : Option Table) (table : Table) → sketch ≡ Some table
+    → (max : Option ℕ) (load : Load) (other : Option Table) (memory : Option Memory)
     → (sketch ≡ after_enabling max load true sketch) × (memory ≡ after_remembering true sketch other memory)
 asked_before sketch table is max load other memory = (by max, same sketch is memory)
   where
@@ -144,7 +147,8 @@ module _ {K V : Type 0} {eq : K → K → Bool} (laws : IsEquivalence eq) where
       over = total_weight (main_of contents.entries) - main_limit limits
 
       -- where the window has gained nothing, no entry leaves
-      same : (o : Option (Entry K V)) → entry_at eq key contents.entries ≡ o → is_some (entry_at eq key (after_sharing eq limits 0 contents).entries) ≡ is_some o
+      same : (o : Option (Entry K V)) → entry_at eq key contents.entries ≡ o
+          → is_some (entry_at eq key (after_sharing eq limits 0 contents).entries) ≡ is_some o
       same o found =
           let none : at_most 0 over ≡ 0 = omega arith in
           let left = after_leaving eq (entry_keys (given_up limits 0 contents.entries)) contents in

@@ -42,7 +42,8 @@ module _ {K V S W : Type 0} (eq : K → K → Bool) (cache : CacheState K V S W)
     -- ---- without a window
 
     module _ (none : windowed cache ≡ None) (contents : Contents K V) (capacity : ℕ) (stays : Bool) (same : capacity ≡ cache.capacity)
-        (put : contents ≡ after_admission eq (keeps_writes cache.settings.policy) new (victims_of cache.settings.policy.max_capacity cache.sketch new kept.entries) kept)
+        (put : contents ≡ after_admission eq (keeps_writes cache.settings.policy) new
+        (victims_of cache.settings.policy.max_capacity cache.sketch new kept.entries) kept)
         (stay : stays ≡ is_some (victims_of cache.settings.policy.max_capacity cache.sketch new kept.entries)) where
       alone : after_new eq found None new refused ≡ after_insert eq cache new now refused
       alone = ap (λ w. after_new eq found w new refused) (sym none) ∙ unfound

@@ -1,5 +1,6 @@
 -- Lemmas on entries of which a listener is told, and on those that come.
-use Rattle.std.proofs.Common.{◌≡◌, ◌⊎◌, ◌∙◌, ◌∷◌, ◌++◌, ◌<◌, ◌≤◌, ◌+◌, ◌-◌, ◌^◌, [], ℕ, Bool, true, false, List, Option, None, Some, nat_eq, ap, arith, inl, inr}
+use Rattle.std.proofs.Common.{◌≡◌, ◌⊎◌, ◌∙◌, ◌∷◌, ◌++◌, ◌<◌, ◌≤◌, ◌+◌, ◌-◌, ◌^◌, [], ℕ, Bool, true, false, List, Option, None, Some, nat_eq, ap, arith, inl}
+use Rattle.std.proofs.Common.{inr}
 use Rattle.std.proofs.lemmas.List.Elements.{All-head}
 use Rattle.std.proofs.Common.{All, append-nil, is_some, min, option_map, refl, sym, subst, unwrap_or}
 use Rattle.std.specs.Prelude.{⊤}
@@ -97,7 +98,8 @@ above_more None less more le above = above
 above_more (Some limit) less more le above = omega (arith, le, above)
 
 -- a number of entries has to leave only if there is no room for all
-pub counted_above : (limit : Option ℕ) (count less more : ℕ) → (◌≡◌ {A = Option ℕ} (Some count) (Some 0)) ⊎ IsAbove limit less → less ≤ more → 0 < count → IsAbove limit more
+pub counted_above : (limit : Option ℕ) (count less more : ℕ) → (◌≡◌ {A = Option ℕ} (Some count) (Some 0)) ⊎ IsAbove limit less → less ≤ more → 0 < count
+    → IsAbove limit more
 counted_above limit count less more (inl none) le some = absurd (grind (arith, some, ap (λ o. unwrap_or o 0) none))
 counted_above limit count less more (inr above) le some = above_more limit less more le above
 

@@ -84,7 +84,8 @@ module _ {K V : Type 0} where
         (λ i. option_map (after_judgements eq limits sketch (least_recent (shortfall - f.entry.weight) (rest i)) (judged i)) (is i)) ∙ by memory
       where
         by : (o : Option Memory)
-            → option_map (after_judgements eq limits sketch (least_recent (shortfall - f.entry.weight) f.rest) (after_candidate eq limits sketch (contents_of old) f.entry))
+            → option_map (after_judgements eq limits sketch (least_recent (shortfall - f.entry.weight) f.rest) (after_candidate eq limits sketch
+            (contents_of old) f.entry))
             (option_map (λ m. after_judging m f.entry.hash (victims_of (Some (main_limit limits)) sketch f.entry (main_of (entries_of old)))) o)
             ≡ option_map (after_judgements eq limits sketch (least_recent shortfall (window_of (entries_of old))) (contents_of old)) o
         by None = refl

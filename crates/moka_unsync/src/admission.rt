@@ -111,7 +111,8 @@ pub(crate) fn insert_into_window<
     ensures capacity { store.new.capacity ≡ store.old.capacity }
     ensures memory { memory.new
         ≡ option_map (after_entering_judged K.eq store.old.keeps_writes limits.now sketch.now new (contents_of store.old)) memory.old }
-    ensures told { TellsPut L.hears (Some (main_limit limits.now)) (is_some result) new (entries_of store.old) (entries_of store.new) listener.old listener.new }
+    ensures told { TellsPut L.hears (Some (main_limit limits.now)) (is_some result) new (entries_of store.old) (entries_of store.new) listener.old
+        listener.new }
 {
     let enough = excess(store, limits, new.weight);
     if enough == 0 {
@@ -167,7 +168,8 @@ fn insert_and_drain<K: Eq + Drop, V: Drop, A: Allocator + Clone + Drop, L: Liste
     ensures capacity { store.new.capacity ≡ store.old.capacity }
     ensures memory { memory.new
         ≡ option_map (after_entering_judged K.eq store.old.keeps_writes limits.now sketch.now new (contents_of store.old)) memory.old }
-    ensures told { TellsPut L.hears (Some (main_limit limits.now)) (is_some result) new (entries_of store.old) (entries_of store.new) listener.old listener.new }
+    ensures told { TellsPut L.hears (Some (main_limit limits.now)) (is_some result) new (entries_of store.old) (entries_of store.new) listener.old
+        listener.new }
 {
     if drain_window(store, limits, sketch, enough, memory, listener) > 0 {
         // The new entry is the last candidate, so it comes to main or leaves without having stood in the window.

@@ -71,8 +71,9 @@ use std::marker::Model;
 /// soon after it came is found, though it has no frequency yet. Below a capacity of 100 there is no window.
 ///
 /// Which keys stay depends on how large the window is. `adaptive()` lets the cache choose: the window grows while keys come back that were rejected, and
-/// shrinks while keys come back that the main part gave up for others. It is the first choice unless replies must be those of a fixed window: it costs nothing
-/// at a hit, and two tables of half a byte an entry. Two settings of the builder fix the shares instead, or set where an adaptive cache begins:
+/// shrinks while keys come back that the main part gave up for others. It is the first choice unless replies must be those of a fixed window. A hit costs what
+/// it costs with `protected_share(80)`, and two tables take half a byte an entry. Two settings of the builder fix the shares instead, or set where an
+/// adaptive cache begins:
 ///
 /// - `protected_share(80)` makes the main part a segmented LRU, as in Caffeine: an entry that is used there again is protected, and leaves after those that
 ///   aren't. It finds more keys if some stay popular, also between scans.

@@ -2,7 +2,8 @@
 ghost use Rattle.std.specs.Prelude.{◌≡◌, ◌<◌, ◌≤◌, ◌⊎◌, ◌^◌, Bool, IfOk, fold, false, length, map, option_map, take};
 ghost use Rattle.moka_store.specs.Store.{entries_of};
 ghost use Rattle.moka_unsync_model.specs.Contents.{main_of};
-ghost use Rattle.moka_unsync_model.specs.Memory.{after_coming, after_note, after_taking, demand_after, extra_at, is_noted, made_tables, most_extra, new_tags, slack_of, slot_of};
+ghost use Rattle.moka_unsync_model.specs.Memory.{after_coming, after_note, after_taking, demand_after, extra_at, is_noted, made_tables, most_extra};
+ghost use Rattle.moka_unsync_model.specs.Memory.{new_tags, slack_of, slot_of};
 ghost use Rattle.moka_unsync_model.specs.Memory.{tag_of};
 ghost use Rattle.moka_unsync_model.specs.Window.{after_judging};
 ghost use Rattle.moka_unsync.specs.Cached.{beside};
@@ -263,7 +264,8 @@ pub(crate) fn come<K: Drop, V: Drop, A: Allocator + Clone + Drop>(
     new: &Entry<K, V>,
 )
     requires window { shares.window ≤ 100 }
-    ensures { memory.new ≡ option_map (λ m. record (after_coming new.now.hash m) { demand = demand_after shares limit m new.now.hash new.now.weight }) memory.old }
+    ensures { memory.new
+        ≡ option_map (λ m. record (after_coming new.now.hash m) { demand = demand_after shares limit m new.now.hash new.now.weight }) memory.old }
 {
     if let Some(memory) = memory {
         memory.come(shares, limit, new.hash, new.weight);

@@ -10,11 +10,13 @@ use Rattle.moka_unsync_model.specs.declared.shares.PartLimits.{PartLimits}
 use Rattle.moka_unsync_model.specs.declared.shares.Shares.{Shares}
 use Rattle.moka_unsync_model.specs.CacheState.{CacheState, new_cache, windowed}
 use Rattle.moka_unsync_model.specs.Contents.{Contents, entry_at}
-use Rattle.moka_unsync_model.specs.Insert.{Refused, after_admission, after_asking, after_entering, after_entry, after_new, after_put, after_standing, after_turn, after_verdict, gained_by, memory_after, new_entry}
+use Rattle.moka_unsync_model.specs.Insert.{Refused, after_admission, after_asking, after_entering, after_entry, after_new, after_put, after_standing}
+use Rattle.moka_unsync_model.specs.Insert.{after_turn, after_verdict, gained_by, memory_after, new_entry}
 use Rattle.moka_common.specs.Sketch.{Table}
 use Rattle.moka_unsync_model.specs.Laws.{FixedSharesStay, IsMovedByInsert, MovesBy, TurnsAreSmall, WindowStaysWithinBounds}
 use Rattle.moka_unsync_model.specs.Lookup.{after_look}
-use Rattle.moka_unsync_model.specs.Memory.{Memory, after_coming, after_remembering, at_most, demand_after, extra_at, is_noted, most_extra, new_tags, shares_at, slack_of}
+use Rattle.moka_unsync_model.specs.Memory.{Memory, after_coming, after_remembering, at_most, demand_after, extra_at, is_noted, most_extra, new_tags, shares_at}
+use Rattle.moka_unsync_model.specs.Memory.{slack_of}
 use Rattle.moka_unsync_model.specs.Shares.{hundredths, limits_of}
 use Rattle.moka_unsync_model.specs.Step.{Answer, IsStep, Request, Runs, Get, Peek, ContainsKey, Insert, Invalidate, Remove, InvalidateAll}
 use Rattle.moka_unsync_model.specs.Step.{InvalidateEntriesIf, Iterate, EntryCount, WeightedSize}

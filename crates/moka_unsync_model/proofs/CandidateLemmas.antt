@@ -108,7 +108,8 @@ module _ {X : Type 0} (P : X → Type 0) where
   All-front [] ys all = All-from_recursion P [] tt
   All-front (x ∷ xs) ys all = All-cons P x xs (All-head P x (xs ++ ys) all) (All-front xs ys (All-tail P x (xs ++ ys) all))
 
-module _ {K V : Type 0} (eq : K → K → Bool) (P : Entry K V → Type 0) (moves : (e : Entry K V) (part : Part) → is_protected part ≡ false → P e → P (record e { part = part }))
+module _ {K V : Type 0} (eq : K → K → Bool) (P : Entry K V → Type 0) (moves : (e : Entry K V) (part : Part) → is_protected part ≡ false → P e
+    → P (record e { part = part }))
   where
     -- what holds of all entries, wherever they are, holds of the candidates
     pub All-chosen : (limits : PartLimits) (es : List (Entry K V)) → All P es → All P (candidates limits es)
@@ -152,7 +153,8 @@ module _ {K V : Type 0} (eq : K → K → Bool) (P : Entry K V → Type 0) (move
     All-new {S = S} {W = W} cache (Some limit) new refused all here =
         let entered = All-entering (keeps_writes cache.settings.policy) limit cache.sketch new cache.contents all here in
         by (is_some (entry_at eq new.key next.contents.entries))
-        (turned eq (λ c. All P c.entries) cache cache.memory limit new contents entered (λ shared gained. All-sharing eq P moves shared gained contents entered))
+        (turned eq (λ c. All P c.entries) cache cache.memory limit new contents entered
+        (λ shared gained. All-sharing eq P moves shared gained contents entered))
       where
         contents : Contents K V
         contents = after_entering eq (keeps_writes cache.settings.policy) limit cache.sketch new cache.contents

@@ -29,7 +29,8 @@ use Rattle.moka_unsync_model.specs.Invalidate.{chosen}
 use Rattle.moka_unsync_model.specs.Step.{Answer, IsStep, Request, Get, Peek, ContainsKey, Insert, Invalidate, Remove}
 use Rattle.moka_unsync_model.specs.Step.{InvalidateAll, InvalidateEntriesIf, Iterate, EntryCount, WeightedSize}
 use Rattle.moka_unsync_model.specs.Removal.{RemovalCause, Invalidated, Expired, AboveLimit, Displaced, GivenUp, Rejected, entries_from, cleanup_moment}
-use Rattle.moka_unsync_model.proofs.HistoryLemmas.{IsSame, any-key, entry_at-leaving, found-entering, found-turned, one_of, same-both, same-moved, same-self, something}
+use Rattle.moka_unsync_model.proofs.HistoryLemmas.{IsSame, any-key, entry_at-leaving, found-entering, found-turned, one_of, same-both, same-moved, same-self}
+use Rattle.moka_unsync_model.proofs.HistoryLemmas.{something}
 use Rattle.moka_unsync_model.proofs.ContentsLemmas.{found_key, idle_keys}
 use Rattle.moka_unsync_model.proofs.WindowLemmas.{total-split}
 use Rattle.moka_unsync_model.proofs.CandidateLemmas.{All-front, least_parts, prefix_parts, victims_weigh}
@@ -37,7 +38,8 @@ use Rattle.moka_unsync_model.proofs.KeyLemmas.{StandOnce, contents-standing, onc
 use Rattle.moka_unsync_model.proofs.LimitLemmas.{filter-swap, is_unlisted, main-leaving, main-moved, total-cons, total-filter, total-cleanup}
 use Rattle.moka_unsync_model.proofs.RemainLemmas.{remains-leaving, remains-cleanup}
 use Rattle.moka_unsync_model.proofs.StandLemmas.{AreCandidates, StandsIn, are-chosen, are-left, main-stands, once-front, Stands, part-stands}
-use Rattle.moka_unsync_model.proofs.MapLemmas.{entry_at-equal, entry_at-moved, entry_at-other, entry_at-push, entry_at-latest, entry_at-using, given-standing, given_of}
+use Rattle.moka_unsync_model.proofs.MapLemmas.{entry_at-equal, entry_at-moved, entry_at-other, entry_at-push, entry_at-latest, entry_at-using, given-standing}
+use Rattle.moka_unsync_model.proofs.MapLemmas.{given_of}
 use Rattle.moka_unsync_model.proofs.TiedLemmas.{all-taken, all-take, one-passes, prefix-cons, IsTied, AllTied, absent-left}
 use Rattle.moka_unsync_model.specs.declared.shares.PartLimits.{PartLimits}
 use Rattle.moka_unsync_model.specs.Shares.{hundredths, limits_of, main_limit, windowed_limits}

@@ -140,7 +140,8 @@ module _ {K V : Type 0} where
       (All-least_recent P (suc n - c.weight) ws (All-tail P c ws all)))
 
   -- candidates are judged one after another
-  pub after_candidates-cons : (eq : K → K → Bool) (limits : PartLimits) (sketch : Option Table) (c : Entry K V) (es : List (Entry K V)) (contents : Contents K V)
+  pub after_candidates-cons : (eq : K → K → Bool) (limits : PartLimits) (sketch : Option Table) (c : Entry K V) (es : List (Entry K V))
+      (contents : Contents K V)
       → after_candidates eq limits sketch (c ∷ es) contents ≡ after_candidates eq limits sketch es (after_candidate eq limits sketch contents c)
   after_candidates-cons eq limits sketch c es contents = refl
 

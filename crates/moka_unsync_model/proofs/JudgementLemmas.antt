@@ -12,8 +12,10 @@ use Rattle.moka_unsync_model.specs.Insert.{after_admission, after_entering_judge
 use Rattle.moka_unsync_model.specs.Memory.{Memory}
 use Rattle.moka_unsync_model.specs.Shares.{main_limit}
 use Rattle.moka_unsync_model.specs.Window.{after_candidate, after_candidates, after_judgements, after_judging, victims_of}
-use Rattle.moka_unsync_model.proofs.EnteringLemmas.{HasNone, IsOther, absent-others, candidate-push, candidates-push, entering_excess, excess_left, inside, judged_first, outside}
-use Rattle.moka_unsync_model.proofs.EnteringLemmas.{least_recent-enough, least_recent-last, main-push, none-absent, none-candidate, others-absent, others-candidacy, others-first, passed-push}
+use Rattle.moka_unsync_model.proofs.EnteringLemmas.{HasNone, IsOther, absent-others, candidate-push, candidates-push, entering_excess, excess_left, inside}
+use Rattle.moka_unsync_model.proofs.EnteringLemmas.{judged_first, outside}
+use Rattle.moka_unsync_model.proofs.EnteringLemmas.{least_recent-enough, least_recent-last, main-push, none-absent, none-candidate, others-absent}
+use Rattle.moka_unsync_model.proofs.EnteringLemmas.{others-candidacy, others-first, passed-push}
 use Rattle.moka_unsync_model.proofs.ContentsLemmas.{absent-leaving}
 use Rattle.moka_unsync_model.proofs.HistoryLemmas.{something}
 use Rattle.moka_unsync_model.proofs.WindowLemmas.{latest_parts}
@@ -98,7 +100,8 @@ module _ {K V : Type 0} (eq : K → K → Bool) (limits : PartLimits) (sketch : 
           (judgements-push first contents memory others none)
           ∙ (ap (λ s. after_judging (after_judgements eq limits sketch first contents memory) new.hash (verdict (inside new) s))
           (candidates-push eq laws keeps limits sketch new first contents others none)
-          ∙ ap (λ es. after_judging (after_judgements eq limits sketch first contents memory) new.hash (victims_of (Some (main_limit limits)) sketch (inside new) es))
+          ∙ ap (λ es. after_judging (after_judgements eq limits sketch first contents memory) new.hash (victims_of (Some (main_limit limits)) sketch
+          (inside new) es))
           (main-push eq laws keeps limits sketch new (after_candidates eq limits sketch first contents)))))))
 
 -- ---- where a new entry stands

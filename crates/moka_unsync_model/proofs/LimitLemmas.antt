@@ -20,7 +20,8 @@ use Rattle.moka_unsync_model.specs.CacheState.{CacheState, new_cache, room_of, w
 use Rattle.moka_common.specs.Settings.{keeps_writes}
 use Rattle.moka_unsync_model.specs.Cleanup.{after_expiry, after_idle, after_live_expiry, after_trim, after_cleanup}
 use Rattle.moka_unsync_model.specs.Cleanup.{is_past_ttl, least_recent, is_expired, unexpired}
-use Rattle.moka_unsync_model.specs.Insert.{Refused, IsInserted, after_admission, after_asking, after_entering, after_entry, after_new, after_put, after_turn, after_verdict}
+use Rattle.moka_unsync_model.specs.Insert.{Refused, IsInserted, after_admission, after_asking, after_entering, after_entry, after_new, after_put, after_turn}
+use Rattle.moka_unsync_model.specs.Insert.{after_verdict}
 use Rattle.moka_unsync_model.specs.Insert.{new_entry}
 use Rattle.moka_unsync_model.specs.Window.{after_candidacy, after_candidates, after_sharing, candidates, excess, victims_of}
 use Rattle.moka_unsync_model.specs.Invalidate.{chosen}

@@ -19,7 +19,8 @@ use Rattle.moka_unsync_model.specs.History.{LastWrite, Leads, Transition, chosen
 use Rattle.moka_unsync_model.specs.Removal.{EntriesLeaveForACause, InsertsEnterOrAreRejected, IsMissing}
 use Rattle.moka_unsync_model.specs.Removal.{IsRejected, Leaves, MissesHaveAReason, RemovalCause, last_write_of}
 use Rattle.moka_unsync_model.proofs.ContentsLemmas.{absent-leaving}
-use Rattle.moka_unsync_model.proofs.HistoryLemmas.{found-turned, found-entering, found-cleanup, found_fresh, once-run, one_of, same_found, settings-run, something}
+use Rattle.moka_unsync_model.proofs.HistoryLemmas.{found-turned, found-entering, found-cleanup, found_fresh, once-run, one_of, same_found, settings-run}
+use Rattle.moka_unsync_model.proofs.HistoryLemmas.{something}
 use Rattle.moka_unsync_model.proofs.HistoryLemmas.{told-run}
 use Rattle.moka_unsync_model.proofs.HistoryLemmas.{told-cleanup}
 use Rattle.moka_unsync_model.proofs.ContentsLemmas.{found_key}

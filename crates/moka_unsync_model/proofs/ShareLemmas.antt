@@ -22,7 +22,8 @@ use Rattle.moka_unsync_model.specs.Step.{Answer, IsStep, Request, Runs, Get, Pee
 use Rattle.moka_unsync_model.specs.Step.{InvalidateEntriesIf, Iterate, EntryCount, WeightedSize}
 use Rattle.moka_unsync_model.proofs.EnteringLemmas.{least_recent-cons}
 use Rattle.moka_unsync_model.proofs.WindowLemmas.{latest-filtered}
-use Rattle.moka_unsync_model.specs.Laws.{TakeProbationFirst, TakesProbationFirst, ProtectedGivesWayLast, Remains, ProtectedStaysEmpty, ProtectedStaysWithinShare}
+use Rattle.moka_unsync_model.specs.Laws.{TakeProbationFirst, TakesProbationFirst, ProtectedGivesWayLast, Remains, ProtectedStaysEmpty}
+use Rattle.moka_unsync_model.specs.Laws.{ProtectedStaysWithinShare}
 use Rattle.moka_unsync_model.proofs.CandidateLemmas.{All-new}
 use Rattle.moka_unsync_model.proofs.KeyLemmas.{contents-standing}
 use Rattle.moka_unsync_model.proofs.LimitLemmas.{total-cons, total-filter}

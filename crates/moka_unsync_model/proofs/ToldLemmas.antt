@@ -8,7 +8,8 @@ use Rattle.std.specs.List.Sorted.{IsPermutation}
 use Rattle.std.proofs.lemmas.Bool.{cases_Bool, cond-true, cond-false, false≢true}
 use Rattle.std.proofs.lemmas.List.{append-nil, append_assoc, map-append}
 use Rattle.std.proofs.lemmas.List.Elements.{All-append, All-cons, All-nil, All-head, All-tail}
-use Rattle.std.proofs.lemmas.List.Sorted.{IsPermutation-trans, IsPermutation-refl, IsPermutation-append_comm, IsPermutation-append_left, IsPermutation-append_right}
+use Rattle.std.proofs.lemmas.List.Sorted.{IsPermutation-trans, IsPermutation-refl, IsPermutation-append_comm, IsPermutation-append_left}
+use Rattle.std.proofs.lemmas.List.Sorted.{IsPermutation-append_right}
 use Rattle.std.proofs.lemmas.List.Sorted.{IsPermutation-cons, IsPermutation-map, IsPermutation-middle, IsPermutation-sym}
 use Rattle.moka_unsync_model.specs.declared.entry.Entry.{Entry}
 use Rattle.moka_unsync_model.specs.declared.listener.Cause.{Cause}
@@ -27,12 +28,15 @@ module _ {K V : Type 0} where
       elim (cases_Bool (nat_eq id p.0)) [
         | inl here ↦
             let same : p.1 ≡ e = ap (λ o. unwrap_or o e) (sym (cond-true (nat_eq id p.0) (Some p.1) (lookup (nat_eq id) nodes) here) ∙ h) in
-            subst (λ l. IsPermutation (p.1 ∷ values_of nodes) (e ∷ values_of l)) (sym (cond-true (nat_eq id p.0) nodes (p ∷ remove_entry (nat_eq id) nodes) here))
+            subst (λ l. IsPermutation (p.1 ∷ values_of nodes) (e ∷ values_of l)) (sym (cond-true (nat_eq id p.0) nodes (p ∷ remove_entry
+            (nat_eq id) nodes) here))
             (subst (λ x. IsPermutation (p.1 ∷ values_of nodes) (x ∷ values_of nodes)) same (IsPermutation-refl (p.1 ∷ values_of nodes)))
         | inr behind ↦
             let there = sym (cond-false (nat_eq id p.0) (Some p.1) (lookup (nat_eq id) nodes) behind) ∙ h in
-            subst (λ l. IsPermutation (p.1 ∷ values_of nodes) (e ∷ values_of l)) (sym (cond-false (nat_eq id p.0) nodes (p ∷ remove_entry (nat_eq id) nodes) behind))
-            (IsPermutation-trans (p.1 ∷ values_of nodes) (p.1 ∷ (e ∷ values_of (remove_entry (nat_eq id) nodes))) (e ∷ (p.1 ∷ values_of (remove_entry (nat_eq id) nodes)))
+            subst (λ l. IsPermutation (p.1 ∷ values_of nodes) (e ∷ values_of l)) (sym (cond-false (nat_eq id p.0) nodes (p ∷ remove_entry
+            (nat_eq id) nodes) behind))
+            (IsPermutation-trans (p.1 ∷ values_of nodes) (p.1 ∷ (e ∷ values_of (remove_entry (nat_eq id) nodes))) (e ∷ (p.1 ∷ values_of (remove_entry
+            (nat_eq id) nodes)))
             (IsPermutation-cons p.1 _ _ (node_among id e nodes there))
             (IsPermutation-middle (p.1 ∷ []) e (values_of (remove_entry (nat_eq id) nodes))))
       ]
@@ -68,7 +72,8 @@ module _ {K V : Type 0} where
   passing_between test e rest (x ∷ es) h =
       elim (cases_Bool (test x)) [
         | inl passes ↦
-            let same : x ≡ e = ap (λ l. Rattle.std.specs.Prelude.slice_index_or l 0 e) (sym (cond-true (test x) (x ∷ filter test es) (filter test es) passes) ∙ h) in
+            let same : x ≡ e = ap (λ l. Rattle.std.specs.Prelude.slice_index_or l 0 e) (sym (cond-true (test x) (x ∷ filter test es) (filter test es) passes)
+            ∙ h) in
             ([], es, ap (λ z. z ∷ es) same)
         | inr fails ↦
             let r = passing_between test e rest es (sym (cond-false (test x) (x ∷ filter test es) (filter test es) fails) ∙ h) in

@@ -12,7 +12,8 @@ use Rattle.moka_unsync_model.specs.declared.shares.PartLimits.{PartLimits}
 use Rattle.moka_unsync_model.specs.declared.shares.Shares.{Shares}
 use Rattle.moka_unsync_model.specs.CacheState.{CacheState}
 use Rattle.moka_unsync_model.specs.Cleanup.{least_recent}
-use Rattle.moka_unsync_model.specs.Contents.{Contents, after_leaving, entries_without, entry_at, entry_keys, is_window, main_of, protected_of, total_weight, window_of}
+use Rattle.moka_unsync_model.specs.Contents.{Contents, after_leaving, entries_without, entry_at, entry_keys, is_window, main_of, protected_of, total_weight}
+use Rattle.moka_unsync_model.specs.Contents.{window_of}
 use Rattle.moka_unsync_model.specs.Insert.{after_entering, after_entry, after_turn, gained_by}
 use Rattle.moka_unsync_model.specs.Memory.{Memory, at_most, demand_after, shares_at}
 use Rattle.moka_unsync_model.specs.Shares.{limits_of, main_limit}

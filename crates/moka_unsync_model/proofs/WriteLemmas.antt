@@ -18,7 +18,8 @@ use Rattle.moka_unsync_model.specs.Contents.{write_of, writes_without, probation
 use Rattle.moka_unsync_model.specs.CacheState.{CacheState, new_cache, room_of, windowed}
 use Rattle.moka_unsync_model.specs.Cleanup.{after_expiry, after_idle, after_live_expiry, after_trim, after_cleanup, is_past_ttl, least_recent}
 use Rattle.moka_unsync_model.specs.Lookup.{after_look, after_use, unexpired_at, after_using}
-use Rattle.moka_unsync_model.specs.Insert.{Refused, after_asking, after_entering, after_entry, after_new, after_put, after_turn, after_update, after_verdict, new_entry}
+use Rattle.moka_unsync_model.specs.Insert.{Refused, after_asking, after_entering, after_entry, after_new, after_put, after_turn, after_update, after_verdict}
+use Rattle.moka_unsync_model.specs.Insert.{new_entry}
 use Rattle.moka_unsync_model.specs.Insert.{after_arrival}
 use Rattle.moka_unsync_model.specs.Window.{after_candidacy, after_candidates, after_sharing, candidates, given_up, victims_of}
 use Rattle.moka_unsync_model.specs.Invalidate.{chosen}

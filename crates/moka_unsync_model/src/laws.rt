@@ -62,7 +62,7 @@ pub fn turns_are_small<K: Eq + Hash, V, S: BuildHasher, W: Weigh<K, V>>()
     ensures { TurnsAreSmall (keys_by K.Hash S.BuildHasher S.Hasher.Hasher) W.weighs }
 {}
 
-/// Without a weigher an insert of a new key judges three entries of the window at most, and then main gives up one and demotes one at most.
+/// Without a weigher an insert of a new key judges three entries of the window at most. Then main gives up one and demotes one at most.
 pub fn inserts_do_little<K: Eq + Hash, V, S: BuildHasher, W: Weigh<K, V>>()
     ensures { InsertsDoLittle (keys_by K.Hash S.BuildHasher S.Hasher.Hasher) W.weighs }
 {}

@@ -231,8 +231,8 @@ impl<
         self.insert_notifying(key, hash, value, now, &mut NoListener)
     }
 
-    /// Puts the value at the key, as `insert` does, by the key's hash. If it replaces a value, the listener gets the old value with the new key, as replaced or,
-    /// if the value was past a duration, as expired.
+    /// Puts the value at the key, as `insert` does, by the key's hash. If it replaces a value, the listener gets the old value with the new key, as
+    /// replaced or, if the value was past a duration, as expired.
     pub fn insert_notifying<L: Listener<K, V>>(
         &mut self,
         key: K,

@@ -37,7 +37,9 @@ impl<
         ensures windowed { windowed self.new ≡ Some (limits_of self.new.shares limits.all) }
         ensures stays { (key : K) → part ≡ option_map (λ e. e.part) (entry_at K.eq key self.old.contents.entries)
             → is_some (entry_at K.eq key self.new.contents.entries) ≡ is_some part }
-        ensures told { TellsWhatLeft L.hears Size (λ e. (0 < gained_in part self.old.shares.extra self.new.shares.extra) × (main_limit (limits_of self.new.shares limits.all) < total_weight (main_of self.old.contents.entries)))
+        ensures told { TellsWhatLeft L.hears Size
+            (λ e. (0 < gained_in part self.old.shares.extra self.new.shares.extra)
+            × (main_limit (limits_of self.new.shares limits.all) < total_weight (main_of self.old.contents.entries)))
             self.old.contents.entries self.new.contents.entries listener.old listener.new }
     {
         let Some(memory) = &mut self.memory else {

@@ -72,17 +72,20 @@ pub returns-in-Some-clause-told : goal.returns-in-Some-clause-told
 returns-in-Some-clause-told g c =
     let f = c.requires.front in
     let own : c.get-candidate.result.now ≡ f.entry = some_parts c.get-candidate.result.now f.entry (sym c.get-candidate.ensures ∙ f.stands) in
-    let above = subst (λ o. (o ≡ Some 0) ⊎ IsAbove (Some c.main_limit.result) (total_weight (main_of (entries_of c.args.store.now)) + c.get-candidate.result.now.weight))
+    let above = subst (λ o. (o ≡ Some 0) ⊎ IsAbove (Some c.main_limit.result) (total_weight (main_of
+    (entries_of c.args.store.now)) + c.get-candidate.result.now.weight))
     c.in-Some.is c.victim_count-count.ensures.above in
     and_moved (also_for (λ e some. subst (λ l. IsAbove (Some l) (total_weight (entries_of c.args.store.now) + c.args.new.weight)) c.main_limit.ensures
-    (counted_above (Some c.main_limit.result) c.in-Some.count _ _ above (its_need f c.get-candidate.result.now c.args.new.weight own) some)) c.enter_for.ensures.told)
+    (counted_above (Some c.main_limit.result) c.in-Some.count _ _ above (its_need f c.get-candidate.result.now c.args.new.weight own) some))
+    c.enter_for.ensures.told)
     c.promote_front.ensures.same
 
 pub returns-in-None-clause-told : goal.returns-in-None-clause-told
 returns-in-None-clause-told g c =
     let f = c.requires.front in
     let own : c.get-candidate.result.now ≡ f.entry = some_parts c.get-candidate.result.now f.entry (sym c.get-candidate.ensures ∙ f.stands) in
-    let above = subst (λ o. (o ≡ Some 0) ⊎ IsAbove (Some c.main_limit.result) (total_weight (main_of (entries_of c.args.store.now)) + c.get-candidate.result.now.weight))
+    let above = subst (λ o. (o ≡ Some 0) ⊎ IsAbove (Some c.main_limit.result) (total_weight (main_of
+    (entries_of c.args.store.now)) + c.get-candidate.result.now.weight))
     c.in-None.is c.victim_count-count.ensures.above in
     also_for (λ e there. subst (λ l. IsAbove (Some l) (total_weight (entries_of c.args.store.now) + c.args.new.weight)) c.main_limit.ensures
     (rejected_above (Some c.main_limit.result) _ _ above (its_need f c.get-candidate.result.now c.args.new.weight own)))

@@ -16,7 +16,8 @@ invariant-loop-shortfall g l =
     ≡ l.fn.enough - total_weight (least_recent l.fn.enough (window_of (entries_of l.fn.store)))) × Continues l.fn.store l.store
     × TellsWhatLeft g.L.Listener.hears Size (λ e. IsAbove (Some (main_limit l.limits)) (total_weight (entries_of l.fn.store))) (entries_of l.fn.store)
     (entries_of l.store) l.fn.listener l.listener
-    × (option_map (after_judgements g.K.PartialEq.eq l.limits l.sketch (least_recent l.shortfall (window_of (entries_of l.store))) (contents_of l.store)) l.memory
+    × (option_map (after_judgements g.K.PartialEq.eq l.limits l.sketch (least_recent l.shortfall (window_of (entries_of l.store)))
+    (contents_of l.store)) l.memory
     ≡ option_map (after_judgements g.K.PartialEq.eq l.limits l.sketch (least_recent l.fn.enough (window_of (entries_of l.fn.store))) (contents_of l.fn.store))
     l.fn.memory)
 

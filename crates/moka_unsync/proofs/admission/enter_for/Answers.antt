@@ -35,7 +35,8 @@ returns-in-Some-clause-told g c =
     let f = (c.in-Some.ensures {u = tt}).found.0 in
     let some : 0 < c.args.count = omega (arith, c.if-count-eq0.false) in
     then_left (also_there c.args.new (also_for (λ e there. some) c.evict.ensures.told))
-    (also_for (λ e there. some) (gave_way g.L.Listener.hears g.K.PartialEq.eq c.evict.new.store c.replace-key.new.self c.in-Some.id c.args.new c.replace-key.result f.entry
+    (also_for (λ e there. some) (gave_way g.L.Listener.hears g.K.PartialEq.eq c.evict.new.store c.replace-key.new.self c.in-Some.id c.args.new
+    c.replace-key.result f.entry
     c.evict.new.listener c.removed.new.self c.replace-key.ensures.step c.replace-key.ensures.value c.removed.ensures f.stands
     (front_among c.evict.new.store c.in-Some.id f)))
 

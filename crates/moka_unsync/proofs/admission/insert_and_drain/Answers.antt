@@ -130,7 +130,8 @@ returns-clause-step g c =
 
 -- the window's old entries were told of
 judged_told : (g : Over) (c : After-drain_window g)
-    → TellsWhatLeft g.L.Listener.hears Size (λ e. IsAbove (Some (main_limit c.args.limits.now)) (total_weight (entries_of c.args.store.now) + c.args.new.weight))
+    → TellsWhatLeft g.L.Listener.hears Size (λ e. IsAbove (Some (main_limit c.args.limits.now)) (total_weight
+    (entries_of c.args.store.now) + c.args.new.weight))
     (entries_of c.args.store.now) (entries_of c.drain_window.new.store) c.args.listener.now c.drain_window.new.listener
 judged_told g c =
     also_for (λ e above. above_more (Some (main_limit c.args.limits.now)) (total_weight (entries_of c.args.store.now)) _ (omega arith) above)
@@ -154,7 +155,8 @@ returns-clause-told g c =
 
 -- what was remembered of the window's old entries
 noted : (g : Over) (c : After-drain_window g) → c.drain_window.new.memory
-    ≡ option_map (after_judgements g.K.PartialEq.eq c.args.limits.now c.args.sketch.now (judged_first c.args.limits.now c.args.new (entries_of c.args.store.now))
+    ≡ option_map (after_judgements g.K.PartialEq.eq c.args.limits.now c.args.sketch.now (judged_first c.args.limits.now c.args.new
+    (entries_of c.args.store.now))
     (contents_of c.args.store.now)) c.args.memory.now
 noted g c =
     c.drain_window.ensures.memory

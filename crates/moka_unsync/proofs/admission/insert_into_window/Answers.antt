@@ -34,7 +34,8 @@ returns-in-Some-clause-value g c =
     sym (ap (λ s. option_map (λ e. e.part) (entry_at eq c.args.new.key s.entries)) step
     ∙ ap (option_map (λ e. e.part)) (stands-inside eq g.met.K.Eq.laws c.args.store.now.keeps_writes c.args.new
     (after_candidate eq c.args.limits.now c.args.sketch.now (contents_of c.args.store.now) f.entry)
-    (absent-candidate eq g.met.K.Eq.laws c.args.limits.now c.args.sketch.now c.args.new f.entry f.rest (contents_of c.args.store.now) c.requires.absent f.first)))
+    (absent-candidate eq g.met.K.Eq.laws c.args.limits.now c.args.sketch.now c.args.new f.entry f.rest
+    (contents_of c.args.store.now) c.requires.absent f.first)))
 
 pub returns-in-Some-clause-step : goal.returns-in-Some-clause-step
 returns-in-Some-clause-step g c =
@@ -75,7 +76,8 @@ returns-in-Some-clause-memory g c =
     c.excess-enough.ensures (inside c.args.new) refl refl in
     let some = c.if-enough-eq0.false in
     noted
-    ∙ remembered_as (λ m. after_judging m f.entry.hash (victims_of (Some (main_limit c.args.limits.now)) c.args.sketch.now f.entry (main_of (entries_of c.args.store.now))))
+    ∙ remembered_as (λ m. after_judging m f.entry.hash (victims_of (Some (main_limit c.args.limits.now)) c.args.sketch.now f.entry (main_of
+    (entries_of c.args.store.now))))
     (after_entering_judged eq keeps c.args.limits.now c.args.sketch.now c.args.new (contents_of c.args.store.now))
     (last_judged eq g.met.K.Eq.laws keeps c.args.limits.now c.args.sketch.now c.args.new (contents_of c.args.store.now) c.requires.absent c.requires.unwritten
     f.entry f.rest f.first (omega (arith, some, is)) (omega (arith, enough, is, ap (λ e. e.weight) own))) c.args.memory.now

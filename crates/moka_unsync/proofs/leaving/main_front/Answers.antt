@@ -9,7 +9,8 @@ returns-in_err-id-clause-absent g c _ = ap (λ s. main_of s.entries) ((c.in_err-
 
 pub returns-then-is_windowed-clause-absent : goal.returns-then-is_windowed-clause-absent
 returns-then-is_windowed-clause-absent g c _ =
-    no_main g.K.PartialEq.eq c.args.store.now c.in_ok-id.id c.get.result.now (c.in_ok-id.ensures {u = tt}).order (c.in_ok-id.ensures {u = tt}).found c.get.ensures
+    no_main g.K.PartialEq.eq c.args.store.now c.in_ok-id.id c.get.result.now (c.in_ok-id.ensures {u = tt}).order
+    (c.in_ok-id.ensures {u = tt}).found c.get.ensures
     (sym c.is_windowed.ensures ∙ c.if-is_windowed.true)
 
 pub returns-clause-found : goal.returns-clause-found

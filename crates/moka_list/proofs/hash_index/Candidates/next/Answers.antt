@@ -7,7 +7,8 @@ use Rattle.moka_list.specs.HashIndex.{after, ends_at, group_at, slots_of, rest_o
 use Rattle.moka_list.proofs.ChosenLemmas.{bit_small, lowest}
 use Rattle.moka_list.proofs.RestLemmas.{next_of, none_of, yields}
 use Rattle.moka_list.proofs.hash_index.Candidates.next.Goals as goal
-use Rattle.moka_list.proofs.hash_index.Candidates.next.Goals.{then-not-self, else-not-self, then-self-eq0-via-then-self-eq0, then-self-eq0-via-else-self-eq0+then-group-eq0}
+use Rattle.moka_list.proofs.hash_index.Candidates.next.Goals.{then-not-self, else-not-self, then-self-eq0-via-then-self-eq0}
+use Rattle.moka_list.proofs.hash_index.Candidates.next.Goals.{then-self-eq0-via-else-self-eq0+then-group-eq0}
 
 pub bounds-group-slot : goal.bounds-group-slot
 bounds-group-slot c =

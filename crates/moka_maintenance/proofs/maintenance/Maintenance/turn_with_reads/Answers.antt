@@ -14,7 +14,8 @@ returns-in-ReadCount g c =
       is =
           ap (λ s. turn_at {K = g.row.K.Denot} {V = g.row.V.Denot} settings valid_after false (phase_of held.orders.nodes s)
           (maintenance_of held)) is;
-      ends = ap (λ m. (m, c.args.log.now)) (c.count_reads.ensures.step ∙ ap (λ n. gone_to (reads_or_on (record { round = c.in-ReadCount.round; left = n })) (maintenance_of held)) c.len.ensures.len);
+      ends = ap (λ m. (m, c.args.log.now)) (c.count_reads.ensures.step ∙ ap (λ n. gone_to (reads_or_on (record { round = c.in-ReadCount.round; left = n }))
+          (maintenance_of held)) c.len.ensures.len);
     })
 
 pub returns-in-Reads : goal.returns-in-Reads
@@ -40,5 +41,6 @@ returns-in-MoreReads g c =
       is =
           ap (λ s. turn_at {K = g.row.K.Denot} {V = g.row.V.Denot} settings valid_after false (phase_of held.orders.nodes s)
           (maintenance_of held)) is;
-      ends = ap (λ m. (m, c.args.log.now)) (c.look_for_reads.ensures.step ∙ ap (λ n. gone_to (after_more_reads c.in-MoreReads.round n) (maintenance_of held)) c.len-in-MoreReads.ensures.len);
+      ends = ap (λ m. (m, c.args.log.now)) (c.look_for_reads.ensures.step
+          ∙ ap (λ n. gone_to (after_more_reads c.in-MoreReads.round n) (maintenance_of held)) c.len-in-MoreReads.ensures.len);
     })

@@ -14,7 +14,8 @@ returns-in-WriteCount g c =
       is =
           ap (λ s. turn_at {K = g.row.K.Denot} {V = g.row.V.Denot} settings valid_after false (phase_of held.orders.nodes s)
           (maintenance_of held)) is;
-      ends = ap (λ m. (m, c.args.log.now)) (c.count_writes.ensures.step ∙ ap (λ n. gone_to (writes_or_on (record { round = c.in-WriteCount.round; left = n })) (maintenance_of held)) c.len.ensures.len);
+      ends = ap (λ m. (m, c.args.log.now)) (c.count_writes.ensures.step ∙ ap (λ n. gone_to (writes_or_on (record { round = c.in-WriteCount.round; left = n }))
+          (maintenance_of held)) c.len.ensures.len);
     })
 
 pub returns-in-Writes : goal.returns-in-Writes
@@ -40,5 +41,6 @@ returns-in-MoreWrites g c =
       is =
           ap (λ s. turn_at {K = g.row.K.Denot} {V = g.row.V.Denot} settings valid_after false (phase_of held.orders.nodes s)
           (maintenance_of held)) is;
-      ends = ap (λ m. (m, c.args.log.now)) (c.look_for_writes.ensures.step ∙ ap (λ n. gone_to (after_more_writes c.in-MoreWrites.round n) (maintenance_of held)) c.len-in-MoreWrites.ensures.len);
+      ends = ap (λ m. (m, c.args.log.now)) (c.look_for_writes.ensures.step
+          ∙ ap (λ n. gone_to (after_more_writes c.in-MoreWrites.round n) (maintenance_of held)) c.len-in-MoreWrites.ensures.len);
     })

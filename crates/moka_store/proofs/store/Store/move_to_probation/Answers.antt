@@ -9,7 +9,8 @@ use Rattle.moka_store.proofs.store.Store.move_to_probation.Goals as goal
 
 pub shift-requires-clause-protected : goal.shift-requires-clause-protected
 shift-requires-clause-protected g c =
-    share_protected c.self.inside.weights c.args.id c.get_mut-entry.result.now c.self.inside.entries.items c.self.invariant.0.weighed c.get_mut-entry.ensures.value
+    share_protected c.self.inside.weights c.args.id c.get_mut-entry.result.now c.self.inside.entries.items c.self.invariant.0.weighed
+    c.get_mut-entry.ensures.value
 
 pub shift-requires-clause-window : goal.shift-requires-clause-window
 shift-requires-clause-window g c =

@@ -38,11 +38,13 @@ take-requires-clause-window g c =
 
 pub add-requires-clause-protected : goal.add-requires-clause-protected
 add-requires-clause-protected g c =
-    (parts_lighter c.self.invariant.0 c.args.id c.get_mut-gone.result.now c.get_mut-gone.result.now c.get_mut-gone.ensures.value c.take.new.self c.take.ensures).0
+    (parts_lighter c.self.invariant.0 c.args.id c.get_mut-gone.result.now c.get_mut-gone.result.now c.get_mut-gone.ensures.value c.take.new.self
+    c.take.ensures).0
 
 pub add-requires-clause-window : goal.add-requires-clause-window
 add-requires-clause-window g c =
-    (parts_lighter c.self.invariant.0 c.args.id c.get_mut-gone.result.now c.get_mut-gone.result.now c.get_mut-gone.ensures.value c.take.new.self c.take.ensures).1
+    (parts_lighter c.self.invariant.0 c.args.id c.get_mut-gone.result.now c.get_mut-gone.result.now c.get_mut-gone.ensures.value c.take.new.self
+    c.take.ensures).1
 
 pub add-requires-clause-fits : goal.add-requires-clause-fits
 add-requires-clause-fits g c small =
@@ -82,7 +84,8 @@ invariant_of-self g c =
     let stood = c.get_mut-gone.ensures.value in
     let moved =
     settled s c.args.id x e stood c.attach.new.entries.items
-    (its_place c.args.id c.self.inside.entries.items c.replace-gone.new.dest e c.replace-gone.ensures.after c.attach.new.entries.items c.attach.ensures.items) in
+    (its_place c.args.id c.self.inside.entries.items c.replace-gone.new.dest e c.replace-gone.ensures.after c.attach.new.entries.items c.attach.ensures.items)
+    in
     let weighed =
     heavier s c.args.id x e stood c.take.new.self c.take.ensures e.part e.weight refl refl c.add.new.self c.add.ensures.value in
     let absent = subst (λ v. entry_at g.K.PartialEq.eq e.key (entries_of v) ≡ None) (sym c.self.view_is) c.requires.absent in
@@ -105,7 +108,8 @@ returns-clause-step g c =
     let stood = c.get_mut-gone.ensures.value in
     let moved =
     settled s c.args.id x e stood c.attach.new.entries.items
-    (its_place c.args.id c.self.inside.entries.items c.replace-gone.new.dest e c.replace-gone.ensures.after c.attach.new.entries.items c.attach.ensures.items) in
+    (its_place c.args.id c.self.inside.entries.items c.replace-gone.new.dest e c.replace-gone.ensures.after c.attach.new.entries.items c.attach.ensures.items)
+    in
     rw (← c.self.view_is)
     (replaces_is g.met.K.Eq.laws _ _ s.keyed c.args.id x stood refl refl e moved
     ((λ i. written_under c.attach.new.entries.items (c.write_again.ensures.ids i))

@@ -35,7 +35,8 @@ invariant_of-self g c =
           c.remove_write.ensures.ids
           (weights-removed c.self.inside.weights c.args.id e nodes s.weighed stood c.take.new.self c.take.ensures) unlisted,
       room-kept c.self.invariant.1 c.unlink-entry.new.self c.remove_write.new.writes c.remove.new.self
-          (ap (λ v. v.capacity) c.unlink-entry.ensures.unchanged) c.remove_write.ensures.capacity c.remove.ensures.step.ids (λ _. c.unlink-entry.ensures.room_left),
+          (ap (λ v. v.capacity) c.unlink-entry.ensures.unchanged) c.remove_write.ensures.capacity c.remove.ensures.step.ids
+          (λ _. c.unlink-entry.ensures.room_left),
     )
 
 pub returns-clause-step : goal.returns-clause-step

@@ -16,7 +16,8 @@ take-requires-clause-all g c =
 
 pub take-requires-clause-protected : goal.take-requires-clause-protected
 take-requires-clause-protected g c =
-    share_protected c.self.inside.weights c.args.id c.get_mut-entry.result.now c.self.inside.entries.items c.self.invariant.0.weighed c.get_mut-entry.ensures.value
+    share_protected c.self.inside.weights c.args.id c.get_mut-entry.result.now c.self.inside.entries.items c.self.invariant.0.weighed
+    c.get_mut-entry.ensures.value
 
 pub take-requires-clause-window : goal.take-requires-clause-window
 take-requires-clause-window g c =
@@ -24,15 +25,18 @@ take-requires-clause-window g c =
 
 pub add-requires-clause-protected : goal.add-requires-clause-protected
 add-requires-clause-protected g c =
-    (parts_lighter c.self.invariant.0 c.args.id c.get_mut-entry.result.now c.get_mut-entry.result.now c.get_mut-entry.ensures.value c.take.new.self c.take.ensures).0
+    (parts_lighter c.self.invariant.0 c.args.id c.get_mut-entry.result.now c.get_mut-entry.result.now c.get_mut-entry.ensures.value c.take.new.self
+    c.take.ensures).0
 
 pub add-requires-clause-window : goal.add-requires-clause-window
 add-requires-clause-window g c =
-    (parts_lighter c.self.invariant.0 c.args.id c.get_mut-entry.result.now c.get_mut-entry.result.now c.get_mut-entry.ensures.value c.take.new.self c.take.ensures).1
+    (parts_lighter c.self.invariant.0 c.args.id c.get_mut-entry.result.now c.get_mut-entry.result.now c.get_mut-entry.ensures.value c.take.new.self
+    c.take.ensures).1
 
 pub add-requires-clause-fits : goal.add-requires-clause-fits
 add-requires-clause-fits g c small =
-    fits c.self.invariant.0 c.args.id c.get_mut-entry.result.now c.get_mut-entry.result.now c.get_mut-entry.ensures.value c.take.new.self c.take.ensures c.args.update.weight small
+    fits c.self.invariant.0 c.args.id c.get_mut-entry.result.now c.get_mut-entry.result.now c.get_mut-entry.ensures.value c.take.new.self c.take.ensures
+    c.args.update.weight small
 
 pub attach-requires-clause-once : goal.attach-requires-clause-once
 attach-requires-clause-once g c =
@@ -62,7 +66,8 @@ balance-requires-clause-once g c =
     let small = subst (λ z. z.weight < 2 ^ 32) (sym c.rewrite-left.ensures.entry) c.add.ensures.small in
     let after =
     stored-settled g.met.K.Eq.laws s c.args.id x e stood small c.attach.new.entries.items c.attach.ensures.items
-    c.attach.new.marks c.attach.ensures.marks c.add.new.self weighed (ap (λ z. z.key) c.rewrite-left.ensures.entry) (ap (λ z. z.hash) c.rewrite-left.ensures.entry) in
+    c.attach.new.marks c.attach.ensures.marks c.add.new.self weighed (ap (λ z. z.key) c.rewrite-left.ensures.entry) (ap
+    (λ z. z.hash) c.rewrite-left.ensures.entry) in
     after.keyed.once
 
 pub balance-requires-clause-order : goal.balance-requires-clause-order
@@ -77,7 +82,8 @@ balance-requires-clause-order g c =
     let small = subst (λ z. z.weight < 2 ^ 32) (sym c.rewrite-left.ensures.entry) c.add.ensures.small in
     let after =
     stored-settled g.met.K.Eq.laws s c.args.id x e stood small c.attach.new.entries.items c.attach.ensures.items
-    c.attach.new.marks c.attach.ensures.marks c.add.new.self weighed (ap (λ z. z.key) c.rewrite-left.ensures.entry) (ap (λ z. z.hash) c.rewrite-left.ensures.entry) in
+    c.attach.new.marks c.attach.ensures.marks c.add.new.self weighed (ap (λ z. z.key) c.rewrite-left.ensures.entry) (ap
+    (λ z. z.hash) c.rewrite-left.ensures.entry) in
     after.order
 
 pub balance-requires-clause-weighed : goal.balance-requires-clause-weighed
@@ -92,7 +98,8 @@ balance-requires-clause-weighed g c =
     let small = subst (λ z. z.weight < 2 ^ 32) (sym c.rewrite-left.ensures.entry) c.add.ensures.small in
     let after =
     stored-settled g.met.K.Eq.laws s c.args.id x e stood small c.attach.new.entries.items c.attach.ensures.items
-    c.attach.new.marks c.attach.ensures.marks c.add.new.self weighed (ap (λ z. z.key) c.rewrite-left.ensures.entry) (ap (λ z. z.hash) c.rewrite-left.ensures.entry) in
+    c.attach.new.marks c.attach.ensures.marks c.add.new.self weighed (ap (λ z. z.key) c.rewrite-left.ensures.entry) (ap
+    (λ z. z.hash) c.rewrite-left.ensures.entry) in
     after.weighed
 
 pub invariant_of-self : goal.invariant_of-self
@@ -107,7 +114,8 @@ invariant_of-self g c =
     let small = subst (λ z. z.weight < 2 ^ 32) (sym c.rewrite-left.ensures.entry) c.add.ensures.small in
     let after =
     stored-settled g.met.K.Eq.laws s c.args.id x e stood small c.attach.new.entries.items c.attach.ensures.items
-    c.attach.new.marks c.attach.ensures.marks c.add.new.self weighed (ap (λ z. z.key) c.rewrite-left.ensures.entry) (ap (λ z. z.hash) c.rewrite-left.ensures.entry) in (
+    c.attach.new.marks c.attach.ensures.marks c.add.new.self weighed (ap (λ z. z.key) c.rewrite-left.ensures.entry) (ap
+    (λ z. z.hash) c.rewrite-left.ensures.entry) in (
       stored-written g.met.K.Eq.laws (stored-balanced g.met.K.Eq.laws after c.args.room c.balance.new.entries.items c.balance.new.marks
           c.balance.new.weights c.balance.ensures.step c.balance.ensures.marks c.balance.ensures.weighed) c.args.id
           (found_balanced s c.args.id x e stood c.args.room c.attach.new.entries.items c.balance.new.entries.items

@@ -8,7 +8,8 @@ use Rattle.moka_store.proofs.store.Store.use_anywhere.Goals as goal
 
 pub shift-requires-clause-protected : goal.shift-requires-clause-protected
 shift-requires-clause-protected g c =
-    share_protected c.self.inside.weights c.args.id c.get_mut-entry.result.now c.self.inside.entries.items c.self.invariant.0.weighed c.get_mut-entry.ensures.value
+    share_protected c.self.inside.weights c.args.id c.get_mut-entry.result.now c.self.inside.entries.items c.self.invariant.0.weighed
+    c.get_mut-entry.ensures.value
 
 pub shift-requires-clause-window : goal.shift-requires-clause-window
 shift-requires-clause-window g c =
@@ -36,7 +37,8 @@ attach-requires-clause-here g c =
 pub attach-requires-clause-marks : goal.attach-requires-clause-marks
 attach-requires-clause-marks g c =
     let x = c.get_mut-entry.result.now in
-    set_marks c.self.invariant.0 c.args.id x (record x { accessed = c.args.now; part = c.used_part-used.result }) c.get_mut-entry.ensures.value c.pass.new.self c.pass.ensures
+    set_marks c.self.invariant.0 c.args.id x (record x { accessed = c.args.now; part = c.used_part-used.result }) c.get_mut-entry.ensures.value c.pass.new.self
+    c.pass.ensures
 
 pub balance-requires-clause-once : goal.balance-requires-clause-once
 balance-requires-clause-once g c =

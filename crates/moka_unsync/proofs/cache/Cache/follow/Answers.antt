@@ -66,7 +66,10 @@ its_contents g c =
     followed g.K.PartialEq.eq c.self.inside.store c.give_up.new.store c.limit_protected-2.new.self (limits_of (its_shares g c) c.args.limits.all)
     c.gained_in-gained.result (c.saturating_sub-above.result - c.saturating_sub.result) (its_weight g c) c.give_up.ensures.step
     (c.limit_protected-2.ensures.step
-    ∙ ap (λ l. record (contents_of c.give_up.new.store) { entries = Rattle.moka_unsync_model.specs.Contents.balanced l.protected (entries_of c.give_up.new.store) })
+    ∙ ap (λ l. record (contents_of c.give_up.new.store) {
+      entries = Rattle.moka_unsync_model.specs.Contents.balanced l.protected
+          (entries_of c.give_up.new.store);
+    })
     c.limits_of-followed.ensures)
 
 pub invariant_of-self-2 : goal.invariant_of-self-2

@@ -1,4 +1,5 @@
-use Rattle.std.proofs.Common.{◌≡◌, ◌∙◌, ◌<◌, ◌≤◌, ◌+◌, ℕ, Bool, Option, None, Some, ap, arith, is_some, length, min, option_map, false, refl, rules, subst, sym, true, unwrap_or}
+use Rattle.std.proofs.Common.{◌≡◌, ◌∙◌, ◌<◌, ◌≤◌, ◌+◌, ℕ, Bool, Option, None, Some, ap, arith, is_some, length, min, option_map, false, refl, rules, subst, sym}
+use Rattle.std.proofs.Common.{true, unwrap_or}
 use Rattle.moka_common.specs.Settings.{keeps_writes}
 use Rattle.moka_unsync_model.specs.CacheState.{CacheState, windowed}
 use Rattle.moka_unsync_model.specs.Contents.{entry_at, main_of}
@@ -14,7 +15,8 @@ use Rattle.moka_unsync_model.specs.declared.shares.PartLimits.{PartLimits}
 use Rattle.moka_unsync_model.specs.Shares.{limits_of, windowed_limits}
 use Rattle.moka_unsync.specs.Cached.{IsCached, IsPut, after_following}
 use Rattle.moka_unsync.proofs.CachedLemmas.{IsCached-put, IsCached-room, IsCached-update, IsCached-cleanup, has_hash, length-entries}
-use Rattle.moka_unsync.proofs.InsertLemmas.{entering_drops, entering_stays, insert_drops, insert_stays, insert_updates, judged, kept, put_main, stays_main, turn_is, turned}
+use Rattle.moka_unsync.proofs.InsertLemmas.{entering_drops, entering_stays, insert_drops, insert_stays, insert_updates, judged, kept, put_main, stays_main}
+use Rattle.moka_unsync.proofs.InsertLemmas.{turn_is, turned}
 use Rattle.moka_unsync.proofs.FollowLemmas.{stands_there}
 use Rattle.moka_unsync_model.specs.Memory.{after_coming, demand_after}
 use Rattle.moka_unsync_model.specs.declared.entry.Part.{Part}
@@ -324,7 +326,8 @@ returns-then-is_some-clause-step g c =
     put.ensures.step ∙ (λ i. after_entering eq (keeps i) limits c.self.inside.sketch (its_entry g at (put_own g at i)) (its_contents g at i)) in
     let memory : put.new.memory ≡ judged eq cache limits new found entered c.self.inside.memory =
     put.ensures.memory
-    ∙ ((λ i. option_map (after_entering_judged eq (keeps i) limits c.self.inside.sketch (its_entry g at (put_own g at i)) (its_contents g at i)) (c.come.ensures i))
+    ∙ ((λ i. option_map (after_entering_judged eq (keeps i) limits c.self.inside.sketch (its_entry g at (put_own g at i)) (its_contents g at i))
+    (c.come.ensures i))
     ∙ (λ i. option_map (after_entering_judged eq (keeps_writes c.self.inside.bounds) limits c.self.inside.sketch new found)
     (option_map (λ m. record (after_coming (put_own g at i) m) {
       demand = demand_after c.self.inside.shares limits.all m (put_own g at i) c.weigh.result;
@@ -373,7 +376,8 @@ returns-else-is_some-clause-step g c =
     put.ensures.step ∙ (λ i. after_entering eq (keeps i) limits c.self.inside.sketch (its_entry g at (put_own g at i)) (its_contents g at i)) in
     let memory : put.new.memory ≡ judged eq cache limits new found entered c.self.inside.memory =
     put.ensures.memory
-    ∙ ((λ i. option_map (after_entering_judged eq (keeps i) limits c.self.inside.sketch (its_entry g at (put_own g at i)) (its_contents g at i)) (c.come.ensures i))
+    ∙ ((λ i. option_map (after_entering_judged eq (keeps i) limits c.self.inside.sketch (its_entry g at (put_own g at i)) (its_contents g at i))
+    (c.come.ensures i))
     ∙ (λ i. option_map (after_entering_judged eq (keeps_writes c.self.inside.bounds) limits c.self.inside.sketch new found)
     (option_map (λ m. record (after_coming (put_own g at i) m) {
       demand = demand_after c.self.inside.shares limits.all m (put_own g at i) c.weigh.result;

@@ -42,7 +42,8 @@ returns-else-weight-self-clause-step g c =
           ∙ sym (expiry-same c.self.inside.limits (lasting c.self.inside.limits (sym c.self.invariant.expiring ∙ w.if-self.false)) c.args.now eq
           (contents_of c.args.store.now))
     ] in
-    let within : total_weight (entries_of c.if-self.store) ≤ c.self.inside.max_weight = subst (λ w. w ≤ c.self.inside.max_weight) c.weight.ensures.value c.if-weight-self.false in
+    let within : total_weight (entries_of c.if-self.store) ≤ c.self.inside.max_weight = subst
+    (λ w. w ≤ c.self.inside.max_weight) c.weight.ensures.value c.if-weight-self.false in
     subst (λ p. contents_of c.if-self.store ≡ after_cleanup eq p c.args.now (contents_of c.args.store.now)) c.self.view_is
     (trim-within eq c.self.inside.limits.max_capacity c.self.inside.max_weight c.self.invariant.limited (contents_of c.if-self.store) within
     ∙ ap (after_trim eq c.self.inside.limits.max_capacity) expired)
@@ -54,7 +55,8 @@ returns-then-weight-self-clause-told g c =
     let policy = c.self.inside.limits in
     let old = contents_of c.args.store.now in
     let then = contents_of c.if-self.store in
-    let expired : (then ≡ after_expiry eq policy c.args.now old) × TellsWhatLeft hears Expired (λ e. is_expired policy c.args.now e ≡ true) old.entries then.entries
+    let expired : (then ≡ after_expiry eq policy c.args.now old) × TellsWhatLeft hears Expired
+    (λ e. is_expired policy c.args.now e ≡ true) old.entries then.entries
     c.args.listener.now c.if-self.listener =
     elim c.if-self.branch [
       | then-self w ↦ (ap contents_of w.store-is ∙ w.expire.ensures.step, rw (w.store-is, w.listener-is) w.expire.ensures.told)
@@ -69,7 +71,8 @@ returns-then-weight-self-clause-told g c =
     (is_above policy.max_capacity c.self.inside.max_weight c.weight.result c.self.invariant.limited c.if-weight-self.true c.weight.type_inv) in
     subst (λ p. TellsCleanup hears eq p c.args.now old c.args.listener.now c.evict_lru_to.new.listener) c.self.view_is
     (cleanup_told hears eq policy c.args.now old then (contents_of c.evict_lru_to.new.store) c.args.listener.now c.if-self.listener c.evict_lru_to.new.listener
-    expired.0 (subst (λ p. contents_of c.evict_lru_to.new.store ≡ after_cleanup eq p c.args.now old) (sym c.self.view_is) (returns-then-weight-self-clause-step g c))
+    expired.0 (subst (λ p. contents_of c.evict_lru_to.new.store ≡ after_cleanup eq p c.args.now old) (sym c.self.view_is)
+    (returns-then-weight-self-clause-step g c))
     expired.1 (also_for (λ e there. above) c.evict_lru_to.ensures.told))
 
 pub returns-else-weight-self-clause-told : goal.returns-else-weight-self-clause-told
@@ -79,7 +82,8 @@ returns-else-weight-self-clause-told g c =
     let policy = c.self.inside.limits in
     let old = contents_of c.args.store.now in
     let then = contents_of c.if-self.store in
-    let expired : (then ≡ after_expiry eq policy c.args.now old) × TellsWhatLeft hears Expired (λ e. is_expired policy c.args.now e ≡ true) old.entries then.entries
+    let expired : (then ≡ after_expiry eq policy c.args.now old) × TellsWhatLeft hears Expired
+    (λ e. is_expired policy c.args.now e ≡ true) old.entries then.entries
     c.args.listener.now c.if-self.listener =
     elim c.if-self.branch [
       | then-self w ↦ (ap contents_of w.store-is ∙ w.expire.ensures.step, rw (w.store-is, w.listener-is) w.expire.ensures.told)
