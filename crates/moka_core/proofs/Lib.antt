@@ -12,5 +12,4 @@ pub mod TurnLemmas
 pub mod MachineNewLemmas
 pub mod MaintenanceLemmas
 pub mod CallLemmas
-pub mod CoreCallerLemmas
 pub mod CallerLemmas

@@ -8,8 +8,6 @@ ghost use Rattle.moka_sync_model.specs.CoreState.{IsNew, new_core};
 ghost use Rattle.moka_sync_model.specs.declared.call.Call.TheVariants as call;
 ghost use Rattle.moka_sync_model.specs.Run.{RunsTo};
 
-mod caller;
-
 use crate::machine::Machine;
 use crate::rows::Rows;
 use moka_common::error::{BuildError, OutOfMemory};

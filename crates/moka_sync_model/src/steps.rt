@@ -95,8 +95,9 @@ pub trait Steps<K: Drop, V: Drop, A: Allocator + Drop> {
         ensures caller { caller self.new ≡ pends (left_by_get result) };
 
     /// Looks if a key has an unexpired value.
-    fn contains_key<R: Wait>(&self, rt: &R, key: &K, now: Instant) -> bool
-        ensures { allowed self.now (Event.Contains key.now now) (Reply.Bool result) self.now };
+    fn contains_key<R: Wait>(&mut self, rt: &R, key: &K, now: Instant) -> bool
+        ensures step { allowed self.old (Event.Contains key.now now) (Reply.Bool result) self.new }
+        ensures caller { caller self.new ≡ caller self.old };
 
     /// Takes the entry of a key out of the map, and says whether there was one: a write is pending then.
     fn invalidate<R: Wait>(&mut self, rt: &R, key: &K, now: Instant) -> bool
@@ -222,11 +223,12 @@ pub fn get<K: Drop, V: Clone, A: Allocator + Drop, T: Steps<K, V, A>, R: Wait>(
 /// Looks if a key has an unexpired value. It leaves nothing behind.
 pub fn contains_key<K: Drop, V: Drop, A: Allocator + Drop, T: Steps<K, V, A>, R: Wait>(
     rt: &R,
-    steps: &T,
+    steps: &mut T,
     key: &K,
     now: Instant,
 ) -> bool
-    ensures { CallsContains T.allowed T.decides (pends_by T.caller) CALLER key.now now (Reply.Bool result) steps.now steps.now }
+    ensures call { CallsContains T.allowed T.decides (pends_by T.caller) CALLER key.now now (Reply.Bool result) steps.old steps.new }
+    ensures rest { T.caller steps.new ≡ T.caller steps.old }
 {
     steps.contains_key(rt, key, now)
 }

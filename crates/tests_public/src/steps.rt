@@ -1,9 +1,7 @@
 // Lists of steps of a core, with each of their requests refused in turn, and hits, which make no request.
 use crate::plays::{BOUND, Heap, HeapShared, Play, at, check, pair};
 use mini_moka::common::{FixedState, UnitWeight};
-use mini_moka::sync::engine::{Core, Event, Reply, Rows};
-use mini_moka::sync::steps::{insert, sync};
-use std::sync::Wait;
+use mini_moka::sync::engine::{Call, Core, Event, Reply, Rows};
 use std::test::Fail;
 use tests_heap::{Refusals, RefusingHeap, for_each_refusal};
 
@@ -91,14 +89,26 @@ fn is_hit(core: &mut HeapCore) -> bool {
     matches!(core.get(&1, at(0)), Reply::Found(Some(_)))
 }
 
+/// Makes one whole call, if nothing is under way. Returns its reply.
+fn call_at_rest<'a>(
+    core: &mut HeapCore<'a>,
+    call: Call<HeapShared<'a>, HeapShared<'a>>,
+) -> Option<HeapReply<'a>> {
+    if !core.is_at_rest() {
+        return None;
+    }
+    Some(core.call(call))
+}
+
 /// Returns how many of three hundred gets are hits, with several maintenances among them, and how many requests they make.
-fn requests_of_hits<R: Wait>(rt: &R, heap: &Heap) -> (u64, u64) {
+fn requests_of_hits(heap: &Heap) -> (u64, u64) {
     let Ok(mut core) = Core::new(heap, FixedState::new()) else {
         return (0, 0);
     };
+    let now = at(0);
     if let Some((key, value)) = pair(heap, 1, 7) {
-        let _ = insert(rt, &mut core, key, value, at(0));
-        sync(rt, &mut core, at(0));
+        let _ = call_at_rest(&mut core, Call::Insert { key, value, now });
+        let _ = call_at_rest(&mut core, Call::Sync { now });
     }
     heap.refuse(Refusals::From(1));
     let mut hits = 0u64;
@@ -108,10 +118,9 @@ fn requests_of_hits<R: Wait>(rt: &R, heap: &Heap) -> (u64, u64) {
     (hits, heap.asked())
 }
 
-// The insert and the maintenance before are whole calls over the steps of the core.
 #[test]
 fn a_hit_takes_no_memory(rt: HostRuntime) -> Result<(), Fail> {
     let heap = RefusingHeap::new(rt.alloc(), rt.alloc(), Refusals::Never)?;
-    assert_eq!(rt; requests_of_hits(&rt, &heap), (300, 0));
+    assert_eq!(rt; requests_of_hits(&heap), (300, 0));
     Ok(())
 }

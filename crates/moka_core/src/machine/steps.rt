@@ -4,9 +4,7 @@ ghost use Rattle.moka_common.specs.Keys.{keys_by};
 ghost use Rattle.moka_core.specs.Machine.{FindsFor, InsertsFor, KeepsAllButMap, KeepsRoom, RefusesFor, RefusesInsertFor, RemovesFor, TakesFor};
 ghost use Rattle.moka_core.specs.Machine.{refusal_reply};
 ghost use Rattle.moka_core.specs.Pending.{HasRoomFor};
-ghost use Rattle.moka_sync_model.specs.CoreCall.{Decides, has_pending, log_length};
 ghost use Rattle.moka_sync_model.specs.Run.{Happens};
-ghost use Rattle.moka_sync_model.specs.Steps.{log_of};
 ghost use Rattle.moka_sync_model.specs.Turn.Turn.{after_turn};
 
 use crate::machine::Machine;
@@ -16,12 +14,10 @@ use moka_common::shared::Shared;
 use moka_common::time::Instant;
 use moka_maintenance::maintenance::Need;
 use moka_queues::logs::LoggedRead;
-use moka_sync_model::constants::{CALLER, FLUSH_POINT, SHARDS};
+use moka_sync_model::constants::SHARDS;
 use moka_sync_model::event::{Event, Reply};
-use moka_sync_model::housekeeper::is_due;
 use moka_sync_model::operation::{Operation, Read, Write};
 use moka_sync_model::phase::Phase;
-use moka_sync_model::steps::WhichLog;
 use moka_sync_model::weigh::WeighShared;
 use std::alloc::Allocator;
 use std::hash::{BuildHasher, Hash};
@@ -322,35 +318,6 @@ impl<
             count: self.maintenance.count(),
             weight: self.maintenance.charged_weight(),
         }
-    }
-
-    /// Returns `true` if the caller of whole calls has anything pending.
-    pub fn has_pending(&self) -> bool
-        ensures { result ≡ has_pending self.now.state }
-    {
-        self.pending.of(CALLER).is_some()
-    }
-
-    /// Returns how many operations are in a log.
-    fn logged(&self, log: WhichLog) -> usize
-        ensures { result ≡ log_length (log_of log) self.now.state }
-    {
-        match log {
-            WhichLog::Reads => self.read_log.len(),
-            WhichLog::Writes => self.write_log.len(),
-        }
-    }
-
-    /// Returns `true` if a maintenance is due by the length of a log or by time. Then the next one is due half a second after `now`.
-    pub fn decide(&mut self, log: WhichLog, now: Instant) -> bool
-        ensures decision { Decides self.old.state (log_of log) now result self.new.state }
-        ensures weigher { self.new.weigher ≡ self.old.weigher }
-    {
-        if !is_due(self.logged(log), FLUSH_POINT, self.sync_after, now) {
-            return false;
-        }
-        self.schedule(now);
-        true
     }
 }
 

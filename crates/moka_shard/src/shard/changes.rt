@@ -246,6 +246,7 @@ impl<
             (state_of self.old) hash key.now now taken.0 taken.1 (state_of self.new)) }
         ensures refused { OnErr result ((self.new ≡ self.old) × ((value : V) × (¬ (V.is_infallible value))
             × (counted_value settings.now valid_after now (entry_at K.eq key.now (entries_in self.old.slots)) ≡ Some value))) }
+        ensures valid { IsValidShard (keys_by K.Hash S.BuildHasher S.Hasher.Hasher) (state_of self.new) }
     {
         let Some(slot) = self.find(key, hash) else {
             return Ok((None, None));
