@@ -1,2 +1,1 @@
 pub mod LogLemmas
-pub mod PermittedLemmas

@@ -24,14 +24,6 @@ const SPACE_ATTEMPTS: usize = 16;
 /// each operation that leaves the log.
 pub(crate) const WRITE_BATCH: usize = 16;
 
-/// Never returns. It is called in cases that can't occur but that no type excludes: any result would be wrong.
-#[cold]
-#[inline(never)]
-pub fn wait_forever<R: Wait>(rt: &R) -> ! {
-    for _ in rt.forever() {}
-    unreachable!()
-}
-
 /// Locks, and waits while another thread has the lock.
 #[inline]
 pub fn lock<'a, T, R: Wait>(rt: &R, part: &'a Mutex<T>) -> MutexGuard<'a, T> {

@@ -1,3 +1,6 @@
+pub mod StepLemmas
+pub mod TellLemmas
+pub mod VisitLemmas
 pub mod TurnLemmas
 pub mod SnapshotLemmas
 pub mod WritesLeftLemmas

@@ -1,51 +1,48 @@
 -- A snapshot grows by the pairs of a shard.
-use Rattle.std.proofs.Common.{◌≡◌, ◌<◌, ◌+◌, ◌==◌, ℕ, Bool, true, false, List, [], ◌∷◌, ◌++◌}
-use Rattle.std.proofs.Common.{map, filter, ap, arith, inl, inr, Result, Ok, Err, OnOk}
+use Rattle.std.proofs.Common.{◌≡◌, ◌<◌, ◌+◌, ℕ, true, false, List, [], ◌∷◌, ◌++◌}
+use Rattle.std.proofs.Common.{map, ap, arith, refl, subst, suc, Result, Ok, Err, IfOk, OnOk}
+use Rattle.std.specs.List.{All, AllByRecursion, IsDistinct}
+use Rattle.std.proofs.lemmas.Bool.{false_from_ne_true}
+use Rattle.std.proofs.lemmas.List.Elements.{All-append, All-from_recursion, All-nil, recursion_from_All}
 use Rattle.std.specs.Cmp.{IsEquivalence}
-use Rattle.std.specs.List.{AllByRecursion, IsDistinct}
-use Rattle.std.proofs.lemmas.Bool.{cases_Bool, eqb-true, eq-eqb, false_from_ne_true}
-use Rattle.std.proofs.lemmas.List.Elements.{All-append, All-filter, All-from_recursion, All-nil, recursion_from_All}
+use Rattle.moka_row.specs.Visits.{guest, newcomer}
+use Rattle.moka_history.specs.Steps.{Copies}
+use Rattle.moka_locks.proofs.TellLemmas.{copies}
+use Rattle.moka_common.specs.Keys.{Keys}
+use Rattle.moka_common.specs.Settings.{Settings}
 use Rattle.moka_sync_model.specs.Ticket.{shard_of}
 use Rattle.moka_shard.specs.Rule.{PairsMeet}
-use Rattle.moka_locks.specs.Snapshot.{IsSnapshot, own_pairs}
+use Rattle.moka_locks.specs.History.{Knows, Makes, place_of}
+use Rattle.moka_locks.specs.Snapshot.{AreCopies, CopiesShard, IsSnapshot}
 
 -- what follows from an answer's clause
 pub on_ok : {T E X Y : Type 0} (answer : Result T E) → OnOk answer X → (X → Y) → OnOk answer Y
 on_ok (Ok t) holds follows = follows holds
 on_ok (Err e) holds follows = tt
 
-module _ {K V : Type 0} (hash_of : K → ℕ) (number : ℕ) (p : K × V) (rest : List (K × V)) where
-  -- a pair of the shard stays, and another goes
-  pub own_first : shard_of (hash_of p.0) ≡ number → own_pairs hash_of number (p ∷ rest) ≡ p ∷ own_pairs hash_of number rest
-  own_first here = rw (eq-eqb (shard_of (hash_of p.0)) number here)
-
-  pub own_other : (shard_of (hash_of p.0) ≡ number → ⊥) → own_pairs hash_of number (p ∷ rest) ≡ own_pairs hash_of number rest
-  own_other elsewhere =
-      rw (false_from_ne_true (shard_of (hash_of p.0) == number) (λ same. elsewhere (eqb-true (shard_of (hash_of p.0)) number same)))
-
-module _ {K V : Type 0} (holds : K → V → Type 0) (eq : K → K → Bool) (laws : IsEquivalence eq) (hash_of : K → ℕ)
-    (respects : (key other : K) → eq key other ≡ true → hash_of key ≡ hash_of other) where
+module _ {K V S : Type 0} (keys : Keys K S) (settings : Settings S) (now : ℕ) (holds : K → V → Type 0)
+    (respects : (key other : K) → keys.eq key other ≡ true → keys.hash_of settings.hash_state key ≡ keys.hash_of settings.hash_state other) where
   -- the key of a pair
   abbrev key_of : K × V → K
   key_of p = p.0
 
   -- the pair is of this shard, or of one below it
   abbrev IsHere : ℕ → K × V → Type 0
-  IsHere number p = shard_of (hash_of p.0) ≡ number
+  IsHere number p = place_of keys settings p.0 ≡ number
 
   abbrev IsBelow : ℕ → K × V → Type 0
-  IsBelow number p = shard_of (hash_of p.0) < number
+  IsBelow number p = place_of keys settings p.0 < number
 
   -- keys of two shards are not equal
-  apart : (number : ℕ) (p q : K × V) → IsBelow number p → IsHere number q → eq p.0 q.0 ≡ false
+  apart : (number : ℕ) (p q : K × V) → IsBelow number p → IsHere number q → keys.eq p.0 q.0 ≡ false
   apart number p q below here =
-      false_from_ne_true (eq p.0 q.0)
+      false_from_ne_true (keys.eq p.0 q.0)
       (λ same.
-      let shards = ap shard_of (respects p.0 q.0 same) in
+      let shards : place_of keys settings p.0 ≡ place_of keys settings q.0 = ap shard_of (respects p.0 q.0 same) in
       omega (arith, below, here, shards))
 
   none_here : (number : ℕ) (p : K × V) (qs : List (K × V)) → IsBelow number p → AllByRecursion (IsHere number) qs
-      → AllByRecursion (λ k. eq p.0 k ≡ false) (map key_of qs)
+      → AllByRecursion (λ k. keys.eq p.0 k ≡ false) (map key_of qs)
   none_here number p [] below here = tt
   none_here number p (q ∷ qs) below (first, rest) = (apart number p q below first, none_here number p qs below rest)
 
@@ -54,40 +51,14 @@ module _ {K V : Type 0} (holds : K → V → Type 0) (eq : K → K → Bool) (la
   both P [] qs before here = here
   both P (p ∷ ps) qs (first, rest) here = (first, both P ps qs rest here)
 
-  joined : (number : ℕ) (ps qs : List (K × V)) → IsDistinct eq (map key_of ps) → IsDistinct eq (map key_of qs)
-      → AllByRecursion (IsBelow number) ps → AllByRecursion (IsHere number) qs → IsDistinct eq (map key_of (ps ++ qs))
+  joined : (number : ℕ) (ps qs : List (K × V)) → IsDistinct keys.eq (map key_of ps) → IsDistinct keys.eq (map key_of qs)
+      → AllByRecursion (IsBelow number) ps → AllByRecursion (IsHere number) qs → IsDistinct keys.eq (map key_of (ps ++ qs))
   unfolding IsDistinct
   joined number [] qs before once below here = once
   joined number (p ∷ ps) qs (first, before) once (low, below) here = (
-    both (λ k. eq p.0 k ≡ false) ps qs first (none_here number p qs low here),
+    both (λ k. keys.eq p.0 k ≡ false) ps qs first (none_here number p qs low here),
     joined number ps qs before once below here,
   )
-
-  kept_apart : (test : K × V → Bool) (k : K) (qs : List (K × V)) → AllByRecursion (λ l. eq k l ≡ false) (map key_of qs)
-      → AllByRecursion (λ l. eq k l ≡ false) (map key_of (filter test qs))
-  kept_apart test k [] none = tt
-  kept_apart test k (q ∷ qs) (first, rest) =
-      elim (cases_Bool (test q)) [
-        | inl stays ↦ rw stays (first, kept_apart test k qs rest)
-        | inr goes ↦ rw goes (kept_apart test k qs rest)
-      ]
-
-  kept_once : (test : K × V → Bool) (qs : List (K × V)) → IsDistinct eq (map key_of qs) → IsDistinct eq (map key_of (filter test qs))
-  unfolding IsDistinct
-  kept_once test [] once = tt
-  kept_once test (q ∷ qs) (first, rest) =
-      elim (cases_Bool (test q)) [
-        | inl stays ↦ rw stays (kept_apart test q.0 qs first, kept_once test qs rest)
-        | inr goes ↦ rw goes (kept_once test qs rest)
-      ]
-
-  here_passes : (number : ℕ) (qs : List (K × V)) → AllByRecursion (IsHere number) (own_pairs hash_of number qs)
-  here_passes number [] = tt
-  here_passes number (q ∷ qs) =
-      elim (cases_Bool (shard_of (hash_of q.0) == number)) [
-        | inl stays ↦ rw stays (eqb-true (shard_of (hash_of q.0)) number stays, here_passes number qs)
-        | inr goes ↦ rw goes (here_passes number qs)
-      ]
 
   lower : (number : ℕ) (ps : List (K × V)) → AllByRecursion (IsBelow number) ps → AllByRecursion (IsBelow (number + 1)) ps
   lower number [] below = tt
@@ -98,21 +69,34 @@ module _ {K V : Type 0} (holds : K → V → Type 0) (eq : K → K → Bool) (la
   low number (q ∷ qs) (first, rest) = (omega (arith, first), low number qs rest)
 
   -- the pairs of the next shard are added
-  pub with_shard : (number : ℕ) (pairs copied : List (K × V)) → IsSnapshot holds eq hash_of number pairs → PairsMeet holds copied
-      → IsDistinct eq (map key_of copied) → IsSnapshot holds eq hash_of (number + 1) (pairs ++ own_pairs hash_of number copied)
-  with_shard number pairs copied was ruled once =
-      let own = own_pairs hash_of number copied in
+  pub with_shard : (number : ℕ) (pairs copied : List (K × V)) → IsSnapshot keys settings now holds number pairs → PairsMeet holds copied
+      → IsDistinct keys.eq (map key_of copied) → All (IsHere number) copied → CopiesShard keys settings now number copied
+      → IsSnapshot keys settings now holds (number + 1) (pairs ++ copied)
+  with_shard number pairs copied was ruled once own visit =
       let before = recursion_from_All (IsBelow number) pairs was.below in
-      let here = here_passes number copied in
+      let here = recursion_from_All (IsHere number) copied own in
+      let next : suc number ≡ number + 1 = omega arith in
       record {
-        ruled = All-append (λ p. holds p.0 p.1) pairs own was.ruled
-            (All-filter (λ p. shard_of (hash_of p.0) == number) (λ p. holds p.0 p.1) copied ruled);
-        once = joined number pairs own was.once (kept_once (λ p. shard_of (hash_of p.0) == number) copied once) before here;
-        below = All-append (IsBelow (number + 1)) pairs own (All-from_recursion (IsBelow (number + 1)) pairs (lower number pairs before))
-            (All-from_recursion (IsBelow (number + 1)) own (low number own here));
+        copies = subst (λ n. AreCopies keys settings now n (pairs ++ copied)) next (pairs, copied, refl, visit, was.copies);
+        ruled = All-append (λ p. holds p.0 p.1) pairs copied was.ruled ruled;
+        once = joined number pairs copied was.once once before here;
+        below = All-append (IsBelow (number + 1)) pairs copied (All-from_recursion (IsBelow (number + 1)) pairs (lower number pairs before))
+            (All-from_recursion (IsBelow (number + 1)) copied (low number copied here));
       }
 
   -- there is none at first
-  pub no_shard : IsSnapshot holds eq hash_of 0 []
+  pub no_shard : IsSnapshot keys settings now holds 0 []
   unfolding IsDistinct
-  no_shard = record { ruled = All-nil (λ p. holds p.0 p.1); once = tt; below = All-nil (IsBelow 0) }
+  no_shard = record { copies = refl; ruled = All-nil (λ p. holds p.0 p.1); once = tt; below = All-nil (IsBelow 0) }
+
+-- what a guest copied of a shard, by the settings of the cache
+module _ {K V S : Type 0} (keys : Keys K S) (laws : IsEquivalence keys.eq) where
+  pub by_guest : {X E : Type 0} (items : X → List (K × V)) (r : Result X E) (s settings : Settings S) (v w : Knows K V S) (seat i now : ℕ) → s ≡ settings
+      → v ≡ newcomer s (guest seat) → IfOk r (λ x. (valid_after : ℕ) × Makes keys s v i (Copies now valid_after (items x)) w)
+      → IfOk r (λ x. CopiesShard keys settings now i (items x))
+  by_guest items (Err e) s settings v w seat i now same new made = tt
+  by_guest items (Ok x) s settings v w seat i now same new (valid_after, made) =
+      let here : Makes keys settings (newcomer settings (guest seat)) i (Copies now valid_after (items x)) w =
+      subst (λ (z : Settings S). Makes keys z (newcomer z (guest seat)) i (Copies now valid_after (items x)) w) same
+      (subst (λ (z : Knows K V S). Makes keys s z i (Copies now valid_after (items x)) w) new made) in
+      (seat, w, (valid_after, here, copies keys laws settings here))

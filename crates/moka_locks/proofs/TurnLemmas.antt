@@ -230,9 +230,9 @@ module _ (K V : Type 0) {S : Type 0} (settings : Settings S) (m : Maintenance) (
 -- ---- turns of a locked cache
 
 module _ {K V S W : Type 0} (keys : Keys K S) (holds : K → V → Type 0) (weighs : W → K → V → ℕ → Type 0) where
-  allowed : (settings : Settings S) (w next : Working) → AreTurns K V settings w next → (old : Locked S W)
+  allowed : (settings : Settings S) (w next : Working) → AreTurns K V settings w next → (old : Locked K V S W)
       → old.cache.settings ≡ settings → old.working ≡ Some w → (phase : PhaseName) → phase ≡ name_of next.maintenance.phase
-      → (new : Locked S W) → new ≡ running (kept_running next) old → TakesTurns (locked_allows keys holds weighs) phase old new
+      → (new : Locked K V S W) → new ≡ running (kept_running next) old → TakesTurns (locked_allows keys holds weighs) phase old new
   allowed settings w next (OneTurn _ _ turn) old same had phase at new is =
       steps.OneTurn phase old new (w, next, had, subst (λ s. IsWorkingTurn K V s w next) (sym same) turn, at, is)
   allowed settings w next (MoreTurns _ mid _ more first others) old same had phase at new is =
@@ -243,7 +243,7 @@ module _ {K V S W : Type 0} (keys : Keys K S) (holds : K → V → Type 0) (weig
       (allowed settings mid next others (running (Some mid) old) same refl phase at new is)
 
   -- what the maintenance does is allowed
-  pub turns_allowed : (old : Locked S W) (w next : Working) → old.working ≡ Some w → (phase : PhaseName)
-      → phase ≡ name_of next.maintenance.phase → (new : Locked S W) → new ≡ running (kept_running next) old
+  pub turns_allowed : (old : Locked K V S W) (w next : Working) → old.working ≡ Some w → (phase : PhaseName)
+      → phase ≡ name_of next.maintenance.phase → (new : Locked K V S W) → new ≡ running (kept_running next) old
       → AreTurns K V old.cache.settings w next → TakesTurns (locked_allows keys holds weighs) phase old new
   turns_allowed old w next had phase at new is turns = allowed old.cache.settings w next turns old refl had phase at new is

@@ -3,12 +3,13 @@ use Rattle.std.specs.Prelude.{Option}
 use Rattle.atomic_table.specs.Seated.{TableId}
 use Rattle.moka_common.specs.Settings.{Settings}
 
--- its settings, its weigher, and the counts that are published, if they are
+-- its settings, its weigher, the counts that are published, if they are, and which cache it is
 pub record Cache (S W : Type 0) : Type 0 where
   pub settings : Settings S
   pub weigher : W
   pub counted : Option TableId
+  pub id : TableId
 
 -- the cache of these
-abbrev pub new_cache : {S W : Type 0} → Settings S → W → Option TableId → Cache S W
-new_cache settings weigher counted = record { settings = settings; weigher = weigher; counted = counted }
+abbrev pub new_cache : {S W : Type 0} → Settings S → W → Option TableId → TableId → Cache S W
+new_cache settings weigher counted id = record { settings = settings; weigher = weigher; counted = counted; id = id }

@@ -1,9 +1,10 @@
--- A cache behind locks as one caller has it, and what the types of the locks keep of each step of that caller.
-use Rattle.std.specs.Prelude.{◌≡◌, ◌⊎◌, ℕ, Bool, Option, None, Some, Ok, Err, is_some, if◌then◌else◌}
+-- A cache behind locks as one caller has it, and what is known of each step of that caller.
+use Rattle.std.specs.Prelude.{◌≡◌, ◌⊎◌, ℕ, Bool, Option, None, Some, IfSome, Result, Ok, Err, is_some, if◌then◌else◌}
 use Rattle.moka_common.specs.Keys.{Keys}
+use Rattle.moka_common.specs.declared.error.InsertError.{InsertError}
 use Rattle.moka_common.specs.declared.error.InsertError.TheVariants as refused
-use Rattle.moka_common.specs.declared.error.OutOfMemory.{OutOfMemory as MemoryError}
-use Rattle.moka_guards.specs.Permitted.{ContainsIn, FindsIn, InsertsIn, InvalidatesIn, StandsIn, TakesIn}
+use Rattle.moka_history.specs.Steps.{Act, Gets, Invalidates, Looks, Takes}
+use Rattle.moka_row.specs.Visits.{guest, newcomer}
 use Rattle.moka_sync_model.specs.declared.event.Event.{Event}
 use Rattle.moka_sync_model.specs.declared.event.Event.TheVariants.{Insert, Get, Contains, Invalidate, Take, InvalidateAll, Push, Forget, Begin, Turn}
 use Rattle.moka_sync_model.specs.declared.event.Reply.TheVariants.{Done, Found, Bool as Truth, Discarded, At}
@@ -23,6 +24,7 @@ use Rattle.moka_sync_model.specs.Steps.{Caller, kind_of}
 use Rattle.moka_locks.specs.declared.session.Pending.{Pending}
 use Rattle.moka_locks.specs.declared.session.Pending.TheVariants as pending
 use Rattle.moka_locks.specs.Cache.{Cache}
+use Rattle.moka_locks.specs.History.{Knows, Makes, Puts, place_of}
 use Rattle.moka_locks.specs.MaintenanceTurn.{IsWorkingTurn, Working, empty_handed}
 
 -- the operation that is pending
@@ -31,72 +33,88 @@ operation_of pending.Nothing = None
 operation_of (pending.Read logged) = Some (Reading logged.read)
 operation_of (pending.Write write) = Some (Writing write)
 
--- the cache, the operation that the caller has not pushed yet, and the maintenance that it runs, with the writes at hand
-pub record Locked (S W : Type 0) : Type 0 where
+-- the cache, what the caller knows of its shards, the operation that it has not pushed yet, and the maintenance that it runs, with the writes at hand
+pub record Locked (K V S W : Type 0) : Type 0 where
   pub cache : Cache S W
+  pub knows : Knows K V S
   pub pending : Option Operation
   pub working : Option Working
 
-module _ {S W : Type 0} where
+module _ {K V S W : Type 0} where
   -- what the caller has under way
-  abbrev pub locked_caller : Locked S W → Caller
+  abbrev pub locked_caller : Locked K V S W → Caller
   locked_caller locked = record { pending = kind_of locked.pending; is_maintaining = is_some locked.working }
 
   -- it has nothing under way
-  abbrev pub resting_at : Cache S W → Locked S W
-  resting_at cache = record { cache = cache; pending = None; working = None }
+  abbrev pub resting_at : Cache S W → Knows K V S → Locked K V S W
+  resting_at cache knows = record { cache = cache; knows = knows; pending = None; working = None }
+
+  -- a call of the cache itself is one of a guest that has made no other
+  abbrev pub CallsByGuest : Cache S W → (Locked K V S W → Locked K V S W → Type 0) → Type 0
+  CallsByGuest cache calls = (seat : ℕ) × (new : Locked K V S W) × calls (resting_at cache (newcomer cache.settings (guest seat))) new
 
   -- it has left this
-  abbrev pub leaving : Option Operation → Locked S W → Locked S W
+  abbrev pub leaving : Option Operation → Locked K V S W → Locked K V S W
   leaving operation locked = record locked { pending = operation }
 
   -- it has left the removal of this ticket, or nothing more
-  abbrev pub removing : Option Ticket → Locked S W → Locked S W
+  abbrev pub removing : Option Ticket → Locked K V S W → Locked K V S W
   removing None locked = locked
   removing (Some t) locked = leaving (Some (Writing (Remove t))) locked
 
   -- it runs this maintenance
-  abbrev pub running : Option Working → Locked S W → Locked S W
+  abbrev pub running : Option Working → Locked K V S W → Locked K V S W
   running working locked = record locked { working = working }
 
--- a look at a log and at the time may decide anything, and changes nothing that the caller has under way
-abbrev pub locked_decides : {S W : Type 0} → Locked S W → Log → ℕ → Bool → Locked S W → Type 0
-locked_decides old log now runs new = new ≡ old
+  -- it knows this
+  abbrev pub knowing : Knows K V S → Locked K V S W → Locked K V S W
+  knowing knows locked = record locked { knows = knows }
+
+  -- a look at a log and at the time may decide anything, and changes nothing that the caller has under way
+  abbrev pub locked_decides : Locked K V S W → Log → ℕ → Bool → Locked K V S W → Type 0
+  locked_decides old log now runs new = new ≡ old
 
 -- a maintenance that has ended is given back
 abbrev pub kept_running : Working → Option Working
 kept_running w = if is_idle w.maintenance.phase then None else Some w
 
 module _ {K V S W : Type 0} (keys : Keys K S) (holds : K → V → Type 0) (weighs : W → K → V → ℕ → Type 0) where
-  -- what a step may reply and leave, whatever other callers do meanwhile: what the caller has under way is exact,
-  -- a step on a shard is that of the definitions for this key, value and moment, on some shard that its type permits,
-  -- and the maintenance takes the turns of the definitions
-  abbrev pub locked_allows : Locked S W → Event K V → Reply K V → Locked S W → Type 0
+  -- this was done in the shard of a key
+  abbrev pub Does : Locked K V S W → K → Act K V → Locked K V S W → Type 0
+  Does old key act new = Makes keys old.cache.settings old.knows (place_of keys old.cache.settings key) act new.knows
+
+  -- an insert with this answer
+  abbrev pub DoesPut : Locked K V S W → K → V → ℕ → Result Ticket InsertError → Locked K V S W → Type 0
+  DoesPut old key value now answer new = Puts keys old.cache.settings (weighs old.cache.weigher) old.knows key value now answer new.knows
+
+  -- What a step may reply and leave, whatever other callers do meanwhile. What the caller has under way is exact. A step on a shard is noted in the history of
+  -- the shard, which leads from a new shard to this step and on. And the maintenance takes the turns of the definitions.
+  abbrev pub locked_allows : Locked K V S W → Event K V → Reply K V → Locked K V S W → Type 0
   locked_allows old (Insert caller key value now) Done new =
-      (t : Ticket) × InsertsIn keys holds (weighs old.cache.weigher) old.cache.settings.hash_state key value now (Ok t)
-      × (new ≡ leaving (Some (Writing (Upsert t))) old)
+      (t : Ticket) × DoesPut old key value now (Ok t) new × (new ≡ leaving (Some (Writing (Upsert t))) (knowing new.knows old))
   locked_allows old (Insert caller key value now) OutOfMemory new =
-      InsertsIn keys holds (weighs old.cache.weigher) old.cache.settings.hash_state key value now (Err refused.OutOfMemory) × (new ≡ old)
+      (new ≡ old) ⊎ (DoesPut old key value now (Err refused.OutOfMemory) new × (new ≡ knowing new.knows old))
   locked_allows old (Insert caller key value now) TicketsUsedUp new =
-      InsertsIn keys holds (weighs old.cache.weigher) old.cache.settings.hash_state key value now (Err refused.TicketsUsedUp)
-      × (new ≡ old)
+      DoesPut old key value now (Err refused.TicketsUsedUp) new × (new ≡ knowing new.knows old)
   locked_allows old (Get caller key now) (Found None) new =
-      FindsIn keys holds old.cache.settings key now (Ok None)
-      × (new ≡ leaving (Some (Reading (Miss (keys.hash_of old.cache.settings.hash_state key)))) old)
+      ((valid_after : ℕ) × Does old key (Gets key now valid_after None) new)
+      × (new ≡ leaving (Some (Reading (Miss (keys.hash_of old.cache.settings.hash_state key)))) (knowing new.knows old))
   locked_allows old (Get caller key now) (Found (Some value)) new =
       holds key value
-      × ((t : Ticket) × FindsIn keys holds old.cache.settings key now (Ok (Some (value, t)))
-      × (new ≡ leaving (Some (Reading (Hit t now))) old))
+      × ((t : Ticket) × ((valid_after : ℕ) × Does old key (Gets key now valid_after (Some (value, t))) new)
+      × (new ≡ leaving (Some (Reading (Hit t now))) (knowing new.knows old)))
   locked_allows old (Get caller key now) OutOfMemory new =
-      ((error : MemoryError) × FindsIn keys holds old.cache.settings key now (Err error)) × (new ≡ old)
-  locked_allows old (Contains key now) (Truth is_there) new = ContainsIn keys holds old.cache.settings key now is_there × (new ≡ old)
+      ((valid_after : ℕ) × (found : V × Ticket) × Does old key (Gets key now valid_after (Some found)) new) × (new ≡ knowing new.knows old)
+  locked_allows old (Contains key now) (Truth is_there) new =
+      ((valid_after : ℕ) × Does old key (Looks key now valid_after is_there) new) × (new ≡ knowing new.knows old)
   locked_allows old (Invalidate caller key now) Done new =
-      (InvalidatesIn keys holds key None × (new ≡ old))
-      ⊎ ((t : Ticket) × InvalidatesIn keys holds key (Some t) × (new ≡ leaving (Some (Writing (Remove t))) old))
+      (left : Option Ticket) × Does old key (Invalidates key left) new × (new ≡ removing left (knowing new.knows old))
   locked_allows old (Take caller key now) (Found found) new =
-      (left : Option Ticket) × TakesIn keys holds old.cache.settings key now found left × (new ≡ removing left old)
+      IfSome found (λ value. holds key value)
+      × ((left : Option Ticket) × ((valid_after : ℕ) × Does old key (Takes key now valid_after found left) new)
+      × (new ≡ removing left (knowing new.knows old)))
   locked_allows old (Take caller key now) OutOfMemory new =
-      ((value : V) × StandsIn keys holds old.cache.settings key now value) × (new ≡ old)
+      ((valid_after : ℕ) × (found : V × Ticket) × Does old key (Gets key now valid_after (Some found)) new) × (new ≡ knowing new.knows old)
   locked_allows old (InvalidateAll now) Done new = new ≡ old
   locked_allows old (Push caller) Done new = new ≡ leaving None old
   locked_allows old (Push caller) Discarded new = ((read : Read) × (old.pending ≡ Some (Reading read))) × (new ≡ leaving None old)

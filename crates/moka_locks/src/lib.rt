@@ -1,9 +1,11 @@
 //! The locks of a cache that threads share: for each shard, for each log and for the maintenance, and the steps of one caller by them.
 #![tactic(auto)]
 
+pub mod account;
 pub mod housekeeper;
 mod idle;
 pub mod inner;
 pub mod laws;
 mod running;
 pub mod session;
+pub mod shards;

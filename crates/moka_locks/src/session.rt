@@ -1,10 +1,12 @@
 //! The steps of one caller on a cache behind locks.
-ghost use Rattle.std.specs.Prelude.{◌≡◌, None, IfSome};
+ghost use Rattle.std.specs.Prelude.{◌≡◌, ℕ, None, IfSome};
 ghost use Rattle.moka_common.specs.Settings.{keeps_writes};
 ghost use Rattle.moka_sync_model.specs.Phase.{Idle};
 ghost use Rattle.moka_locks.specs.Locked.{resting_at, running};
+ghost use Rattle.moka_row.specs.Visits.{guest, newcomer};
 ghost use Rattle.moka_locks.specs.SameTickets.{HasBothOrders};
 
+use crate::account::Caller;
 use crate::inner::Inner;
 use crate::running::RunningMaintenance;
 use moka_common::error::{InsertError, OutOfMemory};
@@ -30,7 +32,7 @@ enum Pending {
     Write(Write),
 }
 
-/// A cache as one caller has it for the time of a call.
+/// A cache as one caller has it for the time of a call, who is a guest at the shards.
 pub struct Session<
     'a,
     K: Eq + Hash + Drop,
@@ -41,6 +43,7 @@ pub struct Session<
     A: Allocator + Clone + Drop,
 > {
     inner: &'a Inner<K, V, S, P, W, A>,
+    caller: Caller<K, V, S, P, A>,
     pending: Pending,
     /// The maintenance that the caller runs.
     running: Option<RunningMaintenance<'a, A>>,
@@ -61,6 +64,7 @@ impl<
     fn drop(self) {
         let Session {
             inner: _,
+            caller: _,
             pending: _,
             running: _,
             runs_maintenance: _,
@@ -81,12 +85,19 @@ impl<
     ghost use Rattle.moka_common.specs.Settings.{keeps_writes};
     ghost use Rattle.moka_locks.specs.Locked.{Locked as LockedValue, operation_of};
     ghost use Rattle.moka_locks.specs.SameTickets.{IsOrdered};
+    ghost use Rattle.moka_row.specs.Visits.{IsIdle};
 
-    ghost Value = { LockedValue S W };
+    ghost Value = { LockedValue K V S W };
 
-    ghost view = { λ l. record { cache = l.inner.now; pending = operation_of l.pending; working = option_map (λ r. r.working) l.running } };
+    ghost view = { λ l. record {
+      cache = l.inner.now;
+      knows = l.caller.me.0;
+      pending = operation_of l.pending;
+      working = option_map (λ r. r.working) l.running;
+    } };
 
-    ghost invariant = { λ l. IfSome l.running (λ r. (r.keeps_writes ≡ keeps_writes l.inner.now.settings.policy) × IsOrdered r) };
+    ghost invariant = { λ l. IfSome l.running (λ r. (r.keeps_writes ≡ keeps_writes l.inner.now.settings.policy) × IsOrdered r)
+        × (l.caller.table_id ≡ l.inner.now.id) × IsIdle l.inner.now.settings l.caller.me };
 }
 
 impl<
@@ -98,12 +109,13 @@ impl<
     W: Drop,
     A: Allocator + Clone + Drop,
 > Session<'a, K, V, S, P, W, A> {
-    /// Begins a call, with nothing under way.
+    /// Begins a call, with nothing under way, by a new guest.
     pub fn new(inner: &'a Inner<K, V, S, P, W, A>) -> Self
-        ensures { result ≡ resting_at inner.now }
+        ensures { (seat : ℕ) × (result ≡ resting_at inner.now (newcomer inner.now.settings (guest seat))) }
     {
         Session {
             inner,
+            caller: inner.shards.come(),
             pending: Pending::Nothing,
             running: None,
             runs_maintenance: false,
@@ -170,7 +182,9 @@ impl<
         value: Shared<V, A>,
         now: Instant,
     ) -> Result<(), InsertError> {
-        let ticket = self.inner.insert(rt, key, value, now)?;
+        let inner = self.inner;
+        let (shards, weigher) = (&inner.shards, &inner.weigher);
+        let ticket = shards.insert(rt, &mut self.caller, key, value, weigher, now)?;
         self.pending = Pending::Write(Write::Upsert { ticket });
         Ok(())
     }
@@ -181,8 +195,9 @@ impl<
         key: &K,
         now: Instant,
     ) -> Result<Option<Shared<V, A>>, OutOfMemory> {
-        let hash = self.inner.hash_of(key);
-        let (found, hint) = self.inner.get(rt, key, hash, now)?;
+        let inner = self.inner;
+        let hash = inner.shards.hash_of(key);
+        let (found, hint) = inner.shards.get(rt, &mut self.caller, key, hash, now)?;
         let Some((value, ticket)) = found else {
             let read = Read::Miss { hash };
             self.pending = Pending::Read(LoggedRead { read, hint });
@@ -196,12 +211,15 @@ impl<
         Ok(Some(value))
     }
 
-    fn contains_key<R: Wait>(&self, rt: &R, key: &K, now: Instant) -> bool {
-        self.inner.contains_key(rt, key, now)
+    fn contains_key<R: Wait>(&mut self, rt: &R, key: &K, now: Instant) -> bool {
+        let inner = self.inner;
+        inner.shards.contains_key(rt, &mut self.caller, key, now)
     }
 
     fn invalidate<R: Wait>(&mut self, rt: &R, key: &K, _now: Instant) -> bool {
-        let Some(ticket) = self.inner.invalidate(rt, key) else {
+        let inner = self.inner;
+        let left = inner.shards.invalidate(rt, &mut self.caller, key);
+        let Some(ticket) = left else {
             return false;
         };
         self.pending = Pending::Write(Write::Remove { ticket });
@@ -209,7 +227,8 @@ impl<
     }
 
     fn invalidate_all(&mut self, now: Instant) {
-        self.inner.invalidate_all(now);
+        let inner = self.inner;
+        inner.shards.invalidate_all(now);
     }
 
     #[inline]
@@ -292,7 +311,8 @@ impl<
         key: &K,
         now: Instant,
     ) -> Result<(Option<V>, bool), OutOfMemory> {
-        let (handed, ticket) = self.inner.take(rt, key, now)?;
+        let inner = self.inner;
+        let (handed, ticket) = inner.shards.take(rt, &mut self.caller, key, now)?;
         let Some(ticket) = ticket else {
             return Ok((handed, false));
         };

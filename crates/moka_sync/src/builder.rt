@@ -1,6 +1,7 @@
 //! The builder of caches that threads share.
 ghost use Rattle.std.specs.Prelude.{◌≡◌, ◌∷◌, [], true, None, Some, IfErr, IfOk};
 ghost use Rattle.moka_sync.specs.Builder.{ArePartsOf, IsBuilt, IsLegal, new_builder, refusal_of};
+ghost use Rattle.atomic_table.specs.Seated.{TableId};
 ghost use Rattle.moka_locks.specs.Cache.{new_cache};
 ghost use Rattle.moka_sync_model.specs.Published.{opening};
 
@@ -254,8 +255,8 @@ impl<
         hash_state: S,
     ) -> Result<Cache<K, V, S, P, W, A>, BuildError>
         ensures legal { IfOk result (λ cache. IsLegal self) }
-        ensures cache { IfOk result (λ cache. cache ≡ new_cache
-            (record { hash_state = hash_state; policy = self.policy; is_weighed = self.is_weighed }) self.weigher None) }
+        ensures cache { IfOk result (λ cache. (id : TableId) × (cache ≡ new_cache
+            (record { hash_state = hash_state; policy = self.policy; is_weighed = self.is_weighed }) self.weigher None id)) }
         ensures err { IfErr result (λ error. error ≡ refusal_of self) }
     {
         let (alloc, parts) = self.parts(hash_state)?;
@@ -268,8 +269,8 @@ impl<
         hash_state: S,
     ) -> Result<(Cache<K, V, S, P, W, A>, CountPass), BuildError>
         ensures legal { IfOk result (λ built. IsLegal self) }
-        ensures cache { IfOk result (λ built. built.0 ≡ new_cache
-            (record { hash_state = hash_state; policy = self.policy; is_weighed = self.is_weighed }) self.weigher (Some built.1.counts)) }
+        ensures cache { IfOk result (λ built. (id : TableId) × (built.0 ≡ new_cache
+            (record { hash_state = hash_state; policy = self.policy; is_weighed = self.is_weighed }) self.weigher (Some built.1.counts) id)) }
         ensures pass { IfOk result (λ built. built.1.seen ≡ opening ∷ []) }
         ensures err { IfErr result (λ error. error ≡ refusal_of self) }
     {

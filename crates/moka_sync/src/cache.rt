@@ -1,9 +1,9 @@
 //! The cache that threads share.
-ghost use Rattle.std.specs.Prelude.{◌≡◌, ◌∷◌, [], ℕ, List, None, Some, map, IfErr, IfOk, IfSome};
+ghost use Rattle.std.specs.Prelude.{◌≡◌, ◌∷◌, [], ℕ, List, Option, None, Some, map, IfErr, IfOk, IfSome};
 ghost use Rattle.std.specs.List.{IsDistinct};
 ghost use Rattle.moka_common.specs.Keys.{keys_by};
 ghost use Rattle.moka_shard.specs.Rule.{PairsMeet};
-ghost use Rattle.moka_sync_model.specs.declared.constants.TheConstants.{CALLER};
+ghost use Rattle.moka_sync_model.specs.declared.constants.TheConstants.{CALLER, SHARDS};
 ghost use Rattle.moka_sync_model.specs.WholeCall.{CallsContains, CallsInsert, CallsInvalidate, CallsInvalidateAll, CallsSync};
 ghost use Rattle.moka_sync_model.specs.declared.event.Reply.TheVariants as reply;
 ghost use Rattle.moka_sync.specs.Builder.{new_builder};
@@ -11,7 +11,13 @@ ghost use Rattle.moka_locks.specs.Cache.{new_cache};
 ghost use Rattle.moka_locks.specs.Charged.{counts_of};
 ghost use Rattle.moka_guards.specs.Log.{IsChain, IsSuffix};
 ghost use Rattle.moka_sync_model.specs.Published.{opening};
-ghost use Rattle.moka_locks.specs.Locked.{Locked as LockedValue, locked_allows, locked_caller, locked_decides, resting_at};
+ghost use Rattle.moka_locks.specs.Locked.{CallsByGuest, locked_allows, locked_caller, locked_decides};
+ghost use Rattle.moka_history.specs.Steps.{Invalidates};
+ghost use Rattle.moka_locks.specs.History.{Makes, place_of};
+ghost use Rattle.moka_locks.specs.Snapshot.{AreCopies};
+ghost use Rattle.moka_locks.specs.Tells.{ByGuest, Gets, Inserts, Looks, Removes};
+ghost use Rattle.moka_sync_model.specs.declared.ticket.Ticket.{Ticket};
+ghost use Rattle.atomic_table.specs.Seated.{TableId};
 ghost use Rattle.moka_sync_model.specs.Steps.{AnswersGet, AnswersRemove, insert_reply, pends_by};
 
 use crate::builder::CacheBuilder;
@@ -70,7 +76,7 @@ use std::sync::Wait;
 /// # Size, expiry, hashing
 ///
 /// These are as for `unsync::Cache`, but without a window or protected entries, and limits hold after a maintenance. A call hashes its key once, before it
-/// takes a lock; the insert of a key that isn't there hashes it once more under the lock.
+/// takes a lock.
 ///
 /// # Cost
 ///
@@ -178,8 +184,8 @@ impl<
         publisher: Option<Publisher<A>>,
     ) -> Result<Self, OutOfMemory>
         requires { IfSome publisher (λ p. p.published ≡ opening ∷ []) }
-        ensures { IfOk result (λ cache. cache ≡ new_cache
-            (record { hash_state = parts.hash_state; policy = parts.policy; is_weighed = parts.is_weighed }) parts.weigher (counts_of publisher)) }
+        ensures { IfOk result (λ cache. (id : TableId) × (cache ≡ new_cache
+            (record { hash_state = parts.hash_state; policy = parts.policy; is_weighed = parts.is_weighed }) parts.weigher (counts_of publisher) id)) }
     {
         let inner = Inner::new(alloc.clone()?, parts, publisher)?;
         Ok(Cache {
@@ -233,6 +239,7 @@ impl<
     pub fn iter<R: Wait>(&self, rt: &R, now: Instant) -> Result<Iter<K, V, A>, OutOfMemory>
         ensures ruled { IfOk result (λ pairs. PairsMeet P.holds pairs) }
         ensures once { IfOk result (λ pairs. IsDistinct K.eq (map (λ p. p.0) pairs)) }
+        ensures made { IfOk result (λ pairs. AreCopies (keys_by K.Hash S.BuildHasher S.Hasher.Hasher) self.now.settings now SHARDS pairs) }
     {
         let inner = self.inner.get();
         let mut pairs = Vec::new(inner.alloc().clone()?);
@@ -253,10 +260,12 @@ impl<
 > Cache<K, V, S, P, W, A> {
     /// Returns `true` if a key has an unexpired value. It doesn't count as a read.
     pub fn contains_key<R: Wait>(&self, rt: &R, key: &K, now: Instant) -> bool
-        ensures call { CallsContains (locked_allows (keys_by K.Hash S.BuildHasher S.Hasher.Hasher) P.holds W.weighs) locked_decides
-            (pends_by locked_caller) CALLER key.now now (reply.Bool result) (resting_at self.now) (resting_at self.now) }
+        ensures call { CallsByGuest self.now (CallsContains (locked_allows (keys_by K.Hash S.BuildHasher S.Hasher.Hasher) P.holds W.weighs)
+            locked_decides (pends_by locked_caller) CALLER key.now now (reply.Bool result)) }
+        ensures made { ByGuest {K = K} {V = V} {S = S} self.now.settings (λ old new. Looks (keys_by K.Hash S.BuildHasher S.Hasher.Hasher)
+            self.now.settings old key.now now result new) }
     {
-        steps::contains_key(rt, &Session::new(self.inner.get()), key, now)
+        steps::contains_key(rt, &mut Session::new(self.inner.get()), key, now)
     }
 
     /// Puts a value at a key, in place of the one that is there. The pair has to meet the rule. It is refused if memory is, or if the key's
@@ -264,8 +273,10 @@ impl<
     pub fn insert<R: Wait>(&self, rt: &R, key: K, value: V, now: Instant) -> Result<(), InsertError>
         requires ruled { P.holds key value }
         requires ready { W.ready self.now.weigher }
-        ensures call { (new : LockedValue S W) × CallsInsert (locked_allows (keys_by K.Hash S.BuildHasher S.Hasher.Hasher) P.holds W.weighs) locked_decides
-            (pends_by locked_caller) CALLER key value now (insert_reply result) (resting_at self.now) new }
+        ensures call { CallsByGuest self.now (CallsInsert (locked_allows (keys_by K.Hash S.BuildHasher S.Hasher.Hasher) P.holds W.weighs)
+            locked_decides (pends_by locked_caller) CALLER key value now (insert_reply result)) }
+        ensures made { ByGuest {K = K} {V = V} {S = S} self.now.settings (λ old new. Inserts (keys_by K.Hash S.BuildHasher S.Hasher.Hasher)
+            self.now.settings (W.weighs self.now.weigher) old key value now result new) }
     {
         let Some((key, value)) = shared(self.inner.get().alloc(), key, value) else {
             return Err(InsertError::OutOfMemory);
@@ -275,17 +286,19 @@ impl<
 
     /// Removes the entry of a key, if there is one.
     pub fn invalidate<R: Wait>(&self, rt: &R, key: &K, now: Instant)
-        ensures call { (new : LockedValue S W) × CallsInvalidate (locked_allows (keys_by K.Hash S.BuildHasher S.Hasher.Hasher) P.holds W.weighs) locked_decides
-            (pends_by locked_caller) CALLER key.now now reply.Done (resting_at self.now) new }
+        ensures call { CallsByGuest self.now (CallsInvalidate (locked_allows (keys_by K.Hash S.BuildHasher S.Hasher.Hasher) P.holds W.weighs)
+            locked_decides (pends_by locked_caller) CALLER key.now now reply.Done) }
+        ensures made { ByGuest {K = K} {V = V} {S = S} self.now.settings (λ old new. (left : Option Ticket)
+            × Makes (keys_by K.Hash S.BuildHasher S.Hasher.Hasher) self.now.settings old
+            (place_of (keys_by K.Hash S.BuildHasher S.Hasher.Hasher) self.now.settings key.now) (Invalidates key.now left) new) }
     {
         steps::invalidate(rt, &mut Session::new(self.inner.get()), key, now);
     }
 
     /// Hides each entry whose last write or last read was before this moment; one of the two is enough. Those of the moment itself stay. It takes no lock.
     pub fn invalidate_all(&self, now: Instant)
-        ensures call { (new : LockedValue S W) × CallsInvalidateAll
-            (locked_allows (keys_by K.Hash S.BuildHasher S.Hasher.Hasher) P.holds W.weighs) locked_decides
-            (pends_by locked_caller) CALLER now reply.Done (resting_at self.now) new }
+        ensures call { CallsByGuest self.now (CallsInvalidateAll (locked_allows (keys_by K.Hash S.BuildHasher S.Hasher.Hasher) P.holds W.weighs)
+            locked_decides (pends_by locked_caller) CALLER now reply.Done) }
     {
         steps::invalidate_all(&mut Session::new(self.inner.get()), now);
     }
@@ -301,8 +314,10 @@ impl<
 > Cache<K, V, S, P, W, A> {
     /// Returns a clone of a key's unexpired value, made while no lock is held.
     pub fn get<R: Wait>(&self, rt: &R, key: &K, now: Instant) -> Result<Option<V>, OutOfMemory>
-        ensures call { (new : LockedValue S W) × AnswersGet (locked_allows (keys_by K.Hash S.BuildHasher S.Hasher.Hasher) P.holds W.weighs) locked_decides
-            locked_caller V.is_clone V.is_infallible key.now now result (resting_at self.now) new }
+        ensures call { CallsByGuest self.now (AnswersGet (locked_allows (keys_by K.Hash S.BuildHasher S.Hasher.Hasher) P.holds W.weighs)
+            locked_decides locked_caller V.is_clone V.is_infallible key.now now result) }
+        ensures made { ByGuest {K = K} {V = V} {S = S} self.now.settings (λ old new. Gets (keys_by K.Hash S.BuildHasher S.Hasher.Hasher)
+            self.now.settings V.is_clone old key.now now result new) }
 
         // It is a clone of a value that meets the rule with the key.
         ensures ruled { IfOk result (λ found. IfSome found (λ copy. (value : V) × P.holds key.now value × V.is_clone value copy)) }
@@ -317,8 +332,10 @@ impl<
         key: &K,
         now: Instant,
     ) -> Result<Option<V>, OutOfMemory>
-        ensures call { (new : LockedValue S W) × AnswersGet (locked_allows (keys_by K.Hash S.BuildHasher S.Hasher.Hasher) P.holds W.weighs) locked_decides
-            locked_caller V.is_clone V.is_infallible key.now now result (resting_at self.now) new }
+        ensures call { CallsByGuest self.now (AnswersGet (locked_allows (keys_by K.Hash S.BuildHasher S.Hasher.Hasher) P.holds W.weighs)
+            locked_decides locked_caller V.is_clone V.is_infallible key.now now result) }
+        ensures made { ByGuest {K = K} {V = V} {S = S} self.now.settings (λ old new. Gets (keys_by K.Hash S.BuildHasher S.Hasher.Hasher)
+            self.now.settings V.is_clone old key.now now result new) }
         ensures ruled { IfOk result (λ found. IfSome found (λ copy. (value : V) × P.holds key.now value × V.is_clone value copy)) }
     {
         self.get(rt, key, now)
@@ -327,8 +344,10 @@ impl<
     /// Removes the entry of a key, if there is one, and returns a clone of its value if that is unexpired. The clone is made while the lock of the key's
     /// shard is held, before the entry leaves: if it is refused, the cache is as it was. It doesn't count as a read.
     pub fn remove<R: Wait>(&self, rt: &R, key: &K, now: Instant) -> Result<Option<V>, OutOfMemory>
-        ensures call { (new : LockedValue S W) × AnswersRemove (locked_allows (keys_by K.Hash S.BuildHasher S.Hasher.Hasher) P.holds W.weighs)
-            locked_decides locked_caller V.is_clone V.is_infallible key.now now result (resting_at self.now) new }
+        ensures call { CallsByGuest self.now (AnswersRemove (locked_allows (keys_by K.Hash S.BuildHasher S.Hasher.Hasher) P.holds W.weighs)
+            locked_decides locked_caller V.is_clone V.is_infallible key.now now result) }
+        ensures made { ByGuest {K = K} {V = V} {S = S} self.now.settings (λ old new. Removes (keys_by K.Hash S.BuildHasher S.Hasher.Hasher)
+            self.now.settings V.is_clone old key.now now result new) }
 
         // It is a clone of a value that meets the rule with the key.
         ensures ruled { IfOk result (λ found. IfSome found (λ copy. (value : V) × P.holds key.now value × V.is_clone value copy)) }
@@ -369,9 +388,9 @@ impl<
     W: WeighShared<K, V>,
     A: Allocator + Clone + Drop,
 > ConcurrentCacheExt for Cache<K, V, S, P, W, A> {
-    ghost synced = { λ cache now. (new : LockedValue S W) × CallsSync
+    ghost synced = { λ cache now. CallsByGuest cache (CallsSync {K = K} {V = V}
         (locked_allows (keys_by (record { eq = K.eq; hash_input = K.hash_input }) S.BuildHasher S.Hasher.Hasher) P.holds W.weighs)
-        locked_decides (pends_by locked_caller) CALLER now reply.Done (resting_at cache) new };
+        locked_decides (pends_by locked_caller) CALLER now reply.Done) };
 
     fn sync<R: Wait>(&self, rt: &R, now: Instant) {
         steps::sync(rt, &mut Session::new(self.inner.get()), now);

@@ -5,7 +5,6 @@ ghost use Rattle.moka_locks.specs.MaintenanceTurn.{AreTurns, empty_handed};
 ghost use Rattle.moka_maintenance.specs.Taken.{TakesRead, TakesWrite, writes_left};
 
 use crate::inner::Inner;
-use moka_guards::waiting::lock;
 use moka_maintenance::maintenance::{Maintenance, Need};
 use moka_queues::logs::{LoggedRead, NO_READ, READS_AT_ONCE};
 use moka_queues::taken::TakenWrites;
@@ -56,9 +55,9 @@ impl<
     fn turn_by_need<R: Wait>(&self, rt: &R, maintenance: &mut Maintenance<A>)
         ensures { IsTurn K V self.now.settings maintenance.old maintenance.new }
     {
-        let valid_after = self.valid_after();
-        match maintenance.need::<K, V, S>(&self.settings, valid_after) {
-            Need::Nothing => maintenance.turn_alone::<K, V, S>(&self.settings),
+        let valid_after = self.shards.valid_after();
+        match maintenance.need::<K, V, S>(&self.shards.settings, valid_after) {
+            Need::Nothing => maintenance.turn_alone::<K, V, S>(&self.shards.settings),
             Need::Reads => {
                 let mut log = self.logs.lock_reads(rt);
                 maintenance.turn_with_reads::<K, V, S>(&mut log);
@@ -69,11 +68,7 @@ impl<
                 queue.turn_with_writes::<K, V, S>(maintenance);
                 self.logs.publish_write_len(queue.len());
             }
-            Need::Entry(ticket) => {
-                let mut shard = lock(rt, self.shard(ticket.hash));
-                let valid_after = self.valid_after_since(valid_after);
-                shard.turn(maintenance, ticket, &self.settings, valid_after);
-            }
+            Need::Entry(ticket) => self.shards.turn(rt, maintenance, ticket, valid_after),
         }
     }
 
@@ -82,7 +77,7 @@ impl<
         ensures within { result ≤ left }
         ensures singly { IsSome self.now.settings.policy.time_to_idle → result ≤ 1 }
     {
-        if self.settings.limits().has_time_to_idle() {
+        if self.settings().limits().has_time_to_idle() {
             return left.min(1);
         }
         left
@@ -118,8 +113,7 @@ impl<
         let Read::Hit { ticket, moment } = read else {
             return 0;
         };
-        let mut shard = lock(rt, self.shard(ticket.hash));
-        shard.touch(ticket, slot, moment)
+        self.shards.touch(rt, ticket, slot, moment)
     }
 
     /// Takes the next write, if there is one, and applies it.
@@ -139,10 +133,7 @@ impl<
             return;
         };
         match write {
-            Write::Upsert { ticket } => {
-                let mut shard = lock(rt, self.shard(ticket.hash));
-                shard.apply_upsert(maintenance, ticket, &self.settings);
-            }
+            Write::Upsert { ticket } => self.shards.apply_upsert(rt, maintenance, ticket),
             Write::Remove { ticket } => maintenance.turn_with_removal::<K, V, S>(ticket),
         }
     }

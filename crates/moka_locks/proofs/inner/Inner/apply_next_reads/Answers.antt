@@ -24,4 +24,4 @@ returns g c =
     let left : count ≤ reads_left old.phase = omega (arith, c.take_reads-count.ensures.wanted, c.reads_left.ensures) in
     let within : length reads ≤ work.left = omega (arith, same, subst (λ p. count ≤ reads_left p) at left) in
     rw (← c.self.view_is, c.apply_reads.ensures.2)
-    (reads_turn g.row.K.Denot g.row.V.Denot c.self.inside.settings reads work old at (omega (arith, same, c.if-count-eq0.false)) within)
+    (reads_turn g.row.K.Denot g.row.V.Denot c.self.inside.shards.settings reads work old at (omega (arith, same, c.if-count-eq0.false)) within)

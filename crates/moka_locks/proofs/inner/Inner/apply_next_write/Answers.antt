@@ -15,34 +15,34 @@ returns-in_default-clause-turns g c =
 pub returns-in-Upsert-clause-turns : goal.returns-in-Upsert-clause-turns
 returns-in-Upsert-clause-turns g c =
     rw (← c.self.view_is) (
-    written g.row.K.Denot g.row.V.Denot c.self.inside.settings c.args.maintenance.now c.requires.takes c.args.taken.now
+    written g.row.K.Denot g.row.V.Denot c.self.inside.shards.settings c.args.maintenance.now c.requires.takes c.args.taken.now
     c.next_write.new.taken c.next_write.result (Upsert c.in-Upsert.ticket) c.apply_upsert.new.maintenance
-    c.next_write.ensures.first (c.in-Some.is ∙ ap Some c.in-Upsert.is) c.in-Some.ensures.some c.apply_upsert.ensures.turn
+    c.next_write.ensures.first (c.in-Some.is ∙ ap Some c.in-Upsert.is) c.in-Some.ensures.some c.apply_upsert.ensures
     )
 
 pub returns-in-Upsert-clause-left : goal.returns-in-Upsert-clause-left
 returns-in-Upsert-clause-left g c =
     let new = c.apply_upsert.new.maintenance in
     let kept : writes_left c.args.maintenance.now.phase ≤ writes_left new.phase + 1 =
-    takes_one g.row.K.Denot g.row.V.Denot c.self.inside.settings (Upsert c.in-Upsert.ticket) c.args.maintenance.now new c.requires.takes
-    c.apply_upsert.ensures.turn in
+    takes_one g.row.K.Denot g.row.V.Denot c.self.inside.shards.settings (Upsert c.in-Upsert.ticket) c.args.maintenance.now new c.requires.takes
+    c.apply_upsert.ensures in
     omega (arith, c.in-Some.ensures.some, kept)
 
 pub returns-in-Remove-clause-turns : goal.returns-in-Remove-clause-turns
 returns-in-Remove-clause-turns g c =
     rw (← c.self.view_is) (
-    removed g.row.K.Denot g.row.V.Denot c.self.inside.settings c.args.maintenance.now c.requires.takes c.args.taken.now
+    removed g.row.K.Denot g.row.V.Denot c.self.inside.shards.settings c.args.maintenance.now c.requires.takes c.args.taken.now
     c.next_write.new.taken c.next_write.result _ c.in-Remove.ticket c.turn_with_removal.new.self c.next_write.ensures.first
     (c.in-Some.is ∙ ap Some c.in-Remove.is) c.in-Some.ensures.some
-    (c.turn_with_removal.ensures c.self.inside.settings 0)
+    (c.turn_with_removal.ensures c.self.inside.shards.settings 0)
     )
 
 pub returns-in-Remove-clause-left : goal.returns-in-Remove-clause-left
 returns-in-Remove-clause-left g c =
     let old = c.args.maintenance.now in
     let new = c.turn_with_removal.new.self in
-    let turn = alone g.row.K.Denot g.row.V.Denot c.self.inside.settings 0 false (having_taken_write (Remove c.in-Remove.ticket) old) new
-    (c.turn_with_removal.ensures c.self.inside.settings 0) in
+    let turn = alone g.row.K.Denot g.row.V.Denot c.self.inside.shards.settings 0 false (having_taken_write (Remove c.in-Remove.ticket) old) new
+    (c.turn_with_removal.ensures c.self.inside.shards.settings 0) in
     let kept : writes_left old.phase ≤ writes_left new.phase + 1 =
-    takes_one g.row.K.Denot g.row.V.Denot c.self.inside.settings (Remove c.in-Remove.ticket) old new c.requires.takes turn in
+    takes_one g.row.K.Denot g.row.V.Denot c.self.inside.shards.settings (Remove c.in-Remove.ticket) old new c.requires.takes turn in
     omega (arith, c.in-Some.ensures.some, kept)

@@ -7,19 +7,19 @@ pub returns-in-Nothing : goal.returns-in-Nothing
 returns-in-Nothing g c =
     let turn = c.turn_alone.ensures c.valid_after-valid_after.result (sym (c.need.ensures) ∙ ap need_named c.in-Nothing.is) in
     rw (← c.self.view_is)
-    (alone g.row.K.Denot g.row.V.Denot c.self.inside.settings _ turn.0 c.args.maintenance.now c.turn_alone.new.self turn.1)
+    (alone g.row.K.Denot g.row.V.Denot c.self.inside.shards.settings _ turn.0 c.args.maintenance.now c.turn_alone.new.self turn.1)
 
 pub returns-in-Reads : goal.returns-in-Reads
 returns-in-Reads g c =
     rw (← c.self.view_is)
-    (with_reads c.self.inside.settings 0 false c.args.maintenance.now c.turn_with_reads.new.self _ _
-    (c.turn_with_reads.ensures c.self.inside.settings 0))
+    (with_reads c.self.inside.shards.settings 0 false c.args.maintenance.now c.turn_with_reads.new.self _ _
+    (c.turn_with_reads.ensures c.self.inside.shards.settings 0))
 
 pub returns-in-Writes : goal.returns-in-Writes
 returns-in-Writes g c =
     rw (← c.self.view_is)
-    (with_writes c.self.inside.settings 0 false c.args.maintenance.now c.turn_with_writes.new.maintenance _ _
-    (c.turn_with_writes.ensures.turn c.self.inside.settings 0))
+    (with_writes c.self.inside.shards.settings 0 false c.args.maintenance.now c.turn_with_writes.new.maintenance _ _
+    (c.turn_with_writes.ensures.turn c.self.inside.shards.settings 0))
 
 pub returns-in-Entry : goal.returns-in-Entry
-returns-in-Entry g c = rw (← c.self.view_is) c.turn.ensures.turn
+returns-in-Entry g c = rw (← c.self.view_is) c.turn.ensures

@@ -1,11 +1,12 @@
-use Rattle.std.proofs.Common.{ℕ, Option, Result, Ok, Err, IsErr, false, true, ◌≡◌, refl}
+use Rattle.std.proofs.Common.{◌∙◌, ℕ, Some, ap}
 use Rattle.moka_common.specs.Keys.{Keys, keys_by}
-use Rattle.moka_common.specs.declared.error.OutOfMemory.{OutOfMemory as MemoryError}
-use Rattle.moka_sync_model.specs.declared.constants.TheConstants.{CALLER}
-use Rattle.moka_sync_model.specs.declared.event.Event.TheVariants.{Get}
-use Rattle.moka_guards.specs.Permitted.{FindsIn}
-use Rattle.moka_sync_model.specs.Steps.{get_reply}
-use Rattle.moka_locks.specs.Locked.{Locked, locked_allows}
+use Rattle.moka_sync_model.specs.declared.operation.Operation.TheVariants.{Reading}
+use Rattle.moka_sync_model.specs.declared.operation.Read.TheVariants.{Miss}
+use Rattle.moka_sync_model.specs.declared.ticket.Ticket.{Ticket}
+use Rattle.moka_history.specs.Steps.{Gets}
+use Rattle.moka_locks.specs.Cache.{Cache}
+use Rattle.moka_locks.specs.Locked.{Locked, knowing, leaving}
+use Rattle.moka_locks.proofs.StepLemmas.{does_here, get_none, get_refused}
 use Rattle.moka_locks.proofs.session.SessionSteps.get.Given.{Over}
 use Rattle.moka_locks.proofs.session.SessionSteps.get.Goals as goal
 
@@ -13,16 +14,30 @@ use Rattle.moka_locks.proofs.session.SessionSteps.get.Goals as goal
 abbrev keys_of : (g : Over) → Keys g.row.K.Denot g.row.S.Denot
 keys_of g = keys_by (record { eq = g.K.PartialEq.eq; hash_input = g.K.Hash.hash_input }) g.S.BuildHasher g.S.Hasher.Hasher
 
--- a get that was refused
-refused : {K V S W : Type 0} (keys : Keys K S) (holds : K → V → Type 0) (weighs : W → K → V → ℕ → Type 0) (old : Locked S W)
-    (caller : ℕ) (key : K) (now : ℕ) (error : MemoryError) → FindsIn keys holds old.cache.settings key now (Err error)
-    → (result : Result (Option V) MemoryError) → IsErr result
-    → locked_allows keys holds weighs old (Get caller key now) (get_reply result) old
-refused keys holds weighs old caller key now error finds (Ok found) err = let h : false ≡ true = err in absurd (cc)
-refused keys holds weighs old caller key now error finds (Err other) err = ((error, finds), refl)
-
 pub returns-in_err-found-clause-step : goal.returns-in_err-found-clause-step
 returns-in_err-found-clause-step g c =
-    rw (← c.self.view_is)
-    (refused (keys_of g) g.P.PairRule.holds g.W.WeighShared.weighs _ CALLER c.args.key.now c.args.now c.in_err-found.field-0.0
-    (c.in_err-found.ensures {u = tt}).finds c.from_residual.result c.from_residual.ensures.0)
+    let same = c.inner.inside.shards.planned ∙ (ap (λ (v : Cache g.row.S.Denot g.row.W.Denot). v.settings) c.inner.view_is
+    ∙ ap (λ (l : Locked g.row.K.Denot g.row.V.Denot g.row.S.Denot g.row.W.Denot). l.cache.settings) c.self.view_is) in
+    let known = ap (λ (l : Locked g.row.K.Denot g.row.V.Denot g.row.S.Denot g.row.W.Denot). l.knows) c.self.view_is in
+    get_refused (keys_of g) g.P.PairRule.holds g.W.WeighShared.weighs c.args.self.now _ c.args.key.now c.args.now c.from_residual.result
+    c.from_residual.ensures.0
+    (does_here {keys = keys_of g} c.args.key.now c.get.new.me.me.0 (λ does. (valid_after : ℕ) × (found : g.row.V.Denot × Ticket)
+    × does (Gets c.args.key.now c.args.now valid_after (Some found)))
+    same known (c.in_err-found.ensures {u = tt}).refused)
+    (ap (λ (l : Locked g.row.K.Denot g.row.V.Denot g.row.S.Denot g.row.W.Denot). knowing c.get.new.me.me.0 l) c.self.view_is)
+
+pub returns-in_default-clause-step : goal.returns-in_default-clause-step
+returns-in_default-clause-step g c =
+    let same = c.inner.inside.shards.planned ∙ (ap (λ (v : Cache g.row.S.Denot g.row.W.Denot). v.settings) c.inner.view_is
+    ∙ ap (λ (l : Locked g.row.K.Denot g.row.V.Denot g.row.S.Denot g.row.W.Denot). l.cache.settings) c.self.view_is) in
+    let known = ap (λ (l : Locked g.row.K.Denot g.row.V.Denot g.row.S.Denot g.row.W.Denot). l.knows) c.self.view_is in
+    let hash = c.hash_of-hash.ensures ∙ ap (λ s. (keys_of g).hash_of s.hash_state c.args.key.now)
+    (ap (λ (v : Cache g.row.S.Denot g.row.W.Denot). v.settings) c.inner.view_is
+    ∙ ap (λ (l : Locked g.row.K.Denot g.row.V.Denot g.row.S.Denot g.row.W.Denot). l.cache.settings) c.self.view_is) in (
+      get_none (keys_of g) g.P.PairRule.holds g.W.WeighShared.weighs c.args.self.now
+          (knowing c.get.new.me.me.0 c.args.self.now) c.args.key.now c.args.now c.in_ok-found.found c.in_default.is
+          (does_here {keys = keys_of g} c.args.key.now c.get.new.me.me.0 (λ does. (valid_after : ℕ)
+          × does (Gets c.args.key.now c.args.now valid_after c.in_ok-found.found)) same known
+          (c.in_ok-found.ensures {u = tt}).made),
+      λ j. leaving (Some (Reading (Miss (hash j)))) (knowing c.get.new.me.me.0 (c.self.view_is j)),
+    )

@@ -25,10 +25,10 @@ returns-in_default-phase g c = record {
       (had g c) c.turn-phase.result
       c.turn-phase.ensures.phase _
       (rw (kept_elsewhere c.turn-phase.new.self.working c.turn-phase.result c.turn-phase.ensures.phase c.in_default-phase.not-Idle)
-      (ap (λ (l : Locked g.row.S.Denot g.row.W.Denot). record l { working = Some c.turn-phase.new.self.working }) c.self.view_is))
+      (ap (λ (l : Locked g.row.K.Denot g.row.V.Denot g.row.S.Denot g.row.W.Denot). record l { working = Some c.turn-phase.new.self.working }) c.self.view_is))
       (rw (← c.self.view_is) c.turn-phase.ensures.turns);
   caller = rw (goes_on_elsewhere c.turn-phase.result c.in_default-phase.not-Idle)
-      (ap (λ (l : Locked g.row.S.Denot g.row.W.Denot). maintaining true (locked_caller l)) c.self.view_is);
+      (ap (λ (l : Locked g.row.K.Denot g.row.V.Denot g.row.S.Denot g.row.W.Denot). maintaining true (locked_caller l)) c.self.view_is);
 }
 
 pub returns-in-Idle-clause-turns : goal.returns-in-Idle-clause-turns
@@ -38,5 +38,5 @@ returns-in-Idle-clause-turns g c =
     turns_allowed (keys_of g) g.P.PairRule.holds g.W.WeighShared.weighs c.args.self.now c.in-Some.running.working next
     (rw (← c.self.view_is) (ap (option_map (λ (r : AtWork). r.working)) c.in-Some.is)) c.turn-phase.result phase _
     (rw (given_back next c.turn-phase.result phase c.in-Idle.is)
-    (c.end.ensures ∙ ap (λ (l : Locked g.row.S.Denot g.row.W.Denot). running None l) c.self.view_is))
+    (c.end.ensures ∙ ap (λ (l : Locked g.row.K.Denot g.row.V.Denot g.row.S.Denot g.row.W.Denot). running None l) c.self.view_is))
     (rw (← c.self.view_is) c.turn-phase.ensures.turns)

@@ -1,19 +1,24 @@
-use Rattle.std.proofs.Common.{◌∙◌, ap, refl}
-use Rattle.moka_common.specs.Keys.{keys_by}
-use Rattle.moka_guards.proofs.PermittedLemmas.{no_memory_in}
+use Rattle.std.proofs.Common.{◌≡◌, ◌∙◌, ap, inl, refl}
+use Rattle.moka_common.specs.Keys.{Keys, keys_by}
+use Rattle.moka_row.specs.Visits.{guest, newcomer}
 use Rattle.moka_locks.specs.Locked.{resting_at}
+use Rattle.moka_sync.proofs.CallLemmas.{insert_tells}
+use Rattle.moka_sync.proofs.cache.Cache.insert.Given.{Over}
 use Rattle.moka_sync.proofs.cache.Cache.insert.Goals as goal
+
+abbrev keys_of : (g : Over) → Keys g.row.K.Denot g.row.S.Denot
+keys_of g = keys_by (record { eq = g.K.PartialEq.eq; hash_input = g.K.Hash.hash_input }) g.S.BuildHasher g.S.Hasher.Hasher
 
 pub returns-in_default : goal.returns-in_default
 returns-in_default g c =
-    let refused = no_memory_in (keys_by (record { eq = g.K.PartialEq.eq; hash_input = g.K.Hash.hash_input }) g.S.BuildHasher g.S.Hasher.Hasher)
-    g.P.PairRule.holds (g.W.WeighShared.weighs c.args.self.now.weigher) c.args.self.now.settings.hash_state c.args.key c.args.value c.args.now in
-    record {
-      call = (resting_at c.args.self.now, record { next = resting_at c.args.self.now; first = (refused, refl); follows = refl });
-    }
+    let knows = newcomer c.args.self.now.settings (guest 0) in
+    let rests = resting_at c.args.self.now knows in
+    record { call = (0, rests, record { next = rests; first = inl refl; follows = refl }); made = (0, knows, inl refl) }
 
 pub returns : goal.returns
 returns g c =
-    let is = c.new.ensures ∙ ap resting_at (c.get-2.ensures ∙ c.self.view_is) in
+    let is = c.new.ensures.1 ∙ ap (λ x. resting_at x (newcomer x.settings (guest c.new.ensures.0))) (c.get-2.ensures ∙ c.self.view_is) in
     let same = c.in-Some.ensures {u = tt} in
-    record { call = (c.insert.new.steps, rw (← is, ← same.0, ← same.1) c.insert.ensures.call) }
+    let call = rw (← is, ← same.0, ← same.1) c.insert.ensures.call in
+    let tells = insert_tells {keys = keys_of g} g.met.K.Eq.laws c.insert.result call in
+    record { call = (c.new.ensures.0, c.insert.new.steps, call); made = (c.new.ensures.0, tells.0, tells.1) }

@@ -1,8 +1,21 @@
-use Rattle.std.proofs.Common.{◌∙◌, ap}
+use Rattle.std.proofs.Common.{◌≡◌, ◌∙◌, ap}
+use Rattle.moka_common.specs.Keys.{Keys, keys_by}
+use Rattle.moka_row.specs.Visits.{guest, newcomer}
 use Rattle.moka_locks.specs.Locked.{resting_at}
+use Rattle.moka_sync.proofs.CallLemmas.{remove_tells}
+use Rattle.moka_sync.proofs.cache.Cache.remove.Given.{Over}
 use Rattle.moka_sync.proofs.cache.Cache.remove.Goals as goal
+
+abbrev keys_of : (g : Over) → Keys g.row.K.Denot g.row.S.Denot
+keys_of g = keys_by (record { eq = g.K.PartialEq.eq; hash_input = g.K.Hash.hash_input }) g.S.BuildHasher g.S.Hasher.Hasher
 
 pub returns-clause-call : goal.returns-clause-call
 returns-clause-call g c =
-    let is = c.new.ensures ∙ ap resting_at (c.get.ensures ∙ c.self.view_is) in
-    (c.remove.new.steps, rw (← is) c.remove.ensures.call)
+    let is = c.new.ensures.1 ∙ ap (λ x. resting_at x (newcomer x.settings (guest c.new.ensures.0))) (c.get.ensures ∙ c.self.view_is) in
+    (c.new.ensures.0, c.remove.new.steps, rw (← is) c.remove.ensures.call)
+
+pub returns-clause-made : goal.returns-clause-made
+returns-clause-made g c =
+    let is = c.new.ensures.1 ∙ ap (λ x. resting_at x (newcomer x.settings (guest c.new.ensures.0))) (c.get.ensures ∙ c.self.view_is) in
+    let tells = remove_tells {keys = keys_of g} g.met.K.Eq.laws c.remove.result (rw (← is) c.remove.ensures.call) in
+    (c.new.ensures.0, tells.0, tells.1)

@@ -1,0 +1,15 @@
+use Rattle.std.proofs.Common.{[], ◌∷◌, Some}
+use Rattle.moka_history.specs.Steps.{Gets}
+use Rattle.moka_locks.specs.History.{found_at}
+use Rattle.moka_shard.specs.Shard.{state_of}
+use Rattle.moka_locks.proofs.shards.Shards.get.Given as goal
+
+abbrev pub ghosts-leave : goal.ghosts-leave
+ghosts-leave g a = record {
+  entry = Some (record {
+    before = state_of a._about.0.value;
+    act = Gets a._about.1.now a._about.2 a._about.3 (found_at g.K.PartialEq.eq a.row.now.key
+        (state_of a._about.0.value) a._about.1.now a._about.2 a._about.3);
+    after = state_of a._about.0.value;
+  } ∷ []);
+}
