@@ -13,5 +13,8 @@ pub use moka_sync::builder::CacheBuilder;
 pub use moka_sync::cache::{Cache, ConcurrentCacheExt};
 pub use moka_sync::iter::Iter;
 pub use moka_sync::mapref::EntryRef;
+pub use moka_sync::note::Note;
+pub use moka_sync::own;
+pub use moka_sync::session::Session;
 pub use moka_sync_model::published::Published;
 pub use moka_sync_model::{constants, laws, steps};

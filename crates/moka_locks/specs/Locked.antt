@@ -21,8 +21,8 @@ use Rattle.moka_sync_model.specs.Phase.{Idle, ReadCount, name_of, is_idle}
 use Rattle.moka_sync_model.specs.Reply.{Reply}
 use Rattle.moka_sync_model.specs.WholeCall.{Log}
 use Rattle.moka_sync_model.specs.Steps.{Caller, kind_of}
-use Rattle.moka_locks.specs.declared.session.Pending.{Pending}
-use Rattle.moka_locks.specs.declared.session.Pending.TheVariants as pending
+use Rattle.moka_locks.specs.declared.locked.Pending.{Pending}
+use Rattle.moka_locks.specs.declared.locked.Pending.TheVariants as pending
 use Rattle.moka_locks.specs.Cache.{Cache}
 use Rattle.moka_locks.specs.History.{Knows, Makes, Puts, place_of}
 use Rattle.moka_locks.specs.MaintenanceTurn.{IsWorkingTurn, Working, empty_handed}

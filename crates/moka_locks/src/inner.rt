@@ -1,5 +1,5 @@
 //! What all clones of a cache share: its shards, its logs and its maintenance, each behind a lock, and some words.
-ghost use Rattle.std.specs.Prelude.{◌≡◌, ◌<◌, ◌+◌, ◌++◌, [], ◌∷◌, List, Some, map, IfOk, IfSome, OnOk};
+ghost use Rattle.std.specs.Prelude.{◌≡◌, ◌<◌, ◌+◌, ◌++◌, [], ◌∷◌, ℕ, List, Some, map, IfOk, IfSome, OnOk};
 ghost use Rattle.atomic_table.specs.Seated.{TableId};
 ghost use Rattle.moka_sync_model.specs.declared.constants.TheConstants.{SHARDS};
 ghost use Rattle.moka_common.specs.Keys.{keys_by};
@@ -8,6 +8,8 @@ ghost use Rattle.moka_locks.specs.Charged.{counts_of};
 ghost use Rattle.moka_guards.specs.Log.{IsChain, IsSuffix};
 ghost use Rattle.moka_sync_model.specs.Published.{opening};
 ghost use Rattle.moka_locks.specs.History.{place_of};
+ghost use Rattle.moka_row.specs.Kept.{Hears};
+ghost use Rattle.moka_row.specs.Visits.{guest, newcomer, note_of};
 ghost use Rattle.moka_locks.specs.Snapshot.{CopiesShard, IsSnapshot};
 ghost use Rattle.moka_shard.specs.Rule.{PairsMeet};
 ghost use Rattle.std.specs.List.{All, IsDistinct};
@@ -18,6 +20,7 @@ ghost use Rattle.moka_locks.specs.SameTickets.{AtWork, IsOrdered, just_begun};
 mod assemble;
 mod turns;
 
+use crate::account::Caller;
 use crate::housekeeper::Housekeeper;
 use crate::idle::IdleMaintenance;
 use crate::inner::assemble::{counts_of, logs_and_maintenance};
@@ -29,6 +32,7 @@ use moka_common::shared::Shared;
 use moka_common::time::Instant;
 use moka_guards::counts::{CountPass, Counts, Publisher};
 use moka_guards::logs::Logs;
+use moka_row::seats;
 use moka_shard::rule::PairRule;
 use moka_sync_model::constants::SHARDS;
 use moka_sync_model::published::Published;
@@ -136,6 +140,34 @@ impl<
     /// Returns the allocator.
     pub fn alloc(&self) -> &A {
         &self.alloc
+    }
+
+    /// Returns a new guest at the shards, who has seen nothing and made no visit.
+    pub fn come(&self) -> Caller<K, V, S, P, A>
+        ensures table { result.table_id ≡ self.now.id }
+        ensures new { (seat : ℕ) × (result.me ≡ (newcomer self.now.settings (guest seat), [])) }
+    {
+        self.shards.come()
+    }
+
+    /// Returns a note of what a caller has seen so far.
+    pub fn note(&self, caller: &mut Caller<K, V, S, P, A>) -> Caller<K, V, S, P, A>
+        requires { caller.old.table_id ≡ self.now.id }
+        ensures same { (caller.new.table_id ≡ caller.old.table_id) × (caller.new.me ≡ caller.old.me) }
+        ensures table { result.table_id ≡ caller.old.table_id }
+        ensures note { result.me ≡ (note_of caller.old.me.0, []) }
+    {
+        seats::note(&self.shards.table.shared, caller)
+    }
+
+    /// Tells a caller what a note says: the histories that it knows go on from those too.
+    pub fn learn(&self, caller: &mut Caller<K, V, S, P, A>, note: Caller<K, V, S, P, A>)
+        requires table { caller.old.table_id ≡ self.now.id }
+        requires note { (note.table_id ≡ self.now.id) × (note.me.1 ≡ []) }
+        ensures same { (caller.new.table_id ≡ caller.old.table_id) × (caller.new.me.1 ≡ caller.old.me.1) }
+        ensures told { Hears caller.old.me.0 note.me.0.seen caller.new.me.0 }
+    {
+        seats::learn(&self.shards.table.shared, caller, note);
     }
 
     /// Returns the live pairs of a shard, shared, by a visit of a guest.

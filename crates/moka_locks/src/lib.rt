@@ -6,6 +6,6 @@ pub mod housekeeper;
 mod idle;
 pub mod inner;
 pub mod laws;
+pub mod locked;
 mod running;
-pub mod session;
 pub mod shards;

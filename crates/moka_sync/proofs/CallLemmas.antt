@@ -1,67 +1,157 @@
 -- What whole calls tell of the history of the key's shard.
-use Rattle.std.proofs.Common.{◌≡◌, ℕ, Bool, List, Option, Some, None, Result, Ok, Err, inl, inr, ap, refl}
+use Rattle.std.proofs.Common.{◌≡◌, ◌∙◌, ◌⊎◌, ℕ, Bool, true, false, Option, Some, None, Result, Ok, Err, inl, inr, ap, refl, subst, sym}
 use Rattle.std.specs.Cmp.{IsEquivalence}
 use Rattle.moka_common.specs.Keys.{Keys}
 use Rattle.moka_common.specs.declared.error.InsertError.{InsertError}
 use Rattle.moka_common.specs.declared.error.InsertError.TheVariants as refused
 use Rattle.moka_common.specs.declared.error.OutOfMemory.{OutOfMemory as MemoryError}
 use Rattle.moka_sync_model.specs.declared.constants.TheConstants.{CALLER}
-use Rattle.moka_sync_model.specs.declared.event.Event.TheVariants.{Insert}
+use Rattle.moka_sync_model.specs.declared.event.Event.TheVariants.{Contains, Insert, Push}
 use Rattle.moka_sync_model.specs.declared.event.Reply.TheVariants as reply
 use Rattle.moka_sync_model.specs.declared.ticket.Ticket.{Ticket}
 use Rattle.moka_sync_model.specs.Steps.{AnswersGet, AnswersRemove, insert_reply, pends_by}
-use Rattle.moka_sync_model.specs.WholeCall.{CallsContains, CallsInsert, CallsInvalidate}
+use Rattle.moka_sync_model.specs.WholeCall.{Log, OfReads, OfWrites, CallsContains, CallsInsert, CallsInvalidate, MaintainsIf, MaintainsIfDue}
+use Rattle.moka_sync_model.specs.WholeCall.{PushesIf, PushesRead, PushesWrite, Pushed, WasFull, Turns, LastTurn, NextTurn}
 use Rattle.moka_history.specs.Steps.{Invalidates}
 use Rattle.moka_locks.specs.History.{Knows, Makes, place_of}
-use Rattle.moka_locks.specs.Locked.{Locked, locked_allows, locked_caller, locked_decides}
+use Rattle.moka_locks.specs.Cache.{Cache}
+use Rattle.moka_locks.specs.Locked.{Locked, knowing, locked_allows, locked_caller, locked_decides, removing, resting_at}
 use Rattle.moka_locks.specs.Tells.{Gets, Inserts, Looks, Removes}
 use Rattle.moka_locks.proofs.TellLemmas.{entered, gets, looks, removes}
 
-module _ {K V S W : Type 0} {keys : Keys K S} {holds : K → V → Type 0} {weighs : W → K → V → ℕ → Type 0} (laws : IsEquivalence keys.eq)
-    {old new : Locked K V S W} {key : K} {now : ℕ} where
-  pub get_tells : {is_clone : V → V → Type 0} {is_sure : V → Type 0} (result : Result (Option V) MemoryError)
-      → AnswersGet (locked_allows keys holds weighs) locked_decides locked_caller is_clone is_sure key now result old new
-      → (after : Knows K V S) × Gets keys old.cache.settings is_clone old.knows key now result after
-  get_tells (Ok None) call = (call.next.knows, gets keys laws old.cache.settings {found = None} refl call.first.0.1)
-  get_tells (Ok (Some copy)) (value, clone, call) =
-      let t = call.first.1.0 in
-      (call.next.knows, gets keys laws old.cache.settings {found = Some (value, t)} (value, refl, clone) call.first.1.1.1)
-  get_tells (Err error) (inl call) =
-      let found = call.first.0.1.0 in
-      (call.next.knows, gets keys laws old.cache.settings {found = Some found} (found.0, refl) call.first.0.1.1)
-  get_tells (Err error) (inr (value, unsure, call)) =
-      let t = call.first.1.0 in
-      (call.next.knows, gets keys laws old.cache.settings {found = Some (value, t)} (value, refl) call.first.1.1.1)
+-- the cache, and what the caller knows of it
+abbrev held : {K V S W : Type 0} → Locked K V S W → Cache S W × Knows K V S
+held l = (l.cache, l.knows)
 
-  pub look_tells : (there : Bool) → CallsContains (locked_allows keys holds weighs) locked_decides (pends_by locked_caller) CALLER key now
-      (reply.Bool there) old new
-      → Looks keys old.cache.settings old.knows key now there new.knows
-  look_tells there call = looks keys laws old.cache.settings call.0.1
+module _ {K V S W : Type 0} (keys : Keys K S) (holds : K → V → Type 0) (weighs : W → K → V → ℕ → Type 0) where
+  -- what follows the first step of a call: turns of a maintenance, which visit as guests of their own, and pushes. So the caller knows what it knew.
+  turns_stay : (a b : Locked K V S W) → Turns (locked_allows keys holds weighs) locked_decides (pends_by locked_caller) CALLER a b → held b ≡ held a
+  turns_stay a b (LastTurn _ _ (w, next, had, turn, at, is)) = ap held is
+  turns_stay a c (NextTurn _ b _ phase goes_on (w, next, had, turn, at, is) others) = turns_stay b c others ∙ ap held is
 
-  pub insert_tells : {value : V} (result : Result (Unit {0}) InsertError)
-      → CallsInsert (locked_allows keys holds weighs) locked_decides (pends_by locked_caller) CALLER key value now (insert_reply result) old new
-      → (after : Knows K V S) × Inserts keys old.cache.settings (weighs old.cache.weigher) old.knows key value now result after
-  insert_tells (Ok done) call =
-      let t = call.first.0 in
-      (call.next.knows, (t, call.first.1, entered keys laws old.cache.settings call.first.1))
-  insert_tells (Err refused.OutOfMemory) call = by call.first
+  due_stays : (log : Log) (now : ℕ) (a b : Locked K V S W)
+      → MaintainsIfDue (locked_allows keys holds weighs) locked_decides (pends_by locked_caller) CALLER log now a b → held b ≡ held a
+  due_stays log now a b due = by due.runs due.maintains ∙ ap held due.decision
     where
-      by : locked_allows keys holds weighs old (Insert CALLER key value now) reply.OutOfMemory call.next
-          → (after : Knows K V S)
-          × Inserts keys old.cache.settings (weighs old.cache.weigher) old.knows key value now (Err refused.OutOfMemory) after
-      by (inl same) = (old.knows, inl refl)
-      by (inr put) = (call.next.knows, inr put.0)
-  insert_tells (Err refused.TicketsUsedUp) call = (call.next.knows, inr call.first.0)
+      by : (runs : Bool) → MaintainsIf (locked_allows keys holds weighs) locked_decides (pends_by locked_caller) CALLER runs now due.decided b
+          → held b ≡ held due.decided
+      by true maintains = turns_stay maintains.begun b maintains.turns ∙ ap held maintains.begins.2
+      by false same = ap held same
 
-  pub invalidate_tells : CallsInvalidate (locked_allows keys holds weighs) locked_decides (pends_by locked_caller) CALLER key now reply.Done old new
-      → (after : Knows K V S) × (left : Option Ticket)
-      × Makes keys old.cache.settings old.knows (place_of keys old.cache.settings key) (Invalidates key left) after
-  invalidate_tells call = (call.1.next.knows, call.1.first.0, call.1.first.1)
+  read_stays : (now : ℕ) (a b : Locked K V S W)
+      → PushesRead (locked_allows keys holds weighs) locked_decides (pends_by locked_caller) CALLER now a b → held b ≡ held a
+  read_stays now a b push = by push.pushes ∙ due_stays OfReads now a push.next push.maintains
+    where
+      by : locked_allows keys holds weighs push.next (Push CALLER) reply.Done b ⊎ locked_allows keys holds weighs push.next (Push CALLER) reply.Discarded b
+          → held b ≡ held push.next
+      by (inl is) = ap held is
+      by (inr (read, is)) = ap held is
 
-  pub remove_tells : {is_clone : V → V → Type 0} {is_sure : V → Type 0} (result : Result (Option V) MemoryError)
-      → AnswersRemove (locked_allows keys holds weighs) locked_decides locked_caller is_clone is_sure key now result old new
-      → (after : Knows K V S) × Removes keys old.cache.settings is_clone old.knows key now result after
-  remove_tells (Ok handed) (found, is_handed, call) =
-      let taken = call.first.1 in
-      (call.next.knows, (taken.1.0, found, taken.0, is_handed, taken.1.1, removes keys laws old.cache.settings taken.1.1))
-  remove_tells (Err error) (unsure, call) = (call.next.knows, call.first.0)
+  write_stays : (now : ℕ) (a b : Locked K V S W)
+      → PushesWrite (locked_allows keys holds weighs) locked_decides (pends_by locked_caller) CALLER now a b → held b ≡ held a
+  write_stays now a c (Pushed _ b _ due is) = ap held is ∙ due_stays OfWrites now a b due
+  write_stays now a d (WasFull _ b c _ due (write, is) others) = write_stays now c d others ∙ (ap held is ∙ due_stays OfWrites now a b due)
+
+  push_stays : (pushes : Bool) (now : ℕ) (a b : Locked K V S W)
+      → PushesIf (locked_allows keys holds weighs) locked_decides (pends_by locked_caller) CALLER pushes now a b → held b ≡ held a
+  push_stays true now a b push = write_stays now a b push
+  push_stays false now a b same = ap held same
+
+  module _ (laws : IsEquivalence keys.eq) (cache : Cache S W) (knows : Knows K V S) (start new : Locked K V S W) (starts : start ≡ resting_at cache knows)
+      (key : K) (now : ℕ) where
+    -- the same cache, and what holds of what was known after the first step
+    stayed : (next : Locked K V S W) (P : Knows K V S → Type 0) → held new ≡ held next → next.cache ≡ cache → P next.knows
+        → (new.cache ≡ cache) × P new.knows
+    stayed next P stays same p = (ap (λ h. h.0) stays ∙ same, subst P (sym (ap (λ h. h.1) stays)) p)
+
+    pub get_tells : (is_clone : V → V → Type 0) (is_sure : V → Type 0) (result : Result (Option V) MemoryError)
+        → AnswersGet (locked_allows keys holds weighs) locked_decides locked_caller is_clone is_sure key now result start new
+        → (new.cache ≡ cache) × Gets keys cache.settings is_clone knows key now result new.knows
+    get_tells is_clone is_sure result call =
+        by result (subst (λ l. AnswersGet (locked_allows keys holds weighs) locked_decides locked_caller is_clone is_sure key now result l new) starts call)
+      where
+        by : (r : Result (Option V) MemoryError)
+            → AnswersGet (locked_allows keys holds weighs) locked_decides locked_caller is_clone is_sure key now r (resting_at cache knows) new
+            → (new.cache ≡ cache) × Gets keys cache.settings is_clone knows key now r new.knows
+        by (Ok None) call =
+            stayed call.next (Gets keys cache.settings is_clone knows key now (Ok None)) (read_stays now call.next new call.follows)
+            (ap (λ l. l.cache) call.first.1) (gets keys laws cache.settings {found = None} refl call.first.0.1)
+        by (Ok (Some copy)) (value, clone, call) =
+            stayed call.next (Gets keys cache.settings is_clone knows key now (Ok (Some copy))) (read_stays now call.next new call.follows)
+            (ap (λ l. l.cache) call.first.1.2)
+            (gets keys laws cache.settings {found = Some (value, call.first.1.0)} (value, refl, clone) call.first.1.1.1)
+        by (Err error) (inl call) =
+            let found = call.first.0.1 in
+            stayed call.next (Gets keys cache.settings is_clone knows key now (Err error)) (ap held call.follows) (ap (λ l. l.cache) call.first.1)
+            (gets keys laws cache.settings {found = Some found} (found.0, refl) call.first.0.2)
+        by (Err error) (inr (value, unsure, call)) =
+            stayed call.next (Gets keys cache.settings is_clone knows key now (Err error)) (ap held call.follows) (ap (λ l. l.cache) call.first.1.2)
+            (gets keys laws cache.settings {found = Some (value, call.first.1.0)} (value, refl) call.first.1.1.1)
+
+    pub look_tells : (there : Bool)
+        → CallsContains (locked_allows keys holds weighs) locked_decides (pends_by locked_caller) CALLER key now (reply.Bool there) start new
+        → (new.cache ≡ cache) × Looks keys cache.settings knows key now there new.knows
+    look_tells there call =
+        let did = subst (λ l. locked_allows keys holds weighs l (Contains key now) (reply.Bool there) new) starts call in
+        (ap (λ l. l.cache) did.1, looks keys laws cache.settings did.0.1)
+
+    pub insert_tells : (value : V) (result : Result (Unit {0}) InsertError)
+        → CallsInsert (locked_allows keys holds weighs) locked_decides (pends_by locked_caller) CALLER key value now (insert_reply result) start new
+        → (new.cache ≡ cache) × Inserts keys cache.settings (weighs cache.weigher) knows key value now result new.knows
+    insert_tells value result call =
+        by result (subst (λ l. CallsInsert (locked_allows keys holds weighs) locked_decides (pends_by locked_caller) CALLER key value now
+        (insert_reply result) l new) starts call)
+      where
+        by : (r : Result (Unit {0}) InsertError)
+            → CallsInsert (locked_allows keys holds weighs) locked_decides (pends_by locked_caller) CALLER key value now (insert_reply r)
+            (resting_at cache knows) new
+            → (new.cache ≡ cache) × Inserts keys cache.settings (weighs cache.weigher) knows key value now r new.knows
+        by (Ok done) call =
+            stayed call.next (Inserts keys cache.settings (weighs cache.weigher) knows key value now (Ok done)) (write_stays now call.next new call.follows)
+            (ap (λ l. l.cache) call.first.2) (call.first.0, call.first.1, entered keys laws cache.settings call.first.1)
+        by (Err refused.OutOfMemory) call = first call.first
+          where
+            first : locked_allows keys holds weighs (resting_at cache knows) (Insert CALLER key value now) reply.OutOfMemory call.next
+                → (new.cache ≡ cache) × Inserts keys cache.settings (weighs cache.weigher) knows key value now (Err refused.OutOfMemory) new.knows
+            first (inl same) =
+                stayed call.next (Inserts keys cache.settings (weighs cache.weigher) knows key value now (Err refused.OutOfMemory)) (ap held call.follows)
+                (ap (λ l. l.cache) same) (inl (ap (λ l. l.knows) same))
+            first (inr put) =
+                stayed call.next (Inserts keys cache.settings (weighs cache.weigher) knows key value now (Err refused.OutOfMemory)) (ap held call.follows)
+                (ap (λ l. l.cache) put.1) (inr put.0)
+        by (Err refused.TicketsUsedUp) call =
+            stayed call.next (Inserts keys cache.settings (weighs cache.weigher) knows key value now (Err refused.TicketsUsedUp)) (ap held call.follows)
+            (ap (λ l. l.cache) call.first.1) (inr call.first.0)
+
+    removing_cache : (left : Option Ticket) (l : Locked K V S W) → (removing left l).cache ≡ l.cache
+    removing_cache None l = refl
+    removing_cache (Some t) l = refl
+
+    pub invalidate_tells : CallsInvalidate (locked_allows keys holds weighs) locked_decides (pends_by locked_caller) CALLER key now reply.Done start new
+        → (new.cache ≡ cache)
+        × ((left : Option Ticket) × Makes keys cache.settings knows (place_of keys cache.settings key) (Invalidates key left) new.knows)
+    invalidate_tells call =
+        let c = (subst (λ l. CallsInvalidate (locked_allows keys holds weighs) locked_decides (pends_by locked_caller) CALLER key now reply.Done l new) starts
+        call).1 in
+        stayed c.next (λ k. (left : Option Ticket) × Makes keys cache.settings knows (place_of keys cache.settings key) (Invalidates key left) k)
+        (push_stays (pends_by locked_caller c.next) now c.next new c.follows)
+        (ap (λ l. l.cache) c.first.2 ∙ removing_cache c.first.0 (knowing c.next.knows (resting_at cache knows))) (c.first.0, c.first.1)
+
+    pub remove_tells : (is_clone : V → V → Type 0) (is_sure : V → Type 0) (result : Result (Option V) MemoryError)
+        → AnswersRemove (locked_allows keys holds weighs) locked_decides locked_caller is_clone is_sure key now result start new
+        → (new.cache ≡ cache) × Removes keys cache.settings is_clone knows key now result new.knows
+    remove_tells is_clone is_sure result call =
+        by result (subst (λ l. AnswersRemove (locked_allows keys holds weighs) locked_decides locked_caller is_clone is_sure key now result l new) starts call)
+      where
+        by : (r : Result (Option V) MemoryError)
+            → AnswersRemove (locked_allows keys holds weighs) locked_decides locked_caller is_clone is_sure key now r (resting_at cache knows) new
+            → (new.cache ≡ cache) × Removes keys cache.settings is_clone knows key now r new.knows
+        by (Ok handed) (found, is_handed, call) =
+            let taken = call.first.1 in
+            stayed call.next (Removes keys cache.settings is_clone knows key now (Ok handed))
+            (push_stays (pends_by locked_caller call.next) now call.next new call.follows)
+            (ap (λ l. l.cache) taken.2 ∙ removing_cache taken.0 (knowing call.next.knows (resting_at cache knows)))
+            (taken.1.0, found, taken.0, is_handed, taken.1.1, removes keys laws cache.settings taken.1.1)
+        by (Err error) (unsure, call) =
+            stayed call.next (Removes keys cache.settings is_clone knows key now (Err error)) (ap held call.follows) (ap (λ l. l.cache) call.first.1)
+            call.first.0

@@ -1,1 +1,3 @@
 pub mod Builder
+pub mod Own
+pub mod Session

@@ -15,6 +15,7 @@ ghost use Rattle.moka_locks.specs.Locked.{CallsByGuest, locked_allows, locked_ca
 ghost use Rattle.moka_history.specs.Steps.{Invalidates};
 ghost use Rattle.moka_locks.specs.History.{Makes, place_of};
 ghost use Rattle.moka_locks.specs.Snapshot.{AreCopies};
+ghost use Rattle.moka_row.specs.Visits.{guest, newcomer};
 ghost use Rattle.moka_locks.specs.Tells.{ByGuest, Gets, Inserts, Looks, Removes};
 ghost use Rattle.moka_sync_model.specs.declared.ticket.Ticket.{Ticket};
 ghost use Rattle.atomic_table.specs.Seated.{TableId};
@@ -22,6 +23,8 @@ ghost use Rattle.moka_sync_model.specs.Steps.{AnswersGet, AnswersRemove, insert_
 
 use crate::builder::CacheBuilder;
 use crate::iter::Iter;
+use crate::session::Session;
+use crate::stored::stored;
 use moka_common::error::{BuildError, InsertError, OutOfMemory};
 use moka_common::hash::FixedState;
 use moka_common::policy::Policy;
@@ -30,7 +33,7 @@ use moka_common::time::Instant;
 use moka_common::weigh::UnitWeight;
 use moka_guards::counts::{CountPass, Publisher};
 use moka_locks::inner::Inner;
-use moka_locks::session::Session;
+use moka_locks::locked::Locked;
 use moka_shard::rule::{AnyPair, PairRule};
 use moka_sync_model::constants::SHARDS;
 use moka_sync_model::published::Published;
@@ -193,6 +196,15 @@ impl<
         })
     }
 
+    /// Returns a new session, which has seen nothing and made no call. It takes no memory, and is refused only if there are too many clones to count.
+    pub fn session(&self) -> Result<Session<K, V, S, P, W, A>, OutOfMemory>
+        ensures { IfOk result (λ session. (seat : ℕ) × (session.cache ≡ self.now) × (session.knows ≡ newcomer self.now.settings (guest seat))) }
+    {
+        let inner = self.inner.try_clone()?;
+        let caller = inner.get().come();
+        Ok(Session { inner, caller })
+    }
+
     /// Returns the limits that the cache was built with.
     pub fn policy(&self) -> Policy
         ensures { result ≡ self.now.settings.policy }
@@ -265,7 +277,7 @@ impl<
         ensures made { ByGuest {K = K} {V = V} {S = S} self.now.settings (λ old new. Looks (keys_by K.Hash S.BuildHasher S.Hasher.Hasher)
             self.now.settings old key.now now result new) }
     {
-        steps::contains_key(rt, &mut Session::new(self.inner.get()), key, now)
+        steps::contains_key(rt, &mut Locked::new(self.inner.get()), key, now)
     }
 
     /// Puts a value at a key, in place of the one that is there. The pair has to meet the rule. It is refused if memory is, or if the key's
@@ -278,10 +290,10 @@ impl<
         ensures made { ByGuest {K = K} {V = V} {S = S} self.now.settings (λ old new. Inserts (keys_by K.Hash S.BuildHasher S.Hasher.Hasher)
             self.now.settings (W.weighs self.now.weigher) old key value now result new) }
     {
-        let Some((key, value)) = shared(self.inner.get().alloc(), key, value) else {
+        let Some((key, value)) = stored(self.inner.get().alloc(), key, value) else {
             return Err(InsertError::OutOfMemory);
         };
-        steps::insert(rt, &mut Session::new(self.inner.get()), key, value, now)
+        steps::insert(rt, &mut Locked::new(self.inner.get()), key, value, now)
     }
 
     /// Removes the entry of a key, if there is one.
@@ -292,7 +304,7 @@ impl<
             × Makes (keys_by K.Hash S.BuildHasher S.Hasher.Hasher) self.now.settings old
             (place_of (keys_by K.Hash S.BuildHasher S.Hasher.Hasher) self.now.settings key.now) (Invalidates key.now left) new) }
     {
-        steps::invalidate(rt, &mut Session::new(self.inner.get()), key, now);
+        steps::invalidate(rt, &mut Locked::new(self.inner.get()), key, now);
     }
 
     /// Hides each entry whose last write or last read was before this moment; one of the two is enough. Those of the moment itself stay. It takes no lock.
@@ -300,7 +312,7 @@ impl<
         ensures call { CallsByGuest self.now (CallsInvalidateAll (locked_allows (keys_by K.Hash S.BuildHasher S.Hasher.Hasher) P.holds W.weighs)
             locked_decides (pends_by locked_caller) CALLER now reply.Done) }
     {
-        steps::invalidate_all(&mut Session::new(self.inner.get()), now);
+        steps::invalidate_all(&mut Locked::new(self.inner.get()), now);
     }
 }
 
@@ -322,7 +334,7 @@ impl<
         // It is a clone of a value that meets the rule with the key.
         ensures ruled { IfOk result (λ found. IfSome found (λ copy. (value : V) × P.holds key.now value × V.is_clone value copy)) }
     {
-        steps::get(rt, &mut Session::new(self.inner.get()), key, now)
+        steps::get(rt, &mut Locked::new(self.inner.get()), key, now)
     }
 
     /// Does what `get` does.
@@ -352,21 +364,8 @@ impl<
         // It is a clone of a value that meets the rule with the key.
         ensures ruled { IfOk result (λ found. IfSome found (λ copy. (value : V) × P.holds key.now value × V.is_clone value copy)) }
     {
-        steps::remove(rt, &mut Session::new(self.inner.get()), key, now)
+        steps::remove(rt, &mut Locked::new(self.inner.get()), key, now)
     }
-}
-
-/// Makes a key and a value as they are stored, unless memory is refused.
-fn shared<K: Drop, V: Drop, A: Allocator + Clone + Drop>(
-    alloc: &A,
-    key: K,
-    value: V,
-) -> Option<(Shared<K, A>, Shared<V, A>)>
-    ensures { IfSome result (λ pair. (pair.0 ≡ key) × (pair.1 ≡ value)) }
-{
-    let key = Shared::new(alloc.clone().ok()?, key).ok()?;
-    let value = Shared::new(alloc.clone().ok()?, value).ok()?;
-    Some((key, value))
 }
 
 /// A maintenance at a caller's request.
@@ -393,6 +392,6 @@ impl<
         locked_decides (pends_by locked_caller) CALLER now reply.Done) };
 
     fn sync<R: Wait>(&self, rt: &R, now: Instant) {
-        steps::sync(rt, &mut Session::new(self.inner.get()), now);
+        steps::sync(rt, &mut Locked::new(self.inner.get()), now);
     }
 }

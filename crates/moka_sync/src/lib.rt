@@ -5,3 +5,7 @@ pub mod builder;
 pub mod cache;
 pub mod iter;
 pub mod mapref;
+pub mod note;
+pub mod own;
+pub mod session;
+mod stored;

@@ -8,6 +8,7 @@ mod recorded;
 mod segment_calls;
 mod segment_listeners;
 mod segments;
+mod sessions;
 mod threads;
 
 use std::sync::Wait;

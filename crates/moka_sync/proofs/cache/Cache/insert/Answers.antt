@@ -1,4 +1,4 @@
-use Rattle.std.proofs.Common.{◌≡◌, ◌∙◌, ap, inl, refl}
+use Rattle.std.proofs.Common.{◌∙◌, ap, inl, refl}
 use Rattle.moka_common.specs.Keys.{Keys, keys_by}
 use Rattle.moka_row.specs.Visits.{guest, newcomer}
 use Rattle.moka_locks.specs.Locked.{resting_at}
@@ -15,10 +15,19 @@ returns-in_default g c =
     let rests = resting_at c.args.self.now knows in
     record { call = (0, rests, record { next = rests; first = inl refl; follows = refl }); made = (0, knows, inl refl) }
 
-pub returns : goal.returns
-returns g c =
+pub returns-clause-call : goal.returns-clause-call
+returns-clause-call g c =
     let is = c.new.ensures.1 ∙ ap (λ x. resting_at x (newcomer x.settings (guest c.new.ensures.0))) (c.get-2.ensures ∙ c.self.view_is) in
     let same = c.in-Some.ensures {u = tt} in
-    let call = rw (← is, ← same.0, ← same.1) c.insert.ensures.call in
-    let tells = insert_tells {keys = keys_of g} g.met.K.Eq.laws c.insert.result call in
-    record { call = (c.new.ensures.0, c.insert.new.steps, call); made = (c.new.ensures.0, tells.0, tells.1) }
+    (c.new.ensures.0, c.insert.new.steps, rw (← is, ← same.0, ← same.1) c.insert.ensures.call)
+
+pub returns-clause-made : goal.returns-clause-made
+returns-clause-made g c =
+    let is = c.new.ensures.1 ∙ ap (λ x. resting_at x (newcomer x.settings (guest c.new.ensures.0))) (c.get-2.ensures ∙ c.self.view_is) in
+    let same = c.in-Some.ensures {u = tt} in (
+      c.new.ensures.0,
+      c.insert.new.steps.knows,
+      (insert_tells (keys_of g) g.P.PairRule.holds g.W.WeighShared.weighs g.met.K.Eq.laws c.args.self.now
+          (newcomer c.args.self.now.settings (guest c.new.ensures.0)) _ c.insert.new.steps is c.args.key c.args.now c.args.value c.insert.result (rw
+          (← same.0, ← same.1) c.insert.ensures.call)).1,
+    )

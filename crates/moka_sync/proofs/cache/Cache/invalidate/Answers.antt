@@ -1,4 +1,4 @@
-use Rattle.std.proofs.Common.{◌≡◌, ◌∙◌, ap}
+use Rattle.std.proofs.Common.{◌∙◌, ap}
 use Rattle.moka_common.specs.Keys.{Keys, keys_by}
 use Rattle.moka_row.specs.Visits.{guest, newcomer}
 use Rattle.moka_locks.specs.Locked.{resting_at}
@@ -9,9 +9,16 @@ use Rattle.moka_sync.proofs.cache.Cache.invalidate.Goals as goal
 abbrev keys_of : (g : Over) → Keys g.row.K.Denot g.row.S.Denot
 keys_of g = keys_by (record { eq = g.K.PartialEq.eq; hash_input = g.K.Hash.hash_input }) g.S.BuildHasher g.S.Hasher.Hasher
 
-pub returns : goal.returns
-returns g c =
+pub returns-clause-call : goal.returns-clause-call
+returns-clause-call g c =
     let is = c.new.ensures.1 ∙ ap (λ x. resting_at x (newcomer x.settings (guest c.new.ensures.0))) (c.get.ensures ∙ c.self.view_is) in
-    let call = rw (← is) c.invalidate.ensures.call in
-    let tells = invalidate_tells {keys = keys_of g} g.met.K.Eq.laws call in
-    record { call = (c.new.ensures.0, c.invalidate.new.steps, call); made = (c.new.ensures.0, tells.0, tells.1) }
+    (c.new.ensures.0, c.invalidate.new.steps, rw (← is) c.invalidate.ensures.call)
+
+pub returns-clause-made : goal.returns-clause-made
+returns-clause-made g c =
+    let is = c.new.ensures.1 ∙ ap (λ x. resting_at x (newcomer x.settings (guest c.new.ensures.0))) (c.get.ensures ∙ c.self.view_is) in (
+      c.new.ensures.0,
+      c.invalidate.new.steps.knows,
+      (invalidate_tells (keys_of g) g.P.PairRule.holds g.W.WeighShared.weighs g.met.K.Eq.laws c.args.self.now
+          (newcomer c.args.self.now.settings (guest c.new.ensures.0)) _ c.invalidate.new.steps is c.args.key.now c.args.now c.invalidate.ensures.call).1,
+    )

@@ -1,4 +1,4 @@
-use Rattle.std.proofs.Common.{◌≡◌, ◌∙◌, ap}
+use Rattle.std.proofs.Common.{◌∙◌, ap}
 use Rattle.moka_common.specs.Keys.{Keys, keys_by}
 use Rattle.moka_row.specs.Visits.{guest, newcomer}
 use Rattle.moka_locks.specs.Locked.{resting_at}
@@ -16,6 +16,11 @@ returns-clause-call g c =
 
 pub returns-clause-made : goal.returns-clause-made
 returns-clause-made g c =
-    let is = c.new.ensures.1 ∙ ap (λ x. resting_at x (newcomer x.settings (guest c.new.ensures.0))) (c.get.ensures ∙ c.self.view_is) in
-    let tells = remove_tells {keys = keys_of g} g.met.K.Eq.laws c.remove.result (rw (← is) c.remove.ensures.call) in
-    (c.new.ensures.0, tells.0, tells.1)
+    let is = c.new.ensures.1 ∙ ap (λ x. resting_at x (newcomer x.settings (guest c.new.ensures.0))) (c.get.ensures ∙ c.self.view_is) in (
+      c.new.ensures.0,
+      c.remove.new.steps.knows,
+      (remove_tells (keys_of g) g.P.PairRule.holds g.W.WeighShared.weighs g.met.K.Eq.laws c.args.self.now
+          (newcomer c.args.self.now.settings (guest c.new.ensures.0)) _ c.remove.new.steps is c.args.key.now c.args.now g.V.Clone.is_clone
+          g.V.Clone.is_infallible
+          c.remove.result c.remove.ensures.call).1,
+    )

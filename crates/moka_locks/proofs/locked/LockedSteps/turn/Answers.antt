@@ -6,9 +6,9 @@ use Rattle.moka_locks.specs.SameTickets.{AtWork}
 use Rattle.moka_sync_model.specs.Steps.{maintaining}
 use Rattle.moka_sync_model.proofs.StepsLemmas.{goes_on_elsewhere}
 use Rattle.moka_locks.proofs.TurnLemmas.{given_back, kept_elsewhere, turns_allowed}
-use Rattle.moka_locks.proofs.session.SessionSteps.turn.Goals.{In_default-phase}
-use Rattle.moka_locks.proofs.session.SessionSteps.turn.Given.{Over}
-use Rattle.moka_locks.proofs.session.SessionSteps.turn.Goals as goal
+use Rattle.moka_locks.proofs.locked.LockedSteps.turn.Goals.{In_default-phase}
+use Rattle.moka_locks.proofs.locked.LockedSteps.turn.Given.{Over}
+use Rattle.moka_locks.proofs.locked.LockedSteps.turn.Goals as goal
 
 -- how the keys are told apart and hashed
 abbrev keys_of : (g : Over) → Keys g.row.K.Denot g.row.S.Denot

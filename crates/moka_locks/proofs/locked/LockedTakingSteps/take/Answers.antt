@@ -5,8 +5,8 @@ use Rattle.moka_history.specs.Steps.{Gets}
 use Rattle.moka_locks.specs.Cache.{Cache}
 use Rattle.moka_locks.specs.Locked.{Locked, knowing}
 use Rattle.moka_locks.proofs.StepLemmas.{does_here, take_refused}
-use Rattle.moka_locks.proofs.session.SessionTakingSteps.take.Given.{Over}
-use Rattle.moka_locks.proofs.session.SessionTakingSteps.take.Goals as goal
+use Rattle.moka_locks.proofs.locked.LockedTakingSteps.take.Given.{Over}
+use Rattle.moka_locks.proofs.locked.LockedTakingSteps.take.Goals as goal
 
 -- how the keys are told apart and hashed
 abbrev keys_of : (g : Over) → Keys g.row.K.Denot g.row.S.Denot

@@ -7,8 +7,8 @@ use Rattle.moka_history.specs.Steps.{Gets}
 use Rattle.moka_locks.specs.Cache.{Cache}
 use Rattle.moka_locks.specs.Locked.{Locked, knowing, leaving}
 use Rattle.moka_locks.proofs.StepLemmas.{does_here, get_none, get_refused}
-use Rattle.moka_locks.proofs.session.SessionSteps.get.Given.{Over}
-use Rattle.moka_locks.proofs.session.SessionSteps.get.Goals as goal
+use Rattle.moka_locks.proofs.locked.LockedSteps.get.Given.{Over}
+use Rattle.moka_locks.proofs.locked.LockedSteps.get.Goals as goal
 
 -- how the keys are told apart and hashed
 abbrev keys_of : (g : Over) → Keys g.row.K.Denot g.row.S.Denot

@@ -3,7 +3,7 @@ ghost use Rattle.std.specs.Prelude.{◌≡◌, ℕ, None, IfSome};
 ghost use Rattle.moka_common.specs.Settings.{keeps_writes};
 ghost use Rattle.moka_sync_model.specs.Phase.{Idle};
 ghost use Rattle.moka_locks.specs.Locked.{resting_at, running};
-ghost use Rattle.moka_row.specs.Visits.{guest, newcomer};
+ghost use Rattle.moka_row.specs.Visits.{IsIdle, guest, newcomer};
 ghost use Rattle.moka_locks.specs.SameTickets.{HasBothOrders};
 
 use crate::account::Caller;
@@ -32,8 +32,8 @@ enum Pending {
     Write(Write),
 }
 
-/// A cache as one caller has it for the time of a call, who is a guest at the shards.
-pub struct Session<
+/// A cache behind its locks, as one caller has it for the time of a call.
+pub struct Locked<
     'a,
     K: Eq + Hash + Drop,
     V: Drop,
@@ -60,9 +60,9 @@ impl<
     P: PairRule<K, V>,
     W: Drop,
     A: Allocator + Clone + Drop,
-> Drop for Session<'a, K, V, S, P, W, A> {
+> Drop for Locked<'a, K, V, S, P, W, A> {
     fn drop(self) {
-        let Session {
+        let Locked {
             inner: _,
             caller: _,
             pending: _,
@@ -80,7 +80,7 @@ impl<
     P: PairRule<K, V>,
     W: Drop,
     A: Allocator + Clone + Drop,
-> Model for Session<'a, K, V, S, P, W, A> {
+> Model for Locked<'a, K, V, S, P, W, A> {
     ghost use Rattle.std.specs.Prelude.{◌≡◌, IfSome, option_map};
     ghost use Rattle.moka_common.specs.Settings.{keeps_writes};
     ghost use Rattle.moka_locks.specs.Locked.{Locked as LockedValue, operation_of};
@@ -108,18 +108,42 @@ impl<
     P: PairRule<K, V>,
     W: Drop,
     A: Allocator + Clone + Drop,
-> Session<'a, K, V, S, P, W, A> {
-    /// Begins a call, with nothing under way, by a new guest.
+> Locked<'a, K, V, S, P, W, A> {
+    /// Begins a call by a new guest, with nothing under way.
     pub fn new(inner: &'a Inner<K, V, S, P, W, A>) -> Self
         ensures { (seat : ℕ) × (result ≡ resting_at inner.now (newcomer inner.now.settings (guest seat))) }
     {
-        Session {
+        Locked::by(inner, inner.shards.come())
+    }
+
+    /// Begins a call by a caller who has a seat at the shards, with nothing under way.
+    pub fn by(inner: &'a Inner<K, V, S, P, W, A>, caller: Caller<K, V, S, P, A>) -> Self
+        requires { (caller.table_id ≡ inner.now.id) × IsIdle inner.now.settings caller.me }
+        ensures { result ≡ resting_at inner.now caller.me.0 }
+    {
+        Locked {
             inner,
-            caller: inner.shards.come(),
+            caller,
             pending: Pending::Nothing,
             running: None,
             runs_maintenance: false,
         }
+    }
+
+    /// Ends the call. Returns the caller's seat.
+    pub fn into_caller(self) -> Caller<K, V, S, P, A>
+        ensures table { result.table_id ≡ self.entry.cache.id }
+        ensures idle { IsIdle self.entry.cache.settings result.me }
+        ensures knows { result.me.0 ≡ self.entry.knows }
+    {
+        let Locked {
+            inner: _,
+            caller,
+            pending: _,
+            running: _,
+            runs_maintenance: _,
+        } = self;
+        caller
     }
 
     /// Does nothing, and tells a proof that, with a time to live, the maintenance that the caller runs has the same tickets in both orders.
@@ -155,7 +179,7 @@ impl<
     P: PairRule<K, V>,
     W: WeighShared<K, V>,
     A: Allocator + Clone + Drop,
-> Steps<K, V, A> for Session<'a, K, V, S, P, W, A> {
+> Steps<K, V, A> for Locked<'a, K, V, S, P, W, A> {
     ghost use Rattle.moka_common.specs.Keys.{keys_by};
     ghost use Rattle.moka_locks.specs.Locked.{locked_allows, locked_caller, locked_decides};
 
@@ -298,7 +322,7 @@ impl<
     P: PairRule<K, V>,
     W: WeighShared<K, V>,
     A: Allocator + Clone + Drop,
-> TakingSteps<K, V, A> for Session<'a, K, V, S, P, W, A> {
+> TakingSteps<K, V, A> for Locked<'a, K, V, S, P, W, A> {
     type Taken = V;
 
     ghost is_taken = { V.is_clone };

@@ -1,0 +1,124 @@
+-- A step that spares a key leaves the value that was last written there, so one's own write is found behind such steps.
+use Rattle.std.proofs.Common.{◌≡◌, ℕ, ◌∙◌, Bool, true, false, List, [], ◌∷◌, ◌++◌, Option, Some, None, Result, Ok, append_assoc, ap, refl, subst, sym}
+use Rattle.std.proofs.Common.{if◌then◌else◌}
+use Rattle.std.specs.Cmp.{IsEquivalence}
+use Rattle.std.specs.Option.{option_map}
+use Rattle.moka_common.specs.Keys.{Keys}
+use Rattle.moka_common.specs.Settings.{Settings}
+use Rattle.moka_common.specs.declared.error.OutOfMemory.{OutOfMemory as MemoryError}
+use Rattle.moka_sync_model.specs.declared.operation.Read.TheVariants.{Hit}
+use Rattle.moka_sync_model.specs.declared.ticket.Ticket.{Ticket}
+use Rattle.moka_sync_model.specs.Phase.{Phase, ReadApply}
+use Rattle.moka_sync_model.specs.Ticket.{same_ticket}
+use Rattle.moka_row.specs.Visits.{GoesOn, at}
+use Rattle.moka_history.specs.LastWrite.{IsCurrent, LastWrite, is_removed, is_written, known_after, known_at, last_write, used_if}
+use Rattle.moka_history.specs.Steps.{Act, Inserts, Invalidates, Step, Takes, Touches, Turns, acts}
+use Rattle.moka_locks.specs.History.{Every, Knows, Log, place_of, rest, steps}
+use Rattle.moka_locks.specs.Tells as tells
+use Rattle.moka_locks.specs.Tells.{TellsClone}
+use Rattle.moka_sync.specs.Own.{FindsFromNote, FindsOwn, Spares}
+
+-- an answer that memory was not refused for
+abbrev answered : {V : Type 0} → Option V → Result (Option V) MemoryError
+answered f = Ok f
+
+abbrev value_of : {V : Type 0} → Option (LastWrite V) → Option V
+value_of known = option_map (λ write. write.value) known
+
+module _ {V : Type 0} where
+  used_value : (b : Bool) (write used : LastWrite V) → used.value ≡ write.value → (if b then used else write).value ≡ write.value
+  used_value true write used same = same
+  used_value false write used same = refl
+
+  value_used : (t : Ticket) (moment : ℕ) (known : Option (LastWrite V)) → value_of (option_map (used_if t moment) known) ≡ value_of known
+  value_used t moment None = refl
+  value_used t moment (Some write) = ap Some (used_value (same_ticket t write.ticket) write _ refl)
+
+  value_at : (p : Phase) (known : Option (LastWrite V)) → value_of (known_at p known) ≡ value_of known
+  value_at (ReadApply work (Hit t moment)) known = value_used t moment known
+  value_at p known = refl
+
+module _ {K V S : Type 0} (keys : Keys K S) where
+  spared : (act : Act K V) (key : K) (known : Option (LastWrite V)) → is_written keys.eq act key ≡ false → is_removed keys.eq act key ≡ false
+      → value_of (known_after keys.eq act key known) ≡ value_of known
+  spared (Inserts other value now (Ok t)) key known unwritten kept =
+      ap (λ b. value_of (if b then Some (record { value = value; written = now; used = now; ticket = t }) else known)) unwritten
+  spared (Invalidates other left) key known unwritten kept = ap (λ b. value_of (if b then None else known)) kept
+  spared (Takes other now valid_after found left) key known unwritten kept = ap (λ b. value_of (if b then None else known)) kept
+  spared (Touches t moment) key known unwritten kept = value_used t moment known
+  spared (Turns m valid_after t) key known unwritten kept = value_at m.phase known
+  spared act key known unwritten kept = refl
+
+  spared_steps : (key : K) (visit past : List (Step K V S)) → Every (Spares keys key) visit
+      → value_of (last_write keys.eq key (acts (visit ++ past))) ≡ value_of (last_write keys.eq key (acts past))
+  spared_steps key [] past all = refl
+  spared_steps key (step ∷ visit) past all =
+      spared step.act key (last_write keys.eq key (acts (visit ++ past))) all.0.0 all.0.1 ∙ spared_steps key visit past all.1
+
+  spared_visits : (key : K) (visits log : Log K V S) → Every (λ visit. Every (Spares keys key) visit.1) visits
+      → value_of (last_write keys.eq key (acts (steps (visits ++ log)))) ≡ value_of (last_write keys.eq key (acts (steps log)))
+  spared_visits key [] log all = refl
+  spared_visits key (visit ∷ visits) log all = spared_steps key visit.1 (steps (visits ++ log)) all.0 ∙ spared_visits key visits log all.1
+
+  -- an accepted insert writes
+  written : IsEquivalence keys.eq → (key : K) (value : V) (now : ℕ) (t : Ticket) (step : Step K V S) (past : List (Step K V S))
+      → step.act ≡ Inserts key value now (Ok t) → value_of (last_write keys.eq key (acts (step ∷ past))) ≡ Some value
+  written laws key value now t step past did =
+      ap (λ act. value_of (known_after keys.eq act key (last_write keys.eq key (acts past)))) did
+      ∙ ap (λ b. value_of (if b then Some (record { value = value; written = now; used = now; ticket = t }) else last_write keys.eq key (acts past)))
+      (laws.refl key)
+
+  module _ (settings : Settings S) {is_clone : V → V → Type 0} {w x : Knows K V S} {key : K} {now : ℕ} where
+    -- what is found behind one's own write
+    pub finds_own : (laws : IsEquivalence keys.eq) (v : Knows K V S) (weighs : K → V → ℕ → Type 0) (value : V) (found : Option V)
+        → tells.Inserts keys settings weighs v key value now (Ok tt) w → tells.Gets keys settings is_clone w key now (Ok found) x
+        → FindsOwn keys settings is_clone v key value found x
+    finds_own laws v weighs value found (t, puts, stood) gets =
+        let one = puts.made.made in
+        let two = gets.made.made in
+        let i = place_of keys settings key in
+        let earlier = one.since ++ at v.seen i in
+        let seen : at x.seen i ≡ (v.by, two.step ∷ []) ∷ (two.since ++ (v.by, one.step ∷ []) ∷ earlier) =
+        two.seen ∙ (λ j. (one.same j, two.step ∷ []) ∷ (two.since ++ one.seen j)) in
+        record {
+          write = one.step ∷ [];
+          read = two.step ∷ [];
+          between = two.since;
+          earlier = earlier;
+          seen = seen;
+          own = λ copy is all.
+              by found gets.told copy is
+              (spared_visits key two.since ((v.by, one.step ∷ []) ∷ earlier) all ∙ written laws key value now t one.step (steps earlier) one.did) seen;
+        }
+      where
+        by : (f : Option V) → TellsClone is_clone (option_map (λ g. g.0) gets.found) (answered f) → (copy : V) → f ≡ Some copy
+            → {past : Log K V S} {read : ℕ × List (Step K V S)} → value_of (last_write keys.eq key (acts (steps past))) ≡ Some value
+            → at x.seen (place_of keys settings key) ≡ read ∷ past → is_clone value copy
+        by None told copy is last seen = absurd (cc)
+        by (Some c) (y, found_is, clone) copy is {past = past} last seen =
+            let same : c ≡ copy = cc in
+            let current = subst (λ log. IsCurrent keys.eq settings.policy gets.valid_after now (acts (steps (rest log))) key y) seen (gets.hit y found_is) in
+            let both : Some current.0.value ≡ Some value = sym (ap value_of current.1) ∙ last in
+            let here : current.0.value ≡ value = cc in
+            subst (λ z. is_clone z copy) (sym current.2 ∙ here) (subst (is_clone y) same clone)
+
+    -- what is found once a note was taken in
+    pub finds_from_note : {found : Option V} {told : Log K V S} → GoesOn told (at w.seen (place_of keys settings key))
+        → tells.Gets keys settings is_clone w key now (Ok found) x → FindsFromNote keys settings is_clone told key now found
+    finds_from_note {found = found} {told = told} goes_on gets =
+        let i = place_of keys settings key in
+        let m = gets.made.made in
+        let past : rest (at x.seen i) ≡ (m.since ++ goes_on.0) ++ told =
+        ap rest m.seen ∙ (ap (λ log. m.since ++ log) goes_on.1 ∙ sym (append_assoc m.since goes_on.0 told)) in
+        record { since = m.since ++ goes_on.0; valid_after = gets.valid_after; current = λ copy is. by found gets.told copy is past }
+      where
+        by : (f : Option V) → TellsClone is_clone (option_map (λ g. g.0) gets.found) (answered f) → (copy : V) → f ≡ Some copy
+            → {past : Log K V S} → rest (at x.seen (place_of keys settings key)) ≡ past
+            → (value : V) × is_clone value copy × IsCurrent keys.eq settings.policy gets.valid_after now (acts (steps past)) key value
+        by None told copy is past = absurd (cc)
+        by (Some c) (y, found_is, clone) copy is past =
+            let same : c ≡ copy = cc in (
+              y,
+              subst (is_clone y) same clone,
+              subst (λ log. IsCurrent keys.eq settings.policy gets.valid_after now (acts (steps log)) key y) past (gets.hit y found_is),
+            )

@@ -1,0 +1,37 @@
+use Rattle.std.proofs.Common.{◌≡◌, ◌∙◌, ap, subst, sym}
+use Rattle.moka_common.specs.Keys.{Keys, keys_by}
+use Rattle.moka_row.specs.Visits.{IsIdle}
+use Rattle.moka_locks.specs.Cache.{Cache}
+use Rattle.moka_locks.specs.Locked.{resting_at}
+use Rattle.moka_locks.specs.Tells.{Inserts}
+use Rattle.moka_sync.proofs.CallLemmas.{insert_tells}
+use Rattle.moka_sync.proofs.session.Session.insert.Given.{Over}
+use Rattle.moka_sync.proofs.session.Session.insert.Goals.{After-into_caller}
+use Rattle.moka_sync.proofs.session.Session.insert.Goals as goal
+
+abbrev keys_of : (g : Over) → Keys g.row.K.Denot g.row.S.Denot
+keys_of g = keys_by (record { eq = g.K.PartialEq.eq; hash_input = g.K.Hash.hash_input }) g.S.BuildHasher g.S.Hasher.Hasher
+
+-- the same cache, and what the call tells of what is known then
+told : (g : Over) (c : After-into_caller g) → (c.insert-answer.new.steps.cache ≡ c.args.self.now.cache)
+    × (Inserts (keys_of g) c.args.self.now.cache.settings (g.W.WeighShared.weighs c.args.self.now.cache.weigher) c.args.self.now.knows c.args.key
+    c.args.value c.args.now c.insert-answer.result) c.insert-answer.new.steps.knows
+told g c =
+    let starts = c.by-call.ensures
+    ∙ (λ j. resting_at ((c.get-inner.ensures ∙ ap (λ s. s.cache) c.self.view_is) j) ((ap (λ v. v.me.0) c.replace.ensures.value
+    ∙ ap (λ s. s.knows) c.self.view_is) j)) in
+    let same = c.in-Some.ensures {u = tt} in
+    insert_tells (keys_of g) g.P.PairRule.holds g.W.WeighShared.weighs g.met.K.Eq.laws c.args.self.now.cache c.args.self.now.knows c.by-call.result
+    c.insert-answer.new.steps starts c.args.key c.args.now c.args.value c.insert-answer.result (rw (← same.0, ← same.1) c.insert-answer.ensures.call)
+
+pub invariant_of-self : goal.invariant_of-self
+invariant_of-self g c =
+    let same = (told g (goal.at.invariant_of-self g c).After-into_caller).0 ∙ sym (ap (λ s. s.cache) c.self.view_is) in (
+      c.into_caller.ensures.table ∙ ap (λ (x : Cache g.row.S.Denot g.row.W.Denot). x.id) same,
+      subst (λ (x : Cache g.row.S.Denot g.row.W.Denot). IsIdle x.settings c.into_caller.result.me) same c.into_caller.ensures.idle,
+    )
+
+pub returns-clause-made : goal.returns-clause-made
+returns-clause-made g c =
+    subst (Inserts (keys_of g) c.args.self.now.cache.settings (g.W.WeighShared.weighs c.args.self.now.cache.weigher) c.args.self.now.knows c.args.key
+    c.args.value c.args.now c.insert-answer.result) (sym c.into_caller.ensures.knows) (told g (goal.at.returns-clause-made g c).After-into_caller).1

@@ -1,0 +1,30 @@
+-- What sessions find of their own, and of what they are told.
+use Rattle.std.specs.Prelude.{◌≡◌, ℕ, false, ◌∷◌, ◌++◌, Option, Some}
+use Rattle.moka_common.specs.Keys.{Keys}
+use Rattle.moka_common.specs.Settings.{Settings}
+use Rattle.moka_row.specs.Visits.{at}
+use Rattle.moka_history.specs.LastWrite.{IsCurrent, is_removed, is_written}
+use Rattle.moka_history.specs.Steps.{Step, acts}
+use Rattle.moka_locks.specs.History.{Every, Knows, Log, Visit, place_of, steps}
+
+module _ {K V S : Type 0} (keys : Keys K S) where
+  -- a step is no accepted insert at a key, and doesn't invalidate or remove it
+  abbrev pub Spares : K → Step K V S → Type 0
+  Spares key step = (is_written keys.eq step.act key ≡ false) × (is_removed keys.eq step.act key ≡ false)
+
+  module _ (settings : Settings S) where
+    -- what is found behind one's own write: a clone of the value, unless a visit of another since wrote, invalidated or removed the key
+    pub record FindsOwn (is_clone : V → V → Type 0) (old : Knows K V S) (key : K) (value : V) (found : Option V) (new : Knows K V S) : Type 0 where
+      pub write : Visit K V S
+      pub read : Visit K V S
+      pub between : Log K V S
+      pub earlier : Log K V S
+      pub seen : at new.seen (place_of keys settings key) ≡ (old.by, read) ∷ (between ++ (old.by, write) ∷ earlier)
+      pub own : (copy : V) → found ≡ Some copy → Every (λ visit. Every (Spares key) visit.1) between → is_clone value copy
+
+    -- what is found once a note was taken in: a clone of the value last written, and valid, in a history that goes on from the note
+    pub record FindsFromNote (is_clone : V → V → Type 0) (told : Log K V S) (key : K) (now : ℕ) (found : Option V) : Type 0 where
+      pub since : Log K V S
+      pub valid_after : ℕ
+      pub current : (copy : V) → found ≡ Some copy
+          → (value : V) × is_clone value copy × IsCurrent keys.eq settings.policy valid_after now (acts (steps (since ++ told))) key value

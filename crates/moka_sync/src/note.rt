@@ -1,0 +1,36 @@
+//! Notes of what a session has seen.
+use moka_locks::account::Caller;
+use moka_shard::rule::PairRule;
+use std::alloc::Allocator;
+use std::hash::{BuildHasher, Hash};
+use std::marker::Model;
+
+/// A note of what a session has seen, which may cross threads: a session that takes it in (`Session::learn`) goes on from that history. A clause sees which
+/// cache it is of, and of each shard a history.
+#[derive(Drop)]
+pub struct Note<
+    K: Eq + Hash + Drop,
+    V: Drop,
+    S: BuildHasher + Drop,
+    P: PairRule<K, V>,
+    A: Allocator + Clone + Drop,
+> {
+    pub(crate) teller: Caller<K, V, S, P, A>,
+}
+
+impl<
+    K: Eq + Hash + Drop,
+    V: Drop,
+    S: BuildHasher + Drop,
+    P: PairRule<K, V>,
+    A: Allocator + Clone + Drop,
+> Model for Note<K, V, S, P, A> {
+    ghost use Rattle.std.specs.Prelude.{◌≡◌, []};
+    ghost use Rattle.moka_sync.specs.Session.{Note as NoteValue};
+
+    ghost Value = { NoteValue K V S };
+
+    ghost view = { λ n. record { id = n.teller.table_id; seen = n.teller.me.0.seen } };
+
+    ghost invariant = { λ n. n.teller.me.1 ≡ [] };
+}

@@ -1,0 +1,70 @@
+//! Laws of what sessions find of their own and of what they are told, however the threads' turns fall.
+ghost use Rattle.std.specs.Prelude.{◌≡◌, IfSome};
+ghost use Rattle.moka_common.specs.Keys.{keys_by};
+ghost use Rattle.moka_locks.specs.History.{place_of};
+ghost use Rattle.moka_sync.specs.Own.{FindsFromNote, FindsOwn};
+ghost use Rattle.moka_row.specs.Visits.{at};
+
+use crate::note::Note;
+use crate::session::Session;
+use moka_common::time::Instant;
+use moka_shard::rule::PairRule;
+use moka_sync_model::weigh::WeighShared;
+use std::alloc::Allocator;
+use std::hash::{BuildHasher, Hash};
+use std::sync::Wait;
+
+/// Writes a value at a key, and reads the key. If a value is found, it is that one, unless a visit of another thread between the two wrote, invalidated or
+/// removed the key. It returns `None` if an insert or a clone was refused.
+pub fn write_and_read<
+    K: Eq + Hash + Copy,
+    V: Copy,
+    S: BuildHasher + Drop,
+    P: PairRule<K, V>,
+    W: WeighShared<K, V>,
+    A: Allocator + Clone + Drop,
+    R: Wait,
+>(rt: &R, me: &mut Session<K, V, S, P, W, A>, key: K, value: V, now: Instant) -> Option<Option<V>>
+    requires ruled { P.holds key value }
+    requires ready { W.ready me.old.cache.weigher }
+    ensures same { me.new.cache ≡ me.old.cache }
+    ensures found { IfSome result (λ found. FindsOwn (keys_by K.Hash S.BuildHasher S.Hasher.Hasher) me.old.cache.settings V.is_clone me.old.knows key value
+        found me.new.knows) }
+{
+    let Ok(()) = me.insert(rt, key, value, now) else {
+        return None;
+    };
+    let Ok(found) = me.get(rt, &key, now) else {
+        return None;
+    };
+    Some(found)
+}
+
+/// Takes in a note of what another session has seen, and reads a key. If a value is found, it is the one last written in a history that goes on from the
+/// note. It returns `None` if memory was refused.
+pub fn learn_and_read<
+    K: Eq + Hash + Drop,
+    V: Clone,
+    S: BuildHasher + Drop,
+    P: PairRule<K, V>,
+    W: WeighShared<K, V>,
+    A: Allocator + Clone + Drop,
+    R: Wait,
+>(
+    rt: &R,
+    me: &mut Session<K, V, S, P, W, A>,
+    note: Note<K, V, S, P, A>,
+    key: &K,
+    now: Instant,
+) -> Option<Option<V>>
+    requires { note.id ≡ me.old.cache.id }
+    ensures same { me.new.cache ≡ me.old.cache }
+    ensures found { IfSome result (λ found. FindsFromNote (keys_by K.Hash S.BuildHasher S.Hasher.Hasher) me.old.cache.settings V.is_clone
+        (at note.seen (place_of (keys_by K.Hash S.BuildHasher S.Hasher.Hasher) me.old.cache.settings key.now)) key.now now found) }
+{
+    me.learn(note);
+    let Ok(found) = me.get(rt, key, now) else {
+        return None;
+    };
+    Some(found)
+}
