@@ -29,6 +29,12 @@ pub use Rattle.moka_shard.specs.Rule
 pub use Rattle.moka_locks.specs.Cache
 pub use Rattle.moka_locks.specs.Locked
 pub use Rattle.moka_locks.specs.Snapshot
+pub use Rattle.moka_locks.specs.History
+pub use Rattle.moka_locks.specs.Tells
+pub use Rattle.moka_history.specs.LastWrite
+pub use Rattle.moka_history.specs.Cause
+pub use Rattle.moka_sync.specs.Session
+pub use Rattle.moka_sync.specs.Own
 pub use Rattle.moka_locks.specs.MaintenanceTurn
 pub use Rattle.moka_shard.specs.PlannedTurn
 pub use Rattle.moka_sync_model.specs.Steps
