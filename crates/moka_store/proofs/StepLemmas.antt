@@ -9,14 +9,14 @@ use Rattle.moka_unsync_model.specs.Contents.{balanced, entries_without, with_lat
 use Rattle.moka_unsync_model.specs.Insert.{with_write}
 use Rattle.moka_unsync_model.specs.Lookup.{used_part}
 use Rattle.moka_store.specs.Nodes.{AreKeyed, IsBalanced, latest_node}
-use Rattle.moka_store.specs.Store.{Continues, Enters, Promotes, Removes, Replaces, Store, Updates, Uses, entries_of}
+use Rattle.moka_store.specs.Store.{Continues, Enters, KeepsSettings, Promotes, Removes, Replaces, Store, Updates, Uses, entries_of}
 use Rattle.moka_list.proofs.ItemLemmas.{length-remove, nat_eq-same}
 use Rattle.moka_store.proofs.LatestLemmas.{length-latest, lookup-relisted, values-latest}
 use Rattle.moka_store.proofs.NodeLemmas.{length-keys, values-removed}
 use Rattle.moka_store.proofs.SameLemmas.{same-bare}
 
 module _ {K V : Type 0} {eq : K → K → Bool} (laws : IsEquivalence eq) (old new : Store K V) (keyed : AreKeyed eq old.nodes) (id : ℕ) (x : Entry K V)
-    (stood : lookup (nat_eq id) old.nodes ≡ Some x) (keeps : new.keeps_writes ≡ old.keeps_writes) (capacity : new.capacity ≡ old.capacity) where
+    (stood : lookup (nat_eq id) old.nodes ≡ Some x) (settings : KeepsSettings old new) where
   pub removes_is : new.nodes ≡ remove_entry (nat_eq id) old.nodes → new.written ≡ writes_without eq x.key old.written → Removes eq old id new
   removes_is nodes written =
       record {
@@ -24,11 +24,7 @@ module _ {K V : Type 0} {eq : K → K → Bool} (laws : IsEquivalence eq) (old n
         stood = stood;
         contents = λ i. record { entries = (ap values_of nodes ∙ values-removed laws keyed id x stood) i; written = written i };
         nodes = nodes;
-        kept = record {
-          keeps = keeps;
-          capacity = capacity;
-          fewer = omega (arith, ap length nodes, length-remove id old.nodes (ap is_some stood));
-        };
+        kept = record { settings = settings; fewer = omega (arith, ap length nodes, length-remove id old.nodes (ap is_some stood)) };
       }
 
   -- the entries once one has changed its place
@@ -46,7 +42,7 @@ module _ {K V : Type 0} {eq : K → K → Bool} (laws : IsEquivalence eq) (old n
         entry = x;
         stood = stood;
         contents = λ i. record { entries = (ap values_of nodes ∙ relisted (record x { part = Probation })) i; written = written i };
-        kept = record { keeps = keeps; capacity = capacity; fewer = omega (arith, ap length nodes, many (record x { part = Probation })) };
+        kept = record { settings = settings; fewer = omega (arith, ap length nodes, many (record x { part = Probation })) };
       }
 
   pub replaces_is : (e : Entry K V) → new.nodes ≡ latest_node (id, e) (remove_entry (nat_eq id) old.nodes)
@@ -56,19 +52,18 @@ module _ {K V : Type 0} {eq : K → K → Bool} (laws : IsEquivalence eq) (old n
         gone = x;
         stood = stood;
         contents = λ i. record { entries = (ap values_of nodes ∙ relisted e) i; written = written i };
-        kept = record { keeps = keeps; capacity = capacity; fewer = omega (arith, ap length nodes, many e) };
+        kept = record { settings = settings; fewer = omega (arith, ap length nodes, many e) };
       }
 
-  module _ (room : ℕ) (e : Entry K V) (mid : List (ℕ × Entry K V)) (mid_is : mid ≡ latest_node (id, e) (remove_entry (nat_eq id) old.nodes))
-      (balance : IsBalanced room mid new.nodes) where
-    entries_used : entries_of new ≡ balanced room (with_latest e (entries_without eq x.key (entries_of old)))
-    entries_used = balance.entries ∙ ap (balanced room) (ap values_of mid_is ∙ relisted e)
+  module _ (e : Entry K V) (mid : List (ℕ × Entry K V)) (mid_is : mid ≡ latest_node (id, e) (remove_entry (nat_eq id) old.nodes))
+      (balance : IsBalanced old.protected_limit mid new.nodes) where
+    entries_used : entries_of new ≡ balanced old.protected_limit (with_latest e (entries_without eq x.key (entries_of old)))
+    entries_used = balance.entries ∙ ap (balanced old.protected_limit) (ap values_of mid_is ∙ relisted e)
 
     kept_used : Continues old new
     kept_used =
         record {
-          keeps = keeps;
-          capacity = capacity;
+          settings = settings;
           fewer = omega (
             arith,
             ap length mid_is,
@@ -79,14 +74,14 @@ module _ {K V : Type 0} {eq : K → K → Bool} (laws : IsEquivalence eq) (old n
           );
         }
 
-    pub uses_is : (now : ℕ) → e ≡ record x { accessed = now; part = used_part room x.part x.weight } → new.written ≡ old.written
-        → Uses eq old id room now new
+    pub uses_is : (now : ℕ) → e ≡ record x { accessed = now; part = used_part old.protected_limit x.part x.weight } → new.written ≡ old.written
+        → Uses eq old id now new
     uses_is now is written =
         record {
           entry = x;
           stood = stood;
           contents = λ i. record {
-            entries = (entries_used ∙ ap (λ e. balanced room (with_latest e (entries_without eq x.key (entries_of old)))) is) i;
+            entries = (entries_used ∙ ap (λ e. balanced old.protected_limit (with_latest e (entries_without eq x.key (entries_of old)))) is) i;
             written = written i;
           };
           value =
@@ -99,14 +94,14 @@ module _ {K V : Type 0} {eq : K → K → Bool} (laws : IsEquivalence eq) (old n
         }
 
     pub updates_is : (update : Entry K V)
-        → e ≡ record update { key = x.key; hash = x.hash; part = used_part room x.part update.weight }
-        → new.written ≡ with_write old.keeps_writes (writes_without eq x.key old.written) x.key update.modified → Updates eq old id room update new
+        → e ≡ record update { key = x.key; hash = x.hash; part = used_part old.protected_limit x.part update.weight }
+        → new.written ≡ with_write old.keeps_writes (writes_without eq x.key old.written) x.key update.modified → Updates eq old id update new
     updates_is update is written =
         record {
           entry = x;
           stood = stood;
           contents = λ i. record {
-            entries = (entries_used ∙ ap (λ e. balanced room (with_latest e (entries_without eq x.key (entries_of old)))) is) i;
+            entries = (entries_used ∙ ap (λ e. balanced old.protected_limit (with_latest e (entries_without eq x.key (entries_of old)))) is) i;
             written = written i;
           };
           kept = kept_used;
@@ -114,11 +109,9 @@ module _ {K V : Type 0} {eq : K → K → Bool} (laws : IsEquivalence eq) (old n
 
 -- a new entry comes
 pub enters_is : {K V : Type 0} {eq : K → K → Bool} (old new : Store K V) (id : ℕ) (e : Entry K V) → new.nodes ≡ latest_node (id, e) old.nodes
-    → new.written ≡ with_write old.keeps_writes old.written e.key e.modified → new.keeps_writes ≡ old.keeps_writes → new.capacity ≡ old.capacity
-    → Enters eq old e new
-enters_is old new id e nodes written keeps capacity =
+    → new.written ≡ with_write old.keeps_writes old.written e.key e.modified → KeepsSettings old new → Enters eq old e new
+enters_is old new id e nodes written kept =
     record {
       contents = λ i. record { entries = (ap values_of nodes ∙ values-latest (id, e) old.nodes) i; written = written i };
-      keeps = keeps;
-      capacity = capacity;
+      kept = kept;
     }

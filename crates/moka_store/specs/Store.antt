@@ -13,11 +13,12 @@ use Rattle.moka_unsync_model.specs.Insert.{after_arrival, after_update}
 use Rattle.moka_unsync_model.specs.Lookup.{after_using, used_part}
 
 -- the entries in three parts, probation, protected and the window, each in order of use and under the ids of their nodes; the writes in their order, if
--- they are kept; and how many entries fit with no allocation
+-- they are kept; how much protected may weigh; and how many entries fit with no allocation
 pub record Store (K V : Type 0) : Type 0 where
   pub nodes : List (ℕ × Entry K V)
   pub written : List (Write K)
   pub keeps_writes : Bool
+  pub protected_limit : ℕ
   pub capacity : ℕ
 
 -- whether one part is another
@@ -39,16 +40,22 @@ module _ {K V : Type 0} where
   abbrev pub contents_of : Store K V → Contents K V
   contents_of store = record { entries = entries_of store; written = store.written }
 
-  -- the store keeps its writes or not as before, and has the same capacity and no more nodes
-  pub record Continues (old new : Store K V) : Type 0 where
+  -- the store keeps its writes or not as before, and has the same limit and capacity
+  pub record KeepsSettings (old new : Store K V) : Type 0 where
     pub keeps : new.keeps_writes ≡ old.keeps_writes
+    pub limit : new.protected_limit ≡ old.protected_limit
     pub capacity : new.capacity ≡ old.capacity
+
+  -- and no more nodes
+  pub record Continues (old new : Store K V) : Type 0 where
+    pub settings : KeepsSettings old new
     pub fewer : length new.nodes ≤ length old.nodes
 
   -- the entry of the node is of probation, and stays there if it is used
-  abbrev pub StaysInProbation : Store K V → ℕ → ℕ → Type 0
-  StaysInProbation store id room =
-      (e : Entry K V) × (lookup (nat_eq id) store.nodes ≡ Some e) × (e.part ≡ Probation) × (used_part room Probation e.weight ≡ Probation)
+  abbrev pub StaysInProbation : Store K V → ℕ → Type 0
+  StaysInProbation store id =
+      (e : Entry K V) × (lookup (nat_eq id) store.nodes ≡ Some e) × (e.part ≡ Probation)
+      × (used_part store.protected_limit Probation e.weight ≡ Probation)
 
   -- these ids are those of nodes, and all nodes of this hash are among them
   pub record AreCandidates (store : Store K V) (hash : ℕ) (ids : List ℕ) : Type 0 where
@@ -100,19 +107,19 @@ module _ {K V : Type 0} where
       pub nodes : new.nodes ≡ remove_entry (nat_eq id) old.nodes
       pub kept : Continues old new
 
-    -- what it is once the entry was used at a moment, where protected has this room
-    pub record Uses (old : Store K V) (id room now : ℕ) (new : Store K V) : Type 0 where
+    -- what it is once the entry was used at a moment
+    pub record Uses (old : Store K V) (id now : ℕ) (new : Store K V) : Type 0 where
       pub entry : Entry K V
       pub stood : lookup (nat_eq id) old.nodes ≡ Some entry
-      pub contents : contents_of new ≡ after_using eq room (record entry { accessed = now }) (contents_of old)
+      pub contents : contents_of new ≡ after_using eq old.protected_limit (record entry { accessed = now }) (contents_of old)
       pub value : option_map (λ e. e.value) (lookup (nat_eq id) new.nodes) ≡ Some entry.value
       pub kept : Continues old new
 
     -- what it is once the entry has another's value, weight and moments
-    pub record Updates (old : Store K V) (id room : ℕ) (update : Entry K V) (new : Store K V) : Type 0 where
+    pub record Updates (old : Store K V) (id : ℕ) (update : Entry K V) (new : Store K V) : Type 0 where
       pub entry : Entry K V
       pub stood : lookup (nat_eq id) old.nodes ≡ Some entry
-      pub contents : contents_of new ≡ after_update eq old.keeps_writes room entry update (contents_of old)
+      pub contents : contents_of new ≡ after_update eq old.keeps_writes old.protected_limit entry update (contents_of old)
       pub kept : Continues old new
 
     -- what it is once the entry has come to probation
@@ -125,8 +132,7 @@ module _ {K V : Type 0} where
     -- what it is once a new entry has entered
     pub record Enters (old : Store K V) (entry : Entry K V) (new : Store K V) : Type 0 where
       pub contents : contents_of new ≡ after_arrival eq old.keeps_writes entry (contents_of old)
-      pub keeps : new.keeps_writes ≡ old.keeps_writes
-      pub capacity : new.capacity ≡ old.capacity
+      pub kept : KeepsSettings old new
 
     -- what it is once a new entry has come in place of the node's
     pub record Replaces (old : Store K V) (id : ℕ) (entry : Entry K V) (new : Store K V) : Type 0 where

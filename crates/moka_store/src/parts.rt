@@ -32,24 +32,24 @@ pub(crate) fn is_of(part: Part, other: Part) -> bool
 
 /// Returns the part of an entry after it was used.
 #[inline(always)]
-pub(crate) fn used_part(room: u64, part: Part, weight: u32) -> Part
-    ensures { result ≡ used_part room part weight }
+pub(crate) fn used_part(limit: u64, part: Part, weight: u32) -> Part
+    ensures { result ≡ used_part limit part weight }
 {
     if matches!(part, Part::Window) {
         return Part::Window;
     }
-    if may_be_protected(room, weight) {
+    if may_be_protected(limit, weight) {
         return Part::Protected;
     }
     Part::Probation
 }
 
-/// Returns `true` if main has room for a protected entry of this weight.
+/// Returns `true` if an entry of this weight fits into protected, whose weight limit this is.
 #[inline(always)]
-pub(crate) fn may_be_protected(room: u64, weight: u32) -> bool
-    ensures { result ≡ (nat_lt 0 room && nat_le weight room) }
+pub(crate) fn may_be_protected(limit: u64, weight: u32) -> bool
+    ensures { result ≡ (nat_lt 0 limit && nat_le weight limit) }
 {
-    0 < room && u64::from(weight) <= room
+    0 < limit && u64::from(weight) <= limit
 }
 
 /// Replaces an entry's value, weight, moments and part, and keeps its key. Returns the other key and the old value.
@@ -257,25 +257,25 @@ impl Weights {
     }
 }
 
-/// Moves protected's least recently used entries to probation until protected weighs no more than `room`. This changes their part and a mark, and no link.
+/// Moves protected's least recently used entries to probation until protected weighs no more than `limit`. This changes their part and a mark, and no link.
 /// One call may move many light entries; it is O(1) per access, amortized.
 #[inline(always)]
 pub(crate) fn balance<K: Drop, V: Drop, A: Allocator>(
     entries: &mut Chain<Entry<K, V>, A>,
     marks: &mut Marks,
     weights: &mut Weights,
-    room: u64,
+    limit: u64,
 )
     requires once { IsDistinct nat_eq (keys_of entries.old.items) }
     requires order { InOrder Probation (values_of entries.old.items) }
     requires marks { AreMarks entries.old.items marks.old }
     requires weighed { weights.old ≡ weights_of entries.old.items }
-    ensures step { IsBalanced room entries.old.items entries.new.items }
+    ensures step { IsBalanced limit entries.old.items entries.new.items }
     ensures marks { AreMarks entries.new.items marks.new }
     ensures weighed { weights.new ≡ weights_of entries.new.items }
     ensures unchanged { entries.new ≡ record entries.old { items = entries.new.items } }
 {
-    while weights.protected > room {
+    while weights.protected > limit {
         demote_first(entries, marks, weights);
     }
 }

@@ -36,6 +36,8 @@ pub struct Store<K: Eq + Drop, V: Drop, A: Allocator + Clone + Drop = Global> {
     entries: Chain<Entry<K, V>, A>,
     marks: Marks,
     weights: Weights,
+    // The weight limit of protected.
+    protected_limit: u64,
     // The same nodes in order of writing, where that is kept.
     writes: IdList<A>,
     keeps_writes: bool,
@@ -55,6 +57,7 @@ impl<K: Eq + Drop, V: Drop, A: Allocator + Clone + Drop> Model for Store<K, V, A
       nodes = s.entries.items;
       written = written_under s.entries.items s.writes.ids;
       keeps_writes = s.keeps_writes;
+      protected_limit = s.protected_limit;
       capacity = s.ready;
     } };
 
@@ -64,13 +67,20 @@ impl<K: Eq + Drop, V: Drop, A: Allocator + Clone + Drop> Model for Store<K, V, A
 
 impl<K: Eq + Drop, V: Drop, A: Allocator + Clone + Drop> Store<K, V, A> {
     /// Makes an empty store, which allocates nothing. It keeps the order of writing if the policy has a time to live.
-    pub fn new(alloc: A, policy: Policy) -> Result<Self, AllocError>
-        ensures { IfOk result (λ store. store ≡ record { nodes = []; written = []; keeps_writes = keeps_writes policy; capacity = 0 }) }
+    pub fn new(alloc: A, policy: Policy, protected_limit: u64) -> Result<Self, AllocError>
+        ensures { IfOk result (λ store. store ≡ record {
+          nodes = [];
+          written = [];
+          keeps_writes = keeps_writes policy;
+          protected_limit = protected_limit;
+          capacity = 0;
+        }) }
     {
         Ok(Store {
             entries: Chain::new(alloc.clone()?, alloc.clone()?),
             marks: Marks::none(),
             weights: Weights::none(),
+            protected_limit,
             writes: IdList::new(alloc.clone()?),
             keeps_writes: policy.time_to_live().is_some(),
             index: HashIndex::new(alloc),
@@ -252,74 +262,92 @@ impl<K: Eq + Drop, V: Drop, A: Allocator + Clone + Drop> Store<K, V, A> {
         self.writes.front()
     }
 
-    /// Records an access: the entry becomes the most recently used one of its part. An entry of main moves to protected if it is no heavier than `room`,
-    /// protected's limit; protected's least recently used entries move back to probation until it is within that.
+    /// Records an access: the entry becomes the most recently used one of its part. An entry of main moves to protected if it is no heavier than protected's
+    /// limit; protected's least recently used entries move back to probation until it is within that.
     #[inline(always)]
-    pub fn touch(&mut self, id: NodeId, room: u64, now: Instant)
+    pub fn touch(&mut self, id: NodeId, now: Instant)
         requires { IsSome (lookup (nat_eq id) self.old.nodes) }
-        ensures { Uses K.eq self.old id room now self.new }
+        ensures { Uses K.eq self.old id now self.new }
     {
         let entry = self.entries.get(id);
-        if is_of(entry.part, Part::Probation) && !may_be_protected(room, entry.weight) {
-            self.use_in_probation(id, room, now);
+        if is_of(entry.part, Part::Probation)
+            && !may_be_protected(self.protected_limit, entry.weight)
+        {
+            self.use_in_probation(id, now);
         } else {
-            self.use_anywhere(id, room, now);
+            self.use_anywhere(id, now);
         }
     }
 
     /// Does what `touch` does for an entry that stays in probation. No mark stands at it, and its part weighs the same.
     #[inline(always)]
-    fn use_in_probation(&mut self, id: NodeId, room: u64, now: Instant)
-        requires stays { StaysInProbation self.old id room }
-        ensures { Uses K.eq self.old id room now self.new }
+    fn use_in_probation(&mut self, id: NodeId, now: Instant)
+        requires stays { StaysInProbation self.old id }
+        ensures { Uses K.eq self.old id now self.new }
     {
         let entry = self.entries.get_mut(id);
         entry.accessed = now;
         attach(&mut self.entries, &mut self.marks, id, Part::Probation);
-        balance(&mut self.entries, &mut self.marks, &mut self.weights, room);
+        balance(
+            &mut self.entries,
+            &mut self.marks,
+            &mut self.weights,
+            self.protected_limit,
+        );
     }
 
     /// Does what `touch` does for any entry.
     #[inline(always)]
-    fn use_anywhere(&mut self, id: NodeId, room: u64, now: Instant)
+    fn use_anywhere(&mut self, id: NodeId, now: Instant)
         requires { IsSome (lookup (nat_eq id) self.old.nodes) }
-        ensures { Uses K.eq self.old id room now self.new }
+        ensures { Uses K.eq self.old id now self.new }
     {
         self.marks.pass(&self.entries, id);
         let entry = self.entries.get_mut(id);
         let (part, weight) = (entry.part, entry.weight);
-        let used = used_part(room, part, weight);
+        let used = used_part(self.protected_limit, part, weight);
         entry.accessed = now;
         entry.part = used;
         self.weights.shift(part, used, weight);
         attach(&mut self.entries, &mut self.marks, id, used);
-        balance(&mut self.entries, &mut self.marks, &mut self.weights, room);
+        balance(
+            &mut self.entries,
+            &mut self.marks,
+            &mut self.weights,
+            self.protected_limit,
+        );
     }
 
-    /// Moves protected's least recently used entries back to probation until protected weighs no more than `room`. It takes constant time for each of them.
-    pub fn limit_protected(&mut self, room: u64)
-        ensures step { contents_of self.new ≡ record (contents_of self.old) { entries = balanced room (entries_of self.old) } }
-        ensures kept { Continues self.old self.new }
+    /// Sets the weight limit of protected. Its least recently used entries move back to probation until it is within that, which is O(1) per entry moved.
+    pub fn limit_protected(&mut self, limit: u64)
+        ensures step { contents_of self.new ≡ record (contents_of self.old) { entries = balanced limit (entries_of self.old) } }
+        ensures kept { Continues (record self.old { protected_limit = limit }) self.new }
     {
-        balance(&mut self.entries, &mut self.marks, &mut self.weights, room);
+        self.protected_limit = limit;
+        balance(&mut self.entries, &mut self.marks, &mut self.weights, limit);
     }
 
     /// Replaces an entry's value, weight and moments, and keeps its key. That is an access, as in `touch`, and a write. Returns the other key and the old
     /// value.
-    pub fn update(&mut self, id: NodeId, room: u64, update: Entry<K, V>) -> (K, V)
+    pub fn update(&mut self, id: NodeId, update: Entry<K, V>) -> (K, V)
         requires { IsSome (lookup (nat_eq id) self.old.nodes) }
         ensures value { option_map (λ e. e.value) (lookup (nat_eq id) self.old.nodes) ≡ Some result.1 }
         ensures key { result.0 ≡ update.key }
-        ensures step { Updates K.eq self.old id room update self.new }
+        ensures step { Updates K.eq self.old id update self.new }
     {
         self.marks.pass(&self.entries, id);
         let entry = self.entries.get_mut(id);
-        let used = used_part(room, entry.part, update.weight);
+        let used = used_part(self.protected_limit, entry.part, update.weight);
         self.weights.take(entry.part, entry.weight);
         self.weights.add(used, update.weight);
         let left = rewrite(entry, used, update);
         attach(&mut self.entries, &mut self.marks, id, used);
-        balance(&mut self.entries, &mut self.marks, &mut self.weights, room);
+        balance(
+            &mut self.entries,
+            &mut self.marks,
+            &mut self.weights,
+            self.protected_limit,
+        );
         write_again(&mut self.writes, self.keeps_writes, id);
         left
     }

@@ -1,5 +1,5 @@
 -- Lemmas on what holds of a cache's parts.
-use Rattle.std.proofs.Common.{◌≡◌, ◌≤◌, ◌<◌, ◌-◌, ℕ, Bool, true, false, List, [], ◌∷◌, All, length, nat_eq}
+use Rattle.std.proofs.Common.{◌≡◌, ◌≤◌, ◌-◌, ℕ, Bool, true, false, List, [], ◌∷◌, All, length, nat_eq}
 use Rattle.std.proofs.Common.{is_some, nat_lt, Option, Some, None, unwrap_or, sym, ap, ◌∙◌}
 use Rattle.std.proofs.Common.{refl, subst, inl, inr}
 use Rattle.std.proofs.lemmas.Bool.{cases_Bool, cond-true, cond-false, false≢true}
@@ -28,7 +28,7 @@ use Rattle.moka_unsync_model.proofs.WindowLemmas.{All-latest}
 use Rattle.moka_unsync_model.proofs.CandidateLemmas.{All-entering}
 use Rattle.moka_unsync_model.proofs.ContentsLemmas.{All-leaving, All-cleanup}
 use Rattle.moka_unsync_model.proofs.SharingLemmas.{All-sharing}
-use Rattle.moka_store.specs.Store.{Continues, HasHash, Store, Updates, Uses, contents_of, entries_of}
+use Rattle.moka_store.specs.Store.{Continues, HasHash, KeepsSettings, Store, Updates, Uses, contents_of, entries_of}
 use Rattle.moka_unsync.specs.Cached.{IsCached, IsPut}
 
 module _ {K V : Type 0} where
@@ -49,8 +49,8 @@ module _ {K V : Type 0} where
 module _ {K V S H : Type 0} (eq : K → K → Bool) (hash_input : K → List (List ℕ)) (build : builder.Ghosts S H) (hash : hasher.Ghosts H)
     (respects : (x y : K) → eq x y ≡ true → hash_input x ≡ hash_input y) where
   -- what is looked for by the hash of a key is looked for rightly
-  pub has_hash : {state : S} {policy : Policy} {shares : Shares} {limits : Option PartLimits} {space : ℕ} {store : Store K V}
-      → IsCached (keys_by (record { eq = eq; hash_input = hash_input }) build hash) state policy shares limits space store → {key : K} {hashed : ℕ}
+  pub has_hash : {state : S} {policy : Policy} {shares : Shares} {limits : Option PartLimits} {store : Store K V}
+      → IsCached (keys_by (record { eq = eq; hash_input = hash_input }) build hash) state policy shares limits store → {key : K} {hashed : ℕ}
       → hashed ≡ (keys_by (record { eq = eq; hash_input = hash_input }) build hash).hash_of state key → HasHash eq store key hashed
   has_hash {state} {store = store} is {key} {hashed} h =
       let keys = keys_by (record { eq = eq; hash_input = hash_input }) build hash in
@@ -58,29 +58,29 @@ module _ {K V S H : Type 0} (eq : K → K → Bool) (hash_input : K → List (Li
       All-weaker (λ e. e.hash ≡ keys.hash_of state e.key) (λ e. eq key e.key ≡ true → e.hash ≡ hashed)
       (λ e own equal. own ∙ (sym (alike state key e.key equal) ∙ sym h)) (entries_of store) is.hashed
 
-module _ {K V S : Type 0} {keys : Keys K S} {state : S} {policy : Policy} {shares : Shares} {limits : Option PartLimits} {space : ℕ} where
+module _ {K V S : Type 0} {keys : Keys K S} {state : S} {policy : Policy} {shares : Shares} {limits : Option PartLimits} where
   -- cleanup keeps the parts tied
-  pub IsCached-cleanup : (now : ℕ) {old new : Store K V} → IsCached keys state policy shares limits space old
-      → contents_of new ≡ after_cleanup keys.eq policy now (contents_of old) → Continues old new → IsCached keys state policy shares limits space new
+  pub IsCached-cleanup : (now : ℕ) {old new : Store K V} → IsCached keys state policy shares limits old
+      → contents_of new ≡ after_cleanup keys.eq policy now (contents_of old) → Continues old new → IsCached keys state policy shares limits new
   IsCached-cleanup now {old = old} is step kept =
       record {
         hashed =
             subst (λ c. All (λ e. e.hash ≡ keys.hash_of state e.key) c.entries) (sym step)
             (All-cleanup keys.eq (λ e. e.hash ≡ keys.hash_of state e.key) policy now (contents_of old) is.hashed);
-        keeps = kept.keeps ∙ is.keeps;
+        keeps = kept.settings.keeps ∙ is.keeps;
         main = λ none.
             subst (λ c. All (λ e. is_window e.part ≡ false) c.entries) (sym step)
             (All-cleanup keys.eq (λ e. is_window e.part ≡ false) policy now (contents_of old) (is.main none));
         legal = is.legal;
         windowed = is.windowed;
-        room = is.room;
+        protected = kept.settings.limit ∙ is.protected;
       }
 
   -- an entry that is used with its key and its hash keeps them tied, in whatever part it is
-  IsCached-using : (id room : ℕ) (old new : Store K V) (entry used : Entry K V) → IsCached keys state policy shares limits space old
+  IsCached-using : (id room : ℕ) (old new : Store K V) (entry used : Entry K V) → IsCached keys state policy shares limits old
       → lookup (nat_eq id) old.nodes ≡ Some entry → used.key ≡ entry.key → used.hash ≡ entry.hash → is_window used.part ≡ is_window entry.part
       → entries_of new ≡ (after_using keys.eq room used (contents_of old)).entries → Continues old new
-      → IsCached keys state policy shares limits space new
+      → IsCached keys state policy shares limits new
   IsCached-using id room old new entry used is stood key hash part entries kept =
       let P : Entry K V → Type 0 = λ e. e.hash ≡ keys.hash_of state e.key in
       let Q : Entry K V → Type 0 = λ e. is_window e.part ≡ false in
@@ -89,62 +89,64 @@ module _ {K V S : Type 0} {keys : Keys K S} {state : S} {policy : Policy} {share
             subst (All P) (sym entries)
             (All-using keys.eq P (λ e h p. p) room used (contents_of old)
             (hash ∙ (stood_at P id entry old.nodes is.hashed stood ∙ ap (keys.hash_of state) (sym key))) is.hashed);
-        keeps = kept.keeps ∙ is.keeps;
+        keeps = kept.settings.keeps ∙ is.keeps;
         main = λ none.
             subst (All Q) (sym entries)
             (All-using keys.eq Q (λ e h p. refl) room used (contents_of old)
             (window-used room used.part used.weight ∙ (part ∙ stood_at Q id entry old.nodes (is.main none) stood)) (is.main none));
         legal = is.legal;
         windowed = is.windowed;
-        room = is.room;
+        protected = kept.settings.limit ∙ is.protected;
       }
 
   -- so does a use
-  pub IsCached-touch : (id room now : ℕ) (old new : Store K V) → IsCached keys state policy shares limits space old
-      → Uses keys.eq old id room now new → IsCached keys state policy shares limits space new
-  IsCached-touch id room now old new is t =
-      IsCached-using id room old new t.entry (record t.entry { accessed = now }) is t.stood refl refl refl (ap (λ c. c.entries) t.contents) t.kept
+  pub IsCached-touch : (id now : ℕ) (old new : Store K V) → IsCached keys state policy shares limits old
+      → Uses keys.eq old id now new → IsCached keys state policy shares limits new
+  IsCached-touch id now old new is t =
+      IsCached-using id old.protected_limit old new t.entry (record t.entry { accessed = now }) is t.stood refl refl refl (ap (λ c. c.entries)
+      t.contents) t.kept
 
   -- and an update
-  pub IsCached-update : (id room : ℕ) (update : Entry K V) (old new : Store K V) → IsCached keys state policy shares limits space old
-      → Updates keys.eq old id room update new → IsCached keys state policy shares limits space new
-  IsCached-update id room update old new is u =
-      IsCached-using id room old new u.entry (record update { key = u.entry.key; hash = u.entry.hash; part = u.entry.part }) is u.stood refl refl refl
+  pub IsCached-update : (id : ℕ) (update : Entry K V) (old new : Store K V) → IsCached keys state policy shares limits old
+      → Updates keys.eq old id update new → IsCached keys state policy shares limits new
+  IsCached-update id update old new is u =
+      IsCached-using id old.protected_limit old new u.entry (record update { key = u.entry.key; hash = u.entry.hash; part = u.entry.part }) is
+      u.stood refl refl refl
       (ap (λ c. c.entries) u.contents) u.kept
 
   -- where entries leave, the parts stay tied
-  pub IsCached-leaving : (gone : List K) {old new : Store K V} → IsCached keys state policy shares limits space old
-      → contents_of new ≡ after_leaving keys.eq gone (contents_of old) → Continues old new → IsCached keys state policy shares limits space new
+  pub IsCached-leaving : (gone : List K) {old new : Store K V} → IsCached keys state policy shares limits old
+      → contents_of new ≡ after_leaving keys.eq gone (contents_of old) → Continues old new → IsCached keys state policy shares limits new
   IsCached-leaving gone {old = old} is step kept =
       let P : Entry K V → Type 0 = λ e. e.hash ≡ keys.hash_of state e.key in
       record {
         hashed = subst (λ c. All P c.entries) (sym step) (All-leaving keys.eq P gone (contents_of old) is.hashed);
-        keeps = kept.keeps ∙ is.keeps;
+        keeps = kept.settings.keeps ∙ is.keeps;
         main = λ none.
             subst (λ c. All (λ e. is_window e.part ≡ false) c.entries) (sym step)
             (All-leaving keys.eq (λ e. is_window e.part ≡ false) gone (contents_of old) (is.main none));
         legal = is.legal;
         windowed = is.windowed;
-        room = is.room;
+        protected = kept.settings.limit ∙ is.protected;
       }
 
   -- a store without entries is one of a cache
   pub IsCached-new : {store : Store K V} → entries_of store ≡ [] → store.keeps_writes ≡ keeps_writes policy
       → (shares.window ≤ 100) × (shares.protected ≤ 100) → limits ≡ windowed_limits shares policy.max_capacity
-      → space ≡ protected_room shares policy.max_capacity → IsCached keys state policy shares limits space store
-  IsCached-new none keeps legal windowed room =
+      → store.protected_limit ≡ protected_room shares policy.max_capacity → IsCached keys state policy shares limits store
+  IsCached-new none keeps legal windowed protected =
       record {
         hashed = rw none (All-from_recursion _ [] tt);
         keeps = keeps;
         main = λ _. rw none (All-from_recursion _ [] tt);
         legal = legal;
         windowed = windowed;
-        room = room;
+        protected = protected;
       }
 
   -- more room changes nothing
-  pub IsCached-room : {old new : Store K V} → IsCached keys state policy shares limits space old → new ≡ record old { capacity = new.capacity }
-      → IsCached keys state policy shares limits space new
+  pub IsCached-room : {old new : Store K V} → IsCached keys state policy shares limits old → new ≡ record old { capacity = new.capacity }
+      → IsCached keys state policy shares limits new
   IsCached-room is same =
       record {
         hashed = subst (λ s. All (λ e. e.hash ≡ keys.hash_of state e.key) (entries_of s)) (sym same) is.hashed;
@@ -152,22 +154,22 @@ module _ {K V S : Type 0} {keys : Keys K S} {state : S} {policy : Policy} {share
         main = λ none. subst (λ s. All (λ e. is_window e.part ≡ false) (entries_of s)) (sym same) (is.main none);
         legal = is.legal;
         windowed = is.windowed;
-        room = is.room;
+        protected = ap (λ s. s.protected_limit) same ∙ is.protected;
       }
 
   -- nor does a new entry untie the parts
-  pub IsCached-put : (new : Entry K V) (sketch : Option Table) (stays : Bool) {old after : Store K V} → IsCached keys state policy shares limits space old
+  pub IsCached-put : (new : Entry K V) (sketch : Option Table) (stays : Bool) {old after : Store K V} → IsCached keys state policy shares limits old
       → new.hash ≡ keys.hash_of state new.key → is_window new.part ≡ false
       → IsPut keys.eq old.keeps_writes limits policy.max_capacity sketch new (contents_of old) stays
-      (contents_of after) → after.keeps_writes ≡ old.keeps_writes → IsCached keys state policy shares limits space after
-  IsCached-put new sketch stays {old = old} {after = after} is own part put keeps =
+      (contents_of after) → KeepsSettings old after → IsCached keys state policy shares limits after
+  IsCached-put new sketch stays {old = old} {after = after} is own part put kept =
       record {
         hashed = all P (λ e part apart here. here) own is.hashed limits put;
-        keeps = keeps ∙ is.keeps;
+        keeps = kept.keeps ∙ is.keeps;
         main = λ none. flags none limits none put;
         legal = is.legal;
         windowed = is.windowed;
-        room = is.room;
+        protected = kept.limit ∙ is.protected;
       }
     where
       P : Entry K V → Type 0
@@ -203,13 +205,12 @@ module _ {K V S : Type 0} {keys : Keys K S} {state : S} {policy : Policy} {share
               (All-leaving keys.eq (λ e. is_window e.part ≡ false) (entry_keys gone) (contents_of old) (is.main none)) part
       flags none (Some l) same p = absurd (false≢true (sym (ap is_some same)))
 
-module _ {K V S : Type 0} {keys : Keys K S} {state : S} {policy : Policy} {shares : Shares} {limits : PartLimits} {space : ℕ} where
+module _ {K V S : Type 0} {keys : Keys K S} {state : S} {policy : Policy} {shares : Shares} {limits : PartLimits} where
   -- nor do limits that follow what is remembered
-  pub IsCached-follow : (extra gained : ℕ) (limit : ℕ) {old new : Store K V} → IsCached keys state policy shares (Some limits) space old
+  pub IsCached-follow : (extra gained : ℕ) (limit : ℕ) {old new : Store K V} → IsCached keys state policy shares (Some limits) old
       → policy.max_capacity ≡ Some limit → contents_of new ≡ after_sharing keys.eq (limits_of (record shares { extra = extra }) limit) gained (contents_of old)
-      → Continues old new
-      → IsCached keys state policy (record shares { extra = extra }) (Some (limits_of (record shares { extra = extra }) limit))
-      (limits_of (record shares { extra = extra }) limit).protected new
+      → KeepsSettings (record old { protected_limit = (limits_of (record shares { extra = extra }) limit).protected }) new
+      → IsCached keys state policy (record shares { extra = extra }) (Some (limits_of (record shares { extra = extra }) limit)) new
   IsCached-follow extra gained limit {old = old} is limited step kept =
       let P : Entry K V → Type 0 = λ e. e.hash ≡ keys.hash_of state e.key in
       record {
@@ -223,7 +224,7 @@ module _ {K V S : Type 0} {keys : Keys K S} {state : S} {policy : Policy} {share
             rw limited
             (sym (cond-true (nat_lt 0 (hundredths shares.window limit)) (Some (limits_of (record shares { extra = extra }) limit)) None
             (some_window policy.max_capacity limited is.windowed)));
-        room = ap (protected_room (record shares { extra = extra })) (sym limited);
+        protected = kept.limit ∙ ap (protected_room (record shares { extra = extra })) (sym limited);
       }
     where
       -- the share of a window that there is is some weight
@@ -238,24 +239,24 @@ module _ {K V S : Type 0} {keys : Keys K S} {state : S} {policy : Policy} {share
                 ∙ cond-false (nat_lt 0 (hundredths shares.window limit)) (Some (limits_of shares limit)) None none)))))
           ]
 
-module _ {K V S : Type 0} {keys : Keys K S} {state : S} {policy : Policy} {shares : Shares} {limits : Option PartLimits} {space : ℕ} where
+module _ {K V S : Type 0} {keys : Keys K S} {state : S} {policy : Policy} {shares : Shares} {limits : Option PartLimits} where
   -- nor do entries that are protected no more
-  pub IsCached-balanced : (room : ℕ) {old new : Store K V} → IsCached keys state policy shares limits space old
-      → contents_of new ≡ record (contents_of old) { entries = balanced room (entries_of old) } → Continues old new
-      → IsCached keys state policy shares limits space new
-  IsCached-balanced room {old = old} is step kept =
+  pub IsCached-balanced : (limit : ℕ) {old new : Store K V} → IsCached keys state policy shares limits old → limit ≡ protected_room shares policy.max_capacity
+      → contents_of new ≡ record (contents_of old) { entries = balanced limit (entries_of old) } → Continues (record old { protected_limit = limit }) new
+      → IsCached keys state policy shares limits new
+  IsCached-balanced limit {old = old} is limited step kept =
       let P : Entry K V → Type 0 = λ e. e.hash ≡ keys.hash_of state e.key in
       let IsMain : Entry K V → Type 0 = λ e. is_window e.part ≡ false in
-      let above = total_weight (protected_of (entries_of old)) - room in
+      let above = total_weight (protected_of (entries_of old)) - limit in
       record {
         hashed = subst (λ c. All P c.entries) (sym step) (All-demoted P (λ e protected here. here) above (entries_of old) is.hashed);
-        keeps = kept.keeps ∙ is.keeps;
+        keeps = kept.settings.keeps ∙ is.keeps;
         main =
             λ none. subst (λ c. All IsMain c.entries) (sym step)
             (All-demoted IsMain (λ e protected here. refl) above (entries_of old) (is.main none));
         legal = is.legal;
         windowed = is.windowed;
-        room = is.room;
+        protected = kept.settings.limit ∙ limited;
       }
 
 -- there is an entry for each node

@@ -1,5 +1,5 @@
 -- Lemmas on limits that follow what is remembered, and on the tables beside a sketch.
-use Rattle.std.proofs.Common.{◌≡◌, ◌∙◌, ◌<◌, ◌-◌, ◌==◌, ℕ, zero, suc, Bool, true, false, cond, nat_lt, List, [], ◌∷◌, map, Option, None, Some, option_map}
+use Rattle.std.proofs.Common.{◌≡◌, ◌∙◌, ◌<◌, ◌-◌, ◌==◌, ℕ, zero, suc, Bool, true, false, cond, nat_lt, List, [], ◌∷◌, Option, None, Some, option_map}
 use Rattle.std.proofs.Common.{unwrap_or}
 use Rattle.std.proofs.Common.{ap, arith, is_some, refl, subst, sym, inl, inr}
 use Rattle.std.proofs.lemmas.Bool.{cases_Bool, cond-false, cond-true, eqb-true, false≢true}
@@ -57,27 +57,17 @@ module _ {K V : Type 0} where
         ∙ ap (λ (c : Contents K V). record c { entries = balanced turned.protected c.entries })
         (gave ∙ ap (λ n. after_leaving eq (entry_keys (least_recent n (main_of (entries_of old)))) (contents_of old)) is)
 
--- a cache with a window has its limit
-pub limit_of : (shares : Shares) (max : Option ℕ) (limits : PartLimits) → windowed_limits shares max ≡ Some limits → max ≡ Some limits.all
-limit_of shares None limits some = absurd (false≢true (ap is_some some))
-limit_of shares (Some limit) limits some =
+-- a cache with a window has its limit, and the limits are those of its shares
+pub limits_there : (shares : Shares) (max : Option ℕ) (limits : PartLimits) → windowed_limits shares max ≡ Some limits
+    → (max ≡ Some limits.all) × (limits ≡ limits_of shares limits.all)
+limits_there shares None limits some = absurd (false≢true (ap is_some some))
+limits_there shares (Some limit) limits some =
     elim (cases_Bool (nat_lt 0 (hundredths shares.window limit))) [
       | inl any ↦
-          ap (λ (o : Option PartLimits). Some (unwrap_or o limits).all)
-          (sym (cond-true (nat_lt 0 (hundredths shares.window limit)) (Some (limits_of shares limit)) None any) ∙ some)
-      | inr none ↦
-          absurd (false≢true (ap is_some (sym (cond-false (nat_lt 0 (hundredths shares.window limit)) (Some (limits_of shares limit)) None none) ∙ some)))
-    ]
-
--- and the limits are those of its shares
-pub limits_are : (shares : Shares) (max : Option ℕ) (limits : PartLimits) → windowed_limits shares max ≡ Some limits
-    → windowed_limits shares max ≡ Some (limits_of shares limits.all)
-limits_are shares None limits some = absurd (false≢true (ap is_some some))
-limits_are shares (Some limit) limits some =
-    elim (cases_Bool (nat_lt 0 (hundredths shares.window limit))) [
-      | inl any ↦
-          let own = cond-true (nat_lt 0 (hundredths shares.window limit)) (Some (limits_of shares limit)) None any in
-          own ∙ ap (λ (o : Option PartLimits). Some (limits_of shares (unwrap_or o limits).all)) (sym own ∙ some)
+          let is : limits_of shares limit ≡ limits =
+          ap (λ (o : Option PartLimits). unwrap_or o limits)
+          (sym (cond-true (nat_lt 0 (hundredths shares.window limit)) (Some (limits_of shares limit)) None any) ∙ some) in
+          (ap (λ (l : PartLimits). Some l.all) is, sym is ∙ ap (λ (l : PartLimits). limits_of shares l.all) is)
       | inr none ↦
           absurd (false≢true (ap is_some (sym (cond-false (nat_lt 0 (hundredths shares.window limit)) (Some (limits_of shares limit)) None none) ∙ some)))
     ]

@@ -16,7 +16,7 @@ use Rattle.moka_unsync_model.specs.Contents.{Contents, entry_keys, after_leaving
 use Rattle.moka_unsync_model.specs.Memory.{Memory, after_note}
 use Rattle.moka_unsync_model.specs.Window.{after_displacing}
 use Rattle.moka_unsync_model.specs.Cleanup.{after_eviction, after_trim, is_idle, least_recent}
-use Rattle.moka_store.specs.Store.{Continues, IsFront, IsFrontOf, Removes, Store, contents_of, entries_of, is_of, those_of}
+use Rattle.moka_store.specs.Store.{Continues, IsFront, IsFrontOf, KeepsSettings, Removes, Store, contents_of, entries_of, is_of, those_of}
 use Rattle.moka_unsync.specs.Turns.{after_idle_of}
 
 -- a policy by which no entry expires has no durations
@@ -191,13 +191,32 @@ others_stay eq part old new id f r other apart =
     differ Window Protected other h apart = absurd (false≢true h)
     differ Window Window other h apart = apart
 
+-- a store that is as it was
+pub unmoved : {K V : Type 0} {a : Store K V} → Continues a a
+unmoved = record { settings = record { keeps = refl; limit = refl; capacity = refl }; fewer = omega arith }
+
+-- settings that are kept once, and once more
+pub kept_on : {K V : Type 0} {a b c : Store K V} → KeepsSettings a b → KeepsSettings b c → KeepsSettings a c
+kept_on first second =
+    record {
+      keeps = second.keeps ∙ first.keeps;
+      limit = second.limit ∙ first.limit;
+      capacity = second.capacity ∙ first.capacity;
+    }
+
 -- one continuation after another
 pub continued : {K V : Type 0} {a b c : Store K V} → Continues a b → Continues b c → Continues a c
 continued first second =
+    record { settings = kept_on first.settings second.settings; fewer = omega (arith, first.fewer, second.fewer) }
+
+-- a continuation, and then one with another limit
+pub limited : {K V : Type 0} {a b c : Store K V} {limit : ℕ} → Continues a b → Continues (record b { protected_limit = limit }) c → (other : ℕ)
+    → limit ≡ other → KeepsSettings (record a { protected_limit = other }) c
+limited first second other same =
     record {
-      keeps = second.keeps ∙ first.keeps;
-      capacity = second.capacity ∙ first.capacity;
-      fewer = omega (arith, first.fewer, second.fewer);
+      keeps = second.settings.keeps ∙ first.settings.keeps;
+      limit = second.settings.limit ∙ same;
+      capacity = second.settings.capacity ∙ first.settings.capacity;
     }
 
 -- ---- entries that main gives up

@@ -29,14 +29,14 @@ most_entries policy false = min (unwrap_or policy.max_capacity (2 ^ 64 - 1) + 1)
 
 -- each entry has the hash of its key, the writes are kept where there is a time to live, without a window all entries are of main, and what was computed of
 -- the shares is right
-pub record IsCached {K V S : Type 0} (keys : Keys K S) (state : S) (policy : Policy) (shares : Shares) (limits : Option PartLimits) (space : ℕ)
+pub record IsCached {K V S : Type 0} (keys : Keys K S) (state : S) (policy : Policy) (shares : Shares) (limits : Option PartLimits)
     (store : Store K V) : Type 0 where
   pub hashed : All (λ e. e.hash ≡ keys.hash_of state e.key) (entries_of store)
   pub keeps : store.keeps_writes ≡ keeps_writes policy
   pub main : limits ≡ None → All (λ e. is_window e.part ≡ false) (entries_of store)
   pub legal : (shares.window ≤ 100) × (shares.protected ≤ 100)
   pub windowed : limits ≡ windowed_limits shares policy.max_capacity
-  pub room : space ≡ protected_room shares policy.max_capacity
+  pub protected : store.protected_limit ≡ protected_room shares policy.max_capacity
 
 -- the memory once tables were asked for beside a sketch of so many words, if it has any
 abbrev pub beside : Bool → ℕ → Option Memory → Option Memory

@@ -11,7 +11,7 @@ ghost use Rattle.moka_unsync_model.specs.declared.listener.Cause.TheVariants.{Si
 ghost use Rattle.std.specs.List.Sorted.{IsPermutation};
 ghost use Rattle.moka_unsync_model.specs.Cleanup.{least_recent};
 ghost use Rattle.moka_unsync_model.specs.Window.{after_candidate, after_candidates, after_judgements, after_judging, excess, victims_of};
-ghost use Rattle.moka_store.specs.Store.{Continues, IsFrontOf, contents_of, entries_of};
+ghost use Rattle.moka_store.specs.Store.{Continues, IsFrontOf, KeepsSettings, contents_of, entries_of};
 ghost use Rattle.moka_unsync.specs.Turns.{after_eviction_of};
 
 use crate::leaving::{evict, leave, main_front};
@@ -39,8 +39,7 @@ pub(crate) fn admit<K: Eq + Drop, V: Drop, A: Allocator + Clone + Drop, L: Liste
     ensures value { result ≡ is_some (victims_of limit sketch.now new (main_of (entries_of store.old))) }
     ensures step { contents_of store.new ≡ after_admission K.eq store.old.keeps_writes new
         (victims_of limit sketch.now new (main_of (entries_of store.old))) (contents_of store.old) }
-    ensures keeps { store.new.keeps_writes ≡ store.old.keeps_writes }
-    ensures capacity { store.new.capacity ≡ store.old.capacity }
+    ensures kept { KeepsSettings store.old store.new }
     ensures memory { memory.new
         ≡ option_map (λ m. after_judging m new.hash (victims_of limit sketch.now new (main_of (entries_of store.old)))) memory.old }
     ensures told { TellsPut L.hears limit result new (entries_of store.old) (entries_of store.new) listener.old listener.new }
@@ -67,8 +66,7 @@ fn enter_for<K: Eq + Drop, V: Drop, A: Allocator + Clone + Drop, L: Listener<K, 
     requires room { length store.old.nodes < store.old.capacity }
     requires absent { entry_at K.eq new.key (entries_of store.old) ≡ None }
     ensures step { contents_of store.new ≡ after_arrival K.eq store.old.keeps_writes new (after_eviction_of K.eq count (contents_of store.old)) }
-    ensures keeps { store.new.keeps_writes ≡ store.old.keeps_writes }
-    ensures capacity { store.new.capacity ≡ store.old.capacity }
+    ensures kept { KeepsSettings store.old store.new }
     ensures told { TellsWhatLeft L.hears Size (λ e. 0 < count) (new ∷ entries_of store.old) (entries_of store.new) listener.old listener.new }
 {
     if count == 0 {
@@ -107,8 +105,7 @@ pub(crate) fn insert_into_window<
     requires probation { new.part ≡ Probation }
     ensures value { result ≡ option_map (λ e. e.part) (entry_at K.eq new.key (entries_of store.new)) }
     ensures step { contents_of store.new ≡ after_entering K.eq store.old.keeps_writes limits.now sketch.now new (contents_of store.old) }
-    ensures keeps { store.new.keeps_writes ≡ store.old.keeps_writes }
-    ensures capacity { store.new.capacity ≡ store.old.capacity }
+    ensures kept { KeepsSettings store.old store.new }
     ensures memory { memory.new
         ≡ option_map (after_entering_judged K.eq store.old.keeps_writes limits.now sketch.now new (contents_of store.old)) memory.old }
     ensures told { TellsPut L.hears (Some (main_limit limits.now)) (is_some result) new (entries_of store.old) (entries_of store.new) listener.old
@@ -164,8 +161,7 @@ fn insert_and_drain<K: Eq + Drop, V: Drop, A: Allocator + Clone + Drop, L: Liste
     requires enough { enough ≡ excess limits.now (entries_of store.old ++ record new { part = Window } ∷ []) }
     ensures value { result ≡ option_map (λ e. e.part) (entry_at K.eq new.key (entries_of store.new)) }
     ensures step { contents_of store.new ≡ after_entering K.eq store.old.keeps_writes limits.now sketch.now new (contents_of store.old) }
-    ensures keeps { store.new.keeps_writes ≡ store.old.keeps_writes }
-    ensures capacity { store.new.capacity ≡ store.old.capacity }
+    ensures kept { KeepsSettings store.old store.new }
     ensures memory { memory.new
         ≡ option_map (after_entering_judged K.eq store.old.keeps_writes limits.now sketch.now new (contents_of store.old)) memory.old }
     ensures told { TellsPut L.hears (Some (main_limit limits.now)) (is_some result) new (entries_of store.old) (entries_of store.new) listener.old
@@ -276,8 +272,7 @@ fn admit_or_evict_last<K: Eq + Drop, V: Drop, A: Allocator + Clone + Drop, L: Li
         ≡ after_entry K.eq store.old.keeps_writes new (after_candidate K.eq limits.now sketch.now (contents_of store.old) front.entry))
         × (memory.new ≡ option_map (λ m. after_judging m front.entry.hash
         (victims_of (Some (main_limit limits.now)) sketch.now front.entry (main_of (entries_of store.old)))) memory.old) }
-    ensures keeps { store.new.keeps_writes ≡ store.old.keeps_writes }
-    ensures capacity { store.new.capacity ≡ store.old.capacity }
+    ensures kept { KeepsSettings store.old store.new }
     ensures told { TellsWhatLeft L.hears Size (λ e. IsAbove (Some (main_limit limits.now)) (total_weight (entries_of store.old) + new.weight))
         (new ∷ entries_of store.old) (entries_of store.new) listener.old listener.new }
 {

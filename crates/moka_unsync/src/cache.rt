@@ -119,8 +119,6 @@ pub struct Cache<
     shares: Shares,
     // The limits of the parts, if there is a window.
     windowed: Option<PartLimits>,
-    // The weight limit of protected.
-    room: u64,
     // The largest useful capacity of the store.
     max_entries: usize,
     is_weighed: bool,
@@ -140,7 +138,6 @@ impl<K: Eq + Hash + Drop, V: Drop, S: BuildHasher + Drop, W: Drop, A: Allocator 
             bounds: _,
             shares: _,
             windowed: _,
-            room: _,
             max_entries: _,
             is_weighed: _,
             weigher: _,
@@ -177,7 +174,7 @@ impl<
 
     ghost invariant = { λ c. IsCached
         (keys_by (record { eq = K.eq; hash_input = K.hash_input }) S.BuildHasher S.Hasher.Hasher)
-        c.hash_state c.bounds c.shares c.windowed c.room c.store };
+        c.hash_state c.bounds c.shares c.windowed c.store };
 }
 
 impl<K: Eq + Hash + Drop, V: Drop, A: Allocator + Clone + Drop> Cache<
@@ -226,14 +223,19 @@ impl<
             parts.shares parts.weigher cache.capacity) }
         ensures room { IfOk result (λ cache. reserved parts.initial_capacity ≤ cache.capacity) }
     {
-        let store = empty_store(&alloc, parts.policy, reserved(parts.initial_capacity)?)?;
+        let protected_limit = protected_room(parts.shares, parts.policy.max_capacity());
+        let store = empty_store(
+            &alloc,
+            parts.policy,
+            protected_limit,
+            reserved(parts.initial_capacity)?,
+        )?;
         let memory = new_memory(&alloc, parts.shares)?;
         Ok(Cache {
             hash_state: parts.hash_state,
             bounds: Bounds::new(parts.policy),
             shares: parts.shares,
             windowed: windowed_limits(parts.shares, parts.policy.max_capacity()),
-            room: protected_room(parts.shares, parts.policy.max_capacity()),
             max_entries: max_entries(parts.policy, parts.is_weighed),
             is_weighed: parts.is_weighed,
             weigher: parts.weigher,

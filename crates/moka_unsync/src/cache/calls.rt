@@ -97,7 +97,7 @@ impl<
         if self.bounds.is_expired(self.store.get(id), now) {
             return None;
         }
-        self.store.touch(id, self.room, now);
+        self.store.touch(id, now);
         Some(&self.store.get(id).value)
     }
 
@@ -269,7 +269,7 @@ impl<
                 let cause = self
                     .bounds
                     .cause_at(self.store.get(id), now, Cause::Replaced);
-                let (key, value) = self.store.update(id, self.room, entry);
+                let (key, value) = self.store.update(id, entry);
                 listener.removed(key, value, cause);
             }
             None => match self.windowed {

@@ -63,7 +63,6 @@ impl<
         );
         self.store.limit_protected(followed.protected);
         self.windowed = Some(followed);
-        self.room = followed.protected;
     }
 }
 

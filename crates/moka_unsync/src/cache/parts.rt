@@ -64,17 +64,19 @@ pub(crate) fn max_entries(policy: Policy, is_weighed: bool) -> usize
 pub(crate) fn empty_store<K: Eq + Drop, V: Drop, A: Allocator + Clone + Drop>(
     alloc: &A,
     policy: Policy,
+    protected_limit: u64,
     room: usize,
 ) -> Result<Store<K, V, A>, OutOfMemory>
     ensures empty { IfOk result (λ store. store ≡ record {
       nodes = [];
       written = [];
       keeps_writes = keeps_writes policy;
+      protected_limit = protected_limit;
       capacity = store.capacity;
     }) }
     ensures room { IfOk result (λ store. room ≤ store.capacity) }
 {
-    let mut store = Store::new(alloc.clone()?, policy)?;
+    let mut store = Store::new(alloc.clone()?, policy, protected_limit)?;
     store.reserve(room, 0)?;
     Ok(store)
 }

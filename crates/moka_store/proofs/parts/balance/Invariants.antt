@@ -8,7 +8,7 @@ use Rattle.moka_store.proofs.parts.balance.Given as goal
 abbrev pub invariant-loop-weights : goal.invariant-loop-weights
 invariant-loop-weights g l =
     InOrder Probation (values_of l.entries.items) × AreMarks l.entries.items l.marks × (l.weights ≡ weights_of l.entries.items)
-    × (balanced l.room (values_of l.entries.items) ≡ balanced l.room (values_of l.fn.entries.items))
+    × (balanced l.limit (values_of l.entries.items) ≡ balanced l.limit (values_of l.fn.entries.items))
     × SameBy bare l.fn.entries.items l.entries.items × (keys_of l.entries.items ≡ keys_of l.fn.entries.items)
     × (l.entries ≡ record l.fn.entries { items = l.entries.items })
 

@@ -7,7 +7,7 @@ use Rattle.moka_unsync_model.proofs.EnteringLemmas.{least_recent-nil, least_rece
 use Rattle.moka_store.specs.Store.{contents_of, entries_of}
 use Rattle.moka_unsync_model.proofs.ToldLemmas.{also_for, then_left, untold}
 use Rattle.moka_unsync.proofs.LeavingLemmas.{above_more, lighter}
-use Rattle.moka_unsync.proofs.TurnLemmas.{continued}
+use Rattle.moka_unsync.proofs.TurnLemmas.{continued, unmoved}
 use Rattle.moka_unsync.proofs.WindowLemmas.{next_candidates, next_memory, next_shortfall, none_judged}
 use Rattle.moka_unsync.proofs.admission.drain_window.Goals as goal
 
@@ -31,7 +31,7 @@ loop-shortfall-preserved g c =
     )
 
 pub loop-shortfall-init : goal.loop-shortfall-init
-loop-shortfall-init g c = (refl, refl, record { keeps = refl; capacity = refl; fewer = omega arith }, untold, refl)
+loop-shortfall-init g c = (refl, refl, unmoved, untold, refl)
 
 pub returns-clause-memory : goal.returns-clause-memory
 returns-clause-memory g c =

@@ -24,7 +24,7 @@ returns-in-Some-clause-step g c =
     replaced_is g.K.PartialEq.eq c.args.new c.args.count (contents_of c.args.store.now) c.evict.new.store c.replace-key.new.self c.in-Some.id f main
     c.replace-key.ensures.step (omega (arith, some)) (c.evict.ensures.step 1)
     ∙ ap (λ k. after_arrival g.K.PartialEq.eq k c.args.new (after_eviction_of g.K.PartialEq.eq c.args.count (contents_of c.args.store.now)))
-    c.evict.ensures.kept.keeps
+    c.evict.ensures.kept.settings.keeps
 
 pub returns-then-count-eq0-clause-told : goal.returns-then-count-eq0-clause-told
 returns-then-count-eq0-clause-told g c =

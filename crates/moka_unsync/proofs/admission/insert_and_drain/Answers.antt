@@ -91,7 +91,7 @@ returns-then-drain_window-gt0-clause-step g c =
     arrived g at.After-admit
     ∙ (ap (λ k. after_admission eq k (outside c.args.new) (victims_of (Some c.main_limit.result) c.args.sketch.now (outside c.args.new)
     (main_of (contents_of c.drain_window.new.store).entries)) (contents_of c.drain_window.new.store))
-    c.drain_window.ensures.kept.keeps
+    c.drain_window.ensures.kept.settings.keeps
     ∙ (ap (λ l. after_admission eq c.args.store.now.keeps_writes (outside c.args.new) (victims_of (Some l) c.args.sketch.now
     (outside c.args.new) (main_of (contents_of c.drain_window.new.store).entries)) (contents_of c.drain_window.new.store))
     c.main_limit.ensures
@@ -109,7 +109,7 @@ entered : (g : Over) (c : After-push g) → contents_of c.push.new.self
     ≡ after_entry g.K.PartialEq.eq c.args.store.now.keeps_writes (inside c.args.new) (contents_of c.drain_window.new.store)
 entered g c =
     entered_last g.K.PartialEq.eq c.args.store.now.keeps_writes c.drain_window.new.store c.push.new.self (inside c.args.new) refl
-    c.drain_window.ensures.kept.keeps c.push.ensures
+    c.drain_window.ensures.kept.settings.keeps c.push.ensures
 
 pub returns-clause-value : goal.returns-clause-value
 returns-clause-value g c =

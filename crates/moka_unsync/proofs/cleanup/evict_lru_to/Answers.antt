@@ -1,8 +1,8 @@
-use Rattle.std.proofs.Common.{arith, refl}
+use Rattle.std.proofs.Common.{refl}
 use Rattle.moka_unsync_model.specs.Cleanup.{after_eviction}
 use Rattle.moka_unsync_model.proofs.ToldLemmas.{then_left, untold}
 use Rattle.moka_store.specs.Store.{contents_of}
-use Rattle.moka_unsync.proofs.TurnLemmas.{continued, last_turn, next_turn}
+use Rattle.moka_unsync.proofs.TurnLemmas.{continued, last_turn, next_turn, unmoved}
 use Rattle.moka_unsync.proofs.cleanup.evict_lru_to.Goals as goal
 
 pub loop-left-preserved : goal.loop-left-preserved
@@ -23,4 +23,4 @@ pub returns-else-evict_lru_front-clause-told : goal.returns-else-evict_lru_front
 returns-else-evict_lru_front-clause-told g c = then_left c.loop-left.invariant.2 (c.if-evict_lru_front.ensures {u = tt}).told
 
 pub loop-left-init : goal.loop-left-init
-loop-left-init g c = (refl, record { keeps = refl; capacity = refl; fewer = omega arith }, untold)
+loop-left-init g c = (refl, unmoved, untold)

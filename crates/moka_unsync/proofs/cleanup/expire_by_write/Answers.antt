@@ -2,16 +2,16 @@ use Rattle.std.proofs.Common.{◌≡◌, ◌-◌, ◌∙◌, suc, ap, refl, sym,
 use Rattle.moka_unsync_model.specs.Cleanup.{after_live_expiry}
 use Rattle.moka_unsync_model.proofs.ToldLemmas.{then_left, untold}
 use Rattle.moka_store.specs.Store.{contents_of}
+use Rattle.moka_unsync.proofs.TurnLemmas.{continued, unmoved}
 use Rattle.moka_unsync.proofs.cleanup.expire_by_write.Goals as goal
 
 pub loop-left-preserved : goal.loop-left-preserved
 loop-left-preserved g c =
     let some = c.loop-left-test.true in let same : suc (c.loop-left.left - 1) ≡ c.loop-left.left = omega arith in
-    let was = c.loop-left.invariant in let kept = c.if-expire_oldest.ensures.kept in
-    let fewer = kept.fewer in let fewer_were = was.1.fewer in (
+    let was = c.loop-left.invariant in (
       sym (c.if-expire_oldest.ensures.turn (c.loop-left.left - 1))
           ∙ ap (λ left. after_live_expiry g.K.PartialEq.eq c.args.limits.now c.args.now left (contents_of c.loop-left.store)) same ∙ was.0,
-      record { keeps = kept.keeps ∙ was.1.keeps; capacity = kept.capacity ∙ was.1.capacity; fewer = omega arith },
+      continued was.1 c.if-expire_oldest.ensures.kept,
       then_left c.loop-left.invariant.2 c.if-expire_oldest.ensures.told,
     )
 
@@ -19,4 +19,4 @@ pub returns-else-expire_oldest-clause-told : goal.returns-else-expire_oldest-cla
 returns-else-expire_oldest-clause-told g c = then_left c.loop-left.invariant.2 (c.if-expire_oldest.ensures).told
 
 pub loop-left-init : goal.loop-left-init
-loop-left-init g c = (refl, record { keeps = refl; capacity = refl; fewer = omega arith }, untold)
+loop-left-init g c = (refl, unmoved, untold)

@@ -1,8 +1,8 @@
-use Rattle.std.proofs.Common.{◌∙◌, arith, refl}
+use Rattle.std.proofs.Common.{◌∙◌, refl}
 use Rattle.moka_unsync_model.proofs.ToldLemmas.{then_left, untold}
 use Rattle.moka_store.specs.Store.{contents_of}
 use Rattle.moka_unsync.specs.Turns.{after_idle_of}
-use Rattle.moka_unsync.proofs.TurnLemmas.{continued, next_turn}
+use Rattle.moka_unsync.proofs.TurnLemmas.{continued, next_turn, unmoved}
 use Rattle.moka_unsync.proofs.cleanup.expire_part.Goals as goal
 
 pub loop-left-preserved : goal.loop-left-preserved
@@ -19,4 +19,4 @@ pub returns-else-expire_front-clause-told : goal.returns-else-expire_front-claus
 returns-else-expire_front-clause-told g c = then_left c.loop-left.invariant.2 (c.if-expire_front.ensures).told
 
 pub loop-left-init : goal.loop-left-init
-loop-left-init g c = (refl, record { keeps = refl; capacity = refl; fewer = omega arith }, untold, λ other apart. refl)
+loop-left-init g c = (refl, unmoved, untold, λ other apart. refl)

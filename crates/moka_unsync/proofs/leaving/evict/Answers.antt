@@ -2,7 +2,7 @@ use Rattle.std.proofs.Common.{◌≡◌, ◌∙◌, ◌<◌, ◌+◌, ◌-◌, a
 use Rattle.moka_unsync_model.proofs.ToldLemmas.{also_for, then_left, untold}
 use Rattle.moka_store.specs.Store.{contents_of}
 use Rattle.moka_unsync.specs.Turns.{after_eviction_of}
-use Rattle.moka_unsync.proofs.TurnLemmas.{continued}
+use Rattle.moka_unsync.proofs.TurnLemmas.{continued, unmoved}
 use Rattle.moka_unsync.proofs.leaving.evict.Goals as goal
 
 pub loop-left-preserved : goal.loop-left-preserved
@@ -30,4 +30,4 @@ returns-else-evict_front-clause-told g c =
     then_left c.loop-left.invariant.3 (also_for (λ e there. some) (c.if-evict_front.ensures {u = tt}).told)
 
 pub loop-left-init : goal.loop-left-init
-loop-left-init g c = (λ more. refl, record { keeps = refl; capacity = refl; fewer = omega arith }, omega arith, untold)
+loop-left-init g c = (λ more. refl, unmoved, omega arith, untold)

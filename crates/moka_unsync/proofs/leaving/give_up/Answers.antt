@@ -2,11 +2,11 @@ use Rattle.std.proofs.Common.{◌≡◌, ◌∙◌, ◌<◌, ◌-◌, ap, arith,
 use Rattle.moka_list.proofs.IdLemmas.{some_parts}
 use Rattle.moka_unsync_model.proofs.ToldLemmas.{also_for, then_left, untold}
 use Rattle.moka_unsync_model.specs.Memory.{after_note}
-use Rattle.moka_unsync.proofs.TurnLemmas.{continued, others_give, others_noted}
+use Rattle.moka_unsync.proofs.TurnLemmas.{continued, others_give, others_noted, unmoved}
 use Rattle.moka_unsync.proofs.leaving.give_up.Goals as goal
 
 pub loop-shortfall-init : goal.loop-shortfall-init
-loop-shortfall-init g c = (refl, refl, record { keeps = refl; capacity = refl; fewer = omega arith }, omega arith, untold)
+loop-shortfall-init g c = (refl, refl, unmoved, omega arith, untold)
 
 pub loop-shortfall-preserved : goal.loop-shortfall-preserved
 loop-shortfall-preserved g c =

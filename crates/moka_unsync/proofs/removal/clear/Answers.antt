@@ -1,10 +1,9 @@
-use Rattle.std.proofs.Common.{arith, refl}
 use Rattle.moka_unsync_model.proofs.ToldLemmas.{also_for, then_left, untold}
-use Rattle.moka_unsync.proofs.TurnLemmas.{continued}
+use Rattle.moka_unsync.proofs.TurnLemmas.{continued, unmoved}
 use Rattle.moka_unsync.proofs.removal.clear.Goals as goal
 
 pub loop-id-init : goal.loop-id-init
-loop-id-init g c = record { kept = record { keeps = refl; capacity = refl; fewer = omega arith }; told = untold }
+loop-id-init g c = record { kept = unmoved; told = untold }
 
 pub loop-id-preserved : goal.loop-id-preserved
 loop-id-preserved g c =

@@ -1,4 +1,4 @@
-use Rattle.std.proofs.Common.{◌≡◌, ◌∙◌, Bool, IfSome, false, true, of_calls, refl, subst, sym}
+use Rattle.std.proofs.Common.{◌≡◌, Bool, IfSome, false, true, of_calls, refl, subst, sym}
 use Rattle.moka_list.specs.Nodes.{IsIn}
 use Rattle.moka_unsync_model.specs.Invalidate.{AnswersAt}
 use Rattle.moka_unsync_model.proofs.ToldLemmas.{also_for, then_left, untold}
@@ -6,6 +6,7 @@ use Rattle.moka_store.specs.Store.{contents_of}
 use Rattle.moka_list.proofs.WalkLemmas.{first_is_in, next_is_in}
 use Rattle.moka_unsync.proofs.RemovalLemmas.{IsStop, answered, fewer_from, fewer_left, next_remains, remaining_first, remaining_kept}
 use Rattle.moka_unsync.proofs.RemovalLemmas.{remaining_left, remaining_none}
+use Rattle.moka_unsync.proofs.TurnLemmas.{continued, unmoved}
 use Rattle.moka_unsync.proofs.removal.remove_where.Given.{Over}
 use Rattle.moka_unsync.proofs.removal.remove_where.Goals.{After-predicate}
 use Rattle.moka_unsync.proofs.removal.remove_where.Goals as goal
@@ -32,7 +33,7 @@ loop-here-init g c =
       stands =
           subst (λ o. IfSome o (λ id. IsIn c.args.store.now.nodes id)) (sym c.front-here.ensures.first)
           (first_is_in c.args.store.now.nodes);
-      kept = record { keeps = refl; capacity = refl; fewer = grind (Rattle.std.proofs.Common.arith) };
+      kept = unmoved;
       told = untold;
       remaining =
           remaining_first g.K.PartialEq.eq (goal.F-step g) c.args.predicate c.args.store.now c.front-here.result c.front-here.ensures.first;
@@ -49,12 +50,7 @@ loop-here-preserved-then-predicate g c =
     record {
       callable = search of_calls;
       stands = next_remains (at g asked) g.K.PartialEq.eq c.leave.new.store c.leave.ensures.step;
-      kept =
-          record {
-            keeps = c.leave.ensures.step.kept.keeps ∙ was.kept.keeps;
-            capacity = c.leave.ensures.step.kept.capacity ∙ was.kept.capacity;
-            fewer = grind (Rattle.std.proofs.Common.arith, c.leave.ensures.step.kept.fewer, was.kept.fewer);
-          };
+      kept = continued was.kept c.leave.ensures.step.kept;
       told = then_left was.told (also_for (λ e there. tt) c.leave.ensures.told);
       remaining =
           remaining_left g.K.PartialEq.eq (goal.F-step g) _ _ _ _ (at g asked) (told g asked true c.if-predicate.true) c.leave.new.store

@@ -1,4 +1,4 @@
-use Rattle.std.proofs.Common.{ap, arith, length, refl, ◌∙◌}
+use Rattle.std.proofs.Common.{ap, arith, length, refl}
 use Rattle.moka_unsync_model.specs.Contents.{write_of}
 use Rattle.moka_store.proofs.NodeLemmas.{length-keys}
 use Rattle.moka_store.proofs.SameLemmas.{same-bare}
@@ -9,7 +9,7 @@ use Rattle.moka_store.proofs.store.Store.limit_protected.Goals as goal
 pub invariant_of-self : goal.invariant_of-self
 invariant_of-self g c =
     let step = c.balance.ensures.step in (
-      stored-balanced g.met.K.Eq.laws c.self.invariant.0 c.args.room c.balance.new.entries.items c.balance.new.marks c.balance.new.weights step
+      stored-balanced g.met.K.Eq.laws c.self.invariant.0 c.args.limit c.balance.new.entries.items c.balance.new.marks c.balance.new.weights step
           c.balance.ensures.marks c.balance.ensures.weighed,
       room-same c.self.invariant.1 c.balance.new.entries c.self.inside.writes c.self.inside.index
           (ap (λ v. v.capacity) c.balance.ensures.unchanged) refl refl (ap (λ v. v.room) c.balance.ensures.unchanged)
@@ -32,8 +32,7 @@ returns-clause-kept g c =
     let step = c.balance.ensures.step in
     rw (← c.self.view_is)
     (record {
-      keeps = refl;
-      capacity = refl;
+      settings = record { keeps = refl; limit = refl; capacity = refl };
       fewer = omega (
         arith,
         length-keys c.self.inside.entries.items,

@@ -63,5 +63,5 @@ returns g c =
     let stood = c.get_mut-entry.ensures.value in
     let moved = settled s c.args.id x e stood c.attach.new.entries.items c.attach.ensures.items in
     rw (← c.self.view_is)
-    (promotes_is g.met.K.Eq.laws _ _ s.keyed c.args.id x stood refl refl moved
+    (promotes_is g.met.K.Eq.laws _ _ s.keyed c.args.id x stood (record { keeps = refl; limit = refl; capacity = refl }) moved
     (writes_kept s c.args.id x e stood refl c.attach.new.entries.items moved))

@@ -115,4 +115,4 @@ returns g c =
     ∙ ap (latest_node (id, e)) (ap (remove_entry (nat_eq id)) pushed ∙ removed-pushed id e nodes fresh) in
     rw (← c.self.view_is)
     (enters_is _ _ id e is
-    ((λ i. written_under (is i) (c.add_write.ensures.ids i)) ∙ under-latest s.written id e fresh) refl refl)
+    ((λ i. written_under (is i) (c.add_write.ensures.ids i)) ∙ under-latest s.written id e fresh) (record { keeps = refl; limit = refl; capacity = refl }))

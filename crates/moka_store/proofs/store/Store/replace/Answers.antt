@@ -111,6 +111,6 @@ returns-clause-step g c =
     (its_place c.args.id c.self.inside.entries.items c.replace-gone.new.dest e c.replace-gone.ensures.after c.attach.new.entries.items c.attach.ensures.items)
     in
     rw (← c.self.view_is)
-    (replaces_is g.met.K.Eq.laws _ _ s.keyed c.args.id x stood refl refl e moved
+    (replaces_is g.met.K.Eq.laws _ _ s.keyed c.args.id x stood (record { keeps = refl; limit = refl; capacity = refl }) e moved
     ((λ i. written_under c.attach.new.entries.items (c.write_again.ensures.ids i))
     ∙ writes_replaced g.met.K.Eq.laws s c.args.id x e stood c.attach.new.entries.items moved))

@@ -46,6 +46,6 @@ returns-clause-step g c =
     let nodes = c.self.inside.entries.items in
     let stood = c.unlink-entry.ensures.value in
     rw (← c.self.view_is)
-    (removes_is g.met.K.Eq.laws _ _ s.keyed c.args.id e stood refl refl c.unlink-entry.ensures.items
+    (removes_is g.met.K.Eq.laws _ _ s.keyed c.args.id e stood (record { keeps = refl; limit = refl; capacity = refl }) c.unlink-entry.ensures.items
     ((λ i. written_under (c.unlink-entry.ensures.items i) (c.remove_write.ensures.ids i))
     ∙ under-removed g.met.K.Eq.laws s.keyed s.written c.args.id e stood))

@@ -6,9 +6,9 @@ use Rattle.moka_store.proofs.store.Store.touch.Goals as goal
 pub use_in_probation-requires : goal.use_in_probation-requires
 use_in_probation-requires g c =
     record {
-      stays = (
+      stays = rw (← c.self.view_is) (
         c.get-entry.result.now,
-        rw (← c.self.view_is) c.get-entry.ensures,
+        c.get-entry.ensures,
         is_of_probation c.get-entry.result.now.part (sym c.is_of.ensures ∙ c.if-is_of.true),
         ap (λ b. cond b Protected Probation) (sym c.may_be_protected.ensures ∙ c.if-not-may_be_protected.true),
       );

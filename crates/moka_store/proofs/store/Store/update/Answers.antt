@@ -116,9 +116,9 @@ invariant_of-self g c =
     stored-settled g.met.K.Eq.laws s c.args.id x e stood small c.attach.new.entries.items c.attach.ensures.items
     c.attach.new.marks c.attach.ensures.marks c.add.new.self weighed (ap (λ z. z.key) c.rewrite-left.ensures.entry) (ap
     (λ z. z.hash) c.rewrite-left.ensures.entry) in (
-      stored-written g.met.K.Eq.laws (stored-balanced g.met.K.Eq.laws after c.args.room c.balance.new.entries.items c.balance.new.marks
+      stored-written g.met.K.Eq.laws (stored-balanced g.met.K.Eq.laws after c.self.inside.protected_limit c.balance.new.entries.items c.balance.new.marks
           c.balance.new.weights c.balance.ensures.step c.balance.ensures.marks c.balance.ensures.weighed) c.args.id
-          (found_balanced s c.args.id x e stood c.args.room c.attach.new.entries.items c.balance.new.entries.items
+          (found_balanced s c.args.id x e stood c.self.inside.protected_limit c.attach.new.entries.items c.balance.new.entries.items
           (settled s c.args.id x e stood c.attach.new.entries.items c.attach.ensures.items) c.balance.ensures.step)
           c.write_again.new.writes.ids c.write_again.ensures.ids,
       room-same c.self.invariant.1 c.balance.new.entries c.write_again.new.writes c.self.inside.index
@@ -137,14 +137,16 @@ returns-clause-step g c =
     let stood = c.get_mut-entry.ensures.value in
     let moved = settled s c.args.id x e stood c.attach.new.entries.items c.attach.ensures.items in
     rw (← c.self.view_is)
-    (updates_is g.met.K.Eq.laws _ _ s.keyed c.args.id x stood refl refl c.args.room e c.attach.new.entries.items moved c.balance.ensures.step c.args.update
+    (updates_is g.met.K.Eq.laws _ _ s.keyed c.args.id x stood (record { keeps = refl; limit = refl; capacity = refl }) e c.attach.new.entries.items
+    moved c.balance.ensures.step c.args.update
     (c.rewrite-left.ensures.entry ∙ (λ i. record c.args.update {
       key = x.key;
       hash = x.hash;
       part = c.used_part-used.ensures i;
     }))
     ((λ i. written_under c.balance.new.entries.items (c.write_again.ensures.ids i))
-    ∙ (writes_last g.met.K.Eq.laws s c.args.id x e stood c.args.room c.attach.new.entries.items c.balance.new.entries.items moved c.balance.ensures.step
+    ∙ (writes_last g.met.K.Eq.laws s c.args.id x e stood c.self.inside.protected_limit c.attach.new.entries.items c.balance.new.entries.items moved
+    c.balance.ensures.step
     ∙ (λ i. with_write c.self.inside.keeps_writes
     (writes_without g.K.PartialEq.eq x.key (written_under c.self.inside.entries.items c.self.inside.writes.ids))
     (c.rewrite-left.ensures.entry i).key (c.rewrite-left.ensures.entry i).modified))))

@@ -86,7 +86,8 @@ invariant_of-self g c =
     let after =
     stored-settled g.met.K.Eq.laws s c.args.id x e stood c.shift.ensures.small c.attach.new.entries.items c.attach.ensures.items
     c.attach.new.marks c.attach.ensures.marks c.shift.new.self weighed refl refl in (
-      stored-balanced g.met.K.Eq.laws after c.args.room c.balance.new.entries.items c.balance.new.marks c.balance.new.weights c.balance.ensures.step
+      stored-balanced g.met.K.Eq.laws after c.self.inside.protected_limit c.balance.new.entries.items c.balance.new.marks c.balance.new.weights
+          c.balance.ensures.step
           c.balance.ensures.marks c.balance.ensures.weighed,
       room-same c.self.invariant.1 c.balance.new.entries c.self.inside.writes c.self.inside.index
           (ap (λ v. v.capacity) c.balance.ensures.unchanged ∙ ap (λ v. v.capacity) c.attach.ensures.unchanged) refl refl
@@ -104,6 +105,8 @@ returns g c =
     let stood = c.get_mut-entry.ensures.value in
     let moved = settled s c.args.id x e stood c.attach.new.entries.items c.attach.ensures.items in
     rw (← c.self.view_is)
-    (uses_is g.met.K.Eq.laws _ _ s.keyed c.args.id x stood refl refl c.args.room e c.attach.new.entries.items moved c.balance.ensures.step c.args.now
+    (uses_is g.met.K.Eq.laws _ _ s.keyed c.args.id x stood (record { keeps = refl; limit = refl; capacity = refl }) e c.attach.new.entries.items
+    moved c.balance.ensures.step c.args.now
     (λ i. record x { accessed = c.args.now; part = c.used_part-used.ensures i })
-    (writes_balanced s c.args.id x e stood refl c.args.room c.attach.new.entries.items c.balance.new.entries.items moved c.balance.ensures.step))
+    (writes_balanced s c.args.id x e stood refl c.self.inside.protected_limit c.attach.new.entries.items c.balance.new.entries.items moved
+    c.balance.ensures.step))

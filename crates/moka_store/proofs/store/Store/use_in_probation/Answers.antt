@@ -67,7 +67,7 @@ invariant_of-self g c =
     let after =
     stored-kept laws c.self.invariant.0 c.args.id x e stood here here refl c.attach.new.entries.items c.attach.ensures.items c.attach.new.marks
     c.attach.ensures.marks refl refl in (
-      stored-balanced laws after c.args.room c.balance.new.entries.items c.balance.new.marks c.balance.new.weights c.balance.ensures.step
+      stored-balanced laws after c.self.inside.protected_limit c.balance.new.entries.items c.balance.new.marks c.balance.new.weights c.balance.ensures.step
           c.balance.ensures.marks c.balance.ensures.weighed,
       room-same c.self.invariant.1 c.balance.new.entries c.self.inside.writes c.self.inside.index
           (ap (λ v. v.capacity) c.balance.ensures.unchanged ∙ ap (λ v. v.capacity) c.attach.ensures.unchanged) refl refl
@@ -86,9 +86,11 @@ returns g c =
     let stays = rw (← c.self.view_is) at c.requires.stays in
     let own = some_parts x stays.0 (sym stood ∙ stays.1) in
     let here = ap (λ y. y.part) own ∙ stays.2 in
-    let used = (λ i. used_part c.args.room (here i) (own i).weight) ∙ (stays.3 ∙ sym here) in
+    let used = (λ i. used_part c.self.inside.protected_limit (here i) (own i).weight) ∙ (stays.3 ∙ sym here) in
     let moved = settled s c.args.id x e stood c.attach.new.entries.items c.attach.ensures.items in
     rw (← c.self.view_is)
-    (uses_is g.met.K.Eq.laws _ _ s.keyed c.args.id x stood refl refl c.args.room e c.attach.new.entries.items moved c.balance.ensures.step c.args.now
+    (uses_is g.met.K.Eq.laws _ _ s.keyed c.args.id x stood (record { keeps = refl; limit = refl; capacity = refl }) e c.attach.new.entries.items
+    moved c.balance.ensures.step c.args.now
     (λ i. record x { accessed = c.args.now; part = sym used i })
-    (writes_balanced s c.args.id x e stood refl c.args.room c.attach.new.entries.items c.balance.new.entries.items moved c.balance.ensures.step))
+    (writes_balanced s c.args.id x e stood refl c.self.inside.protected_limit c.attach.new.entries.items c.balance.new.entries.items moved
+    c.balance.ensures.step))

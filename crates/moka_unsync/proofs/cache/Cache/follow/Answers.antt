@@ -1,9 +1,9 @@
-use Rattle.std.proofs.Common.{◌≡◌, ◌∙◌, ◌<◌, ◌-◌, ℕ, Option, Some, ap, arith, is_some, refl, subst, sym}
+use Rattle.std.proofs.Common.{◌≡◌, ◌∙◌, ◌<◌, ◌-◌, ℕ, Some, ap, arith, is_some, subst, sym}
 use Rattle.moka_common.specs.Keys.{keys_by}
 use Rattle.moka_unsync_model.specs.declared.shares.Shares.{Shares}
 use Rattle.moka_unsync_model.specs.Contents.{entry_at, main_of, total_weight}
 use Rattle.moka_unsync_model.specs.Memory.{at_most}
-use Rattle.moka_unsync_model.specs.Shares.{limits_of, main_limit, windowed_limits}
+use Rattle.moka_unsync_model.specs.Shares.{limits_of, main_limit, protected_room, windowed_limits}
 use Rattle.moka_unsync_model.specs.CacheState.{CacheState, windowed}
 use Rattle.moka_unsync_model.specs.Cleanup.{least_recent}
 use Rattle.moka_unsync_model.specs.Window.{after_displacing, after_sharing, given_up}
@@ -11,8 +11,8 @@ use Rattle.moka_unsync_model.proofs.ToldLemmas.{also_for, and_moved, untold}
 use Rattle.moka_store.specs.Store.{contents_of, entries_of}
 use Rattle.moka_unsync.specs.Cached.{IsCached, after_following, gained_in}
 use Rattle.moka_unsync.proofs.CachedLemmas.{IsCached-balanced, IsCached-follow}
-use Rattle.moka_unsync.proofs.FollowLemmas.{balanced-same, followed, limit_of, limits_are, stands_balanced, stands_still, stands_there}
-use Rattle.moka_unsync.proofs.TurnLemmas.{continued}
+use Rattle.moka_unsync.proofs.FollowLemmas.{balanced-same, followed, limits_there, stands_balanced, stands_still, stands_there}
+use Rattle.moka_unsync.proofs.TurnLemmas.{limited}
 use Rattle.moka_unsync.proofs.cache.Cache.follow.Given.{Over}
 use Rattle.moka_unsync.proofs.cache.Cache.follow.Goals.{After-limit_protected-2}
 use Rattle.moka_unsync.proofs.cache.Cache.follow.Goals as goal
@@ -24,7 +24,12 @@ returns-in_default-clause-told g c = rw (← c.self.view_is) untold
 
 pub invariant_of-self-then-extra-before : goal.invariant_of-self-then-extra-before
 invariant_of-self-then-extra-before g c =
-    IsCached-balanced c.args.limits.protected c.self.invariant c.limit_protected.ensures.step c.limit_protected.ensures.kept
+    let there =
+    limits_there c.self.inside.shares c.self.inside.bounds.max_capacity c.args.limits
+    (ap (λ cache. windowed_limits cache.shares cache.settings.policy.max_capacity) c.self.view_is ∙ c.requires) in
+    IsCached-balanced c.args.limits.protected c.self.invariant
+    (ap (λ l. l.protected) there.1 ∙ ap (protected_room c.self.inside.shares) (sym there.0)) c.limit_protected.ensures.step
+    c.limit_protected.ensures.kept
 
 pub returns-then-extra-before-clause-stays : goal.returns-then-extra-before-clause-stays
 returns-then-extra-before-clause-stays g c =
@@ -72,34 +77,32 @@ its_contents g c =
     })
     c.limits_of-followed.ensures)
 
+-- what was computed of the shares is right
+its_cached : (g : Over) (c : After-limit_protected-2 g)
+    → IsCached (keys_by (record { eq = g.K.PartialEq.eq; hash_input = g.K.Hash.hash_input }) g.S.BuildHasher g.S.Hasher.Hasher)
+    c.self.inside.hash_state c.self.inside.bounds (its_shares g c) (Some (limits_of (its_shares g c) c.args.limits.all)) c.limit_protected-2.new.self
+its_cached g c =
+    let keys = keys_by (record { eq = g.K.PartialEq.eq; hash_input = g.K.Hash.hash_input }) g.S.BuildHasher g.S.Hasher.Hasher in
+    IsCached-follow {limits = c.args.limits} c.extra-extra.result c.gained_in-gained.result c.args.limits.all
+    (subst (λ w. IsCached keys c.self.inside.hash_state c.self.inside.bounds c.self.inside.shares w c.self.inside.store)
+    (c.self.invariant.windowed ∙ its_window g c) c.self.invariant)
+    (limits_there c.self.inside.shares c.self.inside.bounds.max_capacity c.args.limits (its_window g c)).0 (its_contents g c)
+    (limited c.give_up.ensures.kept c.limit_protected-2.ensures.kept _ (ap (λ l. l.protected) c.limits_of-followed.ensures))
+
 pub invariant_of-self-2 : goal.invariant_of-self-2
 invariant_of-self-2 g c =
     let at = (goal.at.invariant_of-self-2 g c).After-limit_protected-2 in
     let keys = keys_by (record { eq = g.K.PartialEq.eq; hash_input = g.K.Hash.hash_input }) g.S.BuildHasher g.S.Hasher.Hasher in
-    let space = c.self.inside.room in
-    subst (λ l. IsCached keys c.self.inside.hash_state c.self.inside.bounds (its_shares g at) (Some l) l.protected c.limit_protected-2.new.self)
-    (sym c.limits_of-followed.ensures)
-    (IsCached-follow {limits = c.args.limits} {space = space} c.extra-extra.result c.gained_in-gained.result c.args.limits.all
-    (subst (λ w. IsCached keys c.self.inside.hash_state c.self.inside.bounds c.self.inside.shares w space c.self.inside.store)
-    (c.self.invariant.windowed ∙ its_window g at) c.self.invariant)
-    (limit_of c.self.inside.shares c.self.inside.bounds.max_capacity c.args.limits (its_window g at)) (its_contents g at)
-    (continued c.give_up.ensures.kept c.limit_protected-2.ensures.kept))
+    subst (λ l. IsCached keys c.self.inside.hash_state c.self.inside.bounds (its_shares g at) (Some l) c.limit_protected-2.new.self)
+    (sym c.limits_of-followed.ensures) (its_cached g at)
 
 pub returns-in_default-clause-windowed : goal.returns-in_default-clause-windowed
 returns-in_default-clause-windowed g c =
-    limits_are c.self.inside.shares c.self.inside.bounds.max_capacity c.args.limits
-    (ap (λ cache. windowed_limits cache.shares cache.settings.policy.max_capacity) c.self.view_is ∙ c.requires)
+    let some = ap (λ cache. windowed_limits cache.shares cache.settings.policy.max_capacity) c.self.view_is ∙ c.requires in
+    some ∙ ap Some (limits_there c.self.inside.shares c.self.inside.bounds.max_capacity c.args.limits some).1
 
 pub returns-clause-windowed : goal.returns-clause-windowed
-returns-clause-windowed g c =
-    let at = (goal.at.returns-clause-windowed g c).After-limit_protected-2 in
-    let keys = keys_by (record { eq = g.K.PartialEq.eq; hash_input = g.K.Hash.hash_input }) g.S.BuildHasher g.S.Hasher.Hasher in
-    let space = c.self.inside.room in
-    sym (IsCached-follow {limits = c.args.limits} {space = space} c.extra-extra.result c.gained_in-gained.result c.args.limits.all
-    (subst (λ w. IsCached keys c.self.inside.hash_state c.self.inside.bounds c.self.inside.shares w space c.self.inside.store)
-    (c.self.invariant.windowed ∙ its_window g at) c.self.invariant)
-    (limit_of c.self.inside.shares c.self.inside.bounds.max_capacity c.args.limits (its_window g at)) (its_contents g at)
-    (continued c.give_up.ensures.kept c.limit_protected-2.ensures.kept)).windowed
+returns-clause-windowed g c = sym (its_cached g (goal.at.returns-clause-windowed g c).After-limit_protected-2).windowed
 
 pub returns-clause-step : goal.returns-clause-step
 returns-clause-step g c =
@@ -127,7 +130,7 @@ returns-clause-step g c =
     ≡ after_displacing memory (given_up (limits_of (its_shares g at) c.args.limits.all) c.gained_in-gained.result (entries_of store)) =
     c.give_up.ensures.memory
     ∙ ap (λ n. after_displacing memory (least_recent n (main_of (entries_of store)))) (its_weight g at) in
-    let capacity = c.limit_protected-2.ensures.kept.capacity ∙ c.give_up.ensures.kept.capacity in
+    let capacity = c.limit_protected-2.ensures.kept.settings.capacity ∙ c.give_up.ensures.kept.settings.capacity in
     rw (← c.self.view_is)
     ((λ i. record old { shares = its_shares g at; contents = its_contents g at i; memory = Some (noted i); capacity = capacity i })
     ∙ (ap (then c.extra-extra.result) c.gained_in-gained.ensures

@@ -19,5 +19,5 @@ invariant_of-self-then-is_expired g c = IsCached-cleanup c.args.now c.self.invar
 
 pub invariant_of-self-2 : goal.invariant_of-self-2
 invariant_of-self-2 g c =
-    IsCached-touch c.in_ok-id.id c.self.inside.room c.args.now c.clean_up.new.store c.touch.new.self
+    IsCached-touch c.in_ok-id.id c.args.now c.clean_up.new.store c.touch.new.self
     (IsCached-cleanup c.args.now c.self.invariant c.clean_up.ensures.step c.clean_up.ensures.kept) c.touch.ensures

@@ -7,7 +7,7 @@ use Rattle.moka_list.proofs.IdLemmas.{some_parts}
 use Rattle.moka_unsync_model.specs.Insert.{Refused, after_admission, after_entering, after_entering_judged, after_update, new_entry}
 use Rattle.moka_unsync_model.specs.Cleanup.{after_cleanup}
 use Rattle.moka_unsync_model.specs.Window.{victims_of}
-use Rattle.moka_store.specs.Store.{Store, contents_of, entries_of}
+use Rattle.moka_store.specs.Store.{KeepsSettings, Store, contents_of, entries_of}
 use Rattle.moka_common.specs.Keys.{keys_by}
 use Rattle.moka_unsync_model.specs.declared.entry.Entry.{Entry}
 use Rattle.moka_unsync_model.specs.declared.entry.Part.TheVariants.{Probation}
@@ -51,7 +51,7 @@ find-requires g c =
 
 pub invariant_of-self-in-Some : goal.invariant_of-self-in-Some
 invariant_of-self-in-Some g c =
-    IsCached-update c.in-Some.id c.self.inside.room _ c.clean_up.new.store c.update-key.new.self
+    IsCached-update c.in-Some.id _ c.clean_up.new.store c.update-key.new.self
     (IsCached-cleanup c.args.now (IsCached-room c.self.invariant c.reserve.ensures.unchanged) c.clean_up.ensures.step c.clean_up.ensures.kept)
     c.update-key.ensures.step
 
@@ -116,7 +116,7 @@ its_put : (g : Over) (c : After-weigh g) (put : Store g.row.K.Denot g.row.V.Deno
     (windowed_limits c.self.inside.shares c.self.inside.bounds.max_capacity) c.self.inside.bounds.max_capacity c.self.inside.sketch
     (its_entry g c (its_hash g c)) (kept g.K.PartialEq.eq (its_cache g c) (its_entry g c (its_hash g c)) c.args.now no_tables) stays (contents_of put)
 its_put g c put stays step =
-    let keeps = c.clean_up.ensures.kept.keeps ∙ (ap (λ s. s.keeps_writes) c.reserve.ensures.unchanged ∙ c.self.invariant.keeps) in
+    let keeps = c.clean_up.ensures.kept.settings.keeps ∙ (ap (λ s. s.keeps_writes) c.reserve.ensures.unchanged ∙ c.self.invariant.keeps) in
     let eq = g.K.PartialEq.eq in
     let sketch = c.self.inside.sketch in
     let left = contents_of put in
@@ -132,13 +132,13 @@ its_put g c put stays step =
 -- the verdict on the new entry keeps the parts tied
 admitted : (g : Over) (c : After-weigh g) (put : Store g.row.K.Denot g.row.V.Denot) (stays : Bool)
     → IsPut g.K.PartialEq.eq c.clean_up.new.store.keeps_writes c.self.inside.windowed c.self.inside.bounds.max_capacity c.self.inside.sketch
-    (its_entry g c c.args.hash) (contents_of c.clean_up.new.store) stays (contents_of put) → put.keeps_writes ≡ c.clean_up.new.store.keeps_writes
+    (its_entry g c c.args.hash) (contents_of c.clean_up.new.store) stays (contents_of put) → KeepsSettings c.clean_up.new.store put
     → IsCached (keys_by (record { eq = g.K.PartialEq.eq; hash_input = g.K.Hash.hash_input }) g.S.BuildHasher g.S.Hasher.Hasher)
-    c.self.inside.hash_state c.self.inside.bounds c.self.inside.shares c.self.inside.windowed c.self.inside.room put
-admitted g c put stays step keeps =
+    c.self.inside.hash_state c.self.inside.bounds c.self.inside.shares c.self.inside.windowed put
+admitted g c put stays step same =
     IsCached-put (its_entry g c c.args.hash) c.self.inside.sketch stays
     (IsCached-cleanup c.args.now (IsCached-room c.self.invariant c.reserve.ensures.unchanged) c.clean_up.ensures.step c.clean_up.ensures.kept)
-    (put_own g c) refl step keeps
+    (put_own g c) refl step same
 
 -- what an entry leaves that enters the window
 its_entering : (g : Over) (c : After-weigh g) (limits : PartLimits) → c.self.inside.windowed ≡ Some limits
@@ -200,7 +200,9 @@ returns-in-Some-clause-step g c =
     let found = (c.in-Some.ensures {u = tt}).found in
     let is : contents_of mid ≡ kept eq cache new c.args.now no_tables =
     c.clean_up.ensures.step ∙ ap (λ s. after_cleanup eq c.self.inside.bounds c.args.now (contents_of s)) c.reserve.ensures.unchanged in
-    let keeps = c.clean_up.ensures.kept.keeps ∙ (ap (λ s. s.keeps_writes) c.reserve.ensures.unchanged ∙ c.self.invariant.keeps) in
+    let keeps = c.clean_up.ensures.kept.settings.keeps ∙ (ap (λ s. s.keeps_writes) c.reserve.ensures.unchanged ∙ c.self.invariant.keeps) in
+    let limit =
+    c.clean_up.ensures.kept.settings.limit ∙ (ap (λ s. s.protected_limit) c.reserve.ensures.unchanged ∙ c.self.invariant.protected) in
     let own = some_parts c.update-key.ensures.step.entry found.0 (sym c.update-key.ensures.step.stood ∙ found.1) in
     rw (← c.self.view_is)
     (record {
@@ -216,8 +218,8 @@ returns-in-Some-clause-step g c =
           insert_updates eq cache new c.args.now no_tables found.0 (subst (λ s. entry_at eq c.args.key s.entries ≡ Some found.0) is found.2)
           (contents_of c.update-key.new.self) c.update-key.new.self.capacity
           (c.update-key.ensures.step.contents
-          ∙ (λ i. after_update eq (keeps i) (c.self.invariant.room i) (own i) new (is i)))
-          (c.update-key.ensures.step.kept.capacity ∙ c.clean_up.ensures.kept.capacity);
+          ∙ (λ i. after_update eq (keeps i) (limit i) (own i) new (is i)))
+          (c.update-key.ensures.step.kept.settings.capacity ∙ c.clean_up.ensures.kept.settings.capacity);
     })
 
 -- the cache as the call finds it
@@ -290,21 +292,21 @@ invariant_of-self-in-Some-windowed g c =
     let at = (goal.at.invariant_of-self-in-Some-windowed g c).After-weigh in
     let put = c.insert_into_window-part in
     admitted g at put.new.store (is_some put.result)
-    (its_place g at c.in-Some-windowed.limits c.in-Some-windowed.is put.new.store put.result put.ensures.value put.ensures.step) put.ensures.keeps
+    (its_place g at c.in-Some-windowed.limits c.in-Some-windowed.is put.new.store put.result put.ensures.value put.ensures.step) put.ensures.kept
 
 pub invariant_of-self-then-admit : goal.invariant_of-self-then-admit
 invariant_of-self-then-admit g c =
     let at = (goal.at.invariant_of-self-then-admit g c).After-weigh in
     let put = its_admission g at c.in-None-windowed.is c.admit.new.store c.admit.result c.max_capacity-limit.result
     (c.max_capacity-limit.ensures ∙ ap (λ p. p.max_capacity) c.policy.ensures) c.admit.ensures.step c.admit.ensures.value in
-    admitted g at c.admit.new.store c.admit.result put c.admit.ensures.keeps
+    admitted g at c.admit.new.store c.admit.result put c.admit.ensures.kept
 
 pub invariant_of-self-else-admit : goal.invariant_of-self-else-admit
 invariant_of-self-else-admit g c =
     let at = (goal.at.invariant_of-self-else-admit g c).After-weigh in
     let put = its_admission g at c.in-None-windowed.is c.admit.new.store c.admit.result c.max_capacity-limit.result
     (c.max_capacity-limit.ensures ∙ ap (λ p. p.max_capacity) c.policy.ensures) c.admit.ensures.step c.admit.ensures.value in
-    admitted g at c.admit.new.store c.admit.result put c.admit.ensures.keeps
+    admitted g at c.admit.new.store c.admit.result put c.admit.ensures.kept
 
 pub returns-then-is_some-clause-step : goal.returns-then-is_some-clause-step
 returns-then-is_some-clause-step g c =
@@ -320,7 +322,7 @@ returns-then-is_some-clause-step g c =
     let found = kept eq cache new c.args.now no_tables in
     let some : windowed cache ≡ Some limits = sym c.self.invariant.windowed ∙ c.in-Some-windowed.is in
     let keeps : c.clean_up.new.store.keeps_writes ≡ keeps_writes c.self.inside.bounds =
-    c.clean_up.ensures.kept.keeps ∙ (ap (λ s. s.keeps_writes) c.reserve.ensures.unchanged ∙ c.self.invariant.keeps) in
+    c.clean_up.ensures.kept.settings.keeps ∙ (ap (λ s. s.keeps_writes) c.reserve.ensures.unchanged ∙ c.self.invariant.keeps) in
     let entered = after_entering eq (keeps_writes c.self.inside.bounds) limits c.self.inside.sketch new found in
     let contents : contents_of put.new.store ≡ entered =
     put.ensures.step ∙ (λ i. after_entering eq (keeps i) limits c.self.inside.sketch (its_entry g at (put_own g at i)) (its_contents g at i)) in
@@ -334,7 +336,7 @@ returns-then-is_some-clause-step g c =
     }) c.self.inside.memory))) in
     let part : put.result ≡ option_map (λ e. e.part) (entry_at eq c.args.key entered.entries) =
     put.ensures.value ∙ ap (λ s. option_map (λ e. e.part) (entry_at eq c.args.key s.entries)) contents in
-    let capacity = put.ensures.capacity ∙ c.clean_up.ensures.kept.capacity in
+    let capacity = put.ensures.kept.capacity ∙ c.clean_up.ensures.kept.settings.capacity in
     let turn : c.follow.new.self ≡ turned eq cache new c.args.now no_tables gone limits some =
     c.follow.ensures.step
     ∙ ((λ i. after_following eq (memory i) limits (part i) (record cache { contents = contents i; memory = memory i; capacity = capacity i }))
@@ -370,7 +372,7 @@ returns-else-is_some-clause-step g c =
     let found = kept eq cache new c.args.now no_tables in
     let some : windowed cache ≡ Some limits = sym c.self.invariant.windowed ∙ c.in-Some-windowed.is in
     let keeps : c.clean_up.new.store.keeps_writes ≡ keeps_writes c.self.inside.bounds =
-    c.clean_up.ensures.kept.keeps ∙ (ap (λ s. s.keeps_writes) c.reserve.ensures.unchanged ∙ c.self.invariant.keeps) in
+    c.clean_up.ensures.kept.settings.keeps ∙ (ap (λ s. s.keeps_writes) c.reserve.ensures.unchanged ∙ c.self.invariant.keeps) in
     let entered = after_entering eq (keeps_writes c.self.inside.bounds) limits c.self.inside.sketch new found in
     let contents : contents_of put.new.store ≡ entered =
     put.ensures.step ∙ (λ i. after_entering eq (keeps i) limits c.self.inside.sketch (its_entry g at (put_own g at i)) (its_contents g at i)) in
@@ -384,7 +386,7 @@ returns-else-is_some-clause-step g c =
     }) c.self.inside.memory))) in
     let part : put.result ≡ option_map (λ e. e.part) (entry_at eq c.args.key entered.entries) =
     put.ensures.value ∙ ap (λ s. option_map (λ e. e.part) (entry_at eq c.args.key s.entries)) contents in
-    let capacity = put.ensures.capacity ∙ c.clean_up.ensures.kept.capacity in
+    let capacity = put.ensures.kept.capacity ∙ c.clean_up.ensures.kept.settings.capacity in
     let turn : c.follow.new.self ≡ turned eq cache new c.args.now no_tables gone limits some =
     c.follow.ensures.step
     ∙ ((λ i. after_following eq (memory i) limits (part i) (record cache { contents = contents i; memory = memory i; capacity = capacity i }))
@@ -433,7 +435,7 @@ returns-then-admit-clause-step g c =
       step =
           c.enable_sketch-then-admit.ensures.1
           ∙ insert_stays eq cache new c.args.now c.enable_sketch-then-admit.ensures.0 (its_absence g at absent) none (contents_of put.new.store)
-          put.new.store.capacity put.result (put.ensures.capacity ∙ c.clean_up.ensures.kept.capacity) is.0 is.1 c.if-admit.true;
+          put.new.store.capacity put.result (put.ensures.kept.capacity ∙ c.clean_up.ensures.kept.settings.capacity) is.0 is.1 c.if-admit.true;
     })
 
 pub returns-else-admit-clause-step : goal.returns-else-admit-clause-step
@@ -464,7 +466,7 @@ returns-else-admit-clause-step g c =
       small = search rules;
       step =
           insert_drops eq cache new c.args.now no_tables (its_absence g at absent) none (contents_of put.new.store) put.new.store.capacity put.result
-          (put.ensures.capacity ∙ c.clean_up.ensures.kept.capacity) is.0 is.1 c.if-admit.false;
+          (put.ensures.kept.capacity ∙ c.clean_up.ensures.kept.settings.capacity) is.0 is.1 c.if-admit.false;
     })
 
 -- the listener was told of what leaves for the new entry

@@ -28,7 +28,7 @@ returns g c =
           contents = step i;
           sketch = c.self.inside.sketch;
           memory = c.self.inside.memory;
-          capacity = c.remove_where.ensures.kept.capacity i;
+          capacity = c.remove_where.ensures.kept.settings.capacity i;
         }),
       );
       told = c.remove_where.ensures.told;
