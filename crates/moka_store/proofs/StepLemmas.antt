@@ -1,6 +1,7 @@
 -- Lemmas on what a contract sees of each change.
-use Rattle.std.proofs.Common.{◌≡◌, ℕ, Bool, nat_eq, List, length, Some, is_some, option_map}
+use Rattle.std.proofs.Common.{◌≡◌, ℕ, Bool, nat_eq, List, length, None, Some, is_some, option_map}
 use Rattle.std.proofs.Common.{refl, ap, ◌∙◌, arith}
+use Rattle.std.proofs.lemmas.Bool.{cond-false, cond-true}
 use Rattle.std.specs.Cmp.{IsEquivalence}
 use Rattle.std.specs.Map.{lookup, remove_entry, values_of}
 use Rattle.moka_unsync_model.specs.declared.entry.Entry.{Entry}
@@ -10,8 +11,8 @@ use Rattle.moka_unsync_model.specs.Insert.{with_write}
 use Rattle.moka_unsync_model.specs.Lookup.{used_part}
 use Rattle.moka_store.specs.Nodes.{AreKeyed, IsBalanced, latest_node}
 use Rattle.moka_store.specs.Store.{Continues, Enters, KeepsSettings, Promotes, Removes, Replaces, Store, Updates, Uses, entries_of}
-use Rattle.moka_list.proofs.ItemLemmas.{length-remove, nat_eq-same}
-use Rattle.moka_store.proofs.LatestLemmas.{length-latest, lookup-relisted, values-latest}
+use Rattle.moka_list.proofs.ItemLemmas.{differs, length-remove, nat_eq-same}
+use Rattle.moka_store.proofs.LatestLemmas.{length-latest, lookup-latest, lookup-relisted, values-latest}
 use Rattle.moka_store.proofs.NodeLemmas.{length-keys, values-removed}
 use Rattle.moka_store.proofs.SameLemmas.{same-bare}
 
@@ -42,6 +43,7 @@ module _ {K V : Type 0} {eq : K → K → Bool} (laws : IsEquivalence eq) (old n
         entry = x;
         stood = stood;
         contents = λ i. record { entries = (ap values_of nodes ∙ relisted (record x { part = Probation })) i; written = written i };
+        alone = values-removed laws keyed id x stood;
         kept = record { settings = settings; fewer = omega (arith, ap length nodes, many (record x { part = Probation })) };
       }
 
@@ -52,6 +54,10 @@ module _ {K V : Type 0} {eq : K → K → Bool} (laws : IsEquivalence eq) (old n
         gone = x;
         stood = stood;
         contents = λ i. record { entries = (ap values_of nodes ∙ relisted e) i; written = written i };
+        alone = values-removed laws keyed id x stood;
+        others = λ i other.
+            ap (lookup (nat_eq i)) nodes
+            ∙ (lookup-relisted i id e old.nodes keyed.once ∙ cond-false (nat_eq id i) (Some e) (lookup (nat_eq i) old.nodes) other);
         kept = record { settings = settings; fewer = omega (arith, ap length nodes, many e) };
       }
 
@@ -88,7 +94,7 @@ module _ {K V : Type 0} {eq : K → K → Bool} (laws : IsEquivalence eq) (old n
               same-bare (λ e. e.value) (λ e. refl) mid new.nodes balance.same id
               ∙ (ap (λ l. option_map (λ e. e.value) (lookup (nat_eq id) l)) mid_is
               ∙ (ap (option_map (λ e. e.value)) (lookup-relisted id id e old.nodes keyed.once
-              ∙ Rattle.std.proofs.lemmas.Bool.cond-true (nat_eq id id) (Some e) (lookup (nat_eq id) old.nodes) (nat_eq-same id))
+              ∙ cond-true (nat_eq id id) (Some e) (lookup (nat_eq id) old.nodes) (nat_eq-same id))
               ∙ ap (λ e. Some e.value) is));
           kept = kept_used;
         }
@@ -108,10 +114,14 @@ module _ {K V : Type 0} {eq : K → K → Bool} (laws : IsEquivalence eq) (old n
         }
 
 -- a new entry comes
-pub enters_is : {K V : Type 0} {eq : K → K → Bool} (old new : Store K V) (id : ℕ) (e : Entry K V) → new.nodes ≡ latest_node (id, e) old.nodes
+pub enters_is : {K V : Type 0} {eq : K → K → Bool} (old new : Store K V) (id : ℕ) (e : Entry K V) → lookup (nat_eq id) old.nodes ≡ None
+    → new.nodes ≡ latest_node (id, e) old.nodes
     → new.written ≡ with_write old.keeps_writes old.written e.key e.modified → KeepsSettings old new → Enters eq old e new
-enters_is old new id e nodes written kept =
+enters_is old new id e fresh nodes written kept =
     record {
       contents = λ i. record { entries = (ap values_of nodes ∙ values-latest (id, e) old.nodes) i; written = written i };
+      others = λ i some.
+          ap (lookup (nat_eq i)) nodes
+          ∙ (lookup-latest i id e old.nodes fresh ∙ cond-false (nat_eq id i) (Some e) (lookup (nat_eq i) old.nodes) (differs id i old.nodes fresh some));
       kept = kept;
     }

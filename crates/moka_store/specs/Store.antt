@@ -122,21 +122,29 @@ module _ {K V : Type 0} where
       pub contents : contents_of new ≡ after_update eq old.keeps_writes old.protected_limit entry update (contents_of old)
       pub kept : Continues old new
 
+    -- the entries of the other nodes are those of other keys
+    abbrev pub IsAlone : Store K V → ℕ → Entry K V → Type 0
+    IsAlone store id entry = values_of (remove_entry (nat_eq id) store.nodes) ≡ entries_without eq entry.key (entries_of store)
+
     -- what it is once the entry has come to probation
     pub record Promotes (old : Store K V) (id : ℕ) (new : Store K V) : Type 0 where
       pub entry : Entry K V
       pub stood : lookup (nat_eq id) old.nodes ≡ Some entry
       pub contents : contents_of new ≡ after_moving eq (record entry { part = Probation }) (contents_of old)
+      pub alone : IsAlone old id entry
       pub kept : Continues old new
 
-    -- what it is once a new entry has entered
+    -- what it is once a new entry has entered: each node stands as before
     pub record Enters (old : Store K V) (entry : Entry K V) (new : Store K V) : Type 0 where
       pub contents : contents_of new ≡ after_arrival eq old.keeps_writes entry (contents_of old)
+      pub others : (i : ℕ) → IsSome (lookup (nat_eq i) old.nodes) → lookup (nat_eq i) new.nodes ≡ lookup (nat_eq i) old.nodes
       pub kept : KeepsSettings old new
 
-    -- what it is once a new entry has come in place of the node's
+    -- what it is once a new entry has come in place of the node's: the other nodes stand as before
     pub record Replaces (old : Store K V) (id : ℕ) (entry : Entry K V) (new : Store K V) : Type 0 where
       pub gone : Entry K V
       pub stood : lookup (nat_eq id) old.nodes ≡ Some gone
       pub contents : contents_of new ≡ after_arrival eq old.keeps_writes entry (without eq (contents_of old) gone.key)
+      pub alone : IsAlone old id gone
+      pub others : (i : ℕ) → nat_eq id i ≡ false → lookup (nat_eq i) new.nodes ≡ lookup (nat_eq i) old.nodes
       pub kept : Continues old new

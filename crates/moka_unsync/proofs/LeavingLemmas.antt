@@ -4,11 +4,10 @@ use Rattle.std.proofs.Common.{inr}
 use Rattle.std.proofs.lemmas.List.Elements.{All-head}
 use Rattle.std.proofs.Common.{All, append-nil, is_some, min, option_map, refl, sym, subst, unwrap_or}
 use Rattle.std.specs.Prelude.{⊤}
-use Rattle.std.specs.Cmp.{IsEquivalence}
 use Rattle.std.specs.List.Sorted.{IsPermutation}
 use Rattle.std.specs.Map.{lookup}
 use Rattle.std.proofs.lemmas.Bool.{false≢true}
-use Rattle.std.proofs.lemmas.List.Sorted.{IsPermutation-cons, IsPermutation-middle, IsPermutation-refl, IsPermutation-trans, sum_by-IsPermutation}
+use Rattle.std.proofs.lemmas.List.Sorted.{IsPermutation-cons, IsPermutation-middle, IsPermutation-trans, sum_by-IsPermutation}
 use Rattle.std.proofs.lemmas.List.Sums.{sum_by-append, sum_by-cons}
 use Rattle.moka_common.specs.Keys.{Keys}
 use Rattle.moka_common.specs.Policy.{Policy}
@@ -26,9 +25,9 @@ use Rattle.moka_unsync_model.specs.Window.{after_judging}
 use Rattle.moka_unsync_model.specs.ToldCalls.{TellsInsert, TellsNew, main_max}
 use Rattle.moka_unsync_model.specs.Told.{HearsAll, IsAbove, TellsPut, TellsCleanup, TellsWhatLeft, cause_at, partless, unplaced}
 use Rattle.moka_unsync_model.specs.Cleanup.{after_expiry, after_cleanup, is_expired}
-use Rattle.moka_unsync_model.proofs.ToldLemmas.{and_moved, also_for, also_there, latest_among, moved_among, one_left, passing_among, then_left, unplaced_same}
+use Rattle.moka_unsync_model.proofs.ToldLemmas.{and_moved, also_for, also_there, latest_among, moved_among, node_among, one_left, then_left, unplaced_same}
 use Rattle.moka_unsync_model.proofs.WindowLemmas.{total-split}
-use Rattle.moka_store.specs.Store.{Enters, IsFront, IsFrontOf, Promotes, Replaces, Store, entries_of, is_of}
+use Rattle.moka_store.specs.Store.{Enters, IsAlone, Promotes, Replaces, Store, entries_of}
 
 module _ {K V : Type 0} (eq : K → K → Bool) (old new : Store K V) where
   -- a new entry is one more
@@ -37,33 +36,37 @@ module _ {K V : Type 0} (eq : K → K → Bool) (old new : Store K V) where
       unplaced_same (entry ∷ entries_of old) (entries_of new)
       (subst (IsPermutation (entry ∷ entries_of old)) (sym (ap (λ c. c.entries) r.contents)) (latest_among entry (entries_of old)))
 
-  -- one that comes in place of another is one more, and the other is out
-  pub replaced_among : (id : ℕ) (entry e : Entry K V) → Replaces eq old id entry new → lookup (nat_eq id) old.nodes ≡ Some e
+  -- an entry is one more than those of other keys
+  among : (id : ℕ) (e : Entry K V) → lookup (nat_eq id) old.nodes ≡ Some e → IsAlone eq old id e
       → IsPermutation (entries_of old) (e ∷ entries_without eq e.key (entries_of old))
-      → IsPermutation (unplaced (entry ∷ entries_of old)) (unplaced (e ∷ entries_of new))
-  replaced_among id entry e r stood among =
-      let others = entries_without eq e.key (entries_of old) in
-      let same : r.gone ≡ e = ap (λ o. unwrap_or o r.gone) (sym r.stood ∙ stood) in
-      let arrived : entries_of new ≡ with_latest entry others =
-      ap (λ c. c.entries) r.contents ∙ ap (λ x. with_latest entry (entries_without eq x.key (entries_of old))) same in
-      unplaced_same (entry ∷ entries_of old) (e ∷ entries_of new)
-      (subst (λ l. IsPermutation (entry ∷ entries_of old) (e ∷ l)) (sym arrived)
-      (IsPermutation-trans (entry ∷ entries_of old) (entry ∷ e ∷ others) (e ∷ with_latest entry others)
-      (IsPermutation-cons entry (entries_of old) (e ∷ others) among)
-      (IsPermutation-trans (entry ∷ e ∷ others) (e ∷ entry ∷ others) (e ∷ with_latest entry others)
-      (IsPermutation-middle (entry ∷ []) e others)
-      (IsPermutation-cons e (entry ∷ others) (with_latest entry others) (latest_among entry others)))))
+  among id e stood alone = subst (λ l. IsPermutation (entries_of old) (e ∷ l)) alone (node_among id e old.nodes stood)
+
+  -- one that comes in place of another is one more, and the other is out
+  pub replaced_among : (id : ℕ) (entry : Entry K V) (r : Replaces eq old id entry new)
+      → IsPermutation (unplaced (entry ∷ entries_of old)) (unplaced (r.gone ∷ entries_of new))
+  replaced_among id entry r =
+      let others = entries_without eq r.gone.key (entries_of old) in
+      unplaced_same (entry ∷ entries_of old) (r.gone ∷ entries_of new)
+      (subst (λ l. IsPermutation (entry ∷ entries_of old) (r.gone ∷ l)) (sym (ap (λ c. c.entries) r.contents))
+      (IsPermutation-trans (entry ∷ entries_of old) (entry ∷ r.gone ∷ others) (r.gone ∷ with_latest entry others)
+      (IsPermutation-cons entry (entries_of old) (r.gone ∷ others) (among id r.gone r.stood r.alone))
+      (IsPermutation-trans (entry ∷ r.gone ∷ others) (r.gone ∷ entry ∷ others) (r.gone ∷ with_latest entry others)
+      (IsPermutation-middle (entry ∷ []) r.gone others)
+      (IsPermutation-cons r.gone (entry ∷ others) (with_latest entry others) (latest_among entry others)))))
+
+  -- a candidate that moves to main stays
+  pub promoted_among : (id : ℕ) → Promotes eq old id new → IsPermutation (unplaced (entries_of old)) (unplaced (entries_of new))
+  promoted_among id r =
+      subst (λ l. IsPermutation (unplaced (entries_of old)) (unplaced l)) (sym (ap (λ c. c.entries) r.contents))
+      (moved_among r.entry (entries_of old) (entries_without eq r.entry.key (entries_of old)) (among id r.entry r.stood r.alone))
 
 -- an entry gave way to a new one, and the listener got it
 pub gave_way : {L K V : Type 0} (hears : L → K → V → Cause → L → Type 0) (eq : K → K → Bool) (old new : Store K V) (id : ℕ)
-    (entry gone e : Entry K V) (before after : L) → Replaces eq old id entry new → lookup (nat_eq id) old.nodes ≡ Some gone
-    → hears before gone.key gone.value Size after → lookup (nat_eq id) old.nodes ≡ Some e
-    → IsPermutation (entries_of old) (e ∷ entries_without eq e.key (entries_of old))
-    → TellsWhatLeft hears Size (λ left. ⊤) (entry ∷ entries_of old) (entries_of new) before after
-gave_way hears eq old new id entry gone e before after step was heard stood among =
-    one_left hears Size (λ left. ⊤) (entry ∷ entries_of old) (entries_of new) e before after
-    (replaced_among eq old new id entry e step stood among)
-    (subst (λ x. hears before x.key x.value Size after) (ap (λ o. unwrap_or o gone) (sym was ∙ stood)) heard) tt
+    (entry gone : Entry K V) (before after : L) → Replaces eq old id entry new → lookup (nat_eq id) old.nodes ≡ Some gone
+    → hears before gone.key gone.value Size after → TellsWhatLeft hears Size (λ left. ⊤) (entry ∷ entries_of old) (entries_of new) before after
+gave_way hears eq old new id entry gone before after step was heard =
+    one_left hears Size (λ left. ⊤) (entry ∷ entries_of old) (entries_of new) step.gone before after (replaced_among eq old new id entry step)
+    (subst (λ x. hears before x.key x.value Size after) (ap (λ o. unwrap_or o gone) (sym was ∙ step.stood)) heard) tt
 
 -- ---- cleanup
 
@@ -136,28 +139,6 @@ module _ {K V : Type 0} where
       let before = unplaced_weight were in
       let after = unplaced_weight are in
       omega (arith, whole, parts, before, after)
-
-  -- the first of a part is one more than the entries of other keys
-  pub front_of_among : {eq : K → K → Bool} → IsEquivalence eq → (part : Part) (store : Store K V) (id : ℕ) (f : IsFrontOf eq part store id)
-      → IsPermutation (entries_of store) (f.entry ∷ entries_without eq f.entry.key (entries_of store))
-  front_of_among laws part store id f = passing_among laws (λ e. is_of part e.part) f.entry f.rest (entries_of store) f.first f.once
-
-  -- and so is the first of all
-  pub front_among : {eq : K → K → Bool} (store : Store K V) (id : ℕ) (f : IsFront eq store id)
-      → IsPermutation (entries_of store) (f.entry ∷ entries_without eq f.entry.key (entries_of store))
-  front_among {eq} store id f =
-      subst (λ l. IsPermutation l (f.entry ∷ entries_without eq f.entry.key (entries_of store))) (sym f.first)
-      (subst (λ l. IsPermutation (f.entry ∷ f.rest) (f.entry ∷ l)) (sym f.alone) (IsPermutation-refl (f.entry ∷ f.rest)))
-
-  -- a candidate that moves to main stays
-  pub promoted_among : {eq : K → K → Bool} → IsEquivalence eq → (part : Part) (old new : Store K V) (id : ℕ) (f : IsFrontOf eq part old id)
-      → Promotes eq old id new → IsPermutation (unplaced (entries_of old)) (unplaced (entries_of new))
-  promoted_among {eq} laws part old new id f r =
-      let same : r.entry ≡ f.entry = ap (λ o. unwrap_or o r.entry) (sym r.stood ∙ f.stands) in
-      let moved : entries_of new ≡ with_latest (partless f.entry) (entries_without eq f.entry.key (entries_of old)) =
-      ap (λ c. c.entries) r.contents ∙ ap (λ x. with_latest (partless x) (entries_without eq x.key (entries_of old))) same in
-      subst (λ l. IsPermutation (unplaced (entries_of old)) (unplaced l)) (sym moved)
-      (moved_among f.entry (entries_of old) (entries_without eq f.entry.key (entries_of old)) (front_of_among laws part old id f))
 
 -- ---- what a new entry removes
 

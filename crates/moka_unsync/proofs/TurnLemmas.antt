@@ -1,9 +1,9 @@
 -- Lemmas on entries that leave one after another: those that make up a weight, and those that were idle too long.
 use Rattle.std.proofs.Common.{◌≡◌, ◌<◌, ◌≤◌, ◌+◌, ◌-◌, ◌^◌, ◌||◌, ℕ, zero, suc, Bool, true, false, not, nat_eq, List, [], ◌∷◌, take, take_while, Option, Some}
 use Rattle.std.proofs.Common.{None, option_map, unwrap_or}
-use Rattle.std.proofs.Common.{is_some, refl, sym, ap, ◌∙◌, arith, subst}
+use Rattle.std.proofs.Common.{is_some, refl, sym, ap, ◌∙◌, arith, subst, inl, inr}
 use Rattle.std.proofs.Math.Seq.{take-nil}
-use Rattle.std.proofs.lemmas.Bool.{cond-false, cond-true, false≢true}
+use Rattle.std.proofs.lemmas.Bool.{cases_Bool, cond-false, cond-true, eqb-true, false≢true}
 use Rattle.std.proofs.lemmas.List.Sums.{sum_by-cons, take_while-cons}
 use Rattle.std.specs.Map.{lookup}
 use Rattle.moka_common.specs.Policy.{Policy}
@@ -16,8 +16,10 @@ use Rattle.moka_unsync_model.specs.Contents.{Contents, entry_keys, after_leaving
 use Rattle.moka_unsync_model.specs.Memory.{Memory, after_note}
 use Rattle.moka_unsync_model.specs.Window.{after_displacing}
 use Rattle.moka_unsync_model.specs.Cleanup.{after_eviction, after_trim, is_idle, least_recent}
-use Rattle.moka_store.specs.Store.{Continues, IsFront, IsFrontOf, KeepsSettings, Removes, Store, contents_of, entries_of, is_of, those_of}
-use Rattle.moka_unsync.specs.Turns.{after_idle_of}
+use Rattle.moka_store.specs.Store.{Continues, Enters, IsFront, IsFrontOf, KeepsSettings, Removes, Replaces, Store, contents_of, entries_of, is_of, those_of}
+use Rattle.moka_list.proofs.IdLemmas.{some_parts}
+use Rattle.moka_list.proofs.ItemLemmas.{lookup-remove_other}
+use Rattle.moka_unsync.specs.Turns.{WindowStands, after_idle_of}
 
 -- a policy by which no entry expires has no durations
 pub lasting : (policy : Policy) → (is_some policy.time_to_live || is_some policy.time_to_idle) ≡ false
@@ -218,6 +220,38 @@ limited first second other same =
       limit = second.settings.limit ∙ same;
       capacity = second.settings.capacity ∙ first.settings.capacity;
     }
+
+-- ---- the window's nodes stand
+
+pub then_stand : {K V : Type 0} {a b c : Store K V} → WindowStands a b → WindowStands b c → WindowStands a c
+then_stand first second = record { each = λ i e stood waits. second.each i e (first.each i e stood waits) waits }
+
+-- where a new entry enters
+pub window_entered : {K V : Type 0} {eq : K → K → Bool} {old new : Store K V} {entry : Entry K V} → Enters eq old entry new → WindowStands old new
+window_entered r = record { each = λ i e stood waits. r.others i (ap is_some stood) ∙ stood }
+
+module _ {K V : Type 0} {eq : K → K → Bool} {old : Store K V} {id : ℕ} (f : IsFront eq old id) (main : is_window f.entry.part ≡ false) where
+  other_node : (i : ℕ) (e : Entry K V) → lookup (nat_eq i) old.nodes ≡ Some e → is_window e.part ≡ true → nat_eq id i ≡ false
+  other_node i e stood waits =
+      elim (cases_Bool (nat_eq id i)) [
+        | inl same ↦
+            let own : f.entry ≡ e =
+            some_parts f.entry e (sym f.stands ∙ (ap (λ n. lookup (nat_eq n) old.nodes) (eqb-true id i same) ∙ stood)) in
+            absurd (false≢true (sym main ∙ (ap (λ e. is_window e.part) own ∙ waits)))
+        | inr other ↦ other
+      ]
+
+  -- where main's first entry leaves
+  pub window_left : {new : Store K V} → Removes eq old id new → WindowStands old new
+  window_left r =
+      record {
+        each = λ i e stood waits.
+            ap (lookup (nat_eq i)) r.nodes ∙ (lookup-remove_other id i old.nodes (other_node i e stood waits) ∙ stood);
+      }
+
+  -- or leaves its node to another
+  pub window_replaced : {new : Store K V} {entry : Entry K V} → Replaces eq old id entry new → WindowStands old new
+  window_replaced r = record { each = λ i e stood waits. r.others i (other_node i e stood waits) ∙ stood }
 
 -- ---- entries that main gives up
 

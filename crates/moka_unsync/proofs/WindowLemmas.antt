@@ -1,6 +1,6 @@
 -- Lemmas on a new entry that enters the window, and on the window's entries that are judged.
-use Rattle.std.proofs.Common.{◌≡◌, ◌<◌, ◌≤◌, ◌+◌, ◌-◌, ℕ, max, Bool, true, false, List, [], ◌∷◌, ◌++◌, All, Option, Some, None}
-use Rattle.std.proofs.Common.{option_map, take, unwrap_or, refl, sym, ap, ◌∙◌, arith}
+use Rattle.std.proofs.Common.{◌≡◌, ◌<◌, ◌≤◌, ◌+◌, ◌-◌, ℕ, max, Bool, true, false, List, [], ◌∷◌, ◌++◌, All, Option, Some, None, nat_eq}
+use Rattle.std.proofs.Common.{option_map, unwrap_or, refl, sym, ap, ◌∙◌, arith}
 use Rattle.std.proofs.lemmas.List.Sums.{sum_by_push}
 use Rattle.std.specs.Cmp.{IsEquivalence}
 use Rattle.std.specs.List.{IsDistinct}
@@ -19,7 +19,7 @@ use Rattle.moka_unsync_model.specs.Shares.{main_limit}
 use Rattle.moka_unsync_model.specs.Cleanup.{least_recent}
 use Rattle.moka_unsync_model.specs.Window.{after_candidate, after_candidacy, after_candidates, after_judgements, after_judging, excess, victims_of}
 use Rattle.moka_unsync_model.proofs.EnteringLemmas.{entering-is_kept, entering_excess, excess_left, inside, judged-window, judged_first}
-use Rattle.moka_unsync_model.proofs.EnteringLemmas.{lacking-cons, least_recent-cons, least_recent-none, moving-push, passed-push, window-evicted}
+use Rattle.moka_unsync_model.proofs.EnteringLemmas.{lacking-cons, least_recent-cons, least_recent-none, moving-push, passed-push}
 use Rattle.moka_unsync_model.proofs.WindowLemmas.{latest-last, window-last}
 use Rattle.std.proofs.lemmas.List.Elements.{All-cons, All-nil}
 use Rattle.moka_store.specs.Store.{Enters, IsFrontOf, Promotes, Removes, Replaces, Store, contents_of, entries_of}
@@ -125,16 +125,7 @@ module _ {K V : Type 0} where
         → contents_of new ≡ after_candidate eq limits sketch (contents_of old) f.entry
     rejected new none r = left_is eq old new id f.entry f.stands r ∙ ap (λ o. after_candidacy eq f.entry o (contents_of old)) none
 
-    -- else those leave that give way, and it is the first of the window still
-    pub window_stays : (evicted : Contents K V) (count : ℕ)
-        → counted (main_of (entries_of old)) (Some count) ≡ victims_of (Some (main_limit limits)) sketch f.entry (main_of (entries_of old))
-        → evicted ≡ after_eviction_of eq count (contents_of old) → window_of evicted.entries ≡ f.entry ∷ f.rest
-    window_stays evicted count some is =
-        ap (λ c. window_of c.entries) is
-        ∙ (window-evicted eq laws (main_limit limits) sketch f.entry (take count (main_of (entries_of old))) (contents_of old) once (sym some)
-        ∙ f.first)
-
-    -- and comes to main
+    -- else it comes to main in place of those that give way
     pub admitted : (new evicted : Contents K V) (count : ℕ)
         → counted (main_of (entries_of old)) (Some count) ≡ victims_of (Some (main_limit limits)) sketch f.entry (main_of (entries_of old))
         → evicted ≡ after_eviction_of eq count (contents_of old)
@@ -172,13 +163,7 @@ module _ {K V : Type 0} where
       module _ (absent : entry_at eq new.key (entries_of old) ≡ None) (entered : Contents K V) (count : ℕ)
           (some : counted (main_of (entries_of old)) (Some count) ≡ victims_of (Some (main_limit limits)) sketch f.entry (main_of (entries_of old)))
           (step : entered ≡ after_arrival eq keeps new (after_eviction_of eq count (contents_of old))) where
-        -- where it is admitted it is the first of the window still
-        pub first_stays : window_of entered.entries ≡ f.entry ∷ f.rest ++ new ∷ []
-        first_stays =
-            ap (λ c. window_of c.entries) (step ∙ entered_is (after_eviction_of eq count (contents_of old)))
-            ∙ (passed-push (λ e. is_window e.part) (after_eviction_of eq count (contents_of old)).entries new waits
-            ∙ ap (λ l. l ++ new ∷ []) (window_stays (after_eviction_of eq count (contents_of old)) count some refl))
-
+        -- where it is admitted
         pub promoted_last : (after : Contents K V) → after ≡ after_moving eq (record f.entry { part = Probation }) entered
             → after ≡ after_entry eq keeps new (after_candidate eq limits sketch (contents_of old) f.entry)
         promoted_last after moved =
@@ -190,14 +175,11 @@ module _ {K V : Type 0} where
             ∙ (moving-push eq keeps new waits (record f.entry { part = Probation }) evicted refl apart
             ∙ ap (after_entry eq keeps new) (admitted (after_moving eq (record f.entry { part = Probation }) evicted) evicted count some refl refl)))
 
-  -- the window's first entry, come to main
-  pub promoted_is : (eq : K → K → Bool) (old new : Store K V) (id : ℕ) (f : IsFrontOf eq Window old id) → Promotes eq old id new
-      → (c : Entry K V) (ws : List (Entry K V)) → window_of (entries_of old) ≡ c ∷ ws
-      → contents_of new ≡ after_moving eq (record c { part = Probation }) (contents_of old)
-  promoted_is eq old new id f p c ws window =
-      let own : p.entry ≡ f.entry = ap (λ o. unwrap_or o p.entry) (sym p.stood ∙ f.stands) in
-      let first : f.entry ≡ c = ap (λ l. unwrap_or (Rattle.std.specs.Prelude.slice_get l 0) f.entry) (sym f.first ∙ window) in
-      p.contents ∙ ap (λ e. after_moving eq (record e { part = Probation }) (contents_of old)) (own ∙ first)
+  -- an entry of a node, come to main
+  pub promoted_is : (eq : K → K → Bool) (old new : Store K V) (id : ℕ) (e : Entry K V) → lookup (nat_eq id) old.nodes ≡ Some e → Promotes eq old id new
+      → contents_of new ≡ after_moving eq (record e { part = Probation }) (contents_of old)
+  promoted_is eq old new id e stood p =
+      p.contents ∙ ap (λ e. after_moving eq (record e { part = Probation }) (contents_of old)) (ap (λ o. unwrap_or o p.entry) (sym p.stood ∙ stood))
 
   -- ---- the new entry enters
 

@@ -1,18 +1,17 @@
 // Admission of new entries by TinyLFU, size-aware as in Caffeine. A new entry first enters the window, if there is one; entries that leave the window are
 // the candidates for main.
-ghost use Rattle.std.specs.Prelude.{◌≡◌, ◌<◌, ◌≤◌, ◌-◌, ◌+◌, ◌++◌, ◌∷◌, [], IfSome, List, None, Some, false, is_some, length, option_map};
-ghost use Rattle.moka_unsync_model.specs.Contents.{after_moving, entry_at, main_of, total_weight, window_of, writes_without};
+ghost use Rattle.std.specs.Prelude.{◌≡◌, ◌<◌, ◌≤◌, ◌-◌, ◌+◌, ◌++◌, ◌∷◌, [], IfSome, None, Some, false, is_some, length, option_map};
+ghost use Rattle.moka_unsync_model.specs.Contents.{entry_at, main_of, total_weight, window_of, writes_without};
 ghost use Rattle.moka_unsync_model.specs.declared.entry.Entry.{Entry as EntryValue};
 ghost use Rattle.moka_unsync_model.specs.declared.entry.Part.TheVariants.{Probation, Window};
 ghost use Rattle.moka_unsync_model.specs.Insert.{after_admission, after_arrival, after_entering, after_entering_judged, after_entry};
 ghost use Rattle.moka_unsync_model.specs.Shares.{main_limit};
-ghost use Rattle.moka_unsync_model.specs.Told.{IsAbove, TellsPut, TellsWhatLeft, unplaced};
+ghost use Rattle.moka_unsync_model.specs.Told.{IsAbove, TellsPut, TellsWhatLeft};
 ghost use Rattle.moka_unsync_model.specs.declared.listener.Cause.TheVariants.{Size};
-ghost use Rattle.std.specs.List.Sorted.{IsPermutation};
 ghost use Rattle.moka_unsync_model.specs.Cleanup.{least_recent};
 ghost use Rattle.moka_unsync_model.specs.Window.{after_candidate, after_candidates, after_judgements, after_judging, excess, victims_of};
 ghost use Rattle.moka_store.specs.Store.{Continues, IsFrontOf, KeepsSettings, contents_of, entries_of};
-ghost use Rattle.moka_unsync.specs.Turns.{after_eviction_of};
+ghost use Rattle.moka_unsync.specs.Turns.{WindowStands, after_eviction_of};
 
 use crate::leaving::{evict, leave, main_front};
 use crate::memory::{Memory, remember};
@@ -67,6 +66,7 @@ fn enter_for<K: Eq + Drop, V: Drop, A: Allocator + Clone + Drop, L: Listener<K, 
     requires absent { entry_at K.eq new.key (entries_of store.old) ≡ None }
     ensures step { contents_of store.new ≡ after_arrival K.eq store.old.keeps_writes new (after_eviction_of K.eq count (contents_of store.old)) }
     ensures kept { KeepsSettings store.old store.new }
+    ensures stands { WindowStands store.old store.new }
     ensures told { TellsWhatLeft L.hears Size (λ e. 0 < count) (new ∷ entries_of store.old) (entries_of store.new) listener.old listener.new }
 {
     if count == 0 {
@@ -246,7 +246,7 @@ fn admit_or_evict<K: Eq + Drop, V: Drop, A: Allocator + Clone + Drop, L: Listene
     match count {
         Some(count) => {
             evict(store, count, listener);
-            promote_front(store);
+            store.move_to_probation(id);
         }
         None => leave(store, id, Cause::Size, listener),
     }
@@ -281,26 +281,12 @@ fn admit_or_evict_last<K: Eq + Drop, V: Drop, A: Allocator + Clone + Drop, L: Li
     remember(memory, store, candidate.hash, count);
     match count {
         Some(count) => {
-            // The candidate is still the window's first entry after this.
             enter_for(store, count, new, listener);
-            promote_front(store);
+            store.move_to_probation(id);
         }
         None => {
             let Entry { key, value, .. } = store.replace(id, new);
             listener.removed(key, value, Cause::Size);
         }
-    }
-}
-
-/// Moves the window's least recently used entry to main, if there is one.
-#[inline(always)]
-fn promote_front<K: Eq + Drop, V: Drop, A: Allocator + Clone + Drop>(store: &mut Store<K, V, A>)
-    ensures step { (c : EntryValue K V) (ws : List (EntryValue K V)) → window_of (entries_of store.old) ≡ c ∷ ws
-        → contents_of store.new ≡ after_moving K.eq (record c { part = Probation }) (contents_of store.old) }
-    ensures same { IsPermutation (unplaced (entries_of store.old)) (unplaced (entries_of store.new)) }
-    ensures kept { Continues store.old store.new }
-{
-    if let Some(id) = store.front_of(Part::Window) {
-        store.move_to_probation(id);
     }
 }

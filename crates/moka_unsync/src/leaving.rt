@@ -7,7 +7,7 @@ ghost use Rattle.moka_unsync_model.specs.Window.{after_displacing};
 ghost use Rattle.moka_unsync_model.specs.Told.{TellsWhatLeft};
 ghost use Rattle.moka_unsync_model.specs.declared.listener.Cause.TheVariants.{Size};
 ghost use Rattle.moka_store.specs.Store.{Continues, IsFront, Removes, contents_of, entries_of};
-ghost use Rattle.moka_unsync.specs.Turns.{IsTurn, after_eviction_of};
+ghost use Rattle.moka_unsync.specs.Turns.{IsTurn, WindowStands, after_eviction_of};
 
 use crate::memory::Memory;
 use crate::victims::is_windowed;
@@ -43,6 +43,7 @@ pub(crate) fn evict<K: Eq + Drop, V: Drop, A: Allocator + Clone + Drop, L: Liste
 )
     ensures step { (more : ℕ) → after_eviction_of K.eq (count + more) (contents_of store.old) ≡ after_eviction_of K.eq more (contents_of store.new) }
     ensures kept { Continues store.old store.new }
+    ensures stands { WindowStands store.old store.new }
     ensures told { TellsWhatLeft L.hears Size (λ e. 0 < count) (entries_of store.old) (entries_of store.new) listener.old listener.new }
 {
     let mut left = count;
@@ -59,6 +60,7 @@ fn evict_front<K: Eq + Drop, V: Drop, A: Allocator + Clone + Drop, L: Listener<K
     ensures turn { IsTurn (after_eviction_of K.eq)
         result (contents_of store.old) (contents_of store.new) }
     ensures kept { Continues store.old store.new }
+    ensures stands { WindowStands store.old store.new }
     ensures told { TellsWhatLeft L.hears Size (λ e. ⊤) (entries_of store.old) (entries_of store.new) listener.old listener.new }
 {
     let Some(id) = main_front(store) else {

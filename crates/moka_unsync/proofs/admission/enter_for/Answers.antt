@@ -4,7 +4,8 @@ use Rattle.moka_unsync_model.proofs.ToldLemmas.{also_for, also_there, and_moved,
 use Rattle.moka_store.specs.Store.{contents_of}
 use Rattle.moka_unsync.specs.Turns.{after_eviction_of}
 use Rattle.moka_unsync.proofs.AdmissionLemmas.{absent_evicted, replaced_is}
-use Rattle.moka_unsync.proofs.LeavingLemmas.{entered_among, front_among, gave_way}
+use Rattle.moka_unsync.proofs.LeavingLemmas.{entered_among, gave_way}
+use Rattle.moka_unsync.proofs.TurnLemmas.{then_stand, window_entered, window_replaced}
 use Rattle.moka_unsync.proofs.admission.enter_for.Goals as goal
 
 pub replace-key-requires-clause-absent : goal.replace-key-requires-clause-absent
@@ -32,16 +33,24 @@ returns-then-count-eq0-clause-told g c =
 
 pub returns-in-Some-clause-told : goal.returns-in-Some-clause-told
 returns-in-Some-clause-told g c =
-    let f = (c.in-Some.ensures {u = tt}).found.0 in
     let some : 0 < c.args.count = omega (arith, c.if-count-eq0.false) in
     then_left (also_there c.args.new (also_for (λ e there. some) c.evict.ensures.told))
     (also_for (λ e there. some) (gave_way g.L.Listener.hears g.K.PartialEq.eq c.evict.new.store c.replace-key.new.self c.in-Some.id c.args.new
-    c.replace-key.result f.entry
-    c.evict.new.listener c.removed.new.self c.replace-key.ensures.step c.replace-key.ensures.value c.removed.ensures f.stands
-    (front_among c.evict.new.store c.in-Some.id f)))
+    c.replace-key.result c.evict.new.listener c.removed.new.self c.replace-key.ensures.step c.replace-key.ensures.value c.removed.ensures))
 
 pub returns-in-None-clause-told : goal.returns-in-None-clause-told
 returns-in-None-clause-told g c =
     let some : 0 < c.args.count = omega (arith, c.if-count-eq0.false) in
     and_moved (also_there c.args.new (also_for (λ e there. some) c.evict.ensures.told))
     (entered_among g.K.PartialEq.eq c.evict.new.store c.push-in-None.new.self c.args.new c.push-in-None.ensures)
+
+pub returns-then-count-eq0-clause-stands : goal.returns-then-count-eq0-clause-stands
+returns-then-count-eq0-clause-stands g c = window_entered c.push.ensures
+
+pub returns-in-Some-clause-stands : goal.returns-in-Some-clause-stands
+returns-in-Some-clause-stands g c =
+    let (f, main) = (c.in-Some.ensures {u = tt}).found in
+    then_stand c.evict.ensures.stands (window_replaced f main c.replace-key.ensures.step)
+
+pub returns-in-None-clause-stands : goal.returns-in-None-clause-stands
+returns-in-None-clause-stands g c = then_stand c.evict.ensures.stands (window_entered c.push-in-None.ensures)

@@ -2,7 +2,7 @@ use Rattle.std.proofs.Common.{◌≡◌, ◌∙◌, ◌<◌, ◌+◌, ◌-◌, a
 use Rattle.moka_unsync_model.proofs.ToldLemmas.{also_for, then_left, untold}
 use Rattle.moka_store.specs.Store.{contents_of}
 use Rattle.moka_unsync.specs.Turns.{after_eviction_of}
-use Rattle.moka_unsync.proofs.TurnLemmas.{continued, unmoved}
+use Rattle.moka_unsync.proofs.TurnLemmas.{continued, then_stand, unmoved}
 use Rattle.moka_unsync.proofs.leaving.evict.Goals as goal
 
 pub loop-left-preserved : goal.loop-left-preserved
@@ -20,6 +20,7 @@ loop-left-preserved g c =
       continued c.loop-left.invariant.1 done.kept,
       omega (arith, left, most),
       then_left c.loop-left.invariant.3 (also_for (λ e there. some) done.told),
+      then_stand c.loop-left.invariant.4 done.stands,
     )
 
 pub returns-else-evict_front-clause-told : goal.returns-else-evict_front-clause-told
@@ -30,4 +31,7 @@ returns-else-evict_front-clause-told g c =
     then_left c.loop-left.invariant.3 (also_for (λ e there. some) (c.if-evict_front.ensures {u = tt}).told)
 
 pub loop-left-init : goal.loop-left-init
-loop-left-init g c = (λ more. refl, unmoved, omega arith, untold)
+loop-left-init g c = (λ more. refl, unmoved, omega arith, untold, record { each = λ i e stood waits. stood })
+
+pub returns-else-evict_front-clause-stands : goal.returns-else-evict_front-clause-stands
+returns-else-evict_front-clause-stands g c = then_stand c.loop-left.invariant.4 (c.if-evict_front.ensures {u = tt}).stands

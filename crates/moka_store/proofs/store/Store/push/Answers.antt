@@ -114,5 +114,5 @@ returns g c =
     let is = c.attach.ensures.items e (ap (lookup (nat_eq id)) pushed ∙ pushed-at id e nodes fresh)
     ∙ ap (latest_node (id, e)) (ap (remove_entry (nat_eq id)) pushed ∙ removed-pushed id e nodes fresh) in
     rw (← c.self.view_is)
-    (enters_is _ _ id e is
+    (enters_is _ _ id e fresh is
     ((λ i. written_under (is i) (c.add_write.ensures.ids i)) ∙ under-latest s.written id e fresh) (record { keeps = refl; limit = refl; capacity = refl }))
