@@ -5,7 +5,7 @@ use Rattle.std.proofs.lemmas.Bool.{cases_Bool, cond-true, cond-false, eqb-true, 
 use Rattle.std.proofs.lemmas.List.Elements.{filter-append}
 use Rattle.std.proofs.lemmas.List.Sums.{sum_by-append, sum_by-cons}
 use Rattle.std.specs.List.{AllByRecursion, IsDistinct}
-use Rattle.std.specs.Map.{lookup, remove_entry, set_value, keys_of, values_of}
+use Rattle.std.specs.Map.{lookup, remove_entry, set_value, values_of}
 use Rattle.std.specs.Option.{option_eq}
 use Rattle.moka_list.specs.Nodes.{first_id, next_id}
 use Rattle.moka_list.specs.Nodes.{AreApart}
@@ -16,7 +16,7 @@ use Rattle.moka_unsync_model.specs.Contents.{InOrder, balanced, demoted, is_befo
 use Rattle.moka_unsync_model.proofs.PartLemmas.{demoted-first, order-sooner}
 use Rattle.moka_store.specs.declared.parts.Marks.{Marks}
 use Rattle.moka_store.specs.declared.parts.Weights.{Weights}
-use Rattle.moka_store.specs.Nodes.{AreMarks, Demotes, bare, first_in, is_any, is_late, share, start_of, weight_in, weights_of}
+use Rattle.moka_store.specs.Nodes.{AreMarks, Demotes, IsParted, bare, first_in, is_any, is_late, share, start_of, weight_in, weights_of}
 use Rattle.moka_store.specs.Store.{those_of}
 use Rattle.moka_list.proofs.ItemLemmas.{lookup-other, lookup-set, nat_eq-same, remove-other, remove-same, set-other, set-same}
 use Rattle.moka_list.proofs.IdLemmas.{not_none, some_parts}
@@ -168,10 +168,10 @@ module _ {K V : Type 0} where
       by Protected free o rest = absurd (false≢true (sym free))
       by Window free o rest = absurd (no_window fs e back is o)
 
-module _ {K V : Type 0} (nodes : List (ℕ × Entry K V)) (d : IsDistinct nat_eq (keys_of nodes)) (order : InOrder Probation (values_of nodes))
-    (marks : Marks) (marked : AreMarks nodes marks) (weights : Weights) (weighed : weights ≡ weights_of nodes) (some : 0 < weights.protected) where
+module _ {K V : Type 0} (nodes : List (ℕ × Entry K V)) (marks : Marks) (weights : Weights) (p : IsParted nodes marks weights)
+    (some : 0 < weights.protected) where
   protected_weighs : total_weight (those_of Protected (values_of nodes)) ≡ weights.protected
-  protected_weighs = sym (ap (λ w. w.protected) weighed ∙ weight-values is_protected nodes)
+  protected_weighs = sym (ap (λ w. w.protected) p.weighed ∙ weight-values is_protected nodes)
 
   nothing : those_of Protected (values_of nodes) ≡ [] → ⊥
   nothing none =
@@ -180,28 +180,28 @@ module _ {K V : Type 0} (nodes : List (ℕ × Entry K V)) (d : IsDistinct nat_eq
 
   -- where protected weighs anything, it begins behind probation
   pub begins : {P : Type 0} → marks.late ≡ None → P
-  begins none = absurd (nothing (front_of_none Protected nodes (sym marked.late ∙ none)))
+  begins none = absurd (nothing (front_of_none Protected nodes (sym p.marked.late ∙ none)))
 
   module _ (id : ℕ) (late : marks.late ≡ Some id) where
     start : start_of Protected nodes ≡ Some id
-    start = sym marked.late ∙ late
+    start = sym p.marked.late ∙ late
 
     pub begins_in : is_some (lookup (nat_eq id) nodes) ≡ true
-    begins_in = start_found Protected nodes d id start
+    begins_in = start_found Protected nodes p.once id start
 
     module _ (e : Entry K V) (stood : lookup (nat_eq id) nodes ≡ Some e) where
       is : is_protected e.part ≡ true
       is =
           elim (cases_Bool (is_protected e.part)) [
             | inl here ↦ here
-            | inr other ↦ absurd (nothing (start_other Protected nodes d order id e start stood other))
+            | inr other ↦ absurd (nothing (start_other Protected nodes p.once p.order id e start stood other))
           ]
 
       -- its weight is in protected's
       pub weight_in_protected : e.weight ≤ weights.protected
       weight_in_protected =
           by (weight_in is_protected (set_value (nat_eq id) nodes (bare e))) (weight_in is_protected nodes) (weight-set id e (bare e) is_protected nodes stood)
-          (ap (λ b. share b e.weight) is) (ap (λ w. w.protected) weighed)
+          (ap (λ b. share b e.weight) is) (ap (λ w. w.protected) p.weighed)
         where
           by : (a b : ℕ) → a + share (is_protected e.part) e.weight ≡ b + 0 → share (is_protected e.part) e.weight ≡ e.weight → weights.protected ≡ b
               → e.weight ≤ weights.protected
@@ -210,8 +210,8 @@ module _ {K V : Type 0} (nodes : List (ℕ × Entry K V)) (d : IsDistinct nat_eq
       pub demotes : Demotes nodes (set_value (nat_eq id) nodes (bare e))
       demotes =
           let (front, back, free, was, stands) =
-          split id e (bare e) nodes (apart_from_distinct nodes d) stood
-          (start-first Protected id e nodes (apart_from_distinct nodes d) start stood is) in
+          split id e (bare e) nodes (apart_from_distinct nodes p.once) stood
+          (start-first Protected id e nodes (apart_from_distinct nodes p.once) start stood is) in
           record {
             front = front;
             entry = e;
@@ -220,9 +220,6 @@ module _ {K V : Type 0} (nodes : List (ℕ × Entry K V)) (d : IsDistinct nat_eq
             here = is;
             stood = was;
             stands = stands;
-            order =
-                subst (InOrder Probation) (sym stands)
-                (order-demoted Probation front e back free is (subst (InOrder Probation) was order));
             same = λ v.
                 ap (option_map bare) (lookup-set id v (bare e) nodes (ap is_some stood))
                 ∙ elim (cases_Bool (nat_eq id v)) [
@@ -234,7 +231,7 @@ module _ {K V : Type 0} (nodes : List (ℕ × Entry K V)) (d : IsDistinct nat_eq
             ids = keys-set id (bare e) nodes;
           }
 
-      pub marks_demoted : (next : Option ℕ) → next ≡ next_id id (set_value (nat_eq id) nodes (bare e))
+      marks_demoted : (next : Option ℕ) → next ≡ next_id id (set_value (nat_eq id) nodes (bare e))
           → AreMarks (set_value (nat_eq id) nodes (bare e)) (record { late = next; window = marks.window })
       marks_demoted next next_is =
           record {
@@ -242,9 +239,9 @@ module _ {K V : Type 0} (nodes : List (ℕ × Entry K V)) (d : IsDistinct nat_eq
                 next_is ∙ (next-set id e (bare e) nodes
                 ∙ (sym (passed-here id (next_id id nodes) (first_in is_late nodes)
                 (ap (λ o. option_eq nat_eq o (Some id)) start ∙ nat_eq-same id))
-                ∙ (first-passed is_late late_goes_on id Probation nodes (apart_from_distinct nodes d) order
+                ∙ (first-passed is_late late_goes_on id Probation nodes (apart_from_distinct nodes p.once) p.order
                 ∙ sym (first-unset id e (bare e) is_late nodes stood refl))));
-            window = marked.window ∙ sym (first-set id e (bare e) is_window nodes stood (sym (unwindowed e.part is)));
+            window = p.marked.window ∙ sym (first-set id e (bare e) is_window nodes stood (sym (unwindowed e.part is)));
           }
         where
           unwindowed : (part : Part) → is_protected part ≡ true → is_window part ≡ false
@@ -252,7 +249,7 @@ module _ {K V : Type 0} (nodes : List (ℕ × Entry K V)) (d : IsDistinct nat_eq
           unwindowed Protected h = refl
           unwindowed Window h = absurd (false≢true h)
 
-      pub weights_demoted : (lighter : Weights) → lighter ≡ record weights { protected = weights.protected - e.weight }
+      weights_demoted : (lighter : Weights) → lighter ≡ record weights { protected = weights.protected - e.weight }
           → lighter ≡ weights_of (set_value (nat_eq id) nodes (bare e))
       weights_demoted lighter lighter_is =
           lighter_is ∙ (λ i. record {
@@ -263,7 +260,7 @@ module _ {K V : Type 0} (nodes : List (ℕ × Entry K V)) (d : IsDistinct nat_eq
         where
           all : weights.all ≡ weight_in is_any (set_value (nat_eq id) nodes (bare e))
           all = by (weight_in is_any (set_value (nat_eq id) nodes (bare e))) (weight_in is_any nodes) (weight-set id e (bare e) is_any nodes stood)
-              (ap (λ w. w.all) weighed)
+              (ap (λ w. w.all) p.weighed)
             where
               by : (a b : ℕ) → a + e.weight ≡ b + e.weight → weights.all ≡ b → weights.all ≡ a
               by a b h w = omega (arith, h, w)
@@ -271,7 +268,7 @@ module _ {K V : Type 0} (nodes : List (ℕ × Entry K V)) (d : IsDistinct nat_eq
           protected : weights.protected - e.weight ≡ weight_in is_protected (set_value (nat_eq id) nodes (bare e))
           protected =
               by (weight_in is_protected (set_value (nat_eq id) nodes (bare e))) (weight_in is_protected nodes)
-              (weight-set id e (bare e) is_protected nodes stood) (ap (λ b. share b e.weight) is) (ap (λ w. w.protected) weighed)
+              (weight-set id e (bare e) is_protected nodes stood) (ap (λ b. share b e.weight) is) (ap (λ w. w.protected) p.weighed)
             where
               by : (a b : ℕ) → a + share (is_protected e.part) e.weight ≡ b + 0 → share (is_protected e.part) e.weight ≡ e.weight
                   → weights.protected ≡ b → weights.protected - e.weight ≡ a
@@ -280,7 +277,7 @@ module _ {K V : Type 0} (nodes : List (ℕ × Entry K V)) (d : IsDistinct nat_eq
           window : weights.window ≡ weight_in is_window (set_value (nat_eq id) nodes (bare e))
           window =
               by (weight_in is_window (set_value (nat_eq id) nodes (bare e))) (weight_in is_window nodes)
-              (weight-set id e (bare e) is_window nodes stood) (unwindowed e.part is) (ap (λ w. w.window) weighed)
+              (weight-set id e (bare e) is_window nodes stood) (unwindowed e.part is) (ap (λ w. w.window) p.weighed)
             where
               unwindowed : (part : Part) → is_protected part ≡ true → share (is_window part) e.weight ≡ 0
               unwindowed Probation h = refl
@@ -290,6 +287,21 @@ module _ {K V : Type 0} (nodes : List (ℕ × Entry K V)) (d : IsDistinct nat_eq
               by : (a b : ℕ) → a + share (is_window e.part) e.weight ≡ b + 0 → share (is_window e.part) e.weight ≡ 0 → weights.window ≡ b
                   → weights.window ≡ a
               by a b h s w = omega (arith, h, s, w)
+
+      -- the parts then
+      pub parted_demoted : (next : Option ℕ) → next ≡ next_id id (set_value (nat_eq id) nodes (bare e)) → (lighter : Weights)
+          → lighter ≡ record weights { protected = weights.protected - e.weight }
+          → IsParted (set_value (nat_eq id) nodes (bare e)) (record { late = next; window = marks.window }) lighter
+      parted_demoted next next_is lighter lighter_is =
+          let s = demotes in
+          record {
+            once = subst (IsDistinct nat_eq) (sym (keys-set id (bare e) nodes)) p.once;
+            order =
+                subst (InOrder Probation) (sym s.stands)
+                (order-demoted Probation s.front s.entry s.back s.free s.here (subst (InOrder Probation) s.stood p.order));
+            marked = marks_demoted next next_is;
+            weighed = weights_demoted lighter lighter_is;
+          }
 
 -- ---- one after another
 

@@ -10,5 +10,4 @@ pub mod StoreLemmas
 pub mod StepLemmas
 pub mod BalanceLemmas
 pub mod ChangeLemmas
-pub mod RelistLemmas
 pub mod ProbationLemmas

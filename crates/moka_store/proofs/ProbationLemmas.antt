@@ -1,5 +1,5 @@
 -- Lemmas on an entry that is used and stays in probation: no mark stands at it, and no part weighs more or less.
-use Rattle.std.proofs.Common.{◌≡◌, ◌<◌, ◌+◌, ◌-◌, ◌^◌, ℕ, Bool, nat_eq, List, length, Some, refl, sym, true, ap, arith}
+use Rattle.std.proofs.Common.{◌≡◌, ◌<◌, ◌+◌, ◌-◌, ◌^◌, ℕ, Bool, nat_eq, List, Some, refl, sym, true, ap, arith}
 use Rattle.std.specs.Cmp.{IsEquivalence}
 use Rattle.std.specs.Map.{lookup, remove_entry, set_value}
 use Rattle.moka_list.specs.HashIndex.{HashIndex}
@@ -17,7 +17,7 @@ use Rattle.moka_list.proofs.InsertedLemmas.{apart_from_distinct}
 use Rattle.moka_store.proofs.ChangeLemmas.{set_marks, shifted}
 use Rattle.moka_store.proofs.MarkLemmas.{passed-none}
 use Rattle.moka_store.proofs.NodeLemmas.{all-found}
-use Rattle.moka_store.proofs.RelistLemmas.{length-settled, stored-settled}
+use Rattle.moka_store.proofs.StoreLemmas.{stored-relisted}
 
 -- a part that is probation's
 pub is_of_probation : (part : Part) → is_of part Probation ≡ true → part ≡ Probation
@@ -55,14 +55,7 @@ module _ {K V : Type 0} {eq : K → K → Bool} (laws : IsEquivalence eq) {keeps
     small : e.weight < 2 ^ 32
     small = rw same (all-found (λ y. y.weight < 2 ^ 32) id x nodes s.small stood)
 
-    module _ (new : List (ℕ × Entry K V))
-        (is : (y : Entry K V) → lookup (nat_eq id) (set_value (nat_eq id) nodes e) ≡ Some y
-        → new ≡ latest_node (id, y) (remove_entry (nat_eq id) (set_value (nat_eq id) nodes e)))
-        (moved : Marks) (marked : AreMarks new moved) where
-      -- it is a store still, where the entry keeps key and hash
-      pub stored-kept : e.key ≡ x.key → e.hash ≡ x.hash → IsStored eq keeps new moved ids weights index
-      stored-kept = stored-settled laws s id x e stood small new is moved marked weights weights-kept
-
-      -- with as many nodes
-      pub length-kept : length new ≡ length nodes
-      length-kept = length-settled laws s id x e stood small new is moved marked weights weights-kept
+    -- it is a store still, where the entry keeps key and hash
+    pub stored-kept : (new : List (ℕ × Entry K V)) → new ≡ latest_node (id, e) (remove_entry (nat_eq id) nodes) → (moved : Marks) → AreMarks new moved
+        → e.key ≡ x.key → e.hash ≡ x.hash → IsStored eq keeps new moved ids weights index
+    stored-kept new is moved marked = stored-relisted laws s id x e stood small new moved weights is marked weights-kept

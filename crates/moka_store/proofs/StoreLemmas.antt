@@ -13,7 +13,7 @@ use Rattle.moka_unsync_model.specs.Contents.{entry_at}
 use Rattle.moka_store.specs.declared.parts.Marks.{Marks}
 use Rattle.moka_store.specs.declared.parts.Weights.{Weights}
 use Rattle.moka_store.specs.Room.{HasRoom}
-use Rattle.moka_store.specs.Nodes.{AreMarks, IsBalanced, IsStored, SameBy, bare, latest_node, weights_of}
+use Rattle.moka_store.specs.Nodes.{AreMarks, IsBalanced, IsParted, IsStored, SameBy, bare, latest_node, weights_of}
 use Rattle.moka_store.specs.Nodes.{write_added, write_last, write_left}
 use Rattle.moka_list.proofs.IndexLemmas.{IsIndexed-enter, IsIndexed-none, IsIndexed-remove}
 use Rattle.moka_store.proofs.LatestLemmas.{all-latest, distinct-relisted, gone, length-latest, lookup-latest}
@@ -77,6 +77,25 @@ stored-none {K = K} {V = V} eq keeps nodes marks ids weights index nodes_is mark
       indexed = IsIndexed-none (λ e. e.hash) index empty;
     })
 
+-- a node that changes its place leaves as many
+pub length-moved : {K V : Type 0} (id : ℕ) (e : Entry K V) (nodes new : List (ℕ × Entry K V)) → new ≡ latest_node (id, e) (remove_entry (nat_eq id) nodes)
+    → IsSome (lookup (nat_eq id) nodes) → length new ≡ length nodes
+length-moved id e nodes new is stood =
+    ap length is ∙ (length-latest (id, e) (remove_entry (nat_eq id) nodes) ∙ length-remove id nodes stood)
+
+-- as does protected within its limit
+pub length-balanced : {K V : Type 0} {limit : ℕ} (nodes new : List (ℕ × Entry K V)) → IsBalanced limit nodes new → length new ≡ length nodes
+length-balanced nodes new b = sym (length-keys new) ∙ (ap length b.ids ∙ length-keys nodes)
+
+-- as many entries fit once one has moved, and protected is within its limit
+pub room-balanced : {K V : Type 0} {keeps : Bool} {ready limit : ℕ} {entries : Chain (Entry K V)} {writes : IdList} {index : HashIndex}
+    → HasRoom keeps ready entries writes index → (mid new : Chain (Entry K V)) (listed : IdList) → mid ≡ record entries { items = mid.items }
+    → length mid.items ≡ length entries.items → new ≡ record mid { items = new.items } → IsBalanced limit mid.items new.items
+    → listed.capacity ≡ writes.capacity → HasRoom keeps ready new listed index
+room-balanced {index = index} h mid new listed moved len same balance written =
+    room-same h new listed index (ap (λ v. v.capacity) same ∙ ap (λ v. v.capacity) moved) written refl
+    (ap (λ v. v.room) same ∙ ap (λ v. v.room) moved) (length-balanced mid.items new.items balance ∙ len)
+
 module _ {K V : Type 0} {eq : K → K → Bool} (laws : IsEquivalence eq) {keeps : Bool} {nodes : List (ℕ × Entry K V)} {marks : Marks} {ids : List ℕ}
     {weights : Weights} {index : HashIndex} (s : IsStored eq keeps nodes marks ids weights index) where
   -- a node leaves
@@ -117,11 +136,6 @@ module _ {K V : Type 0} {eq : K → K → Bool} (laws : IsEquivalence eq) {keeps
   module _ (id : ℕ) (x e : Entry K V) (stood : lookup (nat_eq id) nodes ≡ Some x) (small : e.weight < 2 ^ 32) (new : List (ℕ × Entry K V))
       (moved : Marks) (weighs : Weights) (new_is : new ≡ latest_node (id, e) (remove_entry (nat_eq id) nodes)) (marked : AreMarks new moved)
       (weighed : weighs ≡ weights_of (latest_node (id, e) (remove_entry (nat_eq id) nodes))) where
-    -- as many nodes
-    pub length-relisted : length new ≡ length nodes
-    length-relisted =
-        ap length new_is ∙ (length-latest (id, e) (remove_entry (nat_eq id) nodes) ∙ length-remove id nodes (ap is_some stood))
-
     distinct : IsDistinct nat_eq (keys_of new)
     distinct = rw new_is (distinct-relisted id e nodes s.keyed.once)
 
@@ -133,7 +147,7 @@ module _ {K V : Type 0} {eq : K → K → Bool} (laws : IsEquivalence eq) {keeps
               (subst (SameBy (λ e. e.key) nodes) (sym new_is) (same-relisted (λ e. e.key) id x e nodes s.keyed.once stood key));
           order = rw new_is (order-with (id, e) (remove_entry (nat_eq id) nodes) (order-removed laws s.keyed id x stood s.order));
           marked = marked;
-          few = subst (λ n. n < 2 ^ 32) (sym length-relisted) s.few;
+          few = subst (λ n. n < 2 ^ 32) (sym (length-moved id e nodes new new_is (ap is_some stood))) s.few;
           small = rw new_is (all-latest (λ p. p.1.weight < 2 ^ 32) (id, e) (remove_entry (nat_eq id) nodes) small
               (all-removed (λ p. p.1.weight < 2 ^ 32) id nodes s.small));
           weighed = weighed ∙ ap weights_of (sym new_is);
@@ -155,7 +169,7 @@ module _ {K V : Type 0} {eq : K → K → Bool} (laws : IsEquivalence eq) {keeps
               (removed_parts s.keyed (nat_eq id i) y (lookup (nat_eq i) nodes) (sym (lookup-removed id i nodes s.keyed.once) ∙ h))));
           order = rw new_is (order-with (id, e) rest (order-removed laws s.keyed id x stood s.order));
           marked = marked;
-          few = subst (λ n. n < 2 ^ 32) (sym length-relisted) s.few;
+          few = subst (λ n. n < 2 ^ 32) (sym (length-moved id e nodes new new_is (ap is_some stood))) s.few;
           small = rw new_is (all-latest (λ p. p.1.weight < 2 ^ 32) (id, e) rest small (all-removed (λ p. p.1.weight < 2 ^ 32) id nodes s.small));
           weighed = weighed ∙ ap weights_of (sym new_is);
           written = written-same present nodes new (written-last s.written id (ap is_some stood))
@@ -165,19 +179,21 @@ module _ {K V : Type 0} {eq : K → K → Bool} (laws : IsEquivalence eq) {keeps
               (latest_node (id, e) rest) (λ v. lookup-latest v id e rest fresh));
         })
 
-  -- protected is within its room
-  pub stored-balanced : (room : ℕ) (new : List (ℕ × Entry K V)) (moved : Marks) (weighs : Weights) → IsBalanced room nodes new → AreMarks new moved
-      → weighs ≡ weights_of new → IsStored eq keeps new moved ids weighs index
-  stored-balanced room new moved weighs b marked weighed =
-      let distinct : IsDistinct nat_eq (keys_of new) = subst (IsDistinct nat_eq) (sym b.ids) s.keyed.once in
-      let same_len : length new ≡ length nodes = sym (length-keys new) ∙ (ap length b.ids ∙ length-keys nodes) in
+  -- its parts
+  pub parted : IsParted nodes marks weights
+  parted = record { once = s.keyed.once; order = s.order; marked = s.marked; weighed = s.weighed }
+
+  -- protected is within its limit
+  pub stored-balanced : {limit : ℕ} (new : List (ℕ × Entry K V)) (moved : Marks) (weighs : Weights) → IsBalanced limit nodes new
+      → IsParted new moved weighs → IsStored eq keeps new moved ids weighs index
+  stored-balanced new moved weighs b p =
       record {
-        keyed = keyed-same nodes new s.keyed distinct (same-bare (λ e. e.key) (λ e. refl) nodes new b.same);
-        order = b.order;
-        marked = marked;
-        few = subst (λ n. n < 2 ^ 32) (sym same_len) s.few;
-        small = small-same nodes new (λ w. w < 2 ^ 32) s.small distinct (same-bare (λ e. e.weight) (λ e. refl) nodes new b.same);
-        weighed = weighed;
+        keyed = keyed-same nodes new s.keyed p.once (same-bare (λ e. e.key) (λ e. refl) nodes new b.same);
+        order = p.order;
+        marked = p.marked;
+        few = subst (λ n. n < 2 ^ 32) (sym (length-balanced nodes new b)) s.few;
+        small = small-same nodes new (λ w. w < 2 ^ 32) s.small p.once (same-bare (λ e. e.weight) (λ e. refl) nodes new b.same);
+        weighed = p.weighed;
         written = written-same bare nodes new s.written b.same;
         indexed = indexed-same nodes new s.indexed (same-bare (λ e. e.hash) (λ e. refl) nodes new b.same);
       }
@@ -196,7 +212,3 @@ module _ {K V : Type 0} {eq : K → K → Bool} (laws : IsEquivalence eq) {keeps
         written = written-last s.written id stood;
         indexed = s.indexed;
       })
-
--- protected keeps as many nodes in all
-pub length-balanced : {K V : Type 0} {room : ℕ} (nodes new : List (ℕ × Entry K V)) → IsBalanced room nodes new → length new ≡ length nodes
-length-balanced nodes new b = sym (length-keys new) ∙ (ap length b.ids ∙ length-keys nodes)

@@ -106,6 +106,15 @@ module _ {K V : Type 0} where
   abbrev pub weights_of : List (ℕ × Entry K V) → Weights
   weights_of nodes = record { all = weight_in is_any nodes; protected = weight_in is_protected nodes; window = weight_in is_window nodes }
 
+  -- ---- the parts
+
+  -- no id stands twice, the parts stand in order, and marks and weights are theirs
+  pub record IsParted (nodes : List (ℕ × Entry K V)) (marks : Marks) (weights : Weights) : Type 0 where
+    pub once : IsDistinct nat_eq (keys_of nodes)
+    pub order : InOrder Probation (values_of nodes)
+    pub marked : AreMarks nodes marks
+    pub weighed : weights ≡ weights_of nodes
+
   -- ---- what stays the same
 
   -- no id is lost, and under each is what was there, as far as this tells
@@ -125,14 +134,12 @@ module _ {K V : Type 0} where
     pub here : is_protected entry.part ≡ true
     pub stood : values_of old ≡ front ++ entry ∷ back
     pub stands : values_of new ≡ front ++ record entry { part = Probation } ∷ back
-    pub order : InOrder Probation (values_of new)
     pub same : SameBy bare old new
     pub ids : keys_of new ≡ keys_of old
 
-  -- protected is within its room: the entries are those that the machine has then
-  pub record IsBalanced (room : ℕ) (old new : List (ℕ × Entry K V)) : Type 0 where
-    pub entries : values_of new ≡ balanced room (values_of old)
-    pub order : InOrder Probation (values_of new)
+  -- protected is within its limit: the entries are those that the machine has then
+  pub record IsBalanced (limit : ℕ) (old new : List (ℕ × Entry K V)) : Type 0 where
+    pub entries : values_of new ≡ balanced limit (values_of old)
     pub same : SameBy bare old new
     pub ids : keys_of new ≡ keys_of old
 

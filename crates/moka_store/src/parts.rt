@@ -1,15 +1,14 @@
 // The three parts of the list of all entries: the first node of each, and their weights; and the order of writing, which is kept if there is a time to live.
-ghost use Rattle.std.specs.Prelude.{◌≡◌, ◌≢◌, ◌<◌, ◌≤◌, ◌+◌, ◌-◌, ◌^◌, ◌&&◌, IfSome, None, Some, false, length, nat_eq, nat_le, nat_lt, true};
+ghost use Rattle.std.specs.Prelude.{◌≡◌, ◌<◌, ◌≤◌, ◌+◌, ◌-◌, ◌^◌, ◌&&◌, None, Some, false, nat_eq, nat_le, nat_lt, true};
 ghost use Rattle.moka_list.specs.IdList.{is_listed};
 ghost use Rattle.std.specs.List.{IsDistinct};
-ghost use Rattle.std.specs.Map.{keys_of, lookup, remove_entry, values_of};
+ghost use Rattle.std.specs.Map.{keys_of, lookup, remove_entry};
 ghost use Rattle.moka_list.specs.Nodes.{IsIn, next_id};
 ghost use Rattle.moka_unsync_model.specs.declared.entry.Entry.{Entry as EntryValue};
-ghost use Rattle.moka_unsync_model.specs.declared.entry.Part.TheVariants.{Probation};
-ghost use Rattle.moka_unsync_model.specs.Contents.{InOrder, is_protected, is_window, protected_of};
+ghost use Rattle.moka_unsync_model.specs.Contents.{is_protected, is_window};
 ghost use Rattle.moka_unsync_model.specs.Lookup.{used_part};
 ghost use Rattle.moka_store.specs.Store.{is_of};
-ghost use Rattle.moka_store.specs.Nodes.{AreMarks, Demotes, IsBalanced, behind, latest_node, moved, passed, share, weights_of, with_mark};
+ghost use Rattle.moka_store.specs.Nodes.{AreMarks, Demotes, IsBalanced, IsParted, behind, latest_node, passed, share, with_mark};
 ghost use Rattle.moka_store.specs.Nodes.{write_added, write_last, write_left};
 
 use moka_list::chain::{Chain, IdList, NodeId};
@@ -266,13 +265,9 @@ pub(crate) fn balance<K: Drop, V: Drop, A: Allocator>(
     weights: &mut Weights,
     limit: u64,
 )
-    requires once { IsDistinct nat_eq (keys_of entries.old.items) }
-    requires order { InOrder Probation (values_of entries.old.items) }
-    requires marks { AreMarks entries.old.items marks.old }
-    requires weighed { weights.old ≡ weights_of entries.old.items }
+    requires { IsParted entries.old.items marks.old weights.old }
     ensures step { IsBalanced limit entries.old.items entries.new.items }
-    ensures marks { AreMarks entries.new.items marks.new }
-    ensures weighed { weights.new ≡ weights_of entries.new.items }
+    ensures parted { IsParted entries.new.items marks.new weights.new }
     ensures unchanged { entries.new ≡ record entries.old { items = entries.new.items } }
 {
     while weights.protected > limit {
@@ -289,13 +284,9 @@ fn demote_first<K: Drop, V: Drop, A: Allocator>(
     weights: &mut Weights,
 )
     requires some { 0 < weights.old.protected }
-    requires once { IsDistinct nat_eq (keys_of entries.old.items) }
-    requires order { InOrder Probation (values_of entries.old.items) }
-    requires marks { AreMarks entries.old.items marks.old }
-    requires weighed { weights.old ≡ weights_of entries.old.items }
+    requires parted { IsParted entries.old.items marks.old weights.old }
     ensures step { Demotes entries.old.items entries.new.items }
-    ensures marks { AreMarks entries.new.items marks.new }
-    ensures weighed { weights.new ≡ weights_of entries.new.items }
+    ensures parted { IsParted entries.new.items marks.new weights.new }
     ensures unchanged { entries.new ≡ record entries.old { items = entries.new.items } }
 {
     let Some(id) = marks.late else {

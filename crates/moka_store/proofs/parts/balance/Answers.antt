@@ -9,14 +9,12 @@ use Rattle.moka_store.proofs.parts.balance.Goals as goal
 
 pub loop-weights-preserved : goal.loop-weights-preserved
 loop-weights-preserved g c =
-    let (order, marks, weighed, balance, same, ids, kept) = c.loop-weights.invariant in
+    let (parted, balance, same, ids, kept) = c.loop-weights.invariant in
     let step = c.demote_first.ensures.step in
     let nodes = c.loop-weights.entries.items in
     let heavy : c.args.limit < total_weight (protected_of (values_of nodes)) =
-    subst (λ t. c.args.limit < t) (ap (λ w. w.protected) weighed ∙ weight-values is_protected nodes) c.loop-weights-test.true in (
-      step.order,
-      c.demote_first.ensures.marks,
-      c.demote_first.ensures.weighed,
+    subst (λ t. c.args.limit < t) (ap (λ w. w.protected) parted.weighed ∙ weight-values is_protected nodes) c.loop-weights-test.true in (
+      c.demote_first.ensures.parted,
       balanced-demoted nodes c.demote_first.new.entries.items step c.args.limit heavy ∙ balance,
       same-after bare c.args.entries.now.items nodes c.demote_first.new.entries.items same step.same,
       step.ids ∙ ids,
@@ -25,8 +23,8 @@ loop-weights-preserved g c =
 
 pub returns-clause-step : goal.returns-clause-step
 returns-clause-step g c =
-    let (order, marks, weighed, balance, same, ids, kept) = c.loop-weights.invariant in
+    let (parted, balance, same, ids, kept) = c.loop-weights.invariant in
     let nodes = c.loop-weights.entries.items in
     let within : total_weight (protected_of (values_of nodes)) ≤ c.args.limit =
-    subst (λ t. t ≤ c.args.limit) (ap (λ w. w.protected) weighed ∙ weight-values is_protected nodes) c.loop-weights-test.false in
-    record { entries = sym (balanced-within c.args.limit nodes within) ∙ balance; order = order; same = same; ids = ids }
+    subst (λ t. t ≤ c.args.limit) (ap (λ w. w.protected) parted.weighed ∙ weight-values is_protected nodes) c.loop-weights-test.false in
+    record { entries = sym (balanced-within c.args.limit nodes within) ∙ balance; same = same; ids = ids }

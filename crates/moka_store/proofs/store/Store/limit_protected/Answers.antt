@@ -1,19 +1,19 @@
-use Rattle.std.proofs.Common.{ap, arith, length, refl}
+use Rattle.std.proofs.Common.{arith, refl}
 use Rattle.moka_unsync_model.specs.Contents.{write_of}
-use Rattle.moka_store.proofs.NodeLemmas.{length-keys}
 use Rattle.moka_store.proofs.SameLemmas.{same-bare}
-use Rattle.moka_store.proofs.StoreLemmas.{length-balanced, room-same, stored-balanced}
+use Rattle.moka_store.proofs.StoreLemmas.{length-balanced, parted, room-balanced, stored-balanced}
 use Rattle.moka_store.proofs.WriteLemmas.{under-same}
 use Rattle.moka_store.proofs.store.Store.limit_protected.Goals as goal
+
+pub balance-requires : goal.balance-requires
+balance-requires g c = parted g.met.K.Eq.laws c.self.invariant.0
 
 pub invariant_of-self : goal.invariant_of-self
 invariant_of-self g c =
     let step = c.balance.ensures.step in (
-      stored-balanced g.met.K.Eq.laws c.self.invariant.0 c.args.limit c.balance.new.entries.items c.balance.new.marks c.balance.new.weights step
-          c.balance.ensures.marks c.balance.ensures.weighed,
-      room-same c.self.invariant.1 c.balance.new.entries c.self.inside.writes c.self.inside.index
-          (ap (λ v. v.capacity) c.balance.ensures.unchanged) refl refl (ap (λ v. v.room) c.balance.ensures.unchanged)
-          (length-balanced c.self.inside.entries.items c.balance.new.entries.items step),
+      stored-balanced g.met.K.Eq.laws c.self.invariant.0 c.balance.new.entries.items c.balance.new.marks c.balance.new.weights step
+          c.balance.ensures.parted,
+      room-balanced c.self.invariant.1 c.self.inside.entries c.balance.new.entries c.self.inside.writes refl refl c.balance.ensures.unchanged step refl,
     )
 
 pub returns-clause-step : goal.returns-clause-step
@@ -33,10 +33,5 @@ returns-clause-kept g c =
     rw (← c.self.view_is)
     (record {
       settings = record { keeps = refl; limit = refl; capacity = refl };
-      fewer = omega (
-        arith,
-        length-keys c.self.inside.entries.items,
-        length-keys c.balance.new.entries.items,
-        ap length step.ids,
-      );
+      fewer = omega (arith, length-balanced c.self.inside.entries.items c.balance.new.entries.items step);
     })

@@ -1,9 +1,8 @@
-use Rattle.std.proofs.Common.{ap, refl}
+use Rattle.std.proofs.Common.{ap, is_some, refl}
 use Rattle.moka_unsync_model.specs.declared.entry.Part.TheVariants.{Probation}
 use Rattle.moka_store.proofs.ChangeLemmas.{set_here, set_marks, set_once, settled, shift_fits, shifted, writes_kept}
-use Rattle.moka_store.proofs.RelistLemmas.{length-settled, stored-settled}
 use Rattle.moka_store.proofs.StepLemmas.{promotes_is}
-use Rattle.moka_store.proofs.StoreLemmas.{room-same}
+use Rattle.moka_store.proofs.StoreLemmas.{length-moved, room-same, stored-relisted}
 use Rattle.moka_store.proofs.WeightLemmas.{share_protected, share_window}
 use Rattle.moka_store.proofs.store.Store.move_to_probation.Goals as goal
 
@@ -46,13 +45,12 @@ invariant_of-self g c =
     let x = c.get_mut-entry.result.now in
     let e = (record x { part = Probation }) in
     let stood = c.get_mut-entry.ensures.value in
-    let weighed = shifted s c.args.id x e stood refl c.shift.new.self c.shift.ensures.value in (
-      stored-settled g.met.K.Eq.laws s c.args.id x e stood c.shift.ensures.small c.attach.new.entries.items c.attach.ensures.items
-          c.attach.new.marks c.attach.ensures.marks c.shift.new.self weighed refl refl,
+    let moved = settled s c.args.id x e stood c.attach.new.entries.items c.attach.ensures.items in (
+      stored-relisted g.met.K.Eq.laws s c.args.id x e stood c.shift.ensures.small c.attach.new.entries.items c.attach.new.marks c.shift.new.self moved
+          c.attach.ensures.marks (shifted s c.args.id x e stood refl c.shift.new.self c.shift.ensures.value) refl refl,
       room-same c.self.invariant.1 c.attach.new.entries c.self.inside.writes c.self.inside.index (ap (λ v. v.capacity) c.attach.ensures.unchanged) refl refl
           (ap (λ v. v.room) c.attach.ensures.unchanged)
-          (length-settled g.met.K.Eq.laws s c.args.id x e stood c.shift.ensures.small c.attach.new.entries.items c.attach.ensures.items
-          c.attach.new.marks c.attach.ensures.marks c.shift.new.self weighed),
+          (length-moved c.args.id e c.self.inside.entries.items c.attach.new.entries.items moved (ap is_some stood)),
     )
 
 pub returns : goal.returns

@@ -7,7 +7,7 @@ use Rattle.moka_store.specs.Nodes.{latest_node, written_under}
 use Rattle.moka_store.specs.Store.{entries_of}
 use Rattle.moka_store.proofs.ChangeLemmas.{fits, heavier, parts_lighter, set_here, set_marks, set_once, settled, writes_replaced}
 use Rattle.moka_store.proofs.StepLemmas.{replaces_is}
-use Rattle.moka_store.proofs.StoreLemmas.{length-relisted, room-same, stored-replaced}
+use Rattle.moka_store.proofs.StoreLemmas.{length-moved, room-same, stored-replaced}
 use Rattle.moka_store.proofs.WeightLemmas.{share_all, share_protected, share_window}
 use Rattle.moka_store.proofs.WriteLemmas.{is_written}
 use Rattle.moka_store.proofs.store.Store.replace.Goals as goal
@@ -96,8 +96,7 @@ invariant_of-self g c =
       room-same c.self.invariant.1 c.attach.new.entries c.write_again.new.writes c.add-2.new.self (ap (λ v. v.capacity) c.attach.ensures.unchanged)
           c.write_again.ensures.capacity (c.add-2.ensures.step.ids ∙ c.remove.ensures.step.ids)
           (ap (λ v. v.room) c.attach.ensures.unchanged)
-          (length-relisted g.met.K.Eq.laws s c.args.id x e stood c.add.ensures.small c.attach.new.entries.items c.attach.new.marks c.add.new.self moved
-          c.attach.ensures.marks weighed),
+          (length-moved c.args.id e c.self.inside.entries.items c.attach.new.entries.items moved (ap is_some stood)),
     )
 
 pub returns-clause-step : goal.returns-clause-step

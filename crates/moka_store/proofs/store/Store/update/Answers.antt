@@ -1,13 +1,14 @@
-use Rattle.std.proofs.Common.{◌∙◌, ◌<◌, ◌^◌, ap, is_some, refl, subst, sym}
+use Rattle.std.proofs.Common.{◌≡◌, ◌∙◌, ◌<◌, ◌^◌, ap, is_some, nat_eq, refl, subst, sym}
+use Rattle.std.specs.Map.{remove_entry}
 use Rattle.moka_unsync_model.specs.Contents.{writes_without}
 use Rattle.moka_unsync_model.specs.Insert.{with_write}
-use Rattle.moka_store.specs.Nodes.{written_under}
+use Rattle.moka_store.specs.Nodes.{IsStored, latest_node, written_under}
 use Rattle.moka_store.proofs.ChangeLemmas.{fits, found_balanced, heavier, parts_lighter, set_here, set_marks, set_once, settled, writes_last}
-use Rattle.moka_store.proofs.RelistLemmas.{length-settled, stored-settled}
 use Rattle.moka_store.proofs.StepLemmas.{updates_is}
-use Rattle.moka_store.proofs.StoreLemmas.{length-balanced, room-same, stored-balanced, stored-written}
+use Rattle.moka_store.proofs.StoreLemmas.{length-moved, parted, room-balanced, stored-balanced, stored-relisted, stored-written}
 use Rattle.moka_store.proofs.WeightLemmas.{share_all, share_protected, share_window}
 use Rattle.moka_store.proofs.WriteLemmas.{is_written}
+use Rattle.moka_store.proofs.store.Store.update.Goals.{After-attach}
 use Rattle.moka_store.proofs.store.Store.update.Goals as goal
 
 pub take-requires-clause-all : goal.take-requires-clause-all
@@ -54,79 +55,41 @@ attach-requires-clause-marks g c =
     let x = c.get_mut-entry.result.now in
     set_marks c.self.invariant.0 c.args.id x c.rewrite-left.new.entry c.get_mut-entry.ensures.value c.pass.new.self c.pass.ensures
 
-pub balance-requires-clause-once : goal.balance-requires-clause-once
-balance-requires-clause-once g c =
-    let s = c.self.invariant.0 in
-    let x = c.get_mut-entry.result.now in
-    let e = c.rewrite-left.new.entry in
-    let stood = c.get_mut-entry.ensures.value in
-    let weighed =
-    heavier s c.args.id x e stood c.take.new.self c.take.ensures c.used_part-used.result c.args.update.weight
-    (sym (ap (λ z. z.part) c.rewrite-left.ensures.entry)) (sym (ap (λ z. z.weight) c.rewrite-left.ensures.entry)) c.add.new.self c.add.ensures.value in
-    let small = subst (λ z. z.weight < 2 ^ 32) (sym c.rewrite-left.ensures.entry) c.add.ensures.small in
-    let after =
-    stored-settled g.met.K.Eq.laws s c.args.id x e stood small c.attach.new.entries.items c.attach.ensures.items
-    c.attach.new.marks c.attach.ensures.marks c.add.new.self weighed (ap (λ z. z.key) c.rewrite-left.ensures.entry) (ap
-    (λ z. z.hash) c.rewrite-left.ensures.entry) in
-    after.keyed.once
+module _ (g : _) (c : After-attach g) where
+  -- the entry is the last of its part
+  moved : c.attach.new.entries.items ≡ latest_node (c.args.id, c.rewrite-left.new.entry) (remove_entry (nat_eq c.args.id) c.self.inside.entries.items)
+  moved =
+      settled c.self.invariant.0 c.args.id c.get_mut-entry.result.now c.rewrite-left.new.entry c.get_mut-entry.ensures.value c.attach.new.entries.items
+      c.attach.ensures.items
 
-pub balance-requires-clause-order : goal.balance-requires-clause-order
-balance-requires-clause-order g c =
-    let s = c.self.invariant.0 in
-    let x = c.get_mut-entry.result.now in
-    let e = c.rewrite-left.new.entry in
-    let stood = c.get_mut-entry.ensures.value in
-    let weighed =
-    heavier s c.args.id x e stood c.take.new.self c.take.ensures c.used_part-used.result c.args.update.weight
-    (sym (ap (λ z. z.part) c.rewrite-left.ensures.entry)) (sym (ap (λ z. z.weight) c.rewrite-left.ensures.entry)) c.add.new.self c.add.ensures.value in
-    let small = subst (λ z. z.weight < 2 ^ 32) (sym c.rewrite-left.ensures.entry) c.add.ensures.small in
-    let after =
-    stored-settled g.met.K.Eq.laws s c.args.id x e stood small c.attach.new.entries.items c.attach.ensures.items
-    c.attach.new.marks c.attach.ensures.marks c.add.new.self weighed (ap (λ z. z.key) c.rewrite-left.ensures.entry) (ap
-    (λ z. z.hash) c.rewrite-left.ensures.entry) in
-    after.order
+  -- it is a store then
+  after : IsStored g.K.PartialEq.eq c.self.inside.keeps_writes c.attach.new.entries.items c.attach.new.marks c.self.inside.writes.ids c.add.new.self
+      c.self.inside.index
+  after =
+      let s = c.self.invariant.0 in
+      let x = c.get_mut-entry.result.now in
+      let e = c.rewrite-left.new.entry in
+      let stood = c.get_mut-entry.ensures.value in
+      let is = c.rewrite-left.ensures.entry in
+      stored-relisted g.met.K.Eq.laws s c.args.id x e stood (subst (λ z. z.weight < 2 ^ 32) (sym is) c.add.ensures.small) c.attach.new.entries.items
+      c.attach.new.marks c.add.new.self moved c.attach.ensures.marks
+      (heavier s c.args.id x e stood c.take.new.self c.take.ensures c.used_part-used.result c.args.update.weight (sym (ap (λ z. z.part) is))
+      (sym (ap (λ z. z.weight) is)) c.add.new.self c.add.ensures.value) (ap (λ z. z.key) is) (ap (λ z. z.hash) is)
 
-pub balance-requires-clause-weighed : goal.balance-requires-clause-weighed
-balance-requires-clause-weighed g c =
-    let s = c.self.invariant.0 in
-    let x = c.get_mut-entry.result.now in
-    let e = c.rewrite-left.new.entry in
-    let stood = c.get_mut-entry.ensures.value in
-    let weighed =
-    heavier s c.args.id x e stood c.take.new.self c.take.ensures c.used_part-used.result c.args.update.weight
-    (sym (ap (λ z. z.part) c.rewrite-left.ensures.entry)) (sym (ap (λ z. z.weight) c.rewrite-left.ensures.entry)) c.add.new.self c.add.ensures.value in
-    let small = subst (λ z. z.weight < 2 ^ 32) (sym c.rewrite-left.ensures.entry) c.add.ensures.small in
-    let after =
-    stored-settled g.met.K.Eq.laws s c.args.id x e stood small c.attach.new.entries.items c.attach.ensures.items
-    c.attach.new.marks c.attach.ensures.marks c.add.new.self weighed (ap (λ z. z.key) c.rewrite-left.ensures.entry) (ap
-    (λ z. z.hash) c.rewrite-left.ensures.entry) in
-    after.weighed
+pub balance-requires : goal.balance-requires
+balance-requires g c = parted g.met.K.Eq.laws (after g (goal.at.balance-requires g c).After-attach)
 
 pub invariant_of-self : goal.invariant_of-self
 invariant_of-self g c =
-    let s = c.self.invariant.0 in
-    let x = c.get_mut-entry.result.now in
-    let e = c.rewrite-left.new.entry in
-    let stood = c.get_mut-entry.ensures.value in
-    let weighed =
-    heavier s c.args.id x e stood c.take.new.self c.take.ensures c.used_part-used.result c.args.update.weight
-    (sym (ap (λ z. z.part) c.rewrite-left.ensures.entry)) (sym (ap (λ z. z.weight) c.rewrite-left.ensures.entry)) c.add.new.self c.add.ensures.value in
-    let small = subst (λ z. z.weight < 2 ^ 32) (sym c.rewrite-left.ensures.entry) c.add.ensures.small in
-    let after =
-    stored-settled g.met.K.Eq.laws s c.args.id x e stood small c.attach.new.entries.items c.attach.ensures.items
-    c.attach.new.marks c.attach.ensures.marks c.add.new.self weighed (ap (λ z. z.key) c.rewrite-left.ensures.entry) (ap
-    (λ z. z.hash) c.rewrite-left.ensures.entry) in (
-      stored-written g.met.K.Eq.laws (stored-balanced g.met.K.Eq.laws after c.self.inside.protected_limit c.balance.new.entries.items c.balance.new.marks
-          c.balance.new.weights c.balance.ensures.step c.balance.ensures.marks c.balance.ensures.weighed) c.args.id
-          (found_balanced s c.args.id x e stood c.self.inside.protected_limit c.attach.new.entries.items c.balance.new.entries.items
-          (settled s c.args.id x e stood c.attach.new.entries.items c.attach.ensures.items) c.balance.ensures.step)
-          c.write_again.new.writes.ids c.write_again.ensures.ids,
-      room-same c.self.invariant.1 c.balance.new.entries c.write_again.new.writes c.self.inside.index
-          (ap (λ v. v.capacity) c.balance.ensures.unchanged ∙ ap (λ v. v.capacity) c.attach.ensures.unchanged) c.write_again.ensures.capacity refl
-          (ap (λ v. v.room) c.balance.ensures.unchanged ∙ ap (λ v. v.room) c.attach.ensures.unchanged)
-          (length-balanced c.attach.new.entries.items c.balance.new.entries.items c.balance.ensures.step
-          ∙ length-settled g.met.K.Eq.laws s c.args.id x e stood small c.attach.new.entries.items c.attach.ensures.items
-          c.attach.new.marks c.attach.ensures.marks c.add.new.self weighed),
+    let at = (goal.at.invariant_of-self g c).After-attach in
+    let stood = c.get_mut-entry.ensures.value in (
+      stored-written g.met.K.Eq.laws (stored-balanced g.met.K.Eq.laws (after g at) c.balance.new.entries.items c.balance.new.marks
+          c.balance.new.weights c.balance.ensures.step c.balance.ensures.parted) c.args.id
+          (found_balanced c.self.invariant.0 c.args.id c.get_mut-entry.result.now c.rewrite-left.new.entry stood c.self.inside.protected_limit
+          c.attach.new.entries.items c.balance.new.entries.items (moved g at) c.balance.ensures.step) c.write_again.new.writes.ids c.write_again.ensures.ids,
+      room-balanced c.self.invariant.1 c.attach.new.entries c.balance.new.entries c.write_again.new.writes c.attach.ensures.unchanged
+          (length-moved c.args.id c.rewrite-left.new.entry c.self.inside.entries.items c.attach.new.entries.items (moved g at) (ap is_some stood))
+          c.balance.ensures.unchanged c.balance.ensures.step c.write_again.ensures.capacity,
     )
 
 pub returns-clause-step : goal.returns-clause-step
@@ -135,10 +98,10 @@ returns-clause-step g c =
     let x = c.get_mut-entry.result.now in
     let e = c.rewrite-left.new.entry in
     let stood = c.get_mut-entry.ensures.value in
-    let moved = settled s c.args.id x e stood c.attach.new.entries.items c.attach.ensures.items in
+    let moved = moved g (goal.at.returns-clause-step g c).After-attach in
     rw (← c.self.view_is)
-    (updates_is g.met.K.Eq.laws _ _ s.keyed c.args.id x stood (record { keeps = refl; limit = refl; capacity = refl }) e c.attach.new.entries.items
-    moved c.balance.ensures.step c.args.update
+    (updates_is g.met.K.Eq.laws _ _ s.keyed c.args.id x stood (record { keeps = refl; limit = refl; capacity = refl }) e
+    c.attach.new.entries.items moved c.balance.ensures.step c.args.update
     (c.rewrite-left.ensures.entry ∙ (λ i. record c.args.update {
       key = x.key;
       hash = x.hash;

@@ -1,9 +1,11 @@
-use Rattle.std.proofs.Common.{◌∙◌, ap, refl}
+use Rattle.std.proofs.Common.{◌≡◌, ap, is_some, nat_eq, refl}
+use Rattle.std.specs.Map.{remove_entry}
+use Rattle.moka_store.specs.Nodes.{IsStored, latest_node}
 use Rattle.moka_store.proofs.ChangeLemmas.{set_here, set_marks, set_once, settled, shift_fits, shifted, writes_balanced}
-use Rattle.moka_store.proofs.RelistLemmas.{length-settled, stored-settled}
 use Rattle.moka_store.proofs.StepLemmas.{uses_is}
-use Rattle.moka_store.proofs.StoreLemmas.{length-balanced, room-same, stored-balanced}
+use Rattle.moka_store.proofs.StoreLemmas.{length-moved, parted, room-balanced, stored-balanced, stored-relisted}
 use Rattle.moka_store.proofs.WeightLemmas.{share_protected, share_window}
+use Rattle.moka_store.proofs.store.Store.use_anywhere.Goals.{After-attach}
 use Rattle.moka_store.proofs.store.Store.use_anywhere.Goals as goal
 
 pub shift-requires-clause-protected : goal.shift-requires-clause-protected
@@ -40,61 +42,39 @@ attach-requires-clause-marks g c =
     set_marks c.self.invariant.0 c.args.id x (record x { accessed = c.args.now; part = c.used_part-used.result }) c.get_mut-entry.ensures.value c.pass.new.self
     c.pass.ensures
 
-pub balance-requires-clause-once : goal.balance-requires-clause-once
-balance-requires-clause-once g c =
-    let s = c.self.invariant.0 in
-    let x = c.get_mut-entry.result.now in
-    let e = (record x { accessed = c.args.now; part = c.used_part-used.result }) in
-    let stood = c.get_mut-entry.ensures.value in
-    let weighed = shifted s c.args.id x e stood refl c.shift.new.self c.shift.ensures.value in
-    let after =
-    stored-settled g.met.K.Eq.laws s c.args.id x e stood c.shift.ensures.small c.attach.new.entries.items c.attach.ensures.items
-    c.attach.new.marks c.attach.ensures.marks c.shift.new.self weighed refl refl in
-    after.keyed.once
+module _ (g : _) (c : After-attach g) where
+  -- the entry is the last of its part
+  moved : c.attach.new.entries.items
+      ≡ latest_node (c.args.id, record c.get_mut-entry.result.now { accessed = c.args.now; part = c.used_part-used.result })
+      (remove_entry (nat_eq c.args.id) c.self.inside.entries.items)
+  moved =
+      let x = c.get_mut-entry.result.now in
+      settled c.self.invariant.0 c.args.id x (record x { accessed = c.args.now; part = c.used_part-used.result }) c.get_mut-entry.ensures.value
+      c.attach.new.entries.items c.attach.ensures.items
 
-pub balance-requires-clause-order : goal.balance-requires-clause-order
-balance-requires-clause-order g c =
-    let s = c.self.invariant.0 in
-    let x = c.get_mut-entry.result.now in
-    let e = (record x { accessed = c.args.now; part = c.used_part-used.result }) in
-    let stood = c.get_mut-entry.ensures.value in
-    let weighed = shifted s c.args.id x e stood refl c.shift.new.self c.shift.ensures.value in
-    let after =
-    stored-settled g.met.K.Eq.laws s c.args.id x e stood c.shift.ensures.small c.attach.new.entries.items c.attach.ensures.items
-    c.attach.new.marks c.attach.ensures.marks c.shift.new.self weighed refl refl in
-    after.order
+  -- it is a store then
+  after : IsStored g.K.PartialEq.eq c.self.inside.keeps_writes c.attach.new.entries.items c.attach.new.marks c.self.inside.writes.ids c.shift.new.self
+      c.self.inside.index
+  after =
+      let s = c.self.invariant.0 in
+      let x = c.get_mut-entry.result.now in
+      let e = (record x { accessed = c.args.now; part = c.used_part-used.result }) in
+      let stood = c.get_mut-entry.ensures.value in
+      stored-relisted g.met.K.Eq.laws s c.args.id x e stood c.shift.ensures.small c.attach.new.entries.items c.attach.new.marks c.shift.new.self moved
+      c.attach.ensures.marks (shifted s c.args.id x e stood refl c.shift.new.self c.shift.ensures.value) refl refl
 
-pub balance-requires-clause-weighed : goal.balance-requires-clause-weighed
-balance-requires-clause-weighed g c =
-    let s = c.self.invariant.0 in
-    let x = c.get_mut-entry.result.now in
-    let e = (record x { accessed = c.args.now; part = c.used_part-used.result }) in
-    let stood = c.get_mut-entry.ensures.value in
-    let weighed = shifted s c.args.id x e stood refl c.shift.new.self c.shift.ensures.value in
-    let after =
-    stored-settled g.met.K.Eq.laws s c.args.id x e stood c.shift.ensures.small c.attach.new.entries.items c.attach.ensures.items
-    c.attach.new.marks c.attach.ensures.marks c.shift.new.self weighed refl refl in
-    after.weighed
+pub balance-requires : goal.balance-requires
+balance-requires g c = parted g.met.K.Eq.laws (after g (goal.at.balance-requires g c).After-attach)
 
 pub invariant_of-self : goal.invariant_of-self
 invariant_of-self g c =
-    let s = c.self.invariant.0 in
-    let x = c.get_mut-entry.result.now in
-    let e = (record x { accessed = c.args.now; part = c.used_part-used.result }) in
-    let stood = c.get_mut-entry.ensures.value in
-    let weighed = shifted s c.args.id x e stood refl c.shift.new.self c.shift.ensures.value in
-    let after =
-    stored-settled g.met.K.Eq.laws s c.args.id x e stood c.shift.ensures.small c.attach.new.entries.items c.attach.ensures.items
-    c.attach.new.marks c.attach.ensures.marks c.shift.new.self weighed refl refl in (
-      stored-balanced g.met.K.Eq.laws after c.self.inside.protected_limit c.balance.new.entries.items c.balance.new.marks c.balance.new.weights
-          c.balance.ensures.step
-          c.balance.ensures.marks c.balance.ensures.weighed,
-      room-same c.self.invariant.1 c.balance.new.entries c.self.inside.writes c.self.inside.index
-          (ap (λ v. v.capacity) c.balance.ensures.unchanged ∙ ap (λ v. v.capacity) c.attach.ensures.unchanged) refl refl
-          (ap (λ v. v.room) c.balance.ensures.unchanged ∙ ap (λ v. v.room) c.attach.ensures.unchanged)
-          (length-balanced c.attach.new.entries.items c.balance.new.entries.items c.balance.ensures.step
-          ∙ length-settled g.met.K.Eq.laws s c.args.id x e stood c.shift.ensures.small c.attach.new.entries.items c.attach.ensures.items
-          c.attach.new.marks c.attach.ensures.marks c.shift.new.self weighed),
+    let at = (goal.at.invariant_of-self g c).After-attach in
+    let e = (record c.get_mut-entry.result.now { accessed = c.args.now; part = c.used_part-used.result }) in (
+      stored-balanced g.met.K.Eq.laws (after g at) c.balance.new.entries.items c.balance.new.marks c.balance.new.weights c.balance.ensures.step
+          c.balance.ensures.parted,
+      room-balanced c.self.invariant.1 c.attach.new.entries c.balance.new.entries c.self.inside.writes c.attach.ensures.unchanged
+          (length-moved c.args.id e c.self.inside.entries.items c.attach.new.entries.items (moved g at) (ap is_some c.get_mut-entry.ensures.value))
+          c.balance.ensures.unchanged c.balance.ensures.step refl,
     )
 
 pub returns : goal.returns
@@ -103,10 +83,9 @@ returns g c =
     let x = c.get_mut-entry.result.now in
     let e = (record x { accessed = c.args.now; part = c.used_part-used.result }) in
     let stood = c.get_mut-entry.ensures.value in
-    let moved = settled s c.args.id x e stood c.attach.new.entries.items c.attach.ensures.items in
+    let moved = moved g (goal.at.returns g c).After-attach in
     rw (← c.self.view_is)
-    (uses_is g.met.K.Eq.laws _ _ s.keyed c.args.id x stood (record { keeps = refl; limit = refl; capacity = refl }) e c.attach.new.entries.items
-    moved c.balance.ensures.step c.args.now
-    (λ i. record x { accessed = c.args.now; part = c.used_part-used.ensures i })
+    (uses_is g.met.K.Eq.laws _ _ s.keyed c.args.id x stood (record { keeps = refl; limit = refl; capacity = refl }) e c.attach.new.entries.items moved
+    c.balance.ensures.step c.args.now (λ i. record x { accessed = c.args.now; part = c.used_part-used.ensures i })
     (writes_balanced s c.args.id x e stood refl c.self.inside.protected_limit c.attach.new.entries.items c.balance.new.entries.items moved
     c.balance.ensures.step))
