@@ -4,7 +4,7 @@ use Rattle.moka_common.specs.Settings.{keeps_writes}
 use Rattle.moka_unsync_model.specs.CacheState.{CacheState, windowed}
 use Rattle.moka_unsync_model.specs.Contents.{entry_at, main_of}
 use Rattle.moka_list.proofs.IdLemmas.{some_parts}
-use Rattle.moka_unsync_model.specs.Insert.{Refused, after_admission, after_entering, after_entering_judged, after_update, new_entry}
+use Rattle.moka_unsync_model.specs.Insert.{IsInserted, Refused, after_admission, after_entering, after_entering_judged, after_insert, after_update}
 use Rattle.moka_unsync_model.specs.Cleanup.{after_cleanup}
 use Rattle.moka_unsync_model.specs.Window.{victims_of}
 use Rattle.moka_store.specs.Store.{KeepsSettings, Store, contents_of, entries_of}
@@ -18,7 +18,7 @@ use Rattle.moka_unsync.proofs.CachedLemmas.{IsCached-put, IsCached-room, IsCache
 use Rattle.moka_unsync.proofs.InsertLemmas.{entering_drops, entering_stays, insert_drops, insert_stays, insert_updates, judged, kept, put_main, stays_main}
 use Rattle.moka_unsync.proofs.InsertLemmas.{turn_is, turned}
 use Rattle.moka_unsync.proofs.FollowLemmas.{stands_there}
-use Rattle.moka_unsync_model.specs.Memory.{after_coming, demand_after}
+use Rattle.moka_unsync_model.specs.Memory.{Memory, after_coming, demand_after}
 use Rattle.moka_unsync_model.specs.declared.entry.Part.{Part}
 use Rattle.moka_unsync_model.specs.declared.listener.Cause.TheVariants.{Replaced}
 use Rattle.moka_unsync_model.specs.Shares.{main_limit}
@@ -27,7 +27,7 @@ use Rattle.moka_unsync_model.specs.ToldCalls.{TellsInsert, main_max}
 use Rattle.moka_unsync_model.proofs.EnteringLemmas.{stands-arrived}
 use Rattle.moka_unsync.proofs.LeavingLemmas.{follow_told, put_told, update_told}
 use Rattle.moka_unsync.proofs.cache.Cache.insert_notifying.Given.{Over}
-use Rattle.moka_unsync.proofs.cache.Cache.insert_notifying.Goals.{After-clean_up, After-weigh}
+use Rattle.moka_unsync.proofs.cache.Cache.insert_notifying.Goals.{After-weigh}
 use Rattle.moka_unsync.proofs.cache.Cache.insert_notifying.Goals as goal
 
 -- no tables are asked for
@@ -35,7 +35,7 @@ abbrev no_tables : Refused
 no_tables = record { table = true; tags = true }
 
 -- the hash is that of the key
-its_own : (g : Over) (c : After-clean_up g) → c.args.hash
+its_own : (g : Over) (c : After-weigh g) → c.args.hash
     ≡ (keys_by (record { eq = g.K.PartialEq.eq; hash_input = g.K.Hash.hash_input }) g.S.BuildHasher g.S.Hasher.Hasher).hash_of
     c.self.inside.hash_state c.args.key
 its_own g c =
@@ -43,26 +43,26 @@ its_own g c =
     (keys_by (record { eq = g.K.PartialEq.eq; hash_input = g.K.Hash.hash_input }) g.S.BuildHasher g.S.Hasher.Hasher).hash_of
     cache.settings.hash_state c.args.key) (sym c.self.view_is) c.requires.hashed
 
+-- what was computed of the shares is right, and all entries have their hashes
+its_parts : (g : Over) (c : After-weigh g)
+    → IsCached (keys_by (record { eq = g.K.PartialEq.eq; hash_input = g.K.Hash.hash_input }) g.S.BuildHasher g.S.Hasher.Hasher)
+    c.self.inside.hash_state c.self.inside.bounds c.self.inside.shares c.self.inside.windowed c.clean_up.new.store
+its_parts g c =
+    IsCached-cleanup c.args.now (IsCached-room c.self.invariant c.reserve.ensures.unchanged) c.clean_up.ensures.step c.clean_up.ensures.kept
+
 pub find-requires : goal.find-requires
 find-requires g c =
-    has_hash g.K.PartialEq.eq g.K.Hash.hash_input g.S.BuildHasher g.S.Hasher.Hasher g.met.K.Hash.respects_eq
-    (IsCached-cleanup c.args.now (IsCached-room c.self.invariant c.reserve.ensures.unchanged) c.clean_up.ensures.step c.clean_up.ensures.kept)
-    (its_own g (goal.at.find-requires g c).After-clean_up)
+    let at = (goal.at.find-requires g c).After-weigh in
+    has_hash g.K.PartialEq.eq g.K.Hash.hash_input g.S.BuildHasher g.S.Hasher.Hasher g.met.K.Hash.respects_eq (its_parts g at) (its_own g at)
 
 pub invariant_of-self-in-Some : goal.invariant_of-self-in-Some
 invariant_of-self-in-Some g c =
-    IsCached-update c.in-Some.id _ c.clean_up.new.store c.update-key.new.self
-    (IsCached-cleanup c.args.now (IsCached-room c.self.invariant c.reserve.ensures.unchanged) c.clean_up.ensures.step c.clean_up.ensures.kept)
+    IsCached-update c.in-Some.id _ c.clean_up.new.store c.update-key.new.self (its_parts g (goal.at.invariant_of-self-in-Some g c).After-weigh)
     c.update-key.ensures.step
 
--- the hash is that of the key once the weigher was asked
-put_own : (g : Over) (c : After-weigh g) → c.args.hash
-    ≡ (keys_by (record { eq = g.K.PartialEq.eq; hash_input = g.K.Hash.hash_input }) g.S.BuildHasher g.S.Hasher.Hasher).hash_of
-    c.self.inside.hash_state c.args.key
-put_own g c =
-    subst (λ cache. c.args.hash ≡
-    (keys_by (record { eq = g.K.PartialEq.eq; hash_input = g.K.Hash.hash_input }) g.S.BuildHasher g.S.Hasher.Hasher).hash_of
-    cache.settings.hash_state c.args.key) (sym c.self.view_is) c.requires.hashed
+-- the writes are kept where there is a time to live
+its_keeps : (g : Over) (c : After-weigh g) → c.clean_up.new.store.keeps_writes ≡ keeps_writes c.self.inside.bounds
+its_keeps g c = (its_parts g c).keeps
 
 -- the cache with its room and its weigher asked
 abbrev its_cache : (g : Over) (c : After-weigh g) → CacheState g.row.K.Denot g.row.V.Denot g.row.S.Denot g.row.W.Denot
@@ -74,6 +74,13 @@ its_cache g c = record {
   sketch = c.self.inside.sketch;
   memory = c.self.inside.memory;
   capacity = c.reserve.new.self.capacity;
+}
+
+-- the cache as the call finds it
+abbrev its_start : (g : Over) (c : After-weigh g) → CacheState g.row.K.Denot g.row.V.Denot g.row.S.Denot g.row.W.Denot
+its_start g c = record (its_cache g c) {
+  weigher = c.self.inside.weigher;
+  capacity = c.self.inside.store.capacity;
 }
 
 -- the entry, with a hash
@@ -116,7 +123,7 @@ its_put : (g : Over) (c : After-weigh g) (put : Store g.row.K.Denot g.row.V.Deno
     (windowed_limits c.self.inside.shares c.self.inside.bounds.max_capacity) c.self.inside.bounds.max_capacity c.self.inside.sketch
     (its_entry g c (its_hash g c)) (kept g.K.PartialEq.eq (its_cache g c) (its_entry g c (its_hash g c)) c.args.now no_tables) stays (contents_of put)
 its_put g c put stays step =
-    let keeps = c.clean_up.ensures.kept.settings.keeps ∙ (ap (λ s. s.keeps_writes) c.reserve.ensures.unchanged ∙ c.self.invariant.keeps) in
+    let keeps = its_keeps g c in
     let eq = g.K.PartialEq.eq in
     let sketch = c.self.inside.sketch in
     let left = contents_of put in
@@ -127,7 +134,7 @@ its_put g c put stays step =
     c.self.invariant.windowed
     (subst (λ s. IsPut eq c.clean_up.new.store.keeps_writes c.self.inside.windowed max sketch new s stays left) (its_contents g c)
     (subst (λ h. IsPut eq c.clean_up.new.store.keeps_writes c.self.inside.windowed max sketch (its_entry g c h) (contents_of c.clean_up.new.store)
-    stays left) (put_own g c) step)))
+    stays left) (its_own g c) step)))
 
 -- the verdict on the new entry keeps the parts tied
 admitted : (g : Over) (c : After-weigh g) (put : Store g.row.K.Denot g.row.V.Denot) (stays : Bool)
@@ -137,8 +144,7 @@ admitted : (g : Over) (c : After-weigh g) (put : Store g.row.K.Denot g.row.V.Den
     c.self.inside.hash_state c.self.inside.bounds c.self.inside.shares c.self.inside.windowed put
 admitted g c put stays step same =
     IsCached-put (its_entry g c c.args.hash) c.self.inside.sketch stays
-    (IsCached-cleanup c.args.now (IsCached-room c.self.invariant c.reserve.ensures.unchanged) c.clean_up.ensures.step c.clean_up.ensures.kept)
-    (put_own g c) refl step same
+    (its_parts g c) (its_own g c) refl step same
 
 -- what an entry leaves that enters the window
 its_entering : (g : Over) (c : After-weigh g) (limits : PartLimits) → c.self.inside.windowed ≡ Some limits
@@ -157,82 +163,61 @@ its_admission g c none put stays max max_is step value =
     let eq = g.K.PartialEq.eq in
     let new = its_entry g c c.args.hash in
     let old = c.clean_up.new.store in
-    let all = (IsCached-cleanup c.args.now (IsCached-room c.self.invariant c.reserve.ensures.unchanged) c.clean_up.ensures.step
-    c.clean_up.ensures.kept).main none in
+    let all = (its_parts g c).main none in
     subst (λ w. IsPutThere g c w put stays) (sym none)
     (subst (λ l. IsPut eq old.keeps_writes None l c.self.inside.sketch new (contents_of old) stays (contents_of put)) max_is (
       put_main eq old.keeps_writes max c.self.inside.sketch new (contents_of old) (contents_of put) all step,
       stays_main max c.self.inside.sketch new (entries_of old) stays all value,
     ))
 
--- room was made for the entry
-its_room : (g : Over) (c : After-clean_up g) → length (entries_of c.self.inside.store) < c.reserve.new.self.capacity
+-- there is capacity for the entry
+its_room : (g : Over) (c : After-weigh g) → length (entries_of c.self.inside.store) < c.reserve.new.self.capacity
 its_room g c =
     let made : length c.reserve.new.self.nodes + 1 ≤ c.reserve.new.self.capacity = search rules in
     omega (arith, length-entries c.self.inside.store, ap (λ s. length s.nodes) c.reserve.ensures.unchanged, made)
 
--- and none was made where there was some
-its_capacity : (g : Over) (c : After-clean_up g) → length (entries_of c.self.inside.store) < c.self.inside.store.capacity
+-- and where there was, it is the same
+its_capacity : (g : Over) (c : After-weigh g) → length (entries_of c.self.inside.store) < c.self.inside.store.capacity
     → c.reserve.new.self.capacity ≡ c.self.inside.store.capacity
 its_capacity g c fits =
     let room : length c.self.inside.store.nodes + 1 ≤ c.self.inside.store.capacity =
     omega (arith, length-entries c.self.inside.store, fits) in
     ap (λ s. s.capacity) (c.reserve.ensures.had_room room).1
 
-pub returns-in-Some-clause-step : goal.returns-in-Some-clause-step
-returns-in-Some-clause-step g c =
-    let made = (goal.at.returns-in-Some-clause-step g c).After-clean_up in
-    let eq = g.K.PartialEq.eq in
-    let keys = keys_by (record { eq = eq; hash_input = g.K.Hash.hash_input }) g.S.BuildHasher g.S.Hasher.Hasher in
-    let start = c.self.inside.store in
-    let mid = c.clean_up.new.store in
-    let cache : CacheState g.row.K.Denot g.row.V.Denot g.row.S.Denot g.row.W.Denot = record {
-      settings = record { hash_state = c.self.inside.hash_state; policy = c.self.inside.bounds; is_weighed = c.self.inside.is_weighed };
-      shares = c.self.inside.shares;
-      weigher = c.weigh.new.self;
-      contents = contents_of start;
-      sketch = c.self.inside.sketch;
-      memory = c.self.inside.memory;
-      capacity = c.reserve.new.self.capacity;
-    } in
-    let new : Entry g.row.K.Denot g.row.V.Denot =
-    new_entry keys c.self.inside.hash_state c.args.key c.args.value c.weigh.result c.args.now in
-    let found = (c.in-Some.ensures {u = tt}).found in
-    let is : contents_of mid ≡ kept eq cache new c.args.now no_tables =
-    c.clean_up.ensures.step ∙ ap (λ s. after_cleanup eq c.self.inside.bounds c.args.now (contents_of s)) c.reserve.ensures.unchanged in
-    let keeps = c.clean_up.ensures.kept.settings.keeps ∙ (ap (λ s. s.keeps_writes) c.reserve.ensures.unchanged ∙ c.self.invariant.keeps) in
-    let limit =
-    c.clean_up.ensures.kept.settings.limit ∙ (ap (λ s. s.protected_limit) c.reserve.ensures.unchanged ∙ c.self.invariant.protected) in
-    let own = some_parts c.update-key.ensures.step.entry found.0 (sym c.update-key.ensures.step.stood ∙ found.1) in
-    rw (← c.self.view_is)
-    (record {
+-- it is an insert if the machine makes the same of the entry
+inserted : (g : Over) (c : After-weigh g) (refused : Refused) (new : CacheState g.row.K.Denot g.row.V.Denot g.row.S.Denot g.row.W.Denot)
+    → new ≡ after_insert g.K.PartialEq.eq (its_cache g c) (its_entry g c (its_hash g c)) c.args.now refused
+    → IsInserted (keys_by (record { eq = g.K.PartialEq.eq; hash_input = g.K.Hash.hash_input }) g.S.BuildHasher g.S.Hasher.Hasher) g.W.Weigh.weighs
+    (its_start g c) c.args.key c.args.value c.args.now new
+inserted g c refused new step =
+    record {
       weight = c.weigh.result;
       weigher = c.weigh.new.self;
-      refused = no_tables;
+      refused = refused;
       capacity = c.reserve.new.self.capacity;
-      grown = its_room g made;
-      kept = its_capacity g made;
+      grown = its_room g c;
+      kept = its_capacity g c;
       weighed = search rules;
       small = search rules;
-      step =
-          insert_updates eq cache new c.args.now no_tables found.0 (subst (λ s. entry_at eq c.args.key s.entries ≡ Some found.0) is found.2)
-          (contents_of c.update-key.new.self) c.update-key.new.self.capacity
-          (c.update-key.ensures.step.contents
-          ∙ (λ i. after_update eq (keeps i) (limit i) (own i) new (is i)))
-          (c.update-key.ensures.step.kept.settings.capacity ∙ c.clean_up.ensures.kept.settings.capacity);
-    })
+      step = step;
+    }
 
--- the cache as the call finds it
-abbrev its_start : (g : Over) (c : After-weigh g) → CacheState g.row.K.Denot g.row.V.Denot g.row.S.Denot g.row.W.Denot
-its_start g c = record {
-  settings = record { hash_state = c.self.inside.hash_state; policy = c.self.inside.bounds; is_weighed = c.self.inside.is_weighed };
-  shares = c.self.inside.shares;
-  weigher = c.self.inside.weigher;
-  contents = contents_of c.self.inside.store;
-  sketch = c.self.inside.sketch;
-  memory = c.self.inside.memory;
-  capacity = c.self.inside.store.capacity;
-}
+pub returns-in-Some-clause-step : goal.returns-in-Some-clause-step
+returns-in-Some-clause-step g c =
+    let at = (goal.at.returns-in-Some-clause-step g c).After-weigh in
+    let eq = g.K.PartialEq.eq in
+    let new = its_entry g at (its_hash g at) in
+    let found = (c.in-Some.ensures {u = tt}).found in
+    let is = its_contents g at in
+    let keeps = its_keeps g at in
+    let limit = (its_parts g at).protected in
+    let own = some_parts c.update-key.ensures.step.entry found.0 (sym c.update-key.ensures.step.stood ∙ found.1) in
+    rw (← c.self.view_is)
+    (inserted g at no_tables _
+    (insert_updates eq (its_cache g at) new c.args.now no_tables found.0 (subst (λ s. entry_at eq c.args.key s.entries ≡ Some found.0) is found.2)
+    (contents_of c.update-key.new.self) c.update-key.new.self.capacity
+    (c.update-key.ensures.step.contents ∙ (λ i. after_update eq (keeps i) (limit i) (own i) new (is i)))
+    (c.update-key.ensures.step.kept.settings.capacity ∙ c.clean_up.ensures.kept.settings.capacity)))
 
 -- the listener was told of what cleanup removes
 its_cleanup : (g : Over) (c : After-weigh g) → TellsCleanup g.L.Listener.hears g.K.PartialEq.eq c.self.inside.bounds c.args.now
@@ -308,166 +293,127 @@ invariant_of-self-else-admit g c =
     (c.max_capacity-limit.ensures ∙ ap (λ p. p.max_capacity) c.policy.ensures) c.admit.ensures.step c.admit.ensures.value in
     admitted g at c.admit.new.store c.admit.result put c.admit.ensures.kept
 
+-- the limits of the parts follow what is remembered
+its_turn : (g : Over) (c : After-weigh g) (limits : PartLimits) (some : windowed (its_cache g c) ≡ Some limits)
+    (absent : entry_at g.K.PartialEq.eq c.args.key (entries_of c.clean_up.new.store) ≡ None) (came noted : Option Memory)
+    (put : Store g.row.K.Denot g.row.V.Denot) (part : Option Part) (after : CacheState g.row.K.Denot g.row.V.Denot g.row.S.Denot g.row.W.Denot)
+    → came ≡ option_map (λ m. record (after_coming c.args.hash m) {
+      demand = demand_after c.self.inside.shares limits.all m c.args.hash c.weigh.result;
+    }) c.self.inside.memory
+    → contents_of put ≡ after_entering g.K.PartialEq.eq c.clean_up.new.store.keeps_writes limits c.self.inside.sketch (its_entry g c c.args.hash)
+    (contents_of c.clean_up.new.store) → KeepsSettings c.clean_up.new.store put
+    → noted ≡ option_map (after_entering_judged g.K.PartialEq.eq c.clean_up.new.store.keeps_writes limits c.self.inside.sketch
+    (its_entry g c c.args.hash) (contents_of c.clean_up.new.store)) came
+    → part ≡ option_map (λ e. e.part) (entry_at g.K.PartialEq.eq c.args.key (entries_of put))
+    → after ≡ after_following g.K.PartialEq.eq noted limits part (record (its_cache g c) {
+      contents = contents_of put;
+      memory = noted;
+      capacity = put.capacity;
+    })
+    → after ≡ turned g.K.PartialEq.eq (its_cache g c) (its_entry g c (its_hash g c)) c.args.now no_tables (its_absence g c absent) limits some
+its_turn g c limits some absent came noted put part after coming step same memory value followed =
+    let eq = g.K.PartialEq.eq in
+    let sketch = c.self.inside.sketch in
+    let cache = its_cache g c in
+    let new = its_entry g c (its_hash g c) in
+    let own = its_own g c in
+    let keeps = its_keeps g c in
+    let found = kept eq cache new c.args.now no_tables in
+    let entered = after_entering eq (keeps_writes c.self.inside.bounds) limits sketch new found in
+    let contents : contents_of put ≡ entered =
+    step ∙ (λ i. after_entering eq (keeps i) limits sketch (its_entry g c (own i)) (its_contents g c i)) in
+    let memory : noted ≡ judged eq cache limits new found entered c.self.inside.memory =
+    memory
+    ∙ ((λ i. option_map (after_entering_judged eq (keeps i) limits sketch (its_entry g c (own i)) (its_contents g c i)) (coming i))
+    ∙ (λ i. option_map (after_entering_judged eq (keeps_writes c.self.inside.bounds) limits sketch new found)
+    (option_map (λ m. record (after_coming (own i) m) {
+      demand = demand_after c.self.inside.shares limits.all m (own i) c.weigh.result;
+    }) c.self.inside.memory))) in
+    let part_is : part ≡ option_map (λ e. e.part) (entry_at eq c.args.key entered.entries) =
+    value ∙ ap (λ s. option_map (λ e. e.part) (entry_at eq c.args.key s.entries)) contents in
+    let capacity = same.capacity ∙ c.clean_up.ensures.kept.settings.capacity in
+    followed
+    ∙ ((λ i. after_following eq (memory i) limits (part_is i) (record cache { contents = contents i; memory = memory i; capacity = capacity i }))
+    ∙ turn_is eq cache limits new found entered c.self.inside.memory refl)
+
 pub returns-then-is_some-clause-step : goal.returns-then-is_some-clause-step
 returns-then-is_some-clause-step g c =
-    let made = (goal.at.returns-then-is_some-clause-step g c).After-clean_up in
     let at = (goal.at.returns-then-is_some-clause-step g c).After-weigh in
     let eq = g.K.PartialEq.eq in
     let limits = c.in-Some-windowed.limits in
-    let cache = its_cache g at in
-    let new = its_entry g at (its_hash g at) in
     let put = c.insert_into_window-part in
     let absent : entry_at eq c.args.key (entries_of c.clean_up.new.store) ≡ None = search rules in
-    let gone = its_absence g at absent in
-    let found = kept eq cache new c.args.now no_tables in
-    let some : windowed cache ≡ Some limits = sym c.self.invariant.windowed ∙ c.in-Some-windowed.is in
-    let keeps : c.clean_up.new.store.keeps_writes ≡ keeps_writes c.self.inside.bounds =
-    c.clean_up.ensures.kept.settings.keeps ∙ (ap (λ s. s.keeps_writes) c.reserve.ensures.unchanged ∙ c.self.invariant.keeps) in
-    let entered = after_entering eq (keeps_writes c.self.inside.bounds) limits c.self.inside.sketch new found in
-    let contents : contents_of put.new.store ≡ entered =
-    put.ensures.step ∙ (λ i. after_entering eq (keeps i) limits c.self.inside.sketch (its_entry g at (put_own g at i)) (its_contents g at i)) in
-    let memory : put.new.memory ≡ judged eq cache limits new found entered c.self.inside.memory =
-    put.ensures.memory
-    ∙ ((λ i. option_map (after_entering_judged eq (keeps i) limits c.self.inside.sketch (its_entry g at (put_own g at i)) (its_contents g at i))
-    (c.come.ensures i))
-    ∙ (λ i. option_map (after_entering_judged eq (keeps_writes c.self.inside.bounds) limits c.self.inside.sketch new found)
-    (option_map (λ m. record (after_coming (put_own g at i) m) {
-      demand = demand_after c.self.inside.shares limits.all m (put_own g at i) c.weigh.result;
-    }) c.self.inside.memory))) in
-    let part : put.result ≡ option_map (λ e. e.part) (entry_at eq c.args.key entered.entries) =
-    put.ensures.value ∙ ap (λ s. option_map (λ e. e.part) (entry_at eq c.args.key s.entries)) contents in
-    let capacity = put.ensures.kept.capacity ∙ c.clean_up.ensures.kept.settings.capacity in
-    let turn : c.follow.new.self ≡ turned eq cache new c.args.now no_tables gone limits some =
-    c.follow.ensures.step
-    ∙ ((λ i. after_following eq (memory i) limits (part i) (record cache { contents = contents i; memory = memory i; capacity = capacity i }))
-    ∙ turn_is eq cache limits new found entered c.self.inside.memory refl) in
+    let some : windowed (its_cache g at) ≡ Some limits = sym c.self.invariant.windowed ∙ c.in-Some-windowed.is in
+    let turn =
+    its_turn g at limits some absent _ put.new.memory put.new.store put.result c.follow.new.self c.come.ensures put.ensures.step put.ensures.kept
+    put.ensures.memory put.ensures.value c.follow.ensures.step in
     let stays : is_some (entry_at eq c.args.key c.follow.new.self.contents.entries) ≡ true =
     c.follow.ensures.stays c.args.key put.ensures.value ∙ (sym c.is_some.ensures ∙ c.if-is_some.true) in
     rw (← c.self.view_is)
-    (record {
-      weight = c.weigh.result;
-      weigher = c.weigh.new.self;
-      refused = c.enable_sketch.ensures.0;
-      capacity = c.reserve.new.self.capacity;
-      grown = its_room g made;
-      kept = its_capacity g made;
-      weighed = search rules;
-      small = search rules;
-      step =
-          c.enable_sketch.ensures.1
-          ∙ entering_stays eq cache new c.args.now c.enable_sketch.ensures.0 gone limits some c.follow.new.self turn stays;
-    })
+    (inserted g at c.enable_sketch.ensures.0 _ (c.enable_sketch.ensures.1
+    ∙ entering_stays eq (its_cache g at) (its_entry g at (its_hash g at)) c.args.now c.enable_sketch.ensures.0 (its_absence g at absent) limits some
+    c.follow.new.self turn stays))
 
 pub returns-else-is_some-clause-step : goal.returns-else-is_some-clause-step
 returns-else-is_some-clause-step g c =
-    let made = (goal.at.returns-else-is_some-clause-step g c).After-clean_up in
     let at = (goal.at.returns-else-is_some-clause-step g c).After-weigh in
     let eq = g.K.PartialEq.eq in
     let limits = c.in-Some-windowed.limits in
-    let cache = its_cache g at in
-    let new = its_entry g at (its_hash g at) in
     let put = c.insert_into_window-part in
     let absent : entry_at eq c.args.key (entries_of c.clean_up.new.store) ≡ None = search rules in
-    let gone = its_absence g at absent in
-    let found = kept eq cache new c.args.now no_tables in
-    let some : windowed cache ≡ Some limits = sym c.self.invariant.windowed ∙ c.in-Some-windowed.is in
-    let keeps : c.clean_up.new.store.keeps_writes ≡ keeps_writes c.self.inside.bounds =
-    c.clean_up.ensures.kept.settings.keeps ∙ (ap (λ s. s.keeps_writes) c.reserve.ensures.unchanged ∙ c.self.invariant.keeps) in
-    let entered = after_entering eq (keeps_writes c.self.inside.bounds) limits c.self.inside.sketch new found in
-    let contents : contents_of put.new.store ≡ entered =
-    put.ensures.step ∙ (λ i. after_entering eq (keeps i) limits c.self.inside.sketch (its_entry g at (put_own g at i)) (its_contents g at i)) in
-    let memory : put.new.memory ≡ judged eq cache limits new found entered c.self.inside.memory =
-    put.ensures.memory
-    ∙ ((λ i. option_map (after_entering_judged eq (keeps i) limits c.self.inside.sketch (its_entry g at (put_own g at i)) (its_contents g at i))
-    (c.come.ensures i))
-    ∙ (λ i. option_map (after_entering_judged eq (keeps_writes c.self.inside.bounds) limits c.self.inside.sketch new found)
-    (option_map (λ m. record (after_coming (put_own g at i) m) {
-      demand = demand_after c.self.inside.shares limits.all m (put_own g at i) c.weigh.result;
-    }) c.self.inside.memory))) in
-    let part : put.result ≡ option_map (λ e. e.part) (entry_at eq c.args.key entered.entries) =
-    put.ensures.value ∙ ap (λ s. option_map (λ e. e.part) (entry_at eq c.args.key s.entries)) contents in
-    let capacity = put.ensures.kept.capacity ∙ c.clean_up.ensures.kept.settings.capacity in
-    let turn : c.follow.new.self ≡ turned eq cache new c.args.now no_tables gone limits some =
-    c.follow.ensures.step
-    ∙ ((λ i. after_following eq (memory i) limits (part i) (record cache { contents = contents i; memory = memory i; capacity = capacity i }))
-    ∙ turn_is eq cache limits new found entered c.self.inside.memory refl) in
+    let some : windowed (its_cache g at) ≡ Some limits = sym c.self.invariant.windowed ∙ c.in-Some-windowed.is in
+    let turn =
+    its_turn g at limits some absent _ put.new.memory put.new.store put.result c.follow.new.self c.come.ensures put.ensures.step put.ensures.kept
+    put.ensures.memory put.ensures.value c.follow.ensures.step in
     let stays : is_some (entry_at eq c.args.key c.follow.new.self.contents.entries) ≡ false =
     c.follow.ensures.stays c.args.key put.ensures.value ∙ (sym c.is_some.ensures ∙ c.if-is_some.false) in
     rw (← c.self.view_is)
-    (record {
-      weight = c.weigh.result;
-      weigher = c.weigh.new.self;
-      refused = no_tables;
-      capacity = c.reserve.new.self.capacity;
-      grown = its_room g made;
-      kept = its_capacity g made;
-      weighed = search rules;
-      small = search rules;
-      step = entering_drops eq cache new c.args.now no_tables gone limits some c.follow.new.self turn stays;
-    })
+    (inserted g at no_tables _
+    (entering_drops eq (its_cache g at) (its_entry g at (its_hash g at)) c.args.now no_tables (its_absence g at absent) limits some c.follow.new.self turn
+    stays))
+
+-- what an entry leaves that is judged where there is no window
+its_verdict : (g : Over) (c : After-weigh g) (none : c.self.inside.windowed ≡ None) (put : Store g.row.K.Denot g.row.V.Denot) (stays : Bool)
+    → IsPutThere g c c.self.inside.windowed put stays
+    → IsPut g.K.PartialEq.eq (keeps_writes c.self.inside.bounds) None c.self.inside.bounds.max_capacity c.self.inside.sketch
+    (its_entry g c (its_hash g c)) (kept g.K.PartialEq.eq (its_cache g c) (its_entry g c (its_hash g c)) c.args.now no_tables) stays (contents_of put)
+its_verdict g c none put stays there =
+    subst (λ w. IsPut g.K.PartialEq.eq (keeps_writes c.self.inside.bounds) w c.self.inside.bounds.max_capacity c.self.inside.sketch
+    (its_entry g c (its_hash g c)) (kept g.K.PartialEq.eq (its_cache g c) (its_entry g c (its_hash g c)) c.args.now no_tables) stays (contents_of put))
+    (sym c.self.invariant.windowed ∙ none) (its_put g c put stays there)
 
 pub returns-then-admit-clause-step : goal.returns-then-admit-clause-step
 returns-then-admit-clause-step g c =
-    let made = (goal.at.returns-then-admit-clause-step g c).After-clean_up in
     let at = (goal.at.returns-then-admit-clause-step g c).After-weigh in
-    let eq = g.K.PartialEq.eq in
-    let cache = its_cache g at in
-    let new = its_entry g at (its_hash g at) in
     let put = c.admit in
-    let absent : entry_at eq c.args.key (entries_of c.clean_up.new.store) ≡ None = search rules in
-    let none : windowed cache ≡ None = sym c.self.invariant.windowed ∙ c.in-None-windowed.is in
+    let absent : entry_at g.K.PartialEq.eq c.args.key (entries_of c.clean_up.new.store) ≡ None = search rules in
+    let none : windowed (its_cache g at) ≡ None = sym c.self.invariant.windowed ∙ c.in-None-windowed.is in
     let max = c.max_capacity-limit.ensures ∙ ap (λ p. p.max_capacity) c.policy.ensures in
     let is =
-    subst (λ w. IsPut eq (keeps_writes c.self.inside.bounds) w c.self.inside.bounds.max_capacity c.self.inside.sketch new
-    (kept eq cache new c.args.now no_tables) put.result (contents_of put.new.store)) none
-    (its_put g at put.new.store put.result
-    (its_admission g at c.in-None-windowed.is put.new.store put.result c.max_capacity-limit.result max put.ensures.step put.ensures.value)) in
+    its_verdict g at c.in-None-windowed.is put.new.store put.result
+    (its_admission g at c.in-None-windowed.is put.new.store put.result c.max_capacity-limit.result max put.ensures.step put.ensures.value) in
+    let asked = c.enable_sketch-then-admit.ensures in
     rw (← c.self.view_is)
-    (record {
-      weight = c.weigh.result;
-      weigher = c.weigh.new.self;
-      refused = c.enable_sketch-then-admit.ensures.0;
-      capacity = c.reserve.new.self.capacity;
-      grown = its_room g made;
-      kept = its_capacity g made;
-      weighed = search rules;
-      small = search rules;
-      step =
-          c.enable_sketch-then-admit.ensures.1
-          ∙ insert_stays eq cache new c.args.now c.enable_sketch-then-admit.ensures.0 (its_absence g at absent) none (contents_of put.new.store)
-          put.new.store.capacity put.result (put.ensures.kept.capacity ∙ c.clean_up.ensures.kept.settings.capacity) is.0 is.1 c.if-admit.true;
-    })
+    (inserted g at asked.0 _ (asked.1
+    ∙ insert_stays g.K.PartialEq.eq (its_cache g at) (its_entry g at (its_hash g at)) c.args.now asked.0 (its_absence g at absent) none
+    (contents_of put.new.store) put.new.store.capacity put.result (put.ensures.kept.capacity ∙ c.clean_up.ensures.kept.settings.capacity) is.0 is.1
+    c.if-admit.true))
 
 pub returns-else-admit-clause-step : goal.returns-else-admit-clause-step
 returns-else-admit-clause-step g c =
-    let made = (goal.at.returns-else-admit-clause-step g c).After-clean_up in
     let at = (goal.at.returns-else-admit-clause-step g c).After-weigh in
-    let eq = g.K.PartialEq.eq in
-    let cache = its_cache g at in
-    let new = its_entry g at (its_hash g at) in
     let put = c.admit in
-    let absent : entry_at eq c.args.key (entries_of c.clean_up.new.store) ≡ None = search rules in
-    let none : windowed cache ≡ None = sym c.self.invariant.windowed ∙ c.in-None-windowed.is in
+    let absent : entry_at g.K.PartialEq.eq c.args.key (entries_of c.clean_up.new.store) ≡ None = search rules in
+    let none : windowed (its_cache g at) ≡ None = sym c.self.invariant.windowed ∙ c.in-None-windowed.is in
     let max = c.max_capacity-limit.ensures ∙ ap (λ p. p.max_capacity) c.policy.ensures in
     let is =
-    subst (λ w. IsPut eq (keeps_writes c.self.inside.bounds) w c.self.inside.bounds.max_capacity c.self.inside.sketch new
-    (kept eq cache new c.args.now no_tables) put.result (contents_of put.new.store)) none
-    (its_put g at put.new.store put.result
-    (its_admission g at c.in-None-windowed.is put.new.store put.result c.max_capacity-limit.result max put.ensures.step put.ensures.value)) in
+    its_verdict g at c.in-None-windowed.is put.new.store put.result
+    (its_admission g at c.in-None-windowed.is put.new.store put.result c.max_capacity-limit.result max put.ensures.step put.ensures.value) in
     rw (← c.self.view_is)
-    (record {
-      weight = c.weigh.result;
-      weigher = c.weigh.new.self;
-      refused = no_tables;
-      capacity = c.reserve.new.self.capacity;
-      grown = its_room g made;
-      kept = its_capacity g made;
-      weighed = search rules;
-      small = search rules;
-      step =
-          insert_drops eq cache new c.args.now no_tables (its_absence g at absent) none (contents_of put.new.store) put.new.store.capacity put.result
-          (put.ensures.kept.capacity ∙ c.clean_up.ensures.kept.settings.capacity) is.0 is.1 c.if-admit.false;
-    })
+    (inserted g at no_tables _
+    (insert_drops g.K.PartialEq.eq (its_cache g at) (its_entry g at (its_hash g at)) c.args.now no_tables (its_absence g at absent) none
+    (contents_of put.new.store) put.new.store.capacity put.result (put.ensures.kept.capacity ∙ c.clean_up.ensures.kept.settings.capacity) is.0 is.1
+    c.if-admit.false))
 
 -- the listener was told of what leaves for the new entry
 its_told : (g : Over) (c : After-weigh g) (limit : Option ℕ) (stays : Bool) (new : CacheState g.row.K.Denot g.row.V.Denot g.row.S.Denot g.row.W.Denot)
@@ -484,7 +430,7 @@ its_told g c limit stays new after limited absent stands put =
     put_told g.L.Listener.hears keys (its_start g c) new c.args.now c.args.key c.args.value (contents_of c.clean_up.new.store) c.args.listener.now
     c.clean_up.new.listener after (its_contents g c) (its_cleanup g c) c.weigh.result limit stays limited absent stands
     (subst (λ h. TellsPut g.L.Listener.hears limit stays (its_entry g c h) (entries_of c.clean_up.new.store) new.contents.entries c.clean_up.new.listener after)
-    (put_own g c) put)
+    (its_own g c) put)
 
 -- the limit of main, where there is no window
 its_main : (g : Over) (c : After-weigh g) (max : Option ℕ) (new : Option PartLimits) → c.self.inside.windowed ≡ None → max ≡ c.self.inside.bounds.max_capacity
