@@ -12,7 +12,7 @@ use Rattle.moka_unsync_model.specs.Contents.{is_protected, is_window, write_of, 
 use Rattle.moka_unsync_model.specs.Insert.{with_write}
 use Rattle.moka_store.specs.declared.parts.Marks.{Marks}
 use Rattle.moka_store.specs.declared.parts.Weights.{Weights}
-use Rattle.moka_store.specs.Nodes.{AreMarks, IsBalanced, IsStored, SameBy, bare, is_any, latest_node, passed, share, weight_in, weights_of, write_last}
+use Rattle.moka_store.specs.Nodes.{AreMarks, IsBalanced, IsLoose, IsStored, SameBy, bare, is_any, latest_node, passed, share, weight_in, weights_of, write_last}
 use Rattle.moka_store.specs.Nodes.{write_under, written_under}
 use Rattle.moka_list.proofs.ItemLemmas.{lookup-set, nat_eq-same}
 use Rattle.moka_store.proofs.LatestLemmas.{lookup-relisted}
@@ -24,17 +24,22 @@ use Rattle.moka_store.proofs.WriteLemmas.{under-last, under-same}
 
 module _ {K V : Type 0} {eq : K → K → Bool} {keeps : Bool} {nodes : List (ℕ × Entry K V)} {marks : Marks} {ids : List ℕ} {weights : Weights}
     {index : HashIndex} (s : IsStored eq keeps nodes marks ids weights index) (id : ℕ) (x e : Entry K V) (stood : lookup (nat_eq id) nodes ≡ Some x) where
-  pub set_once : IsDistinct nat_eq (keys_of (set_value (nat_eq id) nodes e))
+  set_once : IsDistinct nat_eq (keys_of (set_value (nat_eq id) nodes e))
   set_once = subst (IsDistinct nat_eq) (sym (keys-set id e nodes)) s.keyed.once
 
-  pub set_here : lookup (nat_eq id) (set_value (nat_eq id) nodes e) ≡ Some e
+  set_here : lookup (nat_eq id) (set_value (nat_eq id) nodes e) ≡ Some e
   set_here = lookup-set id id e nodes (ap is_some stood) ∙ cond-true (nat_eq id id) _ _ (nat_eq-same id)
 
-  pub set_marks : (left : Marks)
+  set_marks : (left : Marks)
       → left ≡ record { late = passed id (next_id id nodes) marks.late; window = passed id (next_id id nodes) marks.window }
       → AreMarks (remove_entry (nat_eq id) (set_value (nat_eq id) nodes e)) left
   set_marks left left_is =
       rw (remove-set id e nodes, left_is) (marks-passed id nodes marks s.keyed.once s.order s.marked)
+
+  pub loose : (part : Part) → e.part ≡ part → (left : Marks)
+      → left ≡ record { late = passed id (next_id id nodes) marks.late; window = passed id (next_id id nodes) marks.window }
+      → IsLoose (set_value (nat_eq id) nodes e) left id part
+  loose part is left left_is = record { once = set_once; here = (e, set_here, is); marked = set_marks left left_is }
 
   -- where it comes
   pub settled : (new : List (ℕ × Entry K V))

@@ -10,11 +10,11 @@ use Rattle.moka_unsync_model.specs.declared.entry.Part.TheVariants.{Probation, P
 use Rattle.moka_unsync_model.specs.Contents.{is_protected, is_window}
 use Rattle.moka_store.specs.declared.parts.Marks.{Marks}
 use Rattle.moka_store.specs.declared.parts.Weights.{Weights}
-use Rattle.moka_store.specs.Nodes.{AreMarks, IsStored, is_late, latest_node, share, weights_of}
+use Rattle.moka_store.specs.Nodes.{AreMarks, IsLoose, IsStored, is_late, latest_node, share, weights_of}
 use Rattle.moka_store.specs.Store.{is_of}
 use Rattle.std.proofs.lemmas.Bool.{false≢true}
 use Rattle.moka_list.proofs.InsertedLemmas.{apart_from_distinct}
-use Rattle.moka_store.proofs.ChangeLemmas.{set_marks, shifted}
+use Rattle.moka_store.proofs.ChangeLemmas.{loose, shifted}
 use Rattle.moka_store.proofs.MarkLemmas.{passed-none}
 use Rattle.moka_store.proofs.NodeLemmas.{all-found}
 use Rattle.moka_store.proofs.StoreLemmas.{stored-relisted}
@@ -28,18 +28,18 @@ is_of_probation Window same = absurd (false≢true same)
 module _ {K V : Type 0} {eq : K → K → Bool} (laws : IsEquivalence eq) {keeps : Bool} {nodes : List (ℕ × Entry K V)} {marks : Marks} {ids : List ℕ}
     {weights : Weights} {index : HashIndex} (s : IsStored eq keeps nodes marks ids weights index) (id : ℕ) (x e : Entry K V)
     (stood : lookup (nat_eq id) nodes ≡ Some x) (here : x.part ≡ Probation) where
-  -- the marks stay where they are
-  pub marks-kept : AreMarks (remove_entry (nat_eq id) (set_value (nat_eq id) nodes e)) marks
-  marks-kept =
-      let apart = apart_from_distinct nodes s.keyed.once in
-      let next = next_id id nodes in
-      set_marks s id x e stood marks (λ i. record {
-        late = sym (passed-none is_late id next marks.late x nodes apart stood (ap is_late here) s.marked.late) i;
-        window = sym (passed-none is_window id next marks.window x nodes apart stood (ap is_window here) s.marked.window) i;
-      })
-
   module _ (still : e.part ≡ Probation) (same : e.weight ≡ x.weight) where
-    -- so do the weights
+    -- no mark stands at it
+    pub loose-kept : IsLoose (set_value (nat_eq id) nodes e) marks id Probation
+    loose-kept =
+        let apart = apart_from_distinct nodes s.keyed.once in
+        let next = next_id id nodes in
+        loose s id x e stood Probation still marks (λ i. record {
+          late = sym (passed-none is_late id next marks.late x nodes apart stood (ap is_late here) s.marked.late) i;
+          window = sym (passed-none is_window id next marks.window x nodes apart stood (ap is_window here) s.marked.window) i;
+        })
+
+    -- the weights stay
     weights-kept : weights ≡ weights_of (latest_node (id, e) (remove_entry (nat_eq id) nodes))
     weights-kept =
         let left : share (is_protected x.part) x.weight ≡ 0 = ap (λ part. share (is_protected part) x.weight) here in

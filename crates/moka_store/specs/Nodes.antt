@@ -3,7 +3,7 @@ use Rattle.std.specs.Prelude.{◌≡◌, ◌<◌, ◌^◌, ℕ, Bool, true, fals
 use Rattle.std.specs.Prelude.{Option, Some, None, IsSome, option_map}
 use Rattle.std.specs.Option.{option_eq}
 use Rattle.std.specs.List.{AllByRecursion, IsDistinct, filter_map}
-use Rattle.std.specs.Map.{lookup, keys_of, values_of}
+use Rattle.std.specs.Map.{lookup, keys_of, remove_entry, values_of}
 use Rattle.moka_list.specs.Chain.{moved_before}
 use Rattle.moka_list.specs.Nodes.{first_id, moved_to_back}
 use Rattle.moka_list.specs.IdList.{ids_without, is_listed}
@@ -114,6 +114,12 @@ module _ {K V : Type 0} where
     pub order : InOrder Probation (values_of nodes)
     pub marked : AreMarks nodes marks
     pub weighed : weights ≡ weights_of nodes
+
+  -- a node that is to come to this part is none of the parts yet: the marks are those of the others
+  pub record IsLoose (nodes : List (ℕ × Entry K V)) (marks : Marks) (id : ℕ) (part : Part) : Type 0 where
+    pub once : IsDistinct nat_eq (keys_of nodes)
+    pub here : (e : Entry K V) × (lookup (nat_eq id) nodes ≡ Some e) × (e.part ≡ part)
+    pub marked : AreMarks (remove_entry (nat_eq id) nodes) marks
 
   -- ---- what stays the same
 

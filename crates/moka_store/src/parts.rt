@@ -1,14 +1,13 @@
 // The three parts of the list of all entries: the first node of each, and their weights; and the order of writing, which is kept if there is a time to live.
 ghost use Rattle.std.specs.Prelude.{◌≡◌, ◌<◌, ◌≤◌, ◌+◌, ◌-◌, ◌^◌, ◌&&◌, None, Some, false, nat_eq, nat_le, nat_lt, true};
 ghost use Rattle.moka_list.specs.IdList.{is_listed};
-ghost use Rattle.std.specs.List.{IsDistinct};
-ghost use Rattle.std.specs.Map.{keys_of, lookup, remove_entry};
+ghost use Rattle.std.specs.Map.{lookup, remove_entry};
 ghost use Rattle.moka_list.specs.Nodes.{IsIn, next_id};
 ghost use Rattle.moka_unsync_model.specs.declared.entry.Entry.{Entry as EntryValue};
 ghost use Rattle.moka_unsync_model.specs.Contents.{is_protected, is_window};
 ghost use Rattle.moka_unsync_model.specs.Lookup.{used_part};
 ghost use Rattle.moka_store.specs.Store.{is_of};
-ghost use Rattle.moka_store.specs.Nodes.{AreMarks, Demotes, IsBalanced, IsParted, behind, latest_node, passed, share, with_mark};
+ghost use Rattle.moka_store.specs.Nodes.{AreMarks, Demotes, IsBalanced, IsLoose, IsParted, behind, latest_node, passed, share, with_mark};
 ghost use Rattle.moka_store.specs.Nodes.{write_added, write_last, write_left};
 
 use moka_list::chain::{Chain, IdList, NodeId};
@@ -143,9 +142,7 @@ pub(crate) fn attach<K: Drop, V: Drop, A: Allocator>(
     id: NodeId,
     part: Part,
 )
-    requires once { IsDistinct nat_eq (keys_of entries.old.items) }
-    requires here { (e : EntryValue K V) × (lookup (nat_eq id) entries.old.items ≡ Some e) × (e.part ≡ part) }
-    requires marks { AreMarks (remove_entry (nat_eq id) entries.old.items) marks.old }
+    requires { IsLoose entries.old.items marks.old id part }
     ensures items { (e : EntryValue K V) → lookup (nat_eq id) entries.old.items ≡ Some e
         → entries.new.items ≡ latest_node (id, e) (remove_entry (nat_eq id) entries.old.items) }
     ensures marks { AreMarks entries.new.items marks.new }

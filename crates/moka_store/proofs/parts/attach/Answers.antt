@@ -16,7 +16,7 @@ move_before-requires-clause-next g c =
     (subst (λ o. IfSome o (λ n. IsIn items n × (c.args.id ≢ n))) c.in-Some.is
     (next_is c.args.id e items c.requires.once stood c.join.result
     (c.join.ensures.next ∙ (ap (λ p. behind p c.args.marks.now) (sym is)
-    ∙ behind-first e.part (remove_entry (nat_eq c.args.id) items) c.args.marks.now c.requires.marks)))).0
+    ∙ behind-first e.part (remove_entry (nat_eq c.args.id) items) c.args.marks.now c.requires.marked)))).0
 
 pub move_before-requires-clause-apart : goal.move_before-requires-clause-apart
 move_before-requires-clause-apart g c =
@@ -25,7 +25,7 @@ move_before-requires-clause-apart g c =
     (subst (λ o. IfSome o (λ n. IsIn items n × (c.args.id ≢ n))) c.in-Some.is
     (next_is c.args.id e items c.requires.once stood c.join.result
     (c.join.ensures.next ∙ (ap (λ p. behind p c.args.marks.now) (sym is)
-    ∙ behind-first e.part (remove_entry (nat_eq c.args.id) items) c.args.marks.now c.requires.marks)))).1
+    ∙ behind-first e.part (remove_entry (nat_eq c.args.id) items) c.args.marks.now c.requires.marked)))).1
 
 pub returns-in-Some-clause-items : goal.returns-in-Some-clause-items
 returns-in-Some-clause-items g c e stood =
@@ -34,7 +34,7 @@ returns-in-Some-clause-items g c e stood =
     c.move_before.ensures.items ∙ (ap (λ o. moved c.args.id o c.args.entries.now.items) (sym c.in-Some.is)
     ∙ moved-latest c.args.id e c.args.entries.now.items c.requires.once stood c.join.result
     (c.join.ensures.next ∙ (ap (λ p. behind p c.args.marks.now) (sym (ap (λ y. y.part) same ∙ is))
-    ∙ behind-first e.part (remove_entry (nat_eq c.args.id) c.args.entries.now.items) c.args.marks.now c.requires.marks)))
+    ∙ behind-first e.part (remove_entry (nat_eq c.args.id) c.args.entries.now.items) c.args.marks.now c.requires.marked)))
 
 pub returns-in-Some-clause-marks : goal.returns-in-Some-clause-marks
 returns-in-Some-clause-marks g c =
@@ -43,7 +43,7 @@ returns-in-Some-clause-marks g c =
     let apart = apart_from_distinct rest (IsDistinct-removed c.args.id c.args.entries.now.items c.requires.once) in
     subst (λ l. AreMarks l c.join.new.self) (sym (returns-in-Some-clause-items g c e stood))
     (subst (AreMarks (latest_node (c.args.id, e) rest)) (sym (c.join.ensures.marks ∙ ap (λ p. with_mark c.args.id p c.args.marks.now) (sym is)))
-    (marks-joined c.args.id e rest c.args.marks.now apart c.requires.marks))
+    (marks-joined c.args.id e rest c.args.marks.now apart c.requires.marked))
 
 none_is : {X : Type 0} (o : Option X) → is_some o ≡ false → o ≡ None
 none_is None h = refl
@@ -56,7 +56,7 @@ returns-then-is_some-clause-items g c e stood =
     c.move_to_back.ensures.items ∙ (ap (λ o. moved c.args.id o c.args.entries.now.items) (sym c.in-None.is)
     ∙ moved-latest c.args.id e c.args.entries.now.items c.requires.once stood c.join.result
     (c.join.ensures.next ∙ (ap (λ p. behind p c.args.marks.now) (sym (ap (λ y. y.part) same ∙ is))
-    ∙ behind-first e.part (remove_entry (nat_eq c.args.id) c.args.entries.now.items) c.args.marks.now c.requires.marks)))
+    ∙ behind-first e.part (remove_entry (nat_eq c.args.id) c.args.entries.now.items) c.args.marks.now c.requires.marked)))
 
 pub returns-then-is_some-clause-marks : goal.returns-then-is_some-clause-marks
 returns-then-is_some-clause-marks g c =
@@ -65,7 +65,7 @@ returns-then-is_some-clause-marks g c =
     let apart = apart_from_distinct rest (IsDistinct-removed c.args.id c.args.entries.now.items c.requires.once) in
     subst (λ l. AreMarks l c.join.new.self) (sym (returns-then-is_some-clause-items g c e stood))
     (subst (AreMarks (latest_node (c.args.id, e) rest)) (sym (c.join.ensures.marks ∙ ap (λ p. with_mark c.args.id p c.args.marks.now) (sym is)))
-    (marks-joined c.args.id e rest c.args.marks.now apart c.requires.marks))
+    (marks-joined c.args.id e rest c.args.marks.now apart c.requires.marked))
 
 pub returns-else-is_some-clause-items : goal.returns-else-is_some-clause-items
 returns-else-is_some-clause-items g c e stood =
@@ -76,7 +76,7 @@ returns-else-is_some-clause-items g c e stood =
     ∙ (ap (λ o. moved c.args.id o c.args.entries.now.items) (sym c.in-None.is)
     ∙ moved-latest c.args.id e c.args.entries.now.items c.requires.once stood c.join.result
     (c.join.ensures.next ∙ (ap (λ p. behind p c.args.marks.now) (sym (ap (λ y. y.part) same ∙ is))
-    ∙ behind-first e.part (remove_entry (nat_eq c.args.id) c.args.entries.now.items) c.args.marks.now c.requires.marks)))
+    ∙ behind-first e.part (remove_entry (nat_eq c.args.id) c.args.entries.now.items) c.args.marks.now c.requires.marked)))
 
 pub returns-else-is_some-clause-marks : goal.returns-else-is_some-clause-marks
 returns-else-is_some-clause-marks g c =
@@ -85,4 +85,4 @@ returns-else-is_some-clause-marks g c =
     let apart = apart_from_distinct rest (IsDistinct-removed c.args.id c.args.entries.now.items c.requires.once) in
     subst (λ l. AreMarks l c.join.new.self) (sym (returns-else-is_some-clause-items g c e stood))
     (subst (AreMarks (latest_node (c.args.id, e) rest)) (sym (c.join.ensures.marks ∙ ap (λ p. with_mark c.args.id p c.args.marks.now) (sym is)))
-    (marks-joined c.args.id e rest c.args.marks.now apart c.requires.marks))
+    (marks-joined c.args.id e rest c.args.marks.now apart c.requires.marked))

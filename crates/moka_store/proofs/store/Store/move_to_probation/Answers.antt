@@ -1,6 +1,6 @@
 use Rattle.std.proofs.Common.{ap, is_some, refl}
 use Rattle.moka_unsync_model.specs.declared.entry.Part.TheVariants.{Probation}
-use Rattle.moka_store.proofs.ChangeLemmas.{set_here, set_marks, set_once, settled, shift_fits, shifted, writes_kept}
+use Rattle.moka_store.proofs.ChangeLemmas.{loose, settled, shift_fits, shifted, writes_kept}
 use Rattle.moka_store.proofs.StepLemmas.{promotes_is}
 use Rattle.moka_store.proofs.StoreLemmas.{length-moved, room-same, stored-relisted}
 use Rattle.moka_store.proofs.WeightLemmas.{share_protected, share_window}
@@ -23,21 +23,10 @@ pub shift-requires-clause-window_fits : goal.shift-requires-clause-window_fits
 shift-requires-clause-window_fits g c =
     (shift_fits c.self.invariant.0 c.args.id c.get_mut-entry.result.now c.get_mut-entry.result.now c.get_mut-entry.ensures.value).1
 
-pub attach-requires-clause-once : goal.attach-requires-clause-once
-attach-requires-clause-once g c =
+pub attach-requires : goal.attach-requires
+attach-requires g c =
     let x = c.get_mut-entry.result.now in
-    set_once c.self.invariant.0 c.args.id x (record x { part = Probation }) c.get_mut-entry.ensures.value
-
-pub attach-requires-clause-here : goal.attach-requires-clause-here
-attach-requires-clause-here g c =
-    let x = c.get_mut-entry.result.now in
-    let e = (record x { part = Probation }) in
-    (e, set_here c.self.invariant.0 c.args.id x e c.get_mut-entry.ensures.value, refl)
-
-pub attach-requires-clause-marks : goal.attach-requires-clause-marks
-attach-requires-clause-marks g c =
-    let x = c.get_mut-entry.result.now in
-    set_marks c.self.invariant.0 c.args.id x (record x { part = Probation }) c.get_mut-entry.ensures.value c.pass.new.self c.pass.ensures
+    loose c.self.invariant.0 c.args.id x (record x { part = Probation }) c.get_mut-entry.ensures.value Probation refl c.pass.new.self c.pass.ensures
 
 pub invariant_of-self : goal.invariant_of-self
 invariant_of-self g c =

@@ -33,25 +33,18 @@ push_reserved-id-requires g c =
     let left = c.self.invariant.1.room (omega (arith, room)) in
     omega (arith, room, left, c.self.invariant.1.fits)
 
-pub attach-requires-clause-once : goal.attach-requires-clause-once
-attach-requires-clause-once g c =
-    rw c.push_reserved-id.ensures.items
-    (IsDistinct-pushed c.push_reserved-id.result c.args.entry c.self.inside.entries.items c.self.invariant.0.keyed.once c.push_reserved-id.ensures.new_id)
-
-pub attach-requires-clause-here : goal.attach-requires-clause-here
-attach-requires-clause-here g c = (
-  c.args.entry,
-  ap (lookup (nat_eq c.push_reserved-id.result)) c.push_reserved-id.ensures.items
-      ∙ pushed-at c.push_reserved-id.result c.args.entry c.self.inside.entries.items c.push_reserved-id.ensures.new_id,
-  refl,
-)
-
-pub attach-requires-clause-marks : goal.attach-requires-clause-marks
-attach-requires-clause-marks g c =
+pub attach-requires : goal.attach-requires
+attach-requires g c =
     let id = c.push_reserved-id.result in
-    subst (λ l. AreMarks l c.self.inside.marks)
-    (sym (ap (remove_entry (nat_eq id)) c.push_reserved-id.ensures.items
-    ∙ removed-pushed id c.args.entry c.self.inside.entries.items c.push_reserved-id.ensures.new_id)) c.self.invariant.0.marked
+    let e = c.args.entry in
+    let nodes = c.self.inside.entries.items in
+    let fresh = c.push_reserved-id.ensures.new_id in
+    rw c.push_reserved-id.ensures.items
+    (record {
+      once = IsDistinct-pushed id e nodes c.self.invariant.0.keyed.once fresh;
+      here = (e, pushed-at id e nodes fresh, refl);
+      marked = subst (λ l. AreMarks l c.self.inside.marks) (sym (removed-pushed id e nodes fresh)) c.self.invariant.0.marked;
+    })
 
 pub add_write-requires-clause-room : goal.add_write-requires-clause-room
 add_write-requires-clause-room g c kept =

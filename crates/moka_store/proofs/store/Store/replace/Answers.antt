@@ -5,7 +5,7 @@ use Rattle.moka_unsync_model.specs.Contents.{entry_at}
 use Rattle.moka_unsync_model.specs.declared.entry.Entry.{Entry}
 use Rattle.moka_store.specs.Nodes.{latest_node, written_under}
 use Rattle.moka_store.specs.Store.{entries_of}
-use Rattle.moka_store.proofs.ChangeLemmas.{fits, heavier, parts_lighter, set_here, set_marks, set_once, settled, writes_replaced}
+use Rattle.moka_store.proofs.ChangeLemmas.{fits, heavier, loose, parts_lighter, settled, writes_replaced}
 use Rattle.moka_store.proofs.StepLemmas.{replaces_is}
 use Rattle.moka_store.proofs.StoreLemmas.{length-moved, room-same, stored-replaced}
 use Rattle.moka_store.proofs.WeightLemmas.{share_all, share_protected, share_window}
@@ -51,22 +51,10 @@ add-requires-clause-fits g c small =
     fits c.self.invariant.0 c.args.id c.get_mut-gone.result.now c.get_mut-gone.result.now c.get_mut-gone.ensures.value c.take.new.self c.take.ensures
     c.args.entry.weight small
 
-pub attach-requires-clause-once : goal.attach-requires-clause-once
-attach-requires-clause-once g c =
-    let x = c.get_mut-gone.result.now in
-    set_once c.self.invariant.0 c.args.id x c.replace-gone.new.dest c.get_mut-gone.ensures.value
-
-pub attach-requires-clause-here : goal.attach-requires-clause-here
-attach-requires-clause-here g c =
-    let x = c.get_mut-gone.result.now in
-    let e = c.replace-gone.new.dest in
-    (e, set_here c.self.invariant.0 c.args.id x e c.get_mut-gone.ensures.value, ap (λ z. z.part) c.replace-gone.ensures.after)
-
-pub attach-requires-clause-marks : goal.attach-requires-clause-marks
-attach-requires-clause-marks g c =
-    let x = c.get_mut-gone.result.now in
-    set_marks c.self.invariant.0 c.args.id x c.replace-gone.new.dest c.get_mut-gone.ensures.value
-    c.pass.new.self c.pass.ensures
+pub attach-requires : goal.attach-requires
+attach-requires g c =
+    loose c.self.invariant.0 c.args.id c.get_mut-gone.result.now c.replace-gone.new.dest c.get_mut-gone.ensures.value c.args.entry.part
+    (ap (λ z. z.part) c.replace-gone.ensures.after) c.pass.new.self c.pass.ensures
 
 pub write_again-requires : goal.write_again-requires
 write_again-requires g c kept = is_written c.self.invariant.0.written c.args.id (ap is_some c.get_mut-gone.ensures.value) kept

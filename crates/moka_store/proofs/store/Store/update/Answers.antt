@@ -3,7 +3,7 @@ use Rattle.std.specs.Map.{remove_entry}
 use Rattle.moka_unsync_model.specs.Contents.{writes_without}
 use Rattle.moka_unsync_model.specs.Insert.{with_write}
 use Rattle.moka_store.specs.Nodes.{IsStored, latest_node, written_under}
-use Rattle.moka_store.proofs.ChangeLemmas.{fits, found_balanced, heavier, parts_lighter, set_here, set_marks, set_once, settled, writes_last}
+use Rattle.moka_store.proofs.ChangeLemmas.{fits, found_balanced, heavier, loose, parts_lighter, settled, writes_last}
 use Rattle.moka_store.proofs.StepLemmas.{updates_is}
 use Rattle.moka_store.proofs.StoreLemmas.{length-moved, parted, room-balanced, stored-balanced, stored-relisted, stored-written}
 use Rattle.moka_store.proofs.WeightLemmas.{share_all, share_protected, share_window}
@@ -39,21 +39,10 @@ add-requires-clause-fits g c small =
     fits c.self.invariant.0 c.args.id c.get_mut-entry.result.now c.get_mut-entry.result.now c.get_mut-entry.ensures.value c.take.new.self c.take.ensures
     c.args.update.weight small
 
-pub attach-requires-clause-once : goal.attach-requires-clause-once
-attach-requires-clause-once g c =
-    let x = c.get_mut-entry.result.now in
-    set_once c.self.invariant.0 c.args.id x c.rewrite-left.new.entry c.get_mut-entry.ensures.value
-
-pub attach-requires-clause-here : goal.attach-requires-clause-here
-attach-requires-clause-here g c =
-    let x = c.get_mut-entry.result.now in
-    let e = c.rewrite-left.new.entry in
-    (e, set_here c.self.invariant.0 c.args.id x e c.get_mut-entry.ensures.value, ap (λ z. z.part) c.rewrite-left.ensures.entry)
-
-pub attach-requires-clause-marks : goal.attach-requires-clause-marks
-attach-requires-clause-marks g c =
-    let x = c.get_mut-entry.result.now in
-    set_marks c.self.invariant.0 c.args.id x c.rewrite-left.new.entry c.get_mut-entry.ensures.value c.pass.new.self c.pass.ensures
+pub attach-requires : goal.attach-requires
+attach-requires g c =
+    loose c.self.invariant.0 c.args.id c.get_mut-entry.result.now c.rewrite-left.new.entry c.get_mut-entry.ensures.value c.used_part-used.result
+    (ap (λ z. z.part) c.rewrite-left.ensures.entry) c.pass.new.self c.pass.ensures
 
 module _ (g : _) (c : After-attach g) where
   -- the entry is the last of its part

@@ -4,8 +4,8 @@ use Rattle.moka_list.proofs.IdLemmas.{some_parts}
 use Rattle.moka_unsync_model.specs.declared.entry.Part.TheVariants.{Probation}
 use Rattle.moka_unsync_model.specs.Lookup.{used_part}
 use Rattle.moka_store.specs.Nodes.{IsStored, latest_node}
-use Rattle.moka_store.proofs.ChangeLemmas.{set_here, set_once, settled, writes_balanced}
-use Rattle.moka_store.proofs.ProbationLemmas.{marks-kept, stored-kept}
+use Rattle.moka_store.proofs.ChangeLemmas.{settled, writes_balanced}
+use Rattle.moka_store.proofs.ProbationLemmas.{loose-kept, stored-kept}
 use Rattle.moka_store.proofs.StepLemmas.{uses_is}
 use Rattle.moka_store.proofs.StoreLemmas.{length-moved, parted, room-balanced, stored-balanced}
 use Rattle.moka_store.proofs.store.Store.use_in_probation.Goals.{After-attach, After-get_mut-entry}
@@ -26,25 +26,11 @@ module _ (g : _) (c : After-get_mut-entry g) where
       let own = some_parts c.get_mut-entry.result.now stays.0 (sym c.get_mut-entry.ensures.value ∙ stays.1) in
       here ∙ sym ((λ i. used_part c.self.inside.protected_limit (here i) (own i).weight) ∙ stays.3)
 
-pub attach-requires-clause-once : goal.attach-requires-clause-once
-attach-requires-clause-once g c =
+pub attach-requires : goal.attach-requires
+attach-requires g c =
     let x = c.get_mut-entry.result.now in
-    set_once c.self.invariant.0 c.args.id x (record x { accessed = c.args.now }) c.get_mut-entry.ensures.value
-
-pub attach-requires-clause-here : goal.attach-requires-clause-here
-attach-requires-clause-here g c =
-    let x = c.get_mut-entry.result.now in
-    let e = record x { accessed = c.args.now } in (
-      e,
-      set_here c.self.invariant.0 c.args.id x e c.get_mut-entry.ensures.value,
-      here g (goal.at.attach-requires-clause-here g c).After-get_mut-entry,
-    )
-
-pub attach-requires-clause-marks : goal.attach-requires-clause-marks
-attach-requires-clause-marks g c =
-    let x = c.get_mut-entry.result.now in
-    marks-kept g.met.K.Eq.laws c.self.invariant.0 c.args.id x (record x { accessed = c.args.now }) c.get_mut-entry.ensures.value
-    (here g (goal.at.attach-requires-clause-marks g c).After-get_mut-entry)
+    let here = here g (goal.at.attach-requires g c).After-get_mut-entry in
+    loose-kept g.met.K.Eq.laws c.self.invariant.0 c.args.id x (record x { accessed = c.args.now }) c.get_mut-entry.ensures.value here here refl
 
 module _ (g : _) (c : After-attach g) where
   -- the entry is the last of its part
