@@ -103,14 +103,13 @@ pub fn sentence(advice: Option<Advice>, requests: u64, is_weighed: bool) -> Stri
 /// Returns the call in Rust that makes the cache.
 fn call(advice: Advice, is_weighed: bool) -> String {
     let weigh = if is_weighed { ".weigh_bytes()" } else { "" };
-    let capacity = advice.capacity;
+    let limits = format!("builder().max_capacity({}){weigh}", advice.capacity);
     match advice.setting {
-        Setting::Default => format!("Cache::builder().max_capacity({capacity}){weigh}"),
-        Setting::Protected => {
-            format!("Cache::builder().max_capacity({capacity}){weigh}.protected_share(80)")
-        }
-        Setting::Adaptive => format!("Cache::builder().max_capacity({capacity}){weigh}.adaptive()"),
-        Setting::Segments => format!("sync::Cache::builder().max_capacity({capacity}){weigh}"),
+        Setting::Default => format!("Cache::{limits}"),
+        Setting::Window(percent) => format!("Cache::{limits}.window_share({percent})"),
+        Setting::Protected(percent) => format!("Cache::{limits}.protected_share({percent})"),
+        Setting::Adaptive => format!("Cache::{limits}.adaptive()"),
+        Setting::Segments => format!("sync::Cache::{limits}"),
         Setting::Lru | Setting::Belady => "not a cache of this library".to_owned(),
     }
 }

@@ -218,7 +218,7 @@ fn defaults() -> Options {
         capacities: [1.0, 2.0, 5.0, 10.0, 20.0, 50.0]
             .map(Capacity::Percent)
             .to_vec(),
-        settings: Setting::ALL.to_vec(),
+        settings: Setting::USUAL.to_vec(),
         counts_entries: false,
         time_to_live: None,
         output: Output::Table,

@@ -5,12 +5,21 @@ use crate::play::Outcome;
 use crate::policies::Setting;
 use crate::report::Report;
 use crate::svg::{picture, Chart, Line, Mark, Style};
+use std::mem::discriminant;
 
-/// Returns how the line of a cache is drawn. The colours differ in brightness, too.
-fn style(setting: Setting) -> Style {
+/// The dashes of lines with one colour: of several windows, or of several protected shares.
+const DASHES: [&str; 4] = ["8 4", "12 3", "4 4", "1 4"];
+
+/// Returns how the line of a cache is drawn in a picture of these settings. The colours differ in
+/// brightness, too.
+fn style(setting: Setting, settings: &[Setting]) -> Style {
+    let before = settings.iter().take_while(|other| **other != setting);
+    let alike = before.filter(|other| discriminant(*other) == discriminant(&setting));
+    let dashes = DASHES[alike.count() % DASHES.len()];
     let (colour, dashes, mark) = match setting {
         Setting::Default => ("#1f5fa8", "", Mark::Circle),
-        Setting::Protected => ("#2e8b57", "8 4", Mark::Square),
+        Setting::Window(_) => ("#8c564b", dashes, Mark::Plus),
+        Setting::Protected(_) => ("#2e8b57", dashes, Mark::Square),
         Setting::Adaptive => ("#b3005e", "", Mark::Triangle),
         Setting::Segments => ("#7a5cc9", "2 3", Mark::Diamond),
         Setting::Lru => ("#c8741a", "6 3 2 3", Mark::Cross),
@@ -23,20 +32,23 @@ fn style(setting: Setting) -> Style {
     }
 }
 
+/// Returns the settings of a report, in the order of its table.
+fn settings(outcomes: &[Outcome]) -> Vec<Setting> {
+    let mut found = Vec::new();
+    for outcome in outcomes {
+        if !found.contains(&outcome.play.setting) {
+            found.push(outcome.play.setting);
+        }
+    }
+    found
+}
+
 /// Draws hits by capacity, and at one capacity the hits and the window's share over the trace.
 pub fn draw(report: &Report, name: &str) -> String {
-    let settings: Vec<Setting> = Setting::ALL
-        .into_iter()
-        .filter(|setting| {
-            report
-                .outcomes
-                .iter()
-                .any(|outcome| outcome.play.setting == *setting)
-        })
-        .collect();
-    let legend: Vec<(&str, Style)> = settings
+    let settings = settings(report.outcomes);
+    let legend: Vec<(String, Style)> = settings
         .iter()
-        .map(|setting| (setting.name(), style(*setting)))
+        .map(|setting| (setting.name(), style(*setting, &settings)))
         .collect();
     let capacities = report
         .outcomes
@@ -50,8 +62,11 @@ pub fn draw(report: &Report, name: &str) -> String {
         .iter()
         .filter(|outcome| outcome.play.rules.capacity == shown)
         .collect();
-    let mut charts = vec![by_capacity(report, &settings), over_time(&at_shown, shown)];
-    let windows = windows(&at_shown, shown);
+    let mut charts = vec![
+        by_capacity(report, &settings),
+        over_time(&at_shown, shown, &settings),
+    ];
+    let windows = windows(&at_shown, shown, &settings);
     if !windows.lines.is_empty() {
         charts.push(windows);
     }
@@ -65,7 +80,7 @@ pub fn draw(report: &Report, name: &str) -> String {
 
 fn by_capacity(report: &Report, settings: &[Setting]) -> Chart {
     let line = |setting: &Setting| Line {
-        style: style(*setting),
+        style: style(*setting, settings),
         points: report
             .outcomes
             .iter()
@@ -100,14 +115,14 @@ fn ends(outcome: &Outcome) -> impl Iterator<Item = f64> + '_ {
     })
 }
 
-fn over_time(outcomes: &[&Outcome], capacity: u64) -> Chart {
+fn over_time(outcomes: &[&Outcome], capacity: u64, settings: &[Setting]) -> Chart {
     let line = |outcome: &&Outcome| {
         let hits = outcome
             .parts
             .iter()
             .map(|part| share(part.hits, part.requests));
         Line {
-            style: style(outcome.play.setting),
+            style: style(outcome.play.setting, settings),
             points: ends(outcome).zip(hits).collect(),
             has_marks: false,
         }
@@ -121,14 +136,14 @@ fn over_time(outcomes: &[&Outcome], capacity: u64) -> Chart {
     }
 }
 
-fn windows(outcomes: &[&Outcome], capacity: u64) -> Chart {
+fn windows(outcomes: &[&Outcome], capacity: u64, settings: &[Setting]) -> Chart {
     let with_windows = outcomes
         .iter()
         .filter(|outcome| outcome.window_share().is_some());
     let line = |outcome: &&Outcome| {
         let shares = (0..outcome.parts.len()).map(|at| outcome.share_at(at).unwrap_or(0.0));
         Line {
-            style: style(outcome.play.setting),
+            style: style(outcome.play.setting, settings),
             points: ends(outcome).zip(shares).collect(),
             has_marks: false,
         }

@@ -85,7 +85,7 @@ impl<'a> Report<'a> {
         let count = |count: Option<u64>| count.map_or("-".to_owned(), grouped);
         let mut row = vec![
             grouped(outcome.play.rules.capacity),
-            outcome.play.setting.name().to_owned(),
+            outcome.play.setting.name(),
             format!("{:.2}", share(outcome.tally.hits, self.requests)),
         ];
         if let Some(bytes) = self.bytes {
@@ -113,7 +113,7 @@ impl<'a> Report<'a> {
             let count = |count: Option<u64>| count.map_or(String::new(), |count| count.to_string());
             let row = [
                 outcome.play.rules.capacity.to_string(),
-                outcome.play.setting.name().to_owned(),
+                outcome.play.setting.name(),
                 self.requests.to_string(),
                 outcome.tally.hits.to_string(),
                 count(self.bytes),

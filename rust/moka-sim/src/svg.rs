@@ -28,6 +28,7 @@ pub enum Mark {
     Triangle,
     Diamond,
     Cross,
+    Plus,
     Ring,
 }
 
@@ -139,7 +140,7 @@ fn short(number: f64) -> String {
 }
 
 /// Returns a picture of the charts, one below another, under a title and a legend.
-pub fn picture(title: &str, legend: &[(&str, Style)], charts: &[Chart]) -> String {
+pub fn picture(title: &str, legend: &[(String, Style)], charts: &[Chart]) -> String {
     let (keys, top) = legend_rows(legend);
     let height = top + HEIGHT * charts.len() as f64;
     let mut out = format!(
@@ -155,7 +156,7 @@ pub fn picture(title: &str, legend: &[(&str, Style)], charts: &[Chart]) -> Strin
 }
 
 /// Returns the legend, and the height below it.
-fn legend_rows(legend: &[(&str, Style)]) -> (String, f64) {
+fn legend_rows(legend: &[(String, Style)]) -> (String, f64) {
     let (mut x, mut y) = (LEFT, 48.0);
     let mut out = String::new();
     for (name, style) in legend {
@@ -283,6 +284,14 @@ fn mark(x: f64, y: f64, style: &Style) -> String {
             let (left, right, upper, lower) = (x - 4.0, x + 4.0, y - 4.0, y + 4.0);
             format!(
                 "<path d=\"M{left:.1} {upper:.1}L{right:.1} {lower:.1}M{left:.1} {lower:.1}L{right:.1} {upper:.1}\" \
+                 stroke=\"{}\" stroke-width=\"2\"/>\n",
+                style.colour
+            )
+        }
+        Mark::Plus => {
+            let (left, right, upper, lower) = (x - 5.0, x + 5.0, y - 5.0, y + 5.0);
+            format!(
+                "<path d=\"M{left:.1} {y:.1}L{right:.1} {y:.1}M{x:.1} {upper:.1}L{x:.1} {lower:.1}\" \
                  stroke=\"{}\" stroke-width=\"2\"/>\n",
                 style.colour
             )

@@ -46,11 +46,9 @@ pub fn columns(text: &str) -> Result<Vec<(Part, String)>, Usage> {
 }
 
 pub fn setting(name: &str) -> Result<Setting, Usage> {
-    let found = Setting::ALL
-        .into_iter()
-        .find(|setting| setting.name() == name);
-    let wanted = "of default, protected80, adaptive, segments, lru, belady";
-    found.ok_or_else(|| Usage::Value {
+    let wanted =
+        "of default, windowN, protectedN, adaptive, segments, lru, belady, with N from 0 to 100";
+    Setting::named(name).ok_or_else(|| Usage::Value {
         option: "--settings",
         value: name.to_owned(),
         wanted,

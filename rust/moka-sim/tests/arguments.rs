@@ -21,21 +21,23 @@ fn help_is_printed() {
     for (kind, _) in Kind::ALL {
         assert!(help.contains(kind), "{kind}");
     }
-    for setting in Setting::ALL {
-        assert!(help.contains(setting.name()), "{}", setting.name());
+    for setting in Setting::USUAL {
+        assert!(help.contains(&setting.name()), "{}", setting.name());
     }
 }
 
 #[test]
 fn wrong_arguments_end_with_status_2_and_a_usage_line() {
-    let cases: [(&[&str], &str); 20] = [
+    let cases: [(&[&str], &str); 22] = [
         (&["--colour"], "there is no option `--colour`"),
         (&["--entries=5"], "there is no option `=5`"),
         (&["--svg"], "--svg needs a value"),
         (&["--capacity", "0"], "--capacity `0`: it must be above 0, as 5000, 2.5% or 10MB"),
         (&["--capacity", "5,-1%"], "--capacity `-1%`: it must be above 0, as 5000, 2.5% or 10MB"),
         (&["--capacity", "5x"], "--capacity `5x`: it must be above 0, as 5000, 2.5% or 10MB"),
-        (&["--settings", "best"], "--settings `best`: it must be of default, protected80, adaptive, segments, lru, belady"),
+        (&["--settings", "best"], "--settings `best`: it must be of default, windowN, protectedN, adaptive, segments, lru, belady, with N from 0 to 100"),
+        (&["--settings", "lru,window101"], "--settings `window101`: it must be of default, windowN, protectedN, adaptive, segments, lru, belady, with N from 0 to 100"),
+        (&["--settings", "protected080"], "--settings `protected080`: it must be of default, windowN, protectedN, adaptive, segments, lru, belady, with N from 0 to 100"),
         (&["--format", "xml"], "--format `xml`: it must be lines, columns, csv, arc or lirs"),
         (&["--columns", "key,key"], "--columns `key`: it must be key, size, time or -, each once"),
         (&["--columns", "key,weight"], "--columns `weight`: it must be key, size, time or -, each once"),
@@ -74,7 +76,7 @@ fn arguments_are_parsed() {
     let given = options(&[
         "--capacity=1%, 2.5%,700,3k,2KiB,700",
         "--settings",
-        "lru,adaptive",
+        "lru,window20, protected0,adaptive,window100",
         "--ttl",
         "1.5m",
         "trace",
@@ -89,7 +91,16 @@ fn arguments_are_parsed() {
             Capacity::Amount(2048)
         ]
     );
-    assert_eq!(given.settings, [Setting::Lru, Setting::Adaptive]);
+    assert_eq!(
+        given.settings,
+        [
+            Setting::Lru,
+            Setting::Window(20),
+            Setting::Protected(0),
+            Setting::Adaptive,
+            Setting::Window(100),
+        ]
+    );
     assert_eq!(
         (given.time_to_live, given.file.as_deref()),
         (Some(90_000_000_000), Some("trace"))

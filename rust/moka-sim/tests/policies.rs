@@ -90,7 +90,7 @@ fn entries_expire_at_the_end_of_their_time_to_live() {
     assert_eq!(outcome(&timed, Setting::Belady, rules).tally.hits, 2);
     for setting in [
         Setting::Default,
-        Setting::Protected,
+        Setting::Protected(80),
         Setting::Adaptive,
         Setting::Segments,
     ] {
@@ -233,8 +233,9 @@ fn a_protected_share_keeps_a_key_that_was_hit() {
     // 1, 6, 10 and at last 1.
     assert_eq!(entries(&trace, Setting::Default, 5).tally.hits, 4);
     // 1, 6, and 1 three times.
-    assert_eq!(entries(&trace, Setting::Protected, 5).tally.hits, 5);
+    assert_eq!(entries(&trace, Setting::Protected(80), 5).tally.hits, 5);
     assert_eq!(entries(&trace, Setting::Adaptive, 5).tally.hits, 5);
+    assert_eq!(entries(&trace, Setting::Protected(0), 5).tally.hits, 4);
 }
 
 #[test]
@@ -251,7 +252,9 @@ fn windows_are_those_of_the_settings() {
             .and_then(|part| part.window)
     };
     assert_eq!(window(Setting::Default), Some(3));
-    assert_eq!(window(Setting::Protected), Some(3));
+    assert_eq!(window(Setting::Protected(80)), Some(3));
+    assert_eq!(window(Setting::Window(20)), Some(79));
+    assert_eq!(window(Setting::Window(0)), Some(0));
     // Three segments, of 133, 133 and 132 entries.
     assert_eq!(window(Setting::Segments), Some(3));
     assert!(
@@ -285,7 +288,7 @@ fn the_library_weighs_entries_as_the_others_do() {
     };
     for setting in [
         Setting::Default,
-        Setting::Protected,
+        Setting::Protected(80),
         Setting::Adaptive,
         Setting::Segments,
     ] {

@@ -225,7 +225,7 @@ fn an_svg_shows_hits_and_windows() {
     }
     // A line of the legend and one in both charts of hits for each cache; the library's four have a window.
     assert_eq!(svg.matches("<polyline").count(), 3 * 6 + 4);
-    for setting in Setting::ALL {
+    for setting in Setting::USUAL {
         assert!(
             svg.contains(&format!(">{}</text>", setting.name())),
             "{}",

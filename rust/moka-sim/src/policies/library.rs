@@ -83,7 +83,8 @@ fn numbers(setting: Setting, rules: Rules) -> Result<NumberCache, PlayError> {
         builder = builder.time_to_live(Duration::from_nanos(life));
     }
     let builder = match setting {
-        Setting::Protected => builder.protected_share(80),
+        Setting::Window(percent) => builder.window_share(percent),
+        Setting::Protected(percent) => builder.protected_share(percent),
         Setting::Adaptive => builder.adaptive(),
         _ => builder,
     };
@@ -100,7 +101,8 @@ fn bytes(setting: Setting, rules: Rules) -> Result<Cache, PlayError> {
         builder = builder.time_to_live(Duration::from_nanos(life));
     }
     let builder = match setting {
-        Setting::Protected => builder.protected_share(80),
+        Setting::Window(percent) => builder.window_share(percent),
+        Setting::Protected(percent) => builder.protected_share(percent),
         Setting::Adaptive => builder.adaptive(),
         _ => builder,
     };

@@ -12,7 +12,10 @@ use std::ops::Range;
 #[derive(Clone, Copy, Debug, PartialEq, Eq)]
 pub enum Setting {
     Default,
-    Protected,
+    /// The cache with this `window_share`, in percent.
+    Window(u8),
+    /// The cache with this `protected_share`, in percent.
+    Protected(u8),
     Adaptive,
     Segments,
     Lru,
@@ -20,10 +23,10 @@ pub enum Setting {
 }
 
 impl Setting {
-    /// All settings, in the order of tables.
-    pub const ALL: [Setting; 6] = [
+    /// The settings that are played if none are named, in the order of tables.
+    pub const USUAL: [Setting; 6] = [
         Setting::Default,
-        Setting::Protected,
+        Setting::Protected(80),
         Setting::Adaptive,
         Setting::Segments,
         Setting::Lru,
@@ -31,15 +34,35 @@ impl Setting {
     ];
 
     /// Returns the name in arguments, tables and files.
-    pub fn name(self) -> &'static str {
+    pub fn name(self) -> String {
         match self {
-            Setting::Default => "default",
-            Setting::Protected => "protected80",
-            Setting::Adaptive => "adaptive",
-            Setting::Segments => "segments",
-            Setting::Lru => "lru",
-            Setting::Belady => "belady",
+            Setting::Default => "default".to_owned(),
+            Setting::Window(percent) => format!("window{percent}"),
+            Setting::Protected(percent) => format!("protected{percent}"),
+            Setting::Adaptive => "adaptive".to_owned(),
+            Setting::Segments => "segments".to_owned(),
+            Setting::Lru => "lru".to_owned(),
+            Setting::Belady => "belady".to_owned(),
         }
+    }
+
+    /// Returns the setting of this name, if there is one.
+    pub fn named(name: &str) -> Option<Setting> {
+        let shares: [(&str, fn(u8) -> Setting); 2] = [
+            ("window", Setting::Window),
+            ("protected", Setting::Protected),
+        ];
+        let with_share = shares.into_iter().find_map(|(start, setting)| {
+            let percent = name.strip_prefix(start)?.parse().ok()?;
+            (percent <= 100).then(|| setting(percent))
+        });
+        let found = with_share.or_else(|| {
+            Setting::USUAL
+                .into_iter()
+                .find(|setting| setting.name() == name)
+        });
+        // A number may be written in several ways, of which one is the name.
+        found.filter(|setting| setting.name() == name)
     }
 
     /// Returns `true` if the library plays it.
