@@ -74,7 +74,7 @@ fn read(found: Option<&Vec<u8>>) -> bool {
 }
 
 struct PackageBytes {
-    cache: mini_moka_proved::Cache,
+    cache: mini_moka_proved::ByteCache,
     bytes: Bytes,
     found: Vec<u8>,
 }
@@ -96,7 +96,7 @@ impl Side for PackageBytes {
 }
 
 fn package_bytes(capacity: u64) -> Box<dyn Side> {
-    let builder = mini_moka_proved::Cache::builder().max_capacity(capacity);
+    let builder = mini_moka_proved::ByteCache::builder().max_capacity(capacity);
     Box::new(PackageBytes {
         cache: builder.build().expect("memory is available"),
         bytes: Bytes::new(),

@@ -1,7 +1,7 @@
 //! Keeps a table of logins: a token is valid for half an hour after the login. Reads the lines
 //! `login NAME`, `who TOKEN` and `logout TOKEN` from standard input, and answers each with a line.
 
-use mini_moka_proved::{BuildError, Cache, OutOfMemory};
+use mini_moka_proved::{BuildError, ByteCache, OutOfMemory};
 use std::error::Error;
 use std::io::{self, BufRead};
 use std::time::Duration;
@@ -10,14 +10,14 @@ const HALF_AN_HOUR: Duration = Duration::from_secs(30 * 60);
 
 /// The users' names by token, and the last token issued.
 struct Logins {
-    names: Cache,
+    names: ByteCache,
     last_token: u64,
 }
 
 impl Logins {
     /// Creates a table of at most 100,000 logins.
     fn new() -> Result<Logins, BuildError> {
-        let names = Cache::builder()
+        let names = ByteCache::builder()
             .max_capacity(100_000)
             .adaptive()
             .time_to_live(HALF_AN_HOUR)

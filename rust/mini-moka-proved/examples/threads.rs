@@ -2,7 +2,7 @@
 //! entries that leave the cache are drained. Prints the number of sessions that were inserted, that
 //! remain, and that were drained or lost.
 
-use mini_moka_proved::sync::Cache;
+use mini_moka_proved::sync::ByteCache;
 use std::thread;
 use std::time::Duration;
 
@@ -11,13 +11,13 @@ const SESSIONS: u64 = 5000;
 
 /// Drains the removed entries, and returns their number. A real program would write them to a
 /// store.
-fn drain(cache: &Cache) -> u64 {
+fn drain(cache: &ByteCache) -> u64 {
     cache.removed().filter(|removed| removed.is_ok()).count() as u64
 }
 
 /// Inserts the sessions of a thread, and returns the number of entries that it has drained. A key
 /// is the number of the thread and that of the session.
-fn work(cache: &Cache, thread: u64) -> u64 {
+fn work(cache: &ByteCache, thread: u64) -> u64 {
     let mut drained = 0;
     for session in 0..SESSIONS {
         let key = [thread.to_le_bytes(), session.to_le_bytes()].concat();
@@ -35,7 +35,7 @@ fn work(cache: &Cache, thread: u64) -> u64 {
 }
 
 fn main() -> Result<(), Box<dyn std::error::Error>> {
-    let cache = Cache::builder()
+    let cache = ByteCache::builder()
         .max_capacity(10_000)
         .adaptive()
         .time_to_live(Duration::from_secs(600))

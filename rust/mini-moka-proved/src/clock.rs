@@ -7,7 +7,7 @@ use std::time::{Duration, Instant};
 
 /// A clock that the program sets, for tests and simulators.
 ///
-/// Builders take it: [`Builder::manual_clock`](crate::Builder::manual_clock). A clone is another
+/// Builders take it: [`ByteBuilder::manual_clock`](crate::ByteBuilder::manual_clock). A clone is another
 /// handle on the same clock, which any number of caches and threads may share. Its moments are in
 /// nanoseconds, at most 2^64 - 1, which is 584 years; a later one counts as that.
 ///

@@ -1,18 +1,18 @@
 //! mini-moka's cache, proved: a safe wrapper of its static library.
 //!
-//! A [`Cache`] keeps bytes, and a [`NumberCache`] numbers, for one thread; threads share a
-//! [`sync::Cache`]. A cache is bounded by a number of entries or of bytes, and its entries expire
+//! A [`ByteCache`] keeps bytes, and a [`NumberCache`] numbers, for one thread; threads share a
+//! [`sync::ByteCache`]. A cache is bounded by a number of entries or of bytes, and its entries expire
 //! by a time to live, by a time to idle, or not at all.
 //!
-//! [`Builder::adaptive`] is the best choice if nothing is known about the keys: the part of the
-//! cache for new entries grows and shrinks with the calls. [`Builder::window_share`] and
-//! [`Builder::protected_share`] set fixed parts.
+//! [`ByteBuilder::adaptive`] is the best choice if nothing is known about the keys: the part of the
+//! cache for new entries grows and shrinks with the calls. [`ByteBuilder::window_share`] and
+//! [`ByteBuilder::protected_share`] set fixed parts.
 //!
 //! ```
-//! use mini_moka_proved::Cache;
+//! use mini_moka_proved::ByteCache;
 //! use std::time::Duration;
 //!
-//! let mut cache = Cache::builder()
+//! let mut cache = ByteCache::builder()
 //!     .max_capacity(10_000)
 //!     .adaptive()
 //!     .time_to_live(Duration::from_secs(30 * 60))
@@ -31,8 +31,8 @@
 
 #![deny(missing_docs, unsafe_code)]
 
-mod builder;
-mod cache;
+mod byte_builder;
+mod bytes;
 mod clock;
 mod error;
 #[allow(unsafe_code)]
@@ -42,8 +42,8 @@ mod number_builder;
 mod numbers;
 pub mod sync;
 
-pub use builder::Builder;
-pub use cache::{Cache, Iter, RemovedIter};
+pub use byte_builder::ByteBuilder;
+pub use bytes::{ByteCache, ByteIter, ByteRemovedIter};
 pub use clock::ManualClock;
 pub use error::{BuildError, OutOfMemory};
 pub use handle::{Cause, Inserted, Removed, Statistics};

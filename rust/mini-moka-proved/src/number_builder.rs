@@ -1,7 +1,7 @@
 //! The builder of caches of numbers.
 
 #[cfg(doc)]
-use crate::builder::Builder;
+use crate::byte_builder::ByteBuilder;
 use crate::clock::{ManualClock, Source};
 use crate::error::BuildError;
 use crate::limits::{Limits, Shares};
@@ -36,7 +36,7 @@ impl NumberBuilder {
         self
     }
 
-    /// Reserves memory for `entries` entries from the start, as [`Builder::initial_capacity`] does.
+    /// Reserves memory for `entries` entries from the start, as [`ByteBuilder::initial_capacity`] does.
     /// Up to that number no insert is refused memory.
     pub fn initial_capacity(mut self, entries: usize) -> NumberBuilder {
         self.limits.initial_capacity = entries;
@@ -56,32 +56,32 @@ impl NumberBuilder {
         self
     }
 
-    /// Makes the cache read a coarse clock, as [`Builder::coarse_clock`] does.
+    /// Makes the cache read a coarse clock, as [`ByteBuilder::coarse_clock`] does.
     pub fn coarse_clock(mut self) -> NumberBuilder {
         self.limits.clock = Source::Coarse;
         self
     }
 
-    /// Makes the cache read a clock that the program sets, as [`Builder::manual_clock`] does.
+    /// Makes the cache read a clock that the program sets, as [`ByteBuilder::manual_clock`] does.
     pub fn manual_clock(mut self, clock: &ManualClock) -> NumberBuilder {
         self.limits.clock = Source::Manual(clock.clone());
         self
     }
 
-    /// Sets the window's share of the capacity in percent, as [`Builder::window_share`] does.
+    /// Sets the window's share of the capacity in percent, as [`ByteBuilder::window_share`] does.
     pub fn window_share(mut self, percent: u8) -> NumberBuilder {
         self.limits.shares.window = percent;
         self
     }
 
     /// Sets the share of the capacity outside of the window that is for entries used there, in
-    /// percent, as [`Builder::protected_share`] does.
+    /// percent, as [`ByteBuilder::protected_share`] does.
     pub fn protected_share(mut self, percent: u8) -> NumberBuilder {
         self.limits.shares.protected = percent;
         self
     }
 
-    /// Makes the window's share follow the calls, as [`Builder::adaptive`] does.
+    /// Makes the window's share follow the calls, as [`ByteBuilder::adaptive`] does.
     ///
     /// ```
     /// use mini_moka_proved::NumberCache;
@@ -99,7 +99,7 @@ impl NumberBuilder {
     ///
     /// # Errors
     ///
-    /// Those of [`Builder::build`].
+    /// Those of [`ByteBuilder::build`].
     pub fn build(self) -> Result<NumberCache, BuildError> {
         let settings = self.limits.settings()?;
         Ok(NumberCache::open(&settings, self.limits.clock())?)

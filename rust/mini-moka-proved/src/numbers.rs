@@ -10,12 +10,12 @@ use std::time::Duration;
 
 /// A single-thread cache whose keys and values are 64-bit numbers.
 ///
-/// It works as the [`Cache`](crate::Cache) of bytes: size, moments, threads and cost are as there.
+/// It works as the [`ByteCache`](crate::ByteCache) of bytes: size, moments, threads and cost are as there.
 /// Numbers take no memory of their own, and nothing is copied. No look-up allocates, so only
 /// inserts can be refused memory.
 ///
 /// The hash function has a fixed key. If strangers choose the cache's keys, they can choose ones
-/// with the same hash, which makes the cache slow. Use a `Cache` with a random seed then.
+/// with the same hash, which makes the cache slow. Use a `ByteCache` with a random seed then.
 ///
 /// ```
 /// use mini_moka_proved::NumberCache;
@@ -192,7 +192,7 @@ impl NumberCache {
     /// # Errors
     ///
     /// None: a removal allocates nothing. It returns a `Result` as
-    /// [`Cache::remove`](crate::Cache::remove) does.
+    /// [`ByteCache::remove`](crate::ByteCache::remove) does.
     pub fn remove(&mut self, key: u64) -> Result<Option<u64>, OutOfMemory> {
         self.remove_at(key, self.now())
     }
@@ -211,7 +211,7 @@ impl NumberCache {
     /// # Errors
     ///
     /// None: a removal allocates nothing. It returns a `Result` as
-    /// [`Cache::invalidate`](crate::Cache::invalidate) does.
+    /// [`ByteCache::invalidate`](crate::ByteCache::invalidate) does.
     pub fn invalidate(&mut self, key: u64) -> Result<(), OutOfMemory> {
         self.invalidate_at(key, self.now())
     }
@@ -232,7 +232,7 @@ impl NumberCache {
     }
 
     /// Returns an iterator over the unexpired entries, as pairs of key and value, in the order of
-    /// [`Cache::iter`](crate::Cache::iter). It doesn't count as an access, and removes none.
+    /// [`ByteCache::iter`](crate::ByteCache::iter). It doesn't count as an access, and removes none.
     ///
     /// ```
     /// use mini_moka_proved::NumberCache;
@@ -258,9 +258,9 @@ impl NumberCache {
         }
     }
 
-    /// Returns an iterator that drains the removed entries, as [`Cache::removed`] does.
+    /// Returns an iterator that drains the removed entries, as [`ByteCache::removed`] does.
     ///
-    /// [`Cache::removed`]: crate::Cache::removed
+    /// [`ByteCache::removed`]: crate::ByteCache::removed
     ///
     /// ```
     /// use mini_moka_proved::{Cause, NumberCache};
@@ -294,7 +294,7 @@ impl NumberCache {
     }
 
     /// Returns the number of entries that the window may have now, as
-    /// [`Cache::window_capacity`](crate::Cache::window_capacity) does. It takes constant time.
+    /// [`ByteCache::window_capacity`](crate::ByteCache::window_capacity) does. It takes constant time.
     pub fn window_capacity(&self) -> u64 {
         self.handle.window_capacity()
     }

@@ -3,12 +3,12 @@
 mod common;
 
 use common::{bytes, NANOSECOND, SECOND, START};
-use mini_moka_proved::{Cache, Inserted};
+use mini_moka_proved::{ByteCache, Inserted};
 use std::time::Duration;
 
 /// Creates a cache without limits.
-fn unlimited() -> Cache {
-    Cache::builder().build().unwrap()
+fn unlimited() -> ByteCache {
+    ByteCache::builder().build().unwrap()
 }
 
 #[test]
@@ -94,7 +94,10 @@ fn a_miss_leaves_the_buffer_empty() {
 
 #[test]
 fn an_entry_expires_at_the_end_of_its_time_to_live() {
-    let mut cache = Cache::builder().time_to_live(10 * SECOND).build().unwrap();
+    let mut cache = ByteCache::builder()
+        .time_to_live(10 * SECOND)
+        .build()
+        .unwrap();
     let mut buffer = Vec::new();
     cache.insert_at(b"key", b"value", SECOND).unwrap();
     let last = 11 * SECOND - NANOSECOND;
@@ -113,7 +116,10 @@ fn an_entry_expires_at_the_end_of_its_time_to_live() {
 
 #[test]
 fn a_get_begins_the_time_to_idle_anew_and_a_peek_does_not() {
-    let mut cache = Cache::builder().time_to_idle(10 * SECOND).build().unwrap();
+    let mut cache = ByteCache::builder()
+        .time_to_idle(10 * SECOND)
+        .build()
+        .unwrap();
     cache.insert_at(b"key", b"value", START).unwrap();
     assert!(cache.get_at(b"key", 9 * SECOND).is_some());
     assert!(cache.peek_at(b"key", 18 * SECOND).is_some());
@@ -123,7 +129,7 @@ fn a_get_begins_the_time_to_idle_anew_and_a_peek_does_not() {
 
 #[test]
 fn a_moment_after_the_last_one_is_the_last_one() {
-    let mut cache = Cache::builder().time_to_live(SECOND).build().unwrap();
+    let mut cache = ByteCache::builder().time_to_live(SECOND).build().unwrap();
     cache.insert_at(b"key", b"value", Duration::MAX).unwrap();
     let last = Duration::from_nanos(u64::MAX);
     assert!(cache.contains_key_at(b"key", last));
@@ -133,7 +139,7 @@ fn a_moment_after_the_last_one_is_the_last_one() {
 
 #[test]
 fn there_are_never_more_entries_than_the_capacity() {
-    let mut cache = Cache::builder().max_capacity(150).build().unwrap();
+    let mut cache = ByteCache::builder().max_capacity(150).build().unwrap();
     for key in 0..1000u32 {
         cache.insert(key.to_le_bytes(), b"value").unwrap();
         assert!(cache.len() <= 150);
@@ -144,7 +150,7 @@ fn there_are_never_more_entries_than_the_capacity() {
 
 #[test]
 fn weighed_entries_stay_within_the_capacity() {
-    let mut cache = Cache::builder()
+    let mut cache = ByteCache::builder()
         .max_capacity(10_000)
         .weigh_bytes()
         .build()
@@ -159,7 +165,7 @@ fn weighed_entries_stay_within_the_capacity() {
 
 #[test]
 fn an_entry_above_the_capacity_is_rejected() {
-    let mut cache = Cache::builder()
+    let mut cache = ByteCache::builder()
         .max_capacity(9)
         .weigh_bytes()
         .build()
@@ -216,7 +222,7 @@ fn a_value_is_made_only_for_a_key_that_has_none() {
 
 #[test]
 fn a_made_value_is_returned_also_where_it_is_rejected() {
-    let mut cache = Cache::builder().max_capacity(0).build().unwrap();
+    let mut cache = ByteCache::builder().max_capacity(0).build().unwrap();
     let value = cache.get_or_insert_with_at(b"key", || b"value".to_vec(), START);
     assert_eq!(value.unwrap(), b"value");
     assert_eq!(cache.len(), 0);
@@ -239,11 +245,11 @@ fn a_cache_shows_its_counts() {
     let mut cache = unlimited();
     cache.insert(b"key", b"value").unwrap();
     let shown = format!("{cache:?}");
-    assert_eq!(shown, "Cache { len: 1, weighted_size: 1, .. }");
+    assert_eq!(shown, "ByteCache { len: 1, weighted_size: 1, .. }");
 }
 
 /// Returns the pairs of an iterator at a moment, as texts.
-fn pairs(cache: &mut Cache, now: Duration) -> Vec<String> {
+fn pairs(cache: &mut ByteCache, now: Duration) -> Vec<String> {
     cache
         .iter_at(now)
         .map(|pair| {
@@ -259,7 +265,10 @@ fn pairs(cache: &mut Cache, now: Duration) -> Vec<String> {
 
 #[test]
 fn an_iterator_gives_unexpired_pairs_in_order_of_use() {
-    let mut cache = Cache::builder().time_to_live(10 * SECOND).build().unwrap();
+    let mut cache = ByteCache::builder()
+        .time_to_live(10 * SECOND)
+        .build()
+        .unwrap();
     assert_eq!(pairs(&mut cache, START), Vec::<String>::new());
     cache.insert_at(b"a", b"apple", SECOND).unwrap();
     cache.insert_at(b"b", b"", START).unwrap();
@@ -289,7 +298,7 @@ fn an_iterator_can_be_left_and_begun_again() {
 
 #[test]
 fn texts_vectors_and_arrays_are_bytes() {
-    let mut cache = Cache::new(100).unwrap();
+    let mut cache = ByteCache::new(100).unwrap();
     cache.insert("key", String::from("value")).unwrap();
     cache.insert([7u8], vec![49u8]).unwrap();
     assert_eq!(cache.get(b"key"), Some(b"value".to_vec()));
@@ -303,7 +312,10 @@ fn texts_vectors_and_arrays_are_bytes() {
 
 #[test]
 fn a_get_tells_absent_from_found() {
-    let mut cache = Cache::builder().time_to_live(10 * SECOND).build().unwrap();
+    let mut cache = ByteCache::builder()
+        .time_to_live(10 * SECOND)
+        .build()
+        .unwrap();
     assert_eq!(cache.try_get("key"), Ok(None));
     cache.insert_at("key", "value", START).unwrap();
     let last = 10 * SECOND - NANOSECOND;

@@ -3,7 +3,7 @@
 mod common;
 
 use common::{NANOSECOND, SECOND, START};
-use mini_moka_proved::{sync, Cache, Cause, NumberCache};
+use mini_moka_proved::{sync, ByteCache, Cause, NumberCache};
 use std::thread::sleep;
 use std::time::Duration;
 
@@ -12,8 +12,8 @@ const NAP: Duration = Duration::from_millis(20);
 
 #[test]
 fn the_clock_stands_if_there_is_no_duration() {
-    let bytes = Cache::builder().coarse_clock().build().unwrap();
-    let shared = sync::Cache::new(9).unwrap();
+    let bytes = ByteCache::builder().coarse_clock().build().unwrap();
+    let shared = sync::ByteCache::new(9).unwrap();
     let numbers = NumberCache::new(9).unwrap();
     sleep(Duration::from_millis(1));
     assert_eq!(
@@ -24,9 +24,12 @@ fn the_clock_stands_if_there_is_no_duration() {
 
 #[test]
 fn an_entry_expires_by_the_clock_in_each_call() {
-    let mut bytes = Cache::builder().time_to_live(NAP).build().unwrap();
+    let mut bytes = ByteCache::builder().time_to_live(NAP).build().unwrap();
     let mut numbers = NumberCache::builder().time_to_live(NAP).build().unwrap();
-    let shared = sync::Cache::builder().time_to_live(NAP).build().unwrap();
+    let shared = sync::ByteCache::builder()
+        .time_to_live(NAP)
+        .build()
+        .unwrap();
     let mut buffer = Vec::new();
     for key in 0..9u8 {
         bytes.insert_at([key], [key], START).unwrap();
@@ -58,7 +61,7 @@ fn an_entry_expires_by_the_clock_in_each_call() {
 // A call that finds nothing removes what is expired, so in these tests each has its own cache.
 #[test]
 fn each_call_alone_reads_the_clock() {
-    let bytes: [fn(&mut Cache) -> bool; 6] = [
+    let bytes: [fn(&mut ByteCache) -> bool; 6] = [
         |cache| cache.get([1]).is_none(),
         |cache| cache.try_get([1]) == Ok(None),
         |cache| cache.get_into([1], &mut Vec::new()) == Ok(false),
@@ -66,7 +69,7 @@ fn each_call_alone_reads_the_clock() {
         |cache| cache.remove([1]) == Ok(None),
         |cache| cache.get_or_insert_with([1], || vec![2]) == Ok(vec![2]),
     ];
-    let shared: [fn(&sync::Cache) -> bool; 6] = [
+    let shared: [fn(&sync::ByteCache) -> bool; 6] = [
         |cache| cache.get([1]).is_none(),
         |cache| cache.try_get([1]) == Ok(None),
         |cache| cache.get_into([1], &mut Vec::new()) == Ok(false),
@@ -83,13 +86,16 @@ fn each_call_alone_reads_the_clock() {
     ];
     let live = Duration::from_millis(1);
     for call in bytes {
-        let mut cache = Cache::builder().time_to_live(live).build().unwrap();
+        let mut cache = ByteCache::builder().time_to_live(live).build().unwrap();
         cache.insert_at([1], [1], START).unwrap();
         sleep(live);
         assert!(call(&mut cache));
     }
     for call in shared {
-        let cache = sync::Cache::builder().time_to_live(live).build().unwrap();
+        let cache = sync::ByteCache::builder()
+            .time_to_live(live)
+            .build()
+            .unwrap();
         cache.insert_at([1], [1], START).unwrap();
         sleep(live);
         assert!(call(&cache));
@@ -104,7 +110,7 @@ fn each_call_alone_reads_the_clock() {
 
 #[test]
 fn each_call_alone_takes_its_moment() {
-    let bytes: [fn(&mut Cache, Duration) -> bool; 7] = [
+    let bytes: [fn(&mut ByteCache, Duration) -> bool; 7] = [
         |cache, now| cache.get_at([1], now).is_some(),
         |cache, now| cache.try_get_at([1], now).unwrap().is_some(),
         |cache, now| cache.get_into_at([1], &mut Vec::new(), now).unwrap(),
@@ -123,7 +129,7 @@ fn each_call_alone_takes_its_moment() {
     ];
     for (now, is_there) in [(HOUR - NANOSECOND, true), (HOUR, false)] {
         for call in bytes {
-            let mut cache = Cache::builder().time_to_live(HOUR).build().unwrap();
+            let mut cache = ByteCache::builder().time_to_live(HOUR).build().unwrap();
             cache.insert_at([1], [1], START).unwrap();
             assert_eq!(call(&mut cache, now), is_there);
         }
@@ -137,11 +143,14 @@ fn each_call_alone_takes_its_moment() {
 
 #[test]
 fn an_invalidation_reads_the_clock() {
-    let mut bytes = Cache::builder().time_to_live(NAP).removed_room(1).build();
+    let mut bytes = ByteCache::builder()
+        .time_to_live(NAP)
+        .removed_room(1)
+        .build();
     let bytes = bytes.as_mut().unwrap();
     let builder = NumberCache::builder().time_to_live(NAP).removed_room(1);
     let mut numbers = builder.build().unwrap();
-    let builder = sync::Cache::builder().time_to_live(NAP).removed_room(1);
+    let builder = sync::ByteCache::builder().time_to_live(NAP).removed_room(1);
     let shared = builder.build().unwrap();
     bytes.insert_at("key", "value", START).unwrap();
     numbers.insert_at(7, 49, START).unwrap();
@@ -159,9 +168,12 @@ fn an_invalidation_reads_the_clock() {
 
 #[test]
 fn an_insert_reads_the_clock() {
-    let mut bytes = Cache::builder().time_to_live(HOUR).build().unwrap();
+    let mut bytes = ByteCache::builder().time_to_live(HOUR).build().unwrap();
     let mut numbers = NumberCache::builder().time_to_live(HOUR).build().unwrap();
-    let shared = sync::Cache::builder().time_to_live(HOUR).build().unwrap();
+    let shared = sync::ByteCache::builder()
+        .time_to_live(HOUR)
+        .build()
+        .unwrap();
     sleep(Duration::from_millis(1));
     let before = (bytes.now(), numbers.now(), shared.now());
     bytes.insert("key", "value").unwrap();
@@ -177,9 +189,12 @@ fn an_insert_reads_the_clock() {
 
 #[test]
 fn a_get_reads_the_clock() {
-    let mut bytes = Cache::builder().time_to_idle(HOUR).build().unwrap();
+    let mut bytes = ByteCache::builder().time_to_idle(HOUR).build().unwrap();
     let mut numbers = NumberCache::builder().time_to_idle(HOUR).build().unwrap();
-    let shared = sync::Cache::builder().time_to_idle(HOUR).build().unwrap();
+    let shared = sync::ByteCache::builder()
+        .time_to_idle(HOUR)
+        .build()
+        .unwrap();
     for key in 0..4u8 {
         bytes.insert_at([key], [key], START).unwrap();
         numbers.insert_at(key.into(), 1, START).unwrap();
@@ -208,9 +223,12 @@ fn a_get_reads_the_clock() {
 
 #[test]
 fn a_made_value_lives_from_when_it_was_made() {
-    let mut bytes = Cache::builder().time_to_live(HOUR).build().unwrap();
+    let mut bytes = ByteCache::builder().time_to_live(HOUR).build().unwrap();
     let mut numbers = NumberCache::builder().time_to_live(HOUR).build().unwrap();
-    let shared = sync::Cache::builder().time_to_live(HOUR).build().unwrap();
+    let shared = sync::ByteCache::builder()
+        .time_to_live(HOUR)
+        .build()
+        .unwrap();
     let make = || {
         sleep(NAP);
         b"value".to_vec()
@@ -235,9 +253,12 @@ fn a_made_value_lives_from_when_it_was_made() {
 #[test]
 fn a_made_value_is_inserted_at_the_moment_that_is_passed() {
     let live = 10 * SECOND;
-    let mut bytes = Cache::builder().time_to_live(live).build().unwrap();
+    let mut bytes = ByteCache::builder().time_to_live(live).build().unwrap();
     let mut numbers = NumberCache::builder().time_to_live(live).build().unwrap();
-    let shared = sync::Cache::builder().time_to_live(live).build().unwrap();
+    let shared = sync::ByteCache::builder()
+        .time_to_live(live)
+        .build()
+        .unwrap();
     let make = || b"value".to_vec();
     bytes.get_or_insert_with_at("key", make, HOUR).unwrap();
     shared.get_or_insert_with_at("key", make, HOUR).unwrap();
@@ -254,7 +275,7 @@ fn a_made_value_is_inserted_at_the_moment_that_is_passed() {
 #[test]
 fn an_entry_expires_by_the_coarse_clock() {
     let live = Duration::from_millis(50);
-    let builder = Cache::builder().time_to_live(live).coarse_clock();
+    let builder = ByteCache::builder().time_to_live(live).coarse_clock();
     let mut cache = builder.build().unwrap();
     let before = cache.now();
     cache.insert("key", "value").unwrap();
@@ -276,10 +297,10 @@ fn ticks(read: impl Fn() -> Duration) -> usize {
 #[cfg(all(target_os = "linux", target_pointer_width = "64"))]
 #[test]
 fn a_coarse_clock_stands_between_ticks_and_a_precise_one_does_not() {
-    let bytes = Cache::builder().time_to_live(HOUR);
+    let bytes = ByteCache::builder().time_to_live(HOUR);
     let numbers = NumberCache::builder().time_to_live(HOUR);
-    let shared = sync::Cache::builder().time_to_live(HOUR);
-    let of = |bytes: Cache, numbers: NumberCache, shared: sync::Cache| {
+    let shared = sync::ByteCache::builder().time_to_live(HOUR);
+    let of = |bytes: ByteCache, numbers: NumberCache, shared: sync::ByteCache| {
         let bytes = ticks(|| bytes.now());
         [bytes, ticks(|| numbers.now()), ticks(|| shared.now())]
     };

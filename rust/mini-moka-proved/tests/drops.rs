@@ -2,7 +2,7 @@
 
 #![cfg(target_os = "linux")]
 
-use mini_moka_proved::{Cache, NumberCache};
+use mini_moka_proved::{ByteCache, NumberCache};
 use std::fs;
 
 const MIB: usize = 1 << 20;
@@ -17,7 +17,7 @@ fn resident() -> usize {
 
 /// Fills and drops a cache with a value of 1 MiB and 1000 small entries, and a cache of numbers.
 fn fill() {
-    let mut bytes = Cache::builder().build().unwrap();
+    let mut bytes = ByteCache::builder().build().unwrap();
     bytes.insert(b"key", vec![1; MIB]).unwrap();
     for key in 0..1000u32 {
         bytes.insert(key.to_le_bytes(), [0; 1000]).unwrap();

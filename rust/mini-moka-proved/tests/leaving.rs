@@ -3,11 +3,14 @@
 mod common;
 
 use common::{bytes, SECOND, START};
-use mini_moka_proved::{Cache, Cause, Inserted, NumberCache, Removed, Statistics};
+use mini_moka_proved::{ByteCache, Cause, Inserted, NumberCache, Removed, Statistics};
 
 #[test]
 fn statistics_count_gets_and_inserts_and_what_leaves() {
-    let mut cache = Cache::builder().time_to_live(10 * SECOND).build().unwrap();
+    let mut cache = ByteCache::builder()
+        .time_to_live(10 * SECOND)
+        .build()
+        .unwrap();
     assert_eq!(cache.statistics(), Statistics::default());
     for key in 0..3u8 {
         cache.insert_at([key], b"value", START).unwrap();
@@ -34,7 +37,7 @@ fn statistics_count_gets_and_inserts_and_what_leaves() {
 
 #[test]
 fn statistics_count_what_leaves_by_cause() {
-    let mut cache = Cache::new(1).unwrap();
+    let mut cache = ByteCache::new(1).unwrap();
     cache.insert(b"kept", b"value").unwrap();
     cache.insert(b"new", b"value").unwrap();
     for _ in 0..4 {
@@ -56,7 +59,7 @@ fn statistics_count_what_leaves_by_cause() {
 }
 
 /// Drains the removed entries, and returns them as "key=value cause".
-fn drained(cache: &mut Cache) -> Vec<String> {
+fn drained(cache: &mut ByteCache) -> Vec<String> {
     let text = |bytes| String::from_utf8(bytes).unwrap();
     let removed = cache.removed().map(Result::unwrap);
     removed
@@ -66,7 +69,7 @@ fn drained(cache: &mut Cache) -> Vec<String> {
 
 #[test]
 fn what_leaves_is_drained_in_order_and_by_cause() {
-    let mut cache = Cache::builder()
+    let mut cache = ByteCache::builder()
         .max_capacity(2)
         .time_to_live(10 * SECOND)
         .removed_room(9)
@@ -98,7 +101,7 @@ fn what_leaves_is_drained_in_order_and_by_cause() {
 
 #[test]
 fn what_leaves_a_full_queue_is_counted_as_lost() {
-    let mut cache = Cache::builder().removed_room(2).build().unwrap();
+    let mut cache = ByteCache::builder().removed_room(2).build().unwrap();
     for value in ["1", "2", "3", "4"] {
         cache.insert("a", value).unwrap();
     }
@@ -113,7 +116,7 @@ fn what_leaves_a_full_queue_is_counted_as_lost() {
     );
     cache.invalidate("a").unwrap();
     assert_eq!(drained(&mut cache), ["a=2 Replaced", "a=4 Explicit"]);
-    let mut without = Cache::builder().build().unwrap();
+    let mut without = ByteCache::builder().build().unwrap();
     without.insert("a", "1").unwrap();
     without.clear();
     assert_eq!(drained(&mut without), [""; 0]);
@@ -122,7 +125,7 @@ fn what_leaves_a_full_queue_is_counted_as_lost() {
 
 #[test]
 fn long_entries_are_drained_whole() {
-    let mut cache = Cache::builder().removed_room(1).build().unwrap();
+    let mut cache = ByteCache::builder().removed_room(1).build().unwrap();
     cache.insert(bytes(1 << 20), bytes(1 << 21)).unwrap();
     cache.clear();
     let removed = cache.removed().next().unwrap().unwrap();
@@ -134,8 +137,10 @@ fn long_entries_are_drained_whole() {
 
 /// Creates a cache with two expired entries, and a live one that was written last. A call at
 /// the moment 10 s finds them all: their order is that of the calls that wrote them.
-fn hidden() -> Cache {
-    let builder = Cache::builder().time_to_live(10 * SECOND).removed_room(9);
+fn hidden() -> ByteCache {
+    let builder = ByteCache::builder()
+        .time_to_live(10 * SECOND)
+        .removed_room(9);
     let mut cache = builder.build().unwrap();
     cache.insert_at("live", "1", SECOND).unwrap();
     cache.insert_at("old", "2", START).unwrap();
@@ -202,7 +207,7 @@ fn an_expired_number_is_neither_updated_nor_removed() {
 #[test]
 fn what_was_drained_or_lost_is_what_left() {
     for room in [1, 5, 10_000] {
-        let builder = Cache::builder().max_capacity(50).removed_room(room);
+        let builder = ByteCache::builder().max_capacity(50).removed_room(room);
         let mut cache = builder.time_to_live(99 * SECOND).build().unwrap();
         let (mut drained, mut returned) = (0, 0);
         for turn in 0..3000u32 {

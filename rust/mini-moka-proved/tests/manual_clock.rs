@@ -3,7 +3,7 @@
 mod common;
 
 use common::{NANOSECOND, SECOND, START};
-use mini_moka_proved::{sync, Cache, ManualClock, NumberCache};
+use mini_moka_proved::{sync, ByteCache, ManualClock, NumberCache};
 use std::thread;
 use std::time::Duration;
 
@@ -43,11 +43,11 @@ fn each_kind_of_cache_reads_the_clock() {
     let clock = ManualClock::new();
     clock.set(5 * SECOND);
     let live = 10 * SECOND;
-    let builder = Cache::builder().time_to_live(live);
+    let builder = ByteCache::builder().time_to_live(live);
     let mut bytes = builder.manual_clock(&clock).build().unwrap();
     let builder = NumberCache::builder().time_to_live(live);
     let mut numbers = builder.manual_clock(&clock).build().unwrap();
-    let builder = sync::Cache::builder().time_to_live(live);
+    let builder = sync::ByteCache::builder().time_to_live(live);
     let shared = builder.manual_clock(&clock).build().unwrap();
     bytes.insert("key", "value").unwrap();
     numbers.insert(7, 49).unwrap();
@@ -66,7 +66,7 @@ fn each_kind_of_cache_reads_the_clock() {
 #[test]
 fn an_idle_entry_expires_by_the_clock() {
     let clock = ManualClock::new();
-    let builder = Cache::builder().time_to_idle(10 * SECOND);
+    let builder = ByteCache::builder().time_to_idle(10 * SECOND);
     let mut cache = builder.manual_clock(&clock).build().unwrap();
     cache.insert("key", "value").unwrap();
     for _ in 0..3 {
@@ -81,7 +81,7 @@ fn an_idle_entry_expires_by_the_clock() {
 fn the_clock_that_is_set_last_is_read() {
     let clock = ManualClock::new();
     clock.set(1000 * SECOND);
-    let builder = Cache::builder().time_to_live(SECOND);
+    let builder = ByteCache::builder().time_to_live(SECOND);
     let manual = builder.clone().coarse_clock().manual_clock(&clock);
     assert_eq!(manual.build().unwrap().now(), 1000 * SECOND);
     let coarse = builder.manual_clock(&clock).coarse_clock();
@@ -94,9 +94,12 @@ fn the_clock_that_is_set_last_is_read() {
 #[test]
 fn a_cache_without_durations_has_the_clock_too() {
     let clock = ManualClock::new();
-    let cache = Cache::builder().manual_clock(&clock).build().unwrap();
+    let cache = ByteCache::builder().manual_clock(&clock).build().unwrap();
     let numbers = NumberCache::builder().manual_clock(&clock).build().unwrap();
-    let shared = sync::Cache::builder().manual_clock(&clock).build().unwrap();
+    let shared = sync::ByteCache::builder()
+        .manual_clock(&clock)
+        .build()
+        .unwrap();
     clock.set(SECOND);
     assert_eq!([cache.now(), numbers.now(), shared.now()], [SECOND; 3]);
 }

@@ -3,7 +3,7 @@
 mod common;
 
 use common::Random;
-use mini_moka_proved::{Builder, Cache, Cause, Inserted, NumberCache};
+use mini_moka_proved::{ByteBuilder, ByteCache, Cause, Inserted, NumberCache};
 use std::collections::HashMap;
 use std::time::Duration;
 
@@ -81,7 +81,7 @@ impl Model {
 }
 
 /// Makes one call on both, and compares the results.
-fn compare_a_call(random: &mut Random, cache: &mut Cache, model: &mut Model, nanoseconds: u64) {
+fn compare_a_call(random: &mut Random, cache: &mut ByteCache, model: &mut Model, nanoseconds: u64) {
     let now = Duration::from_nanos(nanoseconds);
     let key = some_key(random);
     match random.below(10) {
@@ -124,7 +124,7 @@ fn compare_a_call(random: &mut Random, cache: &mut Cache, model: &mut Model, nan
 #[test]
 fn a_cache_without_limits_is_a_map() {
     let mut random = Random(1);
-    let mut cache = Cache::builder().build().unwrap();
+    let mut cache = ByteCache::builder().build().unwrap();
     let mut model = Model::default();
     for _ in 0..CALLS {
         compare_a_call(&mut random, &mut cache, &mut model, 0);
@@ -139,7 +139,7 @@ fn a_cache_without_limits_is_a_map() {
 #[test]
 fn a_cache_with_durations_is_a_map_whose_entries_expire() {
     let mut random = Random(2);
-    let builder = Cache::builder()
+    let builder = ByteCache::builder()
         .time_to_live(Duration::from_nanos(TIME_TO_LIVE))
         .time_to_idle(Duration::from_nanos(TIME_TO_IDLE));
     let mut cache = builder.build().unwrap();
@@ -170,7 +170,7 @@ fn recurring_key(random: &mut Random, call: u64) -> u64 {
 
 /// Compares a full cache with a map: it finds nothing but what was last written. Returns how often
 /// its window moved.
-fn compare_a_full_cache(builder: Builder, capacity: u64) -> u64 {
+fn compare_a_full_cache(builder: ByteBuilder, capacity: u64) -> u64 {
     let mut random = Random(capacity);
     let mut cache = builder.max_capacity(capacity).build().unwrap();
     let first_window = cache.window_capacity();
@@ -209,13 +209,13 @@ fn compare_a_full_cache(builder: Builder, capacity: u64) -> u64 {
 fn a_full_cache_finds_nothing_but_what_was_last_written() {
     for capacity in [KEYS / 8, KEYS / 2] {
         for share in [0, 1, 20, 100] {
-            let builder = Cache::builder().window_share(share);
+            let builder = ByteCache::builder().window_share(share);
             assert_eq!(compare_a_full_cache(builder.clone(), capacity), 0);
             assert_eq!(
                 compare_a_full_cache(builder.protected_share(80), capacity),
                 0
             );
-            let adaptive = Cache::builder().adaptive().window_share(share);
+            let adaptive = ByteCache::builder().adaptive().window_share(share);
             let moved = compare_a_full_cache(adaptive, capacity);
             let has_window = capacity * u64::from(share) / 100 > 0;
             assert_eq!(moved > 10, has_window && share < 80);
@@ -224,7 +224,7 @@ fn a_full_cache_finds_nothing_but_what_was_last_written() {
 }
 
 /// Drains the removed entries, and removes those from the map that left the cache.
-fn drain_into(cache: &mut Cache, map: &mut HashMap<[u8; 8], Vec<u8>>) {
+fn drain_into(cache: &mut ByteCache, map: &mut HashMap<[u8; 8], Vec<u8>>) {
     for removed in cache.removed() {
         let removed = removed.unwrap();
         let key = <[u8; 8]>::try_from(removed.key).unwrap();
@@ -238,7 +238,7 @@ fn drain_into(cache: &mut Cache, map: &mut HashMap<[u8; 8], Vec<u8>>) {
 fn a_full_weighed_cache_keeps_its_capacity() {
     for is_adaptive in [false, true] {
         let mut random = Random(9);
-        let builder = Cache::builder().max_capacity(20_000).weigh_bytes();
+        let builder = ByteCache::builder().max_capacity(20_000).weigh_bytes();
         let builder = if is_adaptive {
             builder.adaptive().window_share(5)
         } else {

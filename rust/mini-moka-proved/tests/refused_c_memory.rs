@@ -1,6 +1,6 @@
 //! Tests calls that the library's allocator, which is C's `malloc`, refuses memory.
 
-use mini_moka_proved::{Cache, NumberCache, OutOfMemory};
+use mini_moka_proved::{ByteCache, NumberCache, OutOfMemory};
 use std::ffi::c_void;
 use std::ptr::null_mut;
 use std::sync::atomic::{AtomicBool, Ordering};
@@ -50,7 +50,7 @@ fn a_call_that_is_refused_memory_changes_nothing() {
 
     // A key that doesn't fit into an entry is copied for a look-up.
     let long = [1; 1000];
-    let mut bytes = Cache::builder().build().unwrap();
+    let mut bytes = ByteCache::builder().build().unwrap();
     bytes.insert(long, b"value").unwrap();
     assert!(!refused(|| bytes.contains_key([1; 2000])));
     assert!(bytes.contains_key(long));

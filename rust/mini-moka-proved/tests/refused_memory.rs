@@ -1,6 +1,6 @@
 //! Tests calls that Rust's allocator refuses memory.
 
-use mini_moka_proved::{sync, BuildError, Cache, OutOfMemory};
+use mini_moka_proved::{sync, BuildError, ByteCache, OutOfMemory};
 use std::alloc::{GlobalAlloc, Layout, System};
 use std::cell::Cell;
 use std::ptr::null_mut;
@@ -45,8 +45,8 @@ fn limited<T>(limit: usize, call: impl FnOnce() -> T) -> T {
 }
 
 /// Creates a cache with a value of 1000 bytes and one of 10.
-fn filled() -> Cache {
-    let mut cache = Cache::builder().build().unwrap();
+fn filled() -> ByteCache {
+    let mut cache = ByteCache::builder().build().unwrap();
     cache.insert(b"long", [1; 1000]).unwrap();
     cache.insert(b"short", [1; 10]).unwrap();
     cache
@@ -55,7 +55,7 @@ fn filled() -> Cache {
 #[test]
 fn a_cache_is_not_built() {
     for limit in [0, 16, 255] {
-        let built = limited(limit, || Cache::builder().build());
+        let built = limited(limit, || ByteCache::builder().build());
         assert_eq!(built.unwrap_err(), BuildError::OutOfMemory);
     }
 }
@@ -119,7 +119,7 @@ fn an_iterator_gives_a_refused_pair_again() {
 
 #[test]
 fn a_refused_entry_is_drained_again() {
-    let mut cache = Cache::builder().removed_room(1).build().unwrap();
+    let mut cache = ByteCache::builder().removed_room(1).build().unwrap();
     cache.insert(b"long", [1; 1000]).unwrap();
     cache.clear();
     let refused = limited(999, || cache.removed().next());
@@ -131,14 +131,14 @@ fn a_refused_entry_is_drained_again() {
 #[test]
 fn a_shared_cache_is_not_built() {
     for limit in [0, 16, 255] {
-        let built = limited(limit, || sync::Cache::new(100));
+        let built = limited(limit, || sync::ByteCache::new(100));
         assert_eq!(built.unwrap_err(), OutOfMemory);
     }
 }
 
 #[test]
 fn a_shared_iterator_copies_a_refused_segment_again() {
-    let cache = sync::Cache::builder().segments(1).build().unwrap();
+    let cache = sync::ByteCache::builder().segments(1).build().unwrap();
     cache.insert(b"long", [1; 1000]).unwrap();
     cache.insert(b"short", [1; 10]).unwrap();
     let mut pairs = cache.iter();
@@ -152,7 +152,7 @@ fn a_shared_iterator_copies_a_refused_segment_again() {
 
 #[test]
 fn a_shared_iterator_is_refused_the_memory_for_its_pairs() {
-    let cache = sync::Cache::builder().segments(1).build().unwrap();
+    let cache = sync::ByteCache::builder().segments(1).build().unwrap();
     for key in 0..10u8 {
         cache.insert([key], [key]).unwrap();
     }

@@ -2,7 +2,7 @@
 
 #![cfg(target_os = "linux")]
 
-use mini_moka_proved::{sync, BuildError, Cache, NumberCache};
+use mini_moka_proved::{sync, BuildError, ByteCache, NumberCache};
 use std::fs;
 
 const ENTRIES: usize = 2_000_000;
@@ -26,14 +26,14 @@ fn taken<T>(build: impl FnOnce() -> Result<T, BuildError>) -> usize {
 // One test, so that no other one takes memory meanwhile.
 #[test]
 fn segments_together_reserve_what_one_cache_does() {
-    let one = taken(|| Cache::builder().initial_capacity(ENTRIES).build());
+    let one = taken(|| ByteCache::builder().initial_capacity(ENTRIES).build());
     let numbers = taken(|| NumberCache::builder().initial_capacity(ENTRIES).build());
     // An entry takes 40 to 200 bytes.
     for taken in [one, numbers] {
         assert!((40 * ENTRIES..200 * ENTRIES).contains(&taken), "{taken}");
     }
     for segments in [1, 4, 16] {
-        let builder = sync::Cache::builder().segments(segments);
+        let builder = sync::ByteCache::builder().segments(segments);
         let shared = taken(|| builder.initial_capacity(ENTRIES).build());
         let most = one + one / 2 + 64 * MIB;
         assert!((one / 2..most).contains(&shared), "{one} {shared}");

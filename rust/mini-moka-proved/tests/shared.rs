@@ -3,20 +3,20 @@
 mod common;
 
 use common::{bytes, Random, SECOND, START};
-use mini_moka_proved::{sync, Cache};
+use mini_moka_proved::{sync, ByteCache};
 use std::cell::Cell;
 use std::sync::mpsc;
 use std::thread::{self, sleep};
 use std::time::Duration;
 
 /// Builds a shared cache, and returns its number of segments.
-fn segments(builder: sync::Builder) -> usize {
+fn segments(builder: sync::ByteBuilder) -> usize {
     builder.build().unwrap().segments()
 }
 
 #[test]
 fn a_shared_cache_answers_as_one() {
-    let cache = sync::Cache::new(1000).unwrap();
+    let cache = sync::ByteCache::new(1000).unwrap();
     let other = cache.clone();
     assert!(other.is_empty());
     cache.insert("alice", "admin").unwrap();
@@ -49,27 +49,27 @@ fn a_shared_cache_answers_as_one() {
     let shown = format!("{cache:?}");
     assert_eq!(
         shown,
-        "Cache { len: 0, weighted_size: 0, segments: 10, .. }"
+        "ByteCache { len: 0, weighted_size: 0, segments: 10, .. }"
     );
 }
 
 #[test]
 fn each_segment_has_a_hundred_entries_and_the_parts_are_the_whole() {
-    let of = |capacity| segments(sync::Cache::builder().max_capacity(capacity));
+    let of = |capacity| segments(sync::ByteCache::builder().max_capacity(capacity));
     assert_eq!(
         [0, 99, 199, 200, 1599, 1600, u64::MAX - 1].map(of),
         [1, 1, 1, 2, 15, 16, 16]
     );
-    assert_eq!(segments(sync::Cache::builder()), 16);
-    let weighed = sync::Cache::builder().weigh_bytes();
+    assert_eq!(segments(sync::ByteCache::builder()), 16);
+    let weighed = sync::ByteCache::builder().weigh_bytes();
     assert_eq!(segments(weighed.clone().max_capacity((1 << 21) - 1)), 1);
     assert_eq!(segments(weighed.max_capacity(1 << 21)), 2);
-    assert_eq!(segments(sync::Cache::builder().segments(0)), 1);
-    assert_eq!(segments(sync::Cache::builder().segments(3)), 3);
-    let most = sync::Cache::builder().segments(usize::MAX);
+    assert_eq!(segments(sync::ByteCache::builder().segments(0)), 1);
+    assert_eq!(segments(sync::ByteCache::builder().segments(3)), 3);
+    let most = sync::ByteCache::builder().segments(usize::MAX);
     assert_eq!(segments(most), 65_536);
 
-    let builder = sync::Cache::builder().max_capacity(1003).segments(4);
+    let builder = sync::ByteCache::builder().max_capacity(1003).segments(4);
     let cache = builder.initial_capacity(1003).build().unwrap();
     for key in 0..20_000u64 {
         cache.insert(key.to_le_bytes(), b"").unwrap();
@@ -80,7 +80,7 @@ fn each_segment_has_a_hundred_entries_and_the_parts_are_the_whole() {
 #[test]
 fn a_shared_cache_has_one_clock() {
     let live = Duration::from_millis(50);
-    let builder = sync::Cache::builder().time_to_live(live);
+    let builder = sync::ByteCache::builder().time_to_live(live);
     let cache = builder.build().unwrap();
     let before = cache.now();
     for key in 0..100u8 {
@@ -92,7 +92,7 @@ fn a_shared_cache_has_one_clock() {
 }
 
 /// Returns a shared cache's keys at a moment, sorted.
-fn keys_at(cache: &sync::Cache, now: Duration) -> Vec<u8> {
+fn keys_at(cache: &sync::ByteCache, now: Duration) -> Vec<u8> {
     let pairs = cache.iter_at(now).map(|pair| pair.unwrap());
     let mut keys: Vec<u8> = pairs.map(|(key, _)| key[0]).collect();
     keys.sort_unstable();
@@ -102,7 +102,7 @@ fn keys_at(cache: &sync::Cache, now: Duration) -> Vec<u8> {
 #[test]
 fn a_shared_cache_takes_moments() {
     let second = Duration::from_secs(1);
-    let builder = sync::Cache::builder().time_to_live(10 * second);
+    let builder = sync::ByteCache::builder().time_to_live(10 * second);
     let cache = builder.segments(4).build().unwrap();
     cache.insert_at([1], [1], 5 * second).unwrap();
     let made = cache.get_or_insert_with_at([2], || vec![2], 6 * second);
@@ -123,12 +123,12 @@ fn a_shared_cache_takes_moments() {
     cache.insert_at([3], [3], 15 * second).unwrap();
     cache.invalidate_at([3], 15 * second).unwrap();
     assert!(cache.is_empty());
-    assert_eq!(sync::Cache::new(9).unwrap().now(), Duration::ZERO);
+    assert_eq!(sync::ByteCache::new(9).unwrap().now(), Duration::ZERO);
 }
 
 #[test]
 fn an_iterator_meets_each_entry_of_each_segment_once() {
-    let cache = sync::Cache::builder().segments(7).build().unwrap();
+    let cache = sync::ByteCache::builder().segments(7).build().unwrap();
     for key in 0..200u8 {
         cache.insert([key], [key, key]).unwrap();
     }
@@ -147,7 +147,7 @@ fn an_iterator_meets_each_entry_of_each_segment_once() {
 
 #[test]
 fn keys_of_each_length_are_found_in_their_segments() {
-    let builder = sync::Cache::builder().weigh_bytes().segments(5);
+    let builder = sync::ByteCache::builder().weigh_bytes().segments(5);
     let cache = builder.build().unwrap();
     for length in 0..100 {
         cache.insert(bytes(length), bytes(length)).unwrap();
@@ -157,14 +157,14 @@ fn keys_of_each_length_are_found_in_their_segments() {
     let shown = format!("{cache:?}");
     assert_eq!(
         shown,
-        "Cache { len: 100, weighted_size: 9900, segments: 5, .. }"
+        "ByteCache { len: 100, weighted_size: 9900, segments: 5, .. }"
     );
 }
 
 #[test]
 fn each_call_of_a_shared_cache_takes_its_moment() {
     // A call that finds nothing removes what is expired, so each has its own cache.
-    let calls: [fn(&sync::Cache, Duration) -> bool; 8] = [
+    let calls: [fn(&sync::ByteCache, Duration) -> bool; 8] = [
         |cache, now| cache.get_at([1], now).is_some(),
         |cache, now| cache.try_get_at([1], now).unwrap().is_some(),
         |cache, now| cache.get_into_at([1], &mut Vec::new(), now).unwrap(),
@@ -176,7 +176,7 @@ fn each_call_of_a_shared_cache_takes_its_moment() {
     ];
     for call in calls {
         for (now, is_there) in [(9, true), (10, false)] {
-            let builder = sync::Cache::builder().time_to_live(10 * SECOND);
+            let builder = sync::ByteCache::builder().time_to_live(10 * SECOND);
             let cache = builder.segments(1).build().unwrap();
             cache.insert_at([1], [1], START).unwrap();
             assert_eq!(call(&cache, now * SECOND), is_there);
@@ -188,8 +188,8 @@ fn each_call_of_a_shared_cache_takes_its_moment() {
 fn a_shared_cache_of_one_segment_works_as_a_cache() {
     for is_weighed in [false, true] {
         let mut random = Random(1);
-        let mut of_one = Cache::builder();
-        let mut of_all = sync::Cache::builder().segments(1);
+        let mut of_one = ByteCache::builder();
+        let mut of_all = sync::ByteCache::builder().segments(1);
         if is_weighed {
             (of_one, of_all) = (of_one.weigh_bytes(), of_all.weigh_bytes());
         }
@@ -235,7 +235,7 @@ fn a_shared_cache_of_one_segment_works_as_a_cache() {
 fn the_statistics_of_all_segments_are_added() {
     for room in [9, 60_000] {
         let mut random = Random(1);
-        let builder = sync::Cache::builder().weigh_bytes().max_capacity(60);
+        let builder = sync::ByteCache::builder().weigh_bytes().max_capacity(60);
         let builder = builder.time_to_live(10 * SECOND).removed_room(room);
         let cache = builder.segments(3).build().unwrap();
         let (mut gets, mut inserts, mut returned) = ([0; 2], 0, 0);
@@ -289,7 +289,7 @@ fn returns<T: Send + 'static>(call: impl FnOnce() -> T + Send + 'static) -> T {
 #[test]
 fn make_may_call_the_cache() {
     let answers = returns(|| {
-        let cache = sync::Cache::builder().segments(1).build().unwrap();
+        let cache = sync::ByteCache::builder().segments(1).build().unwrap();
         let make = || {
             cache.insert("other", "value").unwrap();
             b"made".to_vec()
@@ -302,7 +302,7 @@ fn make_may_call_the_cache() {
 
 /// Bytes that call the cache when they are read, and when they are dropped.
 struct Calling<'a> {
-    cache: &'a sync::Cache,
+    cache: &'a sync::ByteCache,
     calls: &'a Cell<u32>,
 }
 
@@ -332,7 +332,10 @@ impl Drop for Calling<'_> {
 #[test]
 fn keys_and_values_may_call_the_cache() {
     let calls = returns(|| {
-        let cache = sync::Cache::builder().segments(1).removed_room(9).build();
+        let cache = sync::ByteCache::builder()
+            .segments(1)
+            .removed_room(9)
+            .build();
         let (cache, calls) = (&cache.unwrap(), &Cell::new(0));
         let it = || Calling { cache, calls };
         let mut buffer = Vec::new();

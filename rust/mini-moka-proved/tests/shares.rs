@@ -3,7 +3,7 @@
 mod common;
 
 use common::Random;
-use mini_moka_proved::{sync, BuildError, Cache, Cause, Inserted, NumberCache};
+use mini_moka_proved::{sync, BuildError, ByteCache, Cause, Inserted, NumberCache};
 use std::collections::HashMap;
 use std::time::Duration;
 
@@ -12,8 +12,11 @@ fn a_share_above_100_is_refused_by_name() {
     let refused = Err(BuildError::ShareTooLarge);
     for percent in [101, u8::MAX] {
         let built = [
-            Cache::builder().window_share(percent).build().map(drop),
-            Cache::builder().protected_share(percent).build().map(drop),
+            ByteCache::builder().window_share(percent).build().map(drop),
+            ByteCache::builder()
+                .protected_share(percent)
+                .build()
+                .map(drop),
             NumberCache::builder()
                 .window_share(percent)
                 .build()
@@ -22,15 +25,15 @@ fn a_share_above_100_is_refused_by_name() {
                 .protected_share(percent)
                 .build()
                 .map(drop),
-            sync::Cache::builder()
+            sync::ByteCache::builder()
                 .window_share(percent)
                 .build()
                 .map(drop),
-            sync::Cache::builder()
+            sync::ByteCache::builder()
                 .protected_share(percent)
                 .build()
                 .map(drop),
-            Cache::builder()
+            ByteCache::builder()
                 .adaptive()
                 .window_share(percent)
                 .build()
@@ -42,7 +45,7 @@ fn a_share_above_100_is_refused_by_name() {
 
 #[test]
 fn a_share_of_100_is_taken() {
-    let bytes = Cache::builder()
+    let bytes = ByteCache::builder()
         .max_capacity(300)
         .window_share(100)
         .protected_share(100);
@@ -50,7 +53,7 @@ fn a_share_of_100_is_taken() {
         .max_capacity(300)
         .window_share(100)
         .protected_share(100);
-    let shared = sync::Cache::builder()
+    let shared = sync::ByteCache::builder()
         .max_capacity(300)
         .window_share(100)
         .protected_share(100);
@@ -61,7 +64,7 @@ fn a_share_of_100_is_taken() {
 
 #[test]
 fn a_duration_of_0_is_reported_before_a_share_above_100() {
-    let builder = Cache::builder()
+    let builder = ByteCache::builder()
         .window_share(101)
         .time_to_idle(Duration::ZERO);
     assert_eq!(builder.build().unwrap_err(), BuildError::ZeroDuration);
@@ -69,17 +72,23 @@ fn a_duration_of_0_is_reported_before_a_share_above_100() {
 
 #[test]
 fn a_share_that_is_set_after_adaptive_changes_where_it_begins() {
-    let window = |builder: mini_moka_proved::Builder| {
+    let window = |builder: mini_moka_proved::ByteBuilder| {
         let cache = builder.max_capacity(1000).build().unwrap();
         cache.window_capacity()
     };
-    assert_eq!(window(Cache::builder()), 10);
-    assert_eq!(window(Cache::builder().adaptive()), 10);
-    assert_eq!(window(Cache::builder().window_share(20)), 200);
-    assert_eq!(window(Cache::builder().adaptive().window_share(20)), 200);
-    assert_eq!(window(Cache::builder().window_share(20).adaptive()), 10);
-    assert_eq!(window(Cache::builder().window_share(0).weigh_bytes()), 0);
-    assert_eq!(Cache::builder().build().unwrap().window_capacity(), 0);
+    assert_eq!(window(ByteCache::builder()), 10);
+    assert_eq!(window(ByteCache::builder().adaptive()), 10);
+    assert_eq!(window(ByteCache::builder().window_share(20)), 200);
+    assert_eq!(
+        window(ByteCache::builder().adaptive().window_share(20)),
+        200
+    );
+    assert_eq!(window(ByteCache::builder().window_share(20).adaptive()), 10);
+    assert_eq!(
+        window(ByteCache::builder().window_share(0).weigh_bytes()),
+        0
+    );
+    assert_eq!(ByteCache::builder().build().unwrap().window_capacity(), 0);
 }
 
 /// Inserts keys into a cache of ten entries, uses the first three, and returns its keys in the order
@@ -118,9 +127,9 @@ fn a_cache_that_is_all_window_keeps_what_was_used_last() {
 
 #[test]
 fn the_shares_reach_caches_of_bytes_and_segments() {
-    let all_window = Cache::builder().max_capacity(2).window_share(100);
+    let all_window = ByteCache::builder().max_capacity(2).window_share(100);
     let mut cache = all_window.build().unwrap();
-    let shared = sync::Cache::builder()
+    let shared = sync::ByteCache::builder()
         .max_capacity(2)
         .segments(1)
         .window_share(100);
@@ -130,12 +139,12 @@ fn the_shares_reach_caches_of_bytes_and_segments() {
         assert_eq!(shared.insert([key], [key]), Ok(Inserted::Stored));
     }
     assert!(cache.contains_key([4]) && shared.contains_key([4]));
-    let protected = Cache::builder()
+    let protected = ByteCache::builder()
         .max_capacity(3)
         .window_share(0)
         .protected_share(100);
     let mut cache = protected.build().unwrap();
-    let shared = sync::Cache::builder().max_capacity(3).segments(1);
+    let shared = sync::ByteCache::builder().max_capacity(3).segments(1);
     let shared = shared.window_share(0).protected_share(100).build().unwrap();
     for key in 0..2u8 {
         cache.insert([key], [key]).unwrap();
@@ -161,8 +170,8 @@ fn insert_again(mut insert: impl FnMut(u64) -> Inserted) {
 
 #[test]
 fn a_window_grows_only_if_the_cache_is_adaptive() {
-    let fixed = Cache::builder().max_capacity(1000).build().unwrap();
-    let adaptive = Cache::builder().max_capacity(1000).adaptive().build();
+    let fixed = ByteCache::builder().max_capacity(1000).build().unwrap();
+    let adaptive = ByteCache::builder().max_capacity(1000).adaptive().build();
     for (mut cache, least, most) in [(fixed, 10, 10), (adaptive.unwrap(), 20, 80)] {
         insert_again(|key| cache.insert(key.to_le_bytes(), []).unwrap());
         assert!((least..=most).contains(&cache.window_capacity()));
@@ -179,7 +188,7 @@ fn a_window_grows_only_if_the_cache_is_adaptive() {
 
 #[test]
 fn the_window_of_a_shared_cache_is_the_sum_of_its_segments() {
-    let builder = sync::Cache::builder().max_capacity(1000).segments(4);
+    let builder = sync::ByteCache::builder().max_capacity(1000).segments(4);
     let fixed = builder.clone().build().unwrap();
     let adaptive = builder.adaptive().build().unwrap();
     assert_eq!(

@@ -1,7 +1,7 @@
 //! Tests caches that threads share, in segments or behind one lock, and one that moves to another
 //! thread.
 
-use mini_moka_proved::{sync, Cache, Cause, NumberCache};
+use mini_moka_proved::{sync, ByteCache, Cause, NumberCache};
 use std::sync::{Arc, Mutex};
 use std::thread;
 
@@ -13,16 +13,16 @@ fn may_be_shared<T: Send + Sync>() {}
 
 #[test]
 fn caches_are_send_and_locked_ones_are_sync() {
-    may_go_to_another_thread::<Cache>();
+    may_go_to_another_thread::<ByteCache>();
     may_go_to_another_thread::<NumberCache>();
-    may_be_shared::<Mutex<Cache>>();
+    may_be_shared::<Mutex<ByteCache>>();
     may_be_shared::<Mutex<NumberCache>>();
-    may_be_shared::<sync::Cache>();
+    may_be_shared::<sync::ByteCache>();
 }
 
 #[test]
 fn each_thread_sees_what_all_have_inserted() {
-    let cache = Arc::new(Mutex::new(Cache::builder().build().unwrap()));
+    let cache = Arc::new(Mutex::new(ByteCache::builder().build().unwrap()));
     let fill = |number: u64| {
         let cache = Arc::clone(&cache);
         thread::spawn(move || {
@@ -55,7 +55,7 @@ fn a_cache_is_used_and_dropped_by_another_thread() {
 
 #[test]
 fn each_thread_finds_its_keys_in_a_shared_cache() {
-    let cache = sync::Cache::builder().build().unwrap();
+    let cache = sync::ByteCache::builder().build().unwrap();
     let fill = |number: u64| {
         let cache = cache.clone();
         thread::spawn(move || {
@@ -78,7 +78,7 @@ fn each_thread_finds_its_keys_in_a_shared_cache() {
 
 #[test]
 fn a_value_that_panics_harms_no_segment() {
-    let cache = sync::Cache::new(100).unwrap();
+    let cache = sync::ByteCache::new(100).unwrap();
     cache.insert("other", "value").unwrap();
     let other = cache.clone();
     let panicked =
@@ -95,7 +95,7 @@ fn a_value_that_panics_harms_no_segment() {
 
 #[test]
 fn threads_drain_each_entry_once() {
-    let builder = sync::Cache::builder().segments(4);
+    let builder = sync::ByteCache::builder().segments(4);
     let cache = builder.removed_room(4000).build().unwrap();
     for key in 0..1000u64 {
         cache.insert(key.to_le_bytes(), key.to_le_bytes()).unwrap();
@@ -122,7 +122,10 @@ fn threads_drain_each_entry_once() {
     assert_eq!(keys.len(), 1000);
     assert_eq!(cache.statistics().lost, 0);
     // Each segment queues one entry.
-    let cache = sync::Cache::builder().segments(4).removed_room(3).build();
+    let cache = sync::ByteCache::builder()
+        .segments(4)
+        .removed_room(3)
+        .build();
     let cache = cache.unwrap();
     for key in 0..100u8 {
         cache.insert([key], [key]).unwrap();

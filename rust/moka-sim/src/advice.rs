@@ -102,14 +102,20 @@ pub fn sentence(advice: Option<Advice>, requests: u64, is_weighed: bool) -> Stri
 
 /// Returns the call in Rust that makes the cache.
 fn call(advice: Advice, is_weighed: bool) -> String {
-    let weigh = if is_weighed { ".weigh_bytes()" } else { "" };
-    let limits = format!("builder().max_capacity({}){weigh}", advice.capacity);
+    let (cache, weigh) = match is_weighed {
+        true => ("ByteCache", ".weigh_bytes()"),
+        false => ("Cache", ""),
+    };
+    let built = format!(
+        "{cache}::builder().max_capacity({}){weigh}",
+        advice.capacity
+    );
     match advice.setting {
-        Setting::Default => format!("Cache::{limits}"),
-        Setting::Window(percent) => format!("Cache::{limits}.window_share({percent})"),
-        Setting::Protected(percent) => format!("Cache::{limits}.protected_share({percent})"),
-        Setting::Adaptive => format!("Cache::{limits}.adaptive()"),
-        Setting::Segments => format!("sync::Cache::{limits}"),
+        Setting::Default => built,
+        Setting::Window(percent) => format!("{built}.window_share({percent})"),
+        Setting::Protected(percent) => format!("{built}.protected_share({percent})"),
+        Setting::Adaptive => format!("{built}.adaptive()"),
+        Setting::Segments => format!("sync::{built}"),
         Setting::Lru | Setting::Belady => "not a cache of this library".to_owned(),
     }
 }
@@ -146,5 +152,41 @@ mod tests {
         };
         assert_eq!(capacity_with(989), Some(20));
         assert_eq!(capacity_with(990), Some(10));
+    }
+    #[test]
+    fn the_call_is_that_of_the_cache_that_was_played() {
+        let called = |setting, is_weighed| {
+            let advice = Advice {
+                setting,
+                capacity: 7,
+                hits: 1,
+                largest: 7,
+                most: 1,
+                lru: None,
+            };
+            call(advice, is_weighed)
+        };
+        let calls = [
+            (Setting::Default, "Cache::builder().max_capacity(7)"),
+            (
+                Setting::Window(5),
+                "Cache::builder().max_capacity(7).window_share(5)",
+            ),
+            (
+                Setting::Protected(60),
+                "Cache::builder().max_capacity(7).protected_share(60)",
+            ),
+            (
+                Setting::Adaptive,
+                "Cache::builder().max_capacity(7).adaptive()",
+            ),
+            (Setting::Segments, "sync::Cache::builder().max_capacity(7)"),
+        ];
+        for (setting, wanted) in calls {
+            assert_eq!(called(setting, false), wanted);
+            let weighed = wanted.replace("Cache", "ByteCache");
+            let weighed = weighed.replace("(7)", "(7).weigh_bytes()");
+            assert_eq!(called(setting, true), weighed);
+        }
     }
 }

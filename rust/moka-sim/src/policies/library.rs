@@ -3,7 +3,7 @@
 use super::{Counts, PlayError, Policy, Rules, Setting, Tally};
 use crate::keys::Key;
 use crate::trace::Trace;
-use mini_moka_proved::{sync, BuildError, Cache, NumberCache, OutOfMemory, Statistics};
+use mini_moka_proved::{sync, BuildError, ByteCache, NumberCache, OutOfMemory, Statistics};
 use std::ops::Range;
 use std::time::Duration;
 
@@ -92,8 +92,8 @@ fn numbers(setting: Setting, rules: Rules) -> Result<NumberCache, PlayError> {
 }
 
 /// Opens a cache of bytes.
-fn bytes(setting: Setting, rules: Rules) -> Result<Cache, PlayError> {
-    let mut builder = Cache::builder().max_capacity(rules.capacity).seed(SEED);
+fn bytes(setting: Setting, rules: Rules) -> Result<ByteCache, PlayError> {
+    let mut builder = ByteCache::builder().max_capacity(rules.capacity).seed(SEED);
     if rules.is_weighed {
         builder = builder.weigh_bytes();
     }
@@ -110,8 +110,8 @@ fn bytes(setting: Setting, rules: Rules) -> Result<Cache, PlayError> {
 }
 
 /// Opens a cache that threads share, with its own number of segments.
-fn sync_cache(rules: Rules) -> Result<sync::Cache, PlayError> {
-    let mut builder = sync::Cache::builder()
+fn sync_cache(rules: Rules) -> Result<sync::ByteCache, PlayError> {
+    let mut builder = sync::ByteCache::builder()
         .max_capacity(rules.capacity)
         .seed(SEED);
     if rules.is_weighed {
@@ -212,7 +212,7 @@ impl Calls for NumberCache {
 
 /// A cache of bytes, and the buffer for the values that it finds.
 struct Bytes {
-    cache: Cache,
+    cache: ByteCache,
     value: Vec<u8>,
 }
 
@@ -243,7 +243,7 @@ impl Calls for Bytes {
 
 /// A cache that threads share, and the buffer for the values that it finds.
 struct Segmented {
-    cache: sync::Cache,
+    cache: sync::ByteCache,
     value: Vec<u8>,
 }
 

@@ -1,6 +1,6 @@
 //! The builder of caches of bytes.
 
-use crate::cache::Cache;
+use crate::bytes::ByteCache;
 use crate::clock::{Clock, ManualClock, Source};
 use crate::error::BuildError;
 use crate::handle::Settings;
@@ -10,13 +10,13 @@ use std::fmt;
 use std::hash::{BuildHasher, Hasher};
 use std::time::Duration;
 
-/// Builds a [`Cache`]. A cache has only the limits that are set.
+/// Builds a [`ByteCache`]. A cache has only the limits that are set.
 ///
 /// ```
-/// use mini_moka_proved::Cache;
+/// use mini_moka_proved::ByteCache;
 /// use std::time::Duration;
 ///
-/// let cache = Cache::builder()
+/// let cache = ByteCache::builder()
 ///     .max_capacity(10_000)
 ///     .time_to_live(Duration::from_secs(30 * 60))
 ///     .build()?;
@@ -25,16 +25,16 @@ use std::time::Duration;
 /// ```
 #[derive(Clone, Default)]
 #[must_use]
-pub struct Builder {
+pub struct ByteBuilder {
     limits: Limits,
     weighs_bytes: bool,
     seed: Option<[u8; 16]>,
 }
 
-impl Builder {
+impl ByteBuilder {
     /// Sets the maximum number of entries, or with [`weigh_bytes`](Self::weigh_bytes) of bytes.
     /// With 0 the cache keeps nothing, or of weighed entries only one whose key and value are empty.
-    pub fn max_capacity(mut self, max_capacity: u64) -> Builder {
+    pub fn max_capacity(mut self, max_capacity: u64) -> ByteBuilder {
         self.limits.max_capacity = Some(max_capacity);
         self
     }
@@ -43,23 +43,23 @@ impl Builder {
     ///
     /// An entry weighs at most `u32::MAX`. An update with a longer value may leave the cache above
     /// its capacity. Then each insert, get, `contains_key`, `remove` and `invalidate` first evicts
-    /// up to 100 entries, in the order of [`Cache::iter`], until the others fit. An update that is
+    /// up to 100 entries, in the order of [`ByteCache::iter`], until the others fit. An update that is
     /// heavier than the whole capacity is stored, so these calls evict most entries and the update:
     /// remove its key instead.
-    pub fn weigh_bytes(mut self) -> Builder {
+    pub fn weigh_bytes(mut self) -> ByteBuilder {
         self.weighs_bytes = true;
         self
     }
 
     /// Sets the time that an entry lives after its last write. It is expired from the end of that
     /// time on.
-    pub fn time_to_live(mut self, duration: Duration) -> Builder {
+    pub fn time_to_live(mut self, duration: Duration) -> ByteBuilder {
         self.limits.time_to_live = Some(duration);
         self
     }
 
     /// Sets the time that an entry lives after its last read or write.
-    pub fn time_to_idle(mut self, duration: Duration) -> Builder {
+    pub fn time_to_idle(mut self, duration: Duration) -> ByteBuilder {
         self.limits.time_to_idle = Some(duration);
         self
     }
@@ -70,12 +70,12 @@ impl Builder {
     /// An insert that finds the cache's memory full doubles it, which takes time linear in the
     /// number of entries. The memory never doubles if the cache never has more than `entries`
     /// entries, also if an insert finds that many and evicts one.
-    pub fn initial_capacity(mut self, entries: usize) -> Builder {
+    pub fn initial_capacity(mut self, entries: usize) -> ByteBuilder {
         self.limits.initial_capacity = entries;
         self
     }
 
-    /// Queues up to `entries` removed entries, for [`Cache::removed`] to drain. By default none is
+    /// Queues up to `entries` removed entries, for [`ByteCache::removed`] to drain. By default none is
     /// queued.
     ///
     /// The memory for them is reserved when the cache is built, so no call is refused memory for
@@ -83,7 +83,7 @@ impl Builder {
     /// [`Statistics::lost`].
     ///
     /// [`Statistics::lost`]: crate::Statistics::lost
-    pub fn removed_room(mut self, entries: usize) -> Builder {
+    pub fn removed_room(mut self, entries: usize) -> ByteBuilder {
         self.limits.removed_room = entries;
         self
     }
@@ -97,13 +97,13 @@ impl Builder {
     /// capacity is rounded down, so a cache of fewer than 100 entries has none by default.
     ///
     /// ```
-    /// use mini_moka_proved::Cache;
+    /// use mini_moka_proved::ByteCache;
     ///
-    /// let cache = Cache::builder().max_capacity(1000).window_share(20).build()?;
+    /// let cache = ByteCache::builder().max_capacity(1000).window_share(20).build()?;
     /// assert_eq!(cache.window_capacity(), 200);
     /// # Ok::<(), mini_moka_proved::BuildError>(())
     /// ```
-    pub fn window_share(mut self, percent: u8) -> Builder {
+    pub fn window_share(mut self, percent: u8) -> ByteBuilder {
         self.limits.shares.window = percent;
         self
     }
@@ -114,7 +114,7 @@ impl Builder {
     /// An entry that left the window is protected once it is used again. Entries that aren't leave
     /// first. A share of 80 has more hits where some keys are always used more than others, and
     /// fewer where the keys that are used change.
-    pub fn protected_share(mut self, percent: u8) -> Builder {
+    pub fn protected_share(mut self, percent: u8) -> ByteBuilder {
         self.limits.shares.protected = percent;
         self
     }
@@ -125,7 +125,7 @@ impl Builder {
     ///
     /// The window grows when keys return that it gave up, and shrinks when keys return that were
     /// evicted from outside of it. Its share never falls below the one at which it begins, and grows
-    /// to 80 percent at most. [`Cache::window_capacity`] is what it has now. Call `window_share` or
+    /// to 80 percent at most. [`ByteCache::window_capacity`] is what it has now. Call `window_share` or
     /// `protected_share` after this to begin elsewhere. Without a capacity or a window the cache
     /// doesn't adapt.
     ///
@@ -135,13 +135,13 @@ impl Builder {
     /// and no call fails.
     ///
     /// ```
-    /// use mini_moka_proved::Cache;
+    /// use mini_moka_proved::ByteCache;
     ///
-    /// let cache = Cache::builder().max_capacity(1000).adaptive().build()?;
+    /// let cache = ByteCache::builder().max_capacity(1000).adaptive().build()?;
     /// assert_eq!(cache.window_capacity(), 10);
     /// # Ok::<(), mini_moka_proved::BuildError>(())
     /// ```
-    pub fn adaptive(mut self) -> Builder {
+    pub fn adaptive(mut self) -> ByteBuilder {
         self.limits.shares = Shares::ADAPTIVE;
         self
     }
@@ -151,7 +151,7 @@ impl Builder {
     /// By default each cache has a random one, made by std's
     /// [`RandomState`](std::collections::hash_map::RandomState). If it is known, cache keys can be
     /// chosen to have the same hash, which makes the cache slow. A fixed one makes runs repeatable.
-    pub fn seed(mut self, seed: [u8; 16]) -> Builder {
+    pub fn seed(mut self, seed: [u8; 16]) -> ByteBuilder {
         self.seed = Some(seed);
         self
     }
@@ -164,10 +164,10 @@ impl Builder {
     /// cache reads a precise clock.
     ///
     /// ```
-    /// use mini_moka_proved::Cache;
+    /// use mini_moka_proved::ByteCache;
     /// use std::time::Duration;
     ///
-    /// let mut cache = Cache::builder()
+    /// let mut cache = ByteCache::builder()
     ///     .time_to_live(Duration::from_secs(60))
     ///     .coarse_clock()
     ///     .build()?;
@@ -175,7 +175,7 @@ impl Builder {
     /// assert!(cache.contains_key("token"));
     /// # Ok::<(), Box<dyn std::error::Error>>(())
     /// ```
-    pub fn coarse_clock(mut self) -> Builder {
+    pub fn coarse_clock(mut self) -> ByteBuilder {
         self.limits.clock = Source::Coarse;
         self
     }
@@ -184,11 +184,11 @@ impl Builder {
     /// of this one and [`coarse_clock`](Self::coarse_clock) holds.
     ///
     /// ```
-    /// use mini_moka_proved::{Cache, ManualClock};
+    /// use mini_moka_proved::{ByteCache, ManualClock};
     /// use std::time::Duration;
     ///
     /// let clock = ManualClock::new();
-    /// let mut cache = Cache::builder()
+    /// let mut cache = ByteCache::builder()
     ///     .time_to_live(Duration::from_secs(60))
     ///     .manual_clock(&clock)
     ///     .build()?;
@@ -199,7 +199,7 @@ impl Builder {
     /// assert!(!cache.contains_key("token"));
     /// # Ok::<(), Box<dyn std::error::Error>>(())
     /// ```
-    pub fn manual_clock(mut self, clock: &ManualClock) -> Builder {
+    pub fn manual_clock(mut self, clock: &ManualClock) -> ByteBuilder {
         self.limits.clock = Source::Manual(clock.clone());
         self
     }
@@ -212,12 +212,12 @@ impl Builder {
     /// is 2^64 - 1 nanoseconds or more. [`BuildError::ShareTooLarge`] if a share is above 100.
     /// [`BuildError::OutOfMemory`] if memory is refused, or if the initial capacity is
     /// 2,000,000,000 or more. A cache has at most 2,000,000,000 entries.
-    pub fn build(self) -> Result<Cache, BuildError> {
+    pub fn build(self) -> Result<ByteCache, BuildError> {
         self.build_with(self.clock())
     }
 
     /// Builds the cache with this clock.
-    pub(crate) fn build_with(&self, clock: Clock) -> Result<Cache, BuildError> {
+    pub(crate) fn build_with(&self, clock: Clock) -> Result<ByteCache, BuildError> {
         let limits = self.limits.settings()?;
         let settings = Settings {
             capacity: limits.capacity,
@@ -231,7 +231,7 @@ impl Builder {
             protected_share: limits.protected_share,
             is_adaptive: limits.is_adaptive,
         };
-        Ok(Cache::open(&settings, clock)?)
+        Ok(ByteCache::open(&settings, clock)?)
     }
 
     /// Starts a clock for the cache.
@@ -255,7 +255,7 @@ impl Builder {
     }
 
     /// Returns the builder of a segment. The capacities of all segments add up to the whole.
-    pub(crate) fn part(&self, count: u64, at: u64) -> Builder {
+    pub(crate) fn part(&self, count: u64, at: u64) -> ByteBuilder {
         let part = |whole: u64| whole / count + u64::from(at < whole % count);
         let mut builder = self.clone();
         builder.limits.max_capacity = self.limits.max_capacity.map(part);
@@ -268,11 +268,11 @@ impl Builder {
     }
 }
 
-impl fmt::Debug for Builder {
+impl fmt::Debug for ByteBuilder {
     /// Shows all but the seed, which may be secret.
     fn fmt(&self, f: &mut fmt::Formatter<'_>) -> fmt::Result {
         self.limits
-            .fields(&mut f.debug_struct("Builder"))
+            .fields(&mut f.debug_struct("ByteBuilder"))
             .field("weigh_bytes", &self.weighs_bytes)
             .finish_non_exhaustive()
     }

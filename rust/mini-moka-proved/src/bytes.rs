@@ -1,6 +1,6 @@
 //! The cache of bytes.
 
-use crate::builder::Builder;
+use crate::byte_builder::ByteBuilder;
 use crate::clock::{nanoseconds, Clock};
 use crate::error::OutOfMemory;
 use crate::handle::{Bytes, Drained, Handle, Inserted, Look, Removed, Settings, Statistics, Step};
@@ -8,7 +8,7 @@ use std::fmt;
 use std::iter::FusedIterator;
 use std::time::Duration;
 
-/// The length in bytes of the longest value that [`Cache::get`] looks up only once.
+/// The length in bytes of the longest value that [`ByteCache::get`] looks up only once.
 const SHORT: usize = 256;
 
 /// A single-thread cache whose keys and values are bytes of any length.
@@ -17,9 +17,9 @@ const SHORT: usize = 256;
 /// It stores copies, and returns copies.
 ///
 /// ```
-/// use mini_moka_proved::Cache;
+/// use mini_moka_proved::ByteCache;
 ///
-/// let mut cache = Cache::new(100)?;
+/// let mut cache = ByteCache::new(100)?;
 /// cache.insert("alice", "admin")?;
 /// assert_eq!(cache.get("alice"), Some(b"admin".to_vec()));
 /// assert_eq!(cache.remove("alice")?, Some(b"admin".to_vec()));
@@ -33,24 +33,24 @@ const SHORT: usize = 256;
 /// which are the least recently used entries. With a capacity of 100 or more, a hundredth of it is
 /// a window. A new entry that fits begins there. When it leaves the window, it is admitted or
 /// evicted. A new entry that doesn't fit in the window is admitted or rejected at once:
-/// [`Inserted::Rejected`]. [`Builder::adaptive`] lets the window grow and shrink with the calls.
+/// [`Inserted::Rejected`]. [`ByteBuilder::adaptive`] lets the window grow and shrink with the calls.
 ///
 /// # Moments
 ///
 /// A call reads the cache's clock, which starts when the cache is built. Without durations the
-/// clock is always at zero, and isn't read. [`Builder::coarse_clock`] makes reading it cheap, and
-/// [`Builder::manual_clock`] lets a test or a simulator set it.
+/// clock is always at zero, and isn't read. [`ByteBuilder::coarse_clock`] makes reading it cheap, and
+/// [`ByteBuilder::manual_clock`] lets a test or a simulator set it.
 ///
 /// Each call that needs a moment has a second form, whose name ends in `_at`. It takes the moment
 /// as a duration since the clock's start. A moment may be before that of an earlier call. A moment
 /// of 2^64 nanoseconds or more counts as 2^64 - 1.
 ///
 /// ```
-/// use mini_moka_proved::Cache;
+/// use mini_moka_proved::ByteCache;
 /// use std::time::Duration;
 ///
 /// let second = Duration::from_secs(1);
-/// let mut cache = Cache::builder().time_to_live(10 * second).build()?;
+/// let mut cache = ByteCache::builder().time_to_live(10 * second).build()?;
 /// cache.insert_at("alice", "admin", 5 * second)?;
 /// assert!(cache.contains_key_at("alice", 14 * second));
 /// assert!(!cache.contains_key_at("alice", 15 * second));
@@ -73,50 +73,50 @@ const SHORT: usize = 256;
 /// shorter than the key.
 ///
 /// An insert into a cache whose memory is full takes time linear in the number of entries. There is
-/// none if the cache never has more entries than its [`Builder::initial_capacity`]. Dropping a cache
+/// none if the cache never has more entries than its [`ByteBuilder::initial_capacity`]. Dropping a cache
 /// takes linear time too.
 ///
 /// # Threads
 ///
-/// A cache may move to another thread. It is not `Sync`: threads share a [`sync::Cache`].
+/// A cache may move to another thread. It is not `Sync`: threads share a [`sync::ByteCache`].
 ///
-/// [`sync::Cache`]: crate::sync::Cache
+/// [`sync::ByteCache`]: crate::sync::ByteCache
 ///
 /// ```
 /// fn may_go_to_another_thread<T: Send>() {}
-/// may_go_to_another_thread::<mini_moka_proved::Cache>();
+/// may_go_to_another_thread::<mini_moka_proved::ByteCache>();
 /// ```
 ///
 /// ```compile_fail
 /// fn may_be_shared_without_a_lock<T: Sync>() {}
-/// may_be_shared_without_a_lock::<mini_moka_proved::Cache>();
+/// may_be_shared_without_a_lock::<mini_moka_proved::ByteCache>();
 /// ```
-pub struct Cache {
+pub struct ByteCache {
     handle: Handle<Bytes>,
     clock: Clock,
     // The buffer of `get`. Its capacity is `SHORT` bytes.
     short: Vec<u8>,
 }
 
-impl Cache {
+impl ByteCache {
     /// Creates a cache of at most `max_capacity` entries, which don't expire.
     ///
     /// # Errors
     ///
     /// [`OutOfMemory`] if memory is refused.
-    pub fn new(max_capacity: u64) -> Result<Cache, OutOfMemory> {
-        let built = Cache::builder().max_capacity(max_capacity).build();
+    pub fn new(max_capacity: u64) -> Result<ByteCache, OutOfMemory> {
+        let built = ByteCache::builder().max_capacity(max_capacity).build();
         // Without a duration there is no other error.
         built.map_err(|_| OutOfMemory)
     }
 
     /// Returns a builder of caches.
-    pub fn builder() -> Builder {
-        Builder::default()
+    pub fn builder() -> ByteBuilder {
+        ByteBuilder::default()
     }
 
-    pub(crate) fn open(settings: &Settings, clock: Clock) -> Result<Cache, OutOfMemory> {
-        Ok(Cache {
+    pub(crate) fn open(settings: &Settings, clock: Clock) -> Result<ByteCache, OutOfMemory> {
+        Ok(ByteCache {
             handle: Handle::<Bytes>::open(settings)?,
             clock,
             short: with_room(SHORT)?,
@@ -146,9 +146,9 @@ impl Cache {
     /// refused memory.
     ///
     /// ```
-    /// use mini_moka_proved::{Cache, OutOfMemory};
+    /// use mini_moka_proved::{ByteCache, OutOfMemory};
     ///
-    /// let mut cache = Cache::new(100)?;
+    /// let mut cache = ByteCache::new(100)?;
     /// match cache.try_get("alice") {
     ///     Ok(Some(role)) => println!("{role:?}"),
     ///     Ok(None) => println!("nobody"),
@@ -186,9 +186,9 @@ impl Cache {
     /// then looked up twice, but counted once.
     ///
     /// ```
-    /// use mini_moka_proved::Cache;
+    /// use mini_moka_proved::ByteCache;
     ///
-    /// let mut cache = Cache::new(100)?;
+    /// let mut cache = ByteCache::new(100)?;
     /// cache.insert("alice", "admin")?;
     /// let mut role = Vec::with_capacity(64);
     /// assert!(cache.get_into("alice", &mut role)?);
@@ -253,9 +253,9 @@ impl Cache {
     /// The new entry's time to live begins when `make` has returned.
     ///
     /// ```
-    /// use mini_moka_proved::Cache;
+    /// use mini_moka_proved::ByteCache;
     ///
-    /// let mut cache = Cache::new(100)?;
+    /// let mut cache = ByteCache::new(100)?;
     /// assert_eq!(cache.get_or_insert_with("page", || b"made".to_vec())?, b"made");
     /// assert_eq!(cache.get_or_insert_with("page", || unreachable!())?, b"made");
     /// # Ok::<(), mini_moka_proved::OutOfMemory>(())
@@ -304,9 +304,9 @@ impl Cache {
     /// doesn't fit in the window may be rejected: [`Inserted::Rejected`].
     ///
     /// ```
-    /// use mini_moka_proved::{Cache, Inserted};
+    /// use mini_moka_proved::{ByteCache, Inserted};
     ///
-    /// let mut cache = Cache::new(1)?;
+    /// let mut cache = ByteCache::new(1)?;
     /// assert_eq!(cache.insert("first", "kept")?, Inserted::Stored);
     /// assert_eq!(cache.insert("second", "unknown")?, Inserted::Rejected);
     /// # Ok::<(), mini_moka_proved::OutOfMemory>(())
@@ -404,9 +404,9 @@ impl Cache {
     /// next.
     ///
     /// ```
-    /// use mini_moka_proved::Cache;
+    /// use mini_moka_proved::ByteCache;
     ///
-    /// let mut cache = Cache::builder().build()?;
+    /// let mut cache = ByteCache::builder().build()?;
     /// cache.insert("alice", "admin")?;
     /// cache.insert("bob", "guest")?;
     /// let _ = cache.get("alice");
@@ -418,30 +418,30 @@ impl Cache {
     /// assert_eq!(first, Some((b"bob".to_vec(), b"guest".to_vec())));
     /// # Ok::<(), Box<dyn std::error::Error>>(())
     /// ```
-    pub fn iter(&mut self) -> Iter<'_> {
+    pub fn iter(&mut self) -> ByteIter<'_> {
         self.iter_at(self.now())
     }
 
     /// Returns an iterator as [`iter`](Self::iter) does, at the moment `now`.
-    pub fn iter_at(&mut self, now: Duration) -> Iter<'_> {
+    pub fn iter_at(&mut self, now: Duration) -> ByteIter<'_> {
         self.handle.begin_walk();
-        Iter {
+        ByteIter {
             cache: self,
             moment: nanoseconds(now),
         }
     }
 
     /// Returns an iterator that drains the removed entries, in the order in which they left.
-    /// Entries that it doesn't reach stay in the queue. Without [`Builder::removed_room`] it yields
+    /// Entries that it doesn't reach stay in the queue. Without [`ByteBuilder::removed_room`] it yields
     /// nothing.
     ///
     /// An entry is queued within the call in which it leaves, unless [`remove`](Self::remove)
     /// returns it. A replaced value is queued with its key, and a rejected entry as it was passed.
     ///
     /// ```
-    /// use mini_moka_proved::{Cache, Cause};
+    /// use mini_moka_proved::{ByteCache, Cause};
     ///
-    /// let mut cache = Cache::builder().max_capacity(100).removed_room(10).build()?;
+    /// let mut cache = ByteCache::builder().max_capacity(100).removed_room(10).build()?;
     /// cache.insert("alice", "guest")?;
     /// cache.insert("alice", "admin")?;
     /// for removed in cache.removed() {
@@ -452,8 +452,8 @@ impl Cache {
     /// assert!(cache.removed().next().is_none());
     /// # Ok::<(), Box<dyn std::error::Error>>(())
     /// ```
-    pub fn removed(&mut self) -> RemovedIter<'_> {
-        RemovedIter { cache: self }
+    pub fn removed(&mut self) -> ByteRemovedIter<'_> {
+        ByteRemovedIter { cache: self }
     }
 
     /// Returns the number of entries, including expired ones that no call has removed yet. It takes
@@ -476,12 +476,12 @@ impl Cache {
 
     /// Returns the weight that the window may have now, in entries or bytes as the capacity: its
     /// share of the capacity, or what that has become if the cache is
-    /// [adaptive](Builder::adaptive). It is 0 without a capacity. It takes constant time.
+    /// [adaptive](ByteBuilder::adaptive). It is 0 without a capacity. It takes constant time.
     ///
     /// ```
-    /// use mini_moka_proved::Cache;
+    /// use mini_moka_proved::ByteCache;
     ///
-    /// let mut cache = Cache::builder().max_capacity(1000).adaptive().build()?;
+    /// let mut cache = ByteCache::builder().max_capacity(1000).adaptive().build()?;
     /// assert_eq!(cache.window_capacity(), 10);
     /// // Each key returns when a window of 10 entries has given it up.
     /// for number in 0..10_000u32 {
@@ -533,17 +533,17 @@ impl Cache {
     }
 }
 
-/// An iterator over copies of a cache's unexpired entries, created by [`Cache::iter`].
+/// An iterator over copies of a cache's unexpired entries, created by [`ByteCache::iter`].
 ///
 /// A step takes constant time on average for each entry that it passes, plus the time to copy.
 #[derive(Debug)]
-pub struct Iter<'a> {
+pub struct ByteIter<'a> {
     // Borrowed as a whole, so that no call ends the walk.
-    cache: &'a mut Cache,
+    cache: &'a mut ByteCache,
     moment: u64,
 }
 
-impl Iterator for Iter<'_> {
+impl Iterator for ByteIter<'_> {
     type Item = Result<(Vec<u8>, Vec<u8>), OutOfMemory>;
 
     fn next(&mut self) -> Option<Self::Item> {
@@ -561,9 +561,9 @@ impl Iterator for Iter<'_> {
     }
 }
 
-impl FusedIterator for Iter<'_> {}
+impl FusedIterator for ByteIter<'_> {}
 
-impl Iter<'_> {
+impl ByteIter<'_> {
     /// Copies the next pair to the vectors, which grow as needed. Returns `false` if there is none.
     fn step(&mut self, key: &mut Vec<u8>, value: &mut Vec<u8>) -> Result<bool, OutOfMemory> {
         loop {
@@ -582,15 +582,15 @@ impl Iter<'_> {
     }
 }
 
-/// An iterator that drains the removed entries of a cache, created by [`Cache::removed`].
+/// An iterator that drains the removed entries of a cache, created by [`ByteCache::removed`].
 ///
 /// If memory for the copy of an entry is refused, the next step tries that entry again.
 #[derive(Debug)]
-pub struct RemovedIter<'a> {
-    cache: &'a mut Cache,
+pub struct ByteRemovedIter<'a> {
+    cache: &'a mut ByteCache,
 }
 
-impl Iterator for RemovedIter<'_> {
+impl Iterator for ByteRemovedIter<'_> {
     type Item = Result<Removed<Vec<u8>>, OutOfMemory>;
 
     fn next(&mut self) -> Option<Self::Item> {
@@ -609,20 +609,20 @@ impl Iterator for RemovedIter<'_> {
     }
 }
 
-impl FusedIterator for RemovedIter<'_> {}
+impl FusedIterator for ByteRemovedIter<'_> {}
 
-impl<'a> IntoIterator for &'a mut Cache {
+impl<'a> IntoIterator for &'a mut ByteCache {
     type Item = Result<(Vec<u8>, Vec<u8>), OutOfMemory>;
-    type IntoIter = Iter<'a>;
+    type IntoIter = ByteIter<'a>;
 
-    fn into_iter(self) -> Iter<'a> {
+    fn into_iter(self) -> ByteIter<'a> {
         self.iter()
     }
 }
 
-impl fmt::Debug for Cache {
+impl fmt::Debug for ByteCache {
     fn fmt(&self, f: &mut fmt::Formatter<'_>) -> fmt::Result {
-        f.debug_struct("Cache")
+        f.debug_struct("ByteCache")
             .field("len", &self.len())
             .field("weighted_size", &self.weighted_size())
             .finish_non_exhaustive()
