@@ -4,6 +4,9 @@ use crate::traces::Random;
 /// Number of keys in most traces.
 pub const KEYS: u64 = 100_000;
 
+/// Capacities, in tenths of a percent of the keys.
+const SHARES: [u64; 5] = [1, 5, 10, 50, 100];
+
 /// Number of calls of most traces.
 pub(crate) const CALLS: usize = 1_000_000;
 
@@ -15,6 +18,11 @@ const TURN: usize = 10_000;
 
 /// Number of calls within which a key of `recent` is due again.
 const SOON: u64 = 100;
+
+/// Returns the capacities at which hits are counted.
+pub fn capacities() -> [u64; SHARES.len()] {
+    SHARES.map(|share| KEYS * share / 1000)
+}
 
 /// Name and keys of a trace.
 pub struct HitTrace {

@@ -18,6 +18,16 @@ pub struct Operation {
     pub kind: u32,
 }
 
+/// Returns a call that reads through for each key.
+pub fn look_ups(keys: &[u64]) -> Vec<Operation> {
+    let look_up = |key: &u64| Operation {
+        key: *key,
+        value: *key as u32,
+        kind: READ_THROUGH,
+    };
+    keys.iter().map(look_up).collect()
+}
+
 /// Settings of a cache, in the layout of the static library.
 #[repr(C)]
 #[derive(Clone, Copy)]

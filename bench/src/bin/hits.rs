@@ -1,21 +1,18 @@
-//! Measures hit ratios over capacities: `hits FILE [CAFFEINE.jar]` prints a table, and draws the first traces into FILE as SVG.
+//! Measures hit ratios over capacities: `hits FILE SIMULATOR [CAFFEINE.jar]` prints a table, and draws the first traces into FILE as SVG.
 //!
-//! The best possible cache is Belady's, which knows all later calls.
+//! SIMULATOR is the program moka_sim, which plays the traces on this cache. The best possible cache is Belady's, which knows all later calls.
 use mini_moka_bench::caffeine_model::model_hits;
 use mini_moka_bench::further_traces::further_traces;
-use mini_moka_bench::hit_traces::{hit_traces, KEYS};
+use mini_moka_bench::hit_traces::{capacities, hit_traces};
 use mini_moka_bench::panels::{plot, Axes, Panel};
-use mini_moka_bench::port;
 use mini_moka_bench::rust_sides::{lru_cache, original, play, Multiply};
+use mini_moka_bench::simulator::simulated_hits;
 use mini_moka_bench::table::{print_head, print_row};
-use mini_moka_bench::traces::{spread, Operation, Settings, READ_THROUGH};
+use mini_moka_bench::traces::{look_ups, spread, Settings};
 use std::collections::{BTreeMap, HashMap, HashSet, VecDeque};
 use std::hash::BuildHasher;
 use std::io::Write;
 use std::process::{Command, ExitCode, Stdio};
-
-/// Capacities, in tenths of a percent of the keys.
-const SHARES: [u64; 5] = [1, 5, 10, 50, 100];
 
 /// The capacities, and hits in percent.
 const AXES: Axes = Axes {
@@ -29,9 +26,12 @@ const AXES: Axes = Axes {
     ],
 };
 
+/// The settings of this cache, by their names in moka_sim.
+const SETTINGS: [&str; 5] = ["default", "adaptive", "segments", "protected80", "window20"];
+
 const SIDES: [(&str, &str); 11] = [
     ("best possible", "#999999"),
-    ("this cache", "#1f5fa8"),
+    ("default", "#1f5fa8"),
     ("adaptive", "#d62728"),
     ("segments", "#bcbd22"),
     ("protected 80", "#17becf"),
@@ -112,40 +112,23 @@ fn caffeine_hits(jar: &str, keys: &[u64], capacities: &[u64]) -> Vec<u64> {
         .collect()
 }
 
-/// Counts the hits of `SegmentedCache` with its default number of segments. A single-thread cache plays each segment, with its part of the capacity and keys.
-fn segmented_hits(operations: &[Operation], capacity: u64) -> u64 {
-    let count = (capacity / 100).clamp(1, 64);
-    let mut parts = vec![Vec::new(); count as usize];
-    for operation in operations {
-        let segment = (spread(operation.key) >> 32) * count >> 32;
-        parts[segment as usize].push(*operation);
-    }
-    let mut hits = 0;
-    for (segment, part) in parts.iter().enumerate() {
-        let capacity = capacity / count + u64::from((segment as u64) < capacity % count);
-        hits += port::play(&Settings::with_capacity(capacity), part).hits;
-    }
-    hits
-}
-
-/// Counts the hits of each side at a capacity, except Caffeine's, which are passed in.
-fn hits_at(keys: &[u64], capacity: u64, caffeine: Option<u64>) -> [Option<u64>; 11] {
+/// Counts the hits of each side at a capacity. Those of this cache, by setting, and those of Caffeine are passed in.
+fn hits_at(
+    keys: &[u64],
+    capacity: u64,
+    ours: [u64; SETTINGS.len()],
+    caffeine: Option<u64>,
+) -> [Option<u64>; SIDES.len()] {
     let settings = Settings::with_capacity(capacity);
-    let operations: Vec<Operation> = keys
-        .iter()
-        .map(|key| Operation {
-            key: *key,
-            value: *key as u32,
-            kind: READ_THROUGH,
-        })
-        .collect();
+    let operations = look_ups(keys);
+    let [default, adaptive, segments, protected, window] = ours.map(Some);
     [
         Some(best_hits(keys, capacity as usize)),
-        Some(port::play(&settings, &operations).hits),
-        Some(port::play(&settings.adaptive(), &operations).hits),
-        Some(segmented_hits(&operations, capacity)),
-        Some(port::play(&settings.with_shares(1, 80), &operations).hits),
-        Some(port::play(&settings.with_shares(20, 0), &operations).hits),
+        default,
+        adaptive,
+        segments,
+        protected,
+        window,
         Some(play(&mut original(&settings), &operations).hits),
         caffeine,
         Some(model_hits(keys, capacity, |key| {
@@ -158,11 +141,11 @@ fn hits_at(keys: &[u64], capacity: u64, caffeine: Option<u64>) -> [Option<u64>; 
 
 fn main() -> ExitCode {
     let words: Vec<String> = std::env::args().skip(1).collect();
-    let Some(file) = words.first() else {
-        eprintln!("usage: hits FILE [CAFFEINE.jar]");
+    let [file, simulator, jar @ ..] = words.as_slice() else {
+        eprintln!("usage: hits FILE SIMULATOR [CAFFEINE.jar]");
         return ExitCode::from(2);
     };
-    let capacities: Vec<u64> = SHARES.iter().map(|share| KEYS * share / 1000).collect();
+    let capacities = capacities();
     let mut head = vec!["Trace", "Capacity"];
     head.extend(SIDES.iter().map(|side| side.0));
     print_head(&head);
@@ -171,13 +154,15 @@ fn main() -> ExitCode {
     let count_drawn = drawn.len();
     for (number, trace) in drawn.into_iter().chain(further_traces()).enumerate() {
         let keys: Vec<u64> = trace.keys.iter().map(|number| spread(*number)).collect();
-        let caffeine = words
-            .get(1)
+        let simulated = simulated_hits(simulator, &keys, &capacities, &SETTINGS);
+        let caffeine = jar
+            .first()
             .map(|jar| caffeine_hits(jar, &keys, &capacities));
         let mut ratios = vec![Vec::new(); SIDES.len()];
         for (index, capacity) in capacities.iter().enumerate() {
             let of_caffeine = caffeine.as_ref().map(|hits| hits[index]);
-            let percents: Vec<Option<f64>> = hits_at(&keys, *capacity, of_caffeine)
+            let ours = SETTINGS.map(|setting| simulated[&(*capacity, setting.to_owned())]);
+            let percents: Vec<Option<f64>> = hits_at(&keys, *capacity, ours, of_caffeine)
                 .into_iter()
                 .map(|hits| hits.map(|hits| 100.0 * hits as f64 / keys.len() as f64))
                 .collect();
