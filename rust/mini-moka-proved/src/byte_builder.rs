@@ -248,22 +248,24 @@ impl ByteBuilder {
         })
     }
 
-    /// Returns the capacity divided by the least capacity of a segment: 100 entries, or 1 MiB.
-    pub(crate) fn least_segments(&self) -> Option<u64> {
-        let least = if self.weighs_bytes { 1 << 20 } else { 100 };
-        self.limits.max_capacity.map(|capacity| capacity / least)
+    /// Returns the maximum capacity, if one is set.
+    pub(crate) fn capacity(&self) -> Option<u64> {
+        self.limits.max_capacity
+    }
+
+    /// Returns the least capacity of a segment: 100 entries, or 1 MiB.
+    pub(crate) fn least_segment(&self) -> u64 {
+        if self.weighs_bytes {
+            1 << 20
+        } else {
+            100
+        }
     }
 
     /// Returns the builder of a segment. The capacities of all segments add up to the whole.
     pub(crate) fn part(&self, count: u64, at: u64) -> ByteBuilder {
-        let part = |whole: u64| whole / count + u64::from(at < whole % count);
         let mut builder = self.clone();
-        builder.limits.max_capacity = self.limits.max_capacity.map(part);
-        // A part of a `usize` fits in a `usize`.
-        builder.limits.initial_capacity = part(self.limits.initial_capacity as u64) as usize;
-        let room = self.limits.removed_room as u64;
-        // Rounded up, so that each segment has a queue if the cache has one.
-        builder.limits.removed_room = (room / count + u64::from(room % count > 0)) as usize;
+        builder.limits = self.limits.part(count, at);
         builder
     }
 }

@@ -94,6 +94,40 @@ pub struct Statistics {
     pub lost: u64,
 }
 
+impl Statistics {
+    /// Returns the part of the gets that found a value, from 0 to 1, or `None` if there was no get.
+    ///
+    /// ```
+    /// use mini_moka_proved::NumberCache;
+    ///
+    /// let mut squares = NumberCache::new(100)?;
+    /// assert_eq!(squares.statistics().hit_rate(), None);
+    /// squares.get_or_insert(7, 49)?;
+    /// squares.get(7);
+    /// assert_eq!(squares.statistics().hit_rate(), Some(0.5));
+    /// # Ok::<(), mini_moka_proved::OutOfMemory>(())
+    /// ```
+    pub fn hit_rate(&self) -> Option<f64> {
+        let gets = self.hits as f64 + self.misses as f64;
+        (gets > 0.0).then(|| self.hits as f64 / gets)
+    }
+
+    /// Adds up the counts of segments. Each count stops at `u64::MAX`.
+    pub(crate) fn sum(parts: impl Iterator<Item = Statistics>) -> Statistics {
+        parts.fold(Statistics::default(), |sum, one| Statistics {
+            hits: sum.hits.saturating_add(one.hits),
+            misses: sum.misses.saturating_add(one.misses),
+            inserts: sum.inserts.saturating_add(one.inserts),
+            updates: sum.updates.saturating_add(one.updates),
+            rejections: sum.rejections.saturating_add(one.rejections),
+            evictions: sum.evictions.saturating_add(one.evictions),
+            expirations: sum.expirations.saturating_add(one.expirations),
+            removals: sum.removals.saturating_add(one.removals),
+            lost: sum.lost.saturating_add(one.lost),
+        })
+    }
+}
+
 /// The cause for which an entry left a cache, or was not admitted.
 ///
 /// An expired entry that is still there may also be evicted, or removed by `clear`, which has no

@@ -39,8 +39,26 @@ impl Limits {
     /// Starts a clock for a new cache. Without a duration it stands still, unless the program sets
     /// it, since no result depends on moments.
     pub(crate) fn clock(&self) -> Clock {
-        let has_duration = self.time_to_live.is_some() || self.time_to_idle.is_some();
-        self.clock.start(has_duration)
+        self.clock.start(self.has_duration())
+    }
+
+    /// Returns `true` if entries expire.
+    pub(crate) fn has_duration(&self) -> bool {
+        self.time_to_live.is_some() || self.time_to_idle.is_some()
+    }
+
+    /// Returns the limits of a segment. The capacities of all segments add up to the whole.
+    pub(crate) fn part(&self, count: u64, at: u64) -> Limits {
+        let part = |whole: u64| whole / count + u64::from(at < whole % count);
+        let room = self.removed_room as u64;
+        Limits {
+            max_capacity: self.max_capacity.map(part),
+            // A part of a `usize` fits in a `usize`.
+            initial_capacity: part(self.initial_capacity as u64) as usize,
+            // Rounded up, so that each segment has a queue if the cache has one.
+            removed_room: (room / count + u64::from(room % count > 0)) as usize,
+            ..self.clone()
+        }
     }
 
     /// Adds the settings to the debug output of a builder.

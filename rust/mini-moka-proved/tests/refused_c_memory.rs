@@ -1,6 +1,6 @@
 //! Tests calls that the library's allocator, which is C's `malloc`, refuses memory.
 
-use mini_moka_proved::{ByteCache, NumberCache, OutOfMemory};
+use mini_moka_proved::{ByteCache, Cache, Insertion, NumberCache, OutOfMemory};
 use std::ffi::c_void;
 use std::ptr::null_mut;
 use std::sync::atomic::{AtomicBool, Ordering};
@@ -60,4 +60,19 @@ fn a_call_that_is_refused_memory_changes_nothing() {
     );
     assert!(bytes.contains_key(long));
     assert_eq!(bytes.len(), 1);
+
+    // The entry has its slot already, and is taken out of it.
+    let mut typed = Cache::builder().initial_capacity(1).build();
+    typed.insert(0, "zero");
+    typed.insert(1, "one");
+    let mut others = 2..;
+    while refused(|| typed.try_insert(others.start, "other")).is_ok() {
+        others.start += 1;
+    }
+    assert_eq!(typed.len(), others.start);
+    assert_eq!(typed.get(&others.start), None);
+    assert_eq!(typed.try_insert(1, "new"), Ok(Insertion::Replaced("one")));
+    assert_eq!(typed.iter().count(), typed.len());
+    typed.insert(others.start, "other");
+    assert_eq!(typed.get(&others.start), Some(&"other"));
 }

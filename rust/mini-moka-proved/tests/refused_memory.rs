@@ -1,8 +1,9 @@
 //! Tests calls that Rust's allocator refuses memory.
 
-use mini_moka_proved::{sync, BuildError, ByteCache, OutOfMemory};
+use mini_moka_proved::{sync, BuildError, ByteCache, Cache, Insertion, OutOfMemory, ValueRef};
 use std::alloc::{GlobalAlloc, Layout, System};
 use std::cell::Cell;
+use std::panic::{catch_unwind, set_hook, take_hook, AssertUnwindSafe};
 use std::ptr::null_mut;
 
 /// The system's allocator, which refuses a thread each allocation above its limit.
@@ -161,4 +162,58 @@ fn a_shared_iterator_is_refused_the_memory_for_its_pairs() {
     let refused = limited(100, || pairs.next());
     assert_eq!(refused, Some(Err(OutOfMemory)));
     assert_eq!(pairs.count(), 10);
+}
+
+#[test]
+fn a_typed_insert_that_is_refused_memory_changes_nothing() {
+    let refused = Err(OutOfMemory);
+    let mut cache = Cache::new(100);
+    assert_eq!(limited(0, || cache.try_insert(1, 10)), refused);
+    let found = limited(0, || cache.get_or_insert_with(2, || 20));
+    assert_eq!(found, ValueRef::Rejected(20));
+    assert!(cache.is_empty());
+    cache.insert(1, 10);
+    assert_eq!(cache.get(&1), Some(&10));
+
+    let cache = sync::Cache::builder().segments(1).build();
+    assert_eq!(limited(0, || cache.try_insert(1, 10)), refused);
+    assert!(cache.is_empty());
+    // The slots are refused memory, but not the list of values that are being made.
+    assert_eq!(limited(127, || cache.get_with(2, || 20)), 20);
+    assert_eq!((cache.get(&2), cache.len()), (None, 0));
+    assert_eq!(cache.get_with(2, || 22), 22);
+    assert_eq!((cache.get(&2), cache.len()), (Some(22), 1));
+}
+
+/// A value of which four don't fit into the limit of `panic_of`.
+const LARGE: [u8; 4000] = [0; 4000];
+
+/// Returns the message of a call that panics, and is refused large allocations.
+fn panic_of(call: impl FnOnce()) -> String {
+    // The usual hook takes memory for a backtrace.
+    let hook = take_hook();
+    set_hook(Box::new(|_| ()));
+    let made = limited(LARGE.len(), || catch_unwind(AssertUnwindSafe(call)));
+    set_hook(hook);
+    *made.unwrap_err().downcast().unwrap()
+}
+
+#[test]
+fn a_typed_insert_panics_if_it_is_refused_memory() {
+    let mut cache = Cache::new(100);
+    let message = panic_of(|| assert_eq!(cache.insert(1, LARGE), Insertion::New));
+    assert_eq!((message.as_str(), cache.len()), ("memory was refused", 0));
+    let cache = sync::Cache::new(100);
+    let message = panic_of(|| assert_eq!(cache.insert(1, LARGE), Insertion::New));
+    assert_eq!((message.as_str(), cache.len()), ("memory was refused", 0));
+}
+
+#[test]
+fn a_typed_cache_that_is_refused_memory_is_not_built() {
+    let refused = limited(16, || {
+        Cache::<u64, u64>::builder().initial_capacity(9).try_build()
+    });
+    assert_eq!(refused.map(drop), Err(BuildError::OutOfMemory));
+    let refused = limited(16, || sync::Cache::<u64, u64>::builder().try_build());
+    assert_eq!(refused.map(drop), Err(BuildError::OutOfMemory));
 }

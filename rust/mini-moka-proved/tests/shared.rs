@@ -2,11 +2,10 @@
 
 mod common;
 
-use common::{bytes, Random, SECOND, START};
+use common::{bytes, returns, Random, SECOND, START};
 use mini_moka_proved::{sync, ByteCache};
 use std::cell::Cell;
-use std::sync::mpsc;
-use std::thread::{self, sleep};
+use std::thread::sleep;
 use std::time::Duration;
 
 /// Builds a shared cache, and returns its number of segments.
@@ -276,14 +275,6 @@ fn the_statistics_of_all_segments_are_added() {
         let gone = it.evictions + it.expirations + it.removals;
         assert_eq!(remaining, gone + cache.len() as u64);
     }
-}
-
-/// Makes a call in another thread, and fails if it doesn't return.
-fn returns<T: Send + 'static>(call: impl FnOnce() -> T + Send + 'static) -> T {
-    let (told, heard) = mpsc::channel();
-    thread::spawn(move || told.send(call()));
-    let answer = heard.recv_timeout(10 * SECOND);
-    answer.expect("the call waits for its own lock")
 }
 
 #[test]

@@ -1,16 +1,15 @@
 //! The cache of bytes that threads share.
 
+use super::lock::Lock;
+use super::{segment_of, segments_of};
 use crate::byte_builder;
 use crate::clock::{Clock, ManualClock};
 use crate::error::{BuildError, OutOfMemory};
 use crate::handle::{Inserted, Removed, Statistics};
 use std::fmt;
 use std::iter::FusedIterator;
-use std::sync::{Arc, Mutex, MutexGuard, PoisonError};
+use std::sync::{Arc, MutexGuard};
 use std::time::Duration;
-
-/// The maximum number of segments of a cache for which no number is set.
-const MOST_SEGMENTS: u64 = 16;
 
 /// A cache that threads share, whose keys and values are bytes of any length.
 ///
@@ -66,7 +65,7 @@ struct Shared {
 /// A segment, which fills its cache lines, so that threads in different segments don't share one.
 #[repr(align(128))]
 struct Segment {
-    cache: Mutex<crate::ByteCache>,
+    cache: Lock<crate::ByteCache>,
 }
 
 impl ByteCache {
@@ -316,7 +315,7 @@ impl ByteCache {
     /// Removes all entries, one segment after another.
     pub fn clear(&self) {
         for segment in &self.shared.segments {
-            segment.lock().clear();
+            segment.cache.lock().clear();
         }
     }
 
@@ -377,20 +376,20 @@ impl ByteCache {
     /// Returns the number of entries, including expired ones that no call has removed yet.
     pub fn len(&self) -> usize {
         let segments = self.shared.segments.iter();
-        segments.map(|segment| segment.lock().len()).sum()
+        segments.map(|segment| segment.cache.lock().len()).sum()
     }
 
     /// Returns `true` if no segment has an entry, not even an expired one.
     pub fn is_empty(&self) -> bool {
         let mut segments = self.shared.segments.iter();
-        segments.all(|segment| segment.lock().is_empty())
+        segments.all(|segment| segment.cache.lock().is_empty())
     }
 
     /// Returns the weight of the entries, at most `u64::MAX`.
     pub fn weighted_size(&self) -> u64 {
         let segments = self.shared.segments.iter();
         segments
-            .map(|segment| segment.lock().weighted_size())
+            .map(|segment| segment.cache.lock().weighted_size())
             .fold(0, u64::saturating_add)
     }
 
@@ -399,27 +398,14 @@ impl ByteCache {
     pub fn window_capacity(&self) -> u64 {
         let segments = self.shared.segments.iter();
         segments
-            .map(|segment| segment.lock().window_capacity())
+            .map(|segment| segment.cache.lock().window_capacity())
             .fold(0, u64::saturating_add)
     }
 
     /// Returns the counts of the calls, and of the entries that left, since the cache was built.
     pub fn statistics(&self) -> Statistics {
         let segments = self.shared.segments.iter();
-        segments.map(|segment| segment.lock().statistics()).fold(
-            Statistics::default(),
-            |sum, one| Statistics {
-                hits: sum.hits.saturating_add(one.hits),
-                misses: sum.misses.saturating_add(one.misses),
-                inserts: sum.inserts.saturating_add(one.inserts),
-                updates: sum.updates.saturating_add(one.updates),
-                rejections: sum.rejections.saturating_add(one.rejections),
-                evictions: sum.evictions.saturating_add(one.evictions),
-                expirations: sum.expirations.saturating_add(one.expirations),
-                removals: sum.removals.saturating_add(one.removals),
-                lost: sum.lost.saturating_add(one.lost),
-            },
-        )
+        Statistics::sum(segments.map(|segment| segment.cache.lock().statistics()))
     }
 
     /// Returns the number of segments.
@@ -436,36 +422,15 @@ impl ByteCache {
     /// Locks the segment of a key.
     fn segment(&self, key: &[u8]) -> MutexGuard<'_, crate::ByteCache> {
         let segments = &self.shared.segments;
-        let high = hash(self.shared.seed, key) >> 32;
-        segments[((high * segments.len() as u64) >> 32) as usize].lock()
+        let hash = hash(self.shared.seed, key);
+        segments[segment_of(hash, segments.len())].cache.lock()
     }
 }
 
 impl Segment {
-    /// Locks the cache, even if a thread panicked while it held the lock: its call left the cache
-    /// intact.
-    #[cfg(not(mini_moka_watched))]
-    fn lock(&self) -> MutexGuard<'_, crate::ByteCache> {
-        self.cache.lock().unwrap_or_else(PoisonError::into_inner)
-    }
-
-    /// Locks the cache without a wait inside std, which ThreadSanitizer wouldn't see, since std
-    /// isn't compiled for it.
-    #[cfg(mini_moka_watched)]
-    fn lock(&self) -> MutexGuard<'_, crate::ByteCache> {
-        use std::sync::TryLockError;
-        loop {
-            match self.cache.try_lock() {
-                Ok(cache) => return cache,
-                Err(TryLockError::Poisoned(cache)) => return PoisonError::into_inner(cache),
-                Err(TryLockError::WouldBlock) => std::thread::yield_now(),
-            }
-        }
-    }
-
     /// Copies the unexpired entries.
     fn pairs(&self, now: Duration) -> Result<Vec<Pair>, OutOfMemory> {
-        let mut cache = self.lock();
+        let mut cache = self.cache.lock();
         let mut pairs = Vec::new();
         pairs.try_reserve_exact(cache.len())?;
         for pair in cache.iter_at(now) {
@@ -537,7 +502,7 @@ impl Iterator for ByteRemovedIter<'_> {
     fn next(&mut self) -> Option<Self::Item> {
         loop {
             let (segment, left) = self.left.split_first()?;
-            if let Some(removed) = segment.lock().removed().next() {
+            if let Some(removed) = segment.cache.lock().removed().next() {
                 return Some(removed);
             }
             self.left = left;
@@ -717,7 +682,7 @@ impl ByteBuilder {
     /// entries, or 1 MiB if bytes are weighed. A smaller cache has one segment. A smaller segment
     /// has no window, or one that fits only small entries, so more new entries are rejected.
     pub fn segments(mut self, segments: usize) -> ByteBuilder {
-        self.segments = Some(segments.clamp(1, 1 << 16));
+        self.segments = Some(segments);
         self
     }
 
@@ -736,7 +701,7 @@ impl ByteBuilder {
             let part = self.whole.part(count as u64, at as u64);
             // Calls pass the moment of the shared clock, so a segment needs no clock.
             segments.push(Segment {
-                cache: Mutex::new(part.build_with(Clock::standing())?),
+                cache: Lock::new(part.build_with(Clock::standing())?),
             });
         }
         let shared = Shared {
@@ -751,9 +716,11 @@ impl ByteBuilder {
 
     /// Returns the number of segments.
     fn count(&self) -> usize {
-        let least = self.whole.least_segments().unwrap_or(MOST_SEGMENTS);
-        self.segments
-            .unwrap_or(least.clamp(1, MOST_SEGMENTS) as usize)
+        segments_of(
+            self.segments,
+            self.whole.capacity(),
+            self.whole.least_segment(),
+        )
     }
 }
 

@@ -1,0 +1,105 @@
+//! Values that threads are making, each for all threads that ask for its key.
+
+use super::lock::Lock;
+use std::any::Any;
+use std::borrow::Borrow;
+use std::sync::{Arc, Condvar};
+use std::thread::{self, ThreadId};
+
+/// The error of a `make`, of any type.
+pub(super) type AnyError = Arc<dyn Any + Send + Sync>;
+
+/// A value that a thread makes, and for which others wait.
+pub(super) struct Flight<V> {
+    maker: ThreadId,
+    outcome: Lock<Outcome<V>>,
+    ended: Condvar,
+}
+
+/// What became of a value.
+pub(super) enum Outcome<V> {
+    Running,
+    Made(V),
+    Failed(AnyError),
+    /// The thread that made it has panicked.
+    Abandoned,
+}
+
+impl<V> Flight<V> {
+    /// Starts a flight of the current thread.
+    pub(super) fn new() -> Flight<V> {
+        Flight {
+            maker: thread::current().id(),
+            outcome: Lock::new(Outcome::Running),
+            ended: Condvar::new(),
+        }
+    }
+
+    /// Ends the flight, unless it has ended, and wakes the threads that wait for it.
+    pub(super) fn end(&self, last: Outcome<V>) {
+        let mut outcome = self.outcome.lock();
+        if let Outcome::Running = *outcome {
+            *outcome = last;
+            self.ended.notify_all();
+        }
+    }
+
+    /// Waits until the flight has ended. Returns the value or the error, or `None` if there is
+    /// neither.
+    ///
+    /// # Panics
+    ///
+    /// If the current thread is the one that makes the value: it would wait for itself.
+    pub(super) fn wait(&self) -> Option<Result<V, AnyError>>
+    where
+        V: Clone,
+    {
+        assert!(
+            self.maker != thread::current().id(),
+            "the closure that makes a key's value asks for that key"
+        );
+        let mut outcome = self.outcome.lock();
+        loop {
+            match &*outcome {
+                Outcome::Running => outcome = self.outcome.wait(outcome, &self.ended),
+                Outcome::Made(value) => return Some(Ok(value.clone())),
+                Outcome::Failed(error) => return Some(Err(Arc::clone(error))),
+                Outcome::Abandoned => return None,
+            }
+        }
+    }
+}
+
+/// The flights of a segment, with their keys.
+pub(super) struct Flights<K, V> {
+    all: Vec<(u64, K, Arc<Flight<V>>)>,
+}
+
+impl<K, V> Flights<K, V> {
+    pub(super) fn new() -> Flights<K, V> {
+        Flights { all: Vec::new() }
+    }
+
+    /// Returns the flight of a key.
+    pub(super) fn find<Q>(&self, key: &Q, hash: u64) -> Option<Arc<Flight<V>>>
+    where
+        K: Borrow<Q>,
+        Q: Eq + ?Sized,
+    {
+        let mut all = self.all.iter();
+        let found = all.find(|(other_hash, other, _)| *other_hash == hash && other.borrow() == key);
+        found.map(|(_, _, flight)| Arc::clone(flight))
+    }
+
+    pub(super) fn add(&mut self, key: K, hash: u64, flight: Arc<Flight<V>>) {
+        self.all.push((hash, key, flight));
+    }
+
+    /// Removes a flight, and returns its key if it is still there.
+    pub(super) fn remove(&mut self, flight: &Arc<Flight<V>>) -> Option<K> {
+        let mut all = self.all.iter();
+        let at = all.position(|(_, _, other)| Arc::ptr_eq(other, flight))?;
+        let (_, key, _) = self.all.swap_remove(at);
+        Some(key)
+    }
+}

@@ -1,0 +1,575 @@
+//! The entries of a typed cache: keys and values in slots, and the proved cache of numbers, which
+//! decides which of them stay.
+//!
+//! The proved cache maps a number to a slot. The number of a key is its hash. If another key in the
+//! table has that number, the key gets the next one of a fixed sequence, and is listed in
+//! `displaced`. So each key has a number of its own, whatever the hashes are.
+//!
+//! A table calls no code of the user but `==` of keys and a predicate, both before it changes
+//! anything. It drops no key and no value: what leaves is in `left`, or is returned. So its owner
+//! can release a lock first.
+
+use crate::error::{BuildError, OutOfMemory};
+use crate::handle::{Cause, Handle, Inserted, Numbers, Statistics};
+use crate::limits::Limits;
+use std::borrow::Borrow;
+use std::collections::{HashMap, VecDeque};
+use std::mem;
+
+/// The largest queue of the library's removed entries. A call removes at most 100 entries by their
+/// time to live, 100 of each of three lists by their time to idle, 100 above the capacity, and a few
+/// for a new entry.
+const MOST_LEFT: u64 = 1024;
+
+/// The entries of a cache.
+pub(crate) struct Table<K, V> {
+    numbers: Handle<Numbers>,
+    slots: Vec<Slot<K, V>>,
+    /// The first of the free slots.
+    free: Option<u32>,
+    /// By hash, the numbers and slots of the entries whose number isn't their hash.
+    displaced: HashMap<u64, Vec<(u64, u32)>>,
+    /// What left, in this order, until the owner takes it.
+    pub(crate) left: VecDeque<Left<K, V>>,
+    expires: bool,
+}
+
+enum Slot<K, V> {
+    Filled(Filled<K, V>),
+    /// A free slot, and the next one.
+    Free(Option<u32>),
+}
+
+struct Filled<K, V> {
+    key: K,
+    value: V,
+    number: u64,
+    /// The key's hash, if that isn't the number.
+    displaced_from: Option<u64>,
+}
+
+/// An entry that left.
+pub(crate) struct Left<K, V> {
+    pub(crate) key: K,
+    pub(crate) value: V,
+    pub(crate) cause: Cause,
+}
+
+impl<K, V> Left<K, V> {
+    /// Returns a new entry that was not admitted.
+    pub(crate) fn rejected(key: K, value: V) -> Left<K, V> {
+        let cause = Cause::Rejected;
+        Left { key, value, cause }
+    }
+
+    /// Returns the old value of an entry, with the key of the insert that replaced it.
+    pub(crate) fn replaced(key: K, value: V) -> Left<K, V> {
+        let cause = Cause::Replaced;
+        Left { key, value, cause }
+    }
+}
+
+/// The result of an insert.
+pub(crate) enum Done<K, V> {
+    /// The new entry is in this slot.
+    New(u32),
+    /// The key's entry in this slot has the new value. The new key and the old value are given back.
+    Replaced(u32, K, V),
+    /// The new entry was not admitted.
+    Rejected(K, V),
+}
+
+/// The place of a key.
+enum Found {
+    Here {
+        number: u64,
+        slot: u32,
+    },
+    /// The key has no unexpired entry. Nor has another one this number, the first such of its
+    /// sequence.
+    Nowhere {
+        number: u64,
+    },
+}
+
+impl Found {
+    fn number(&self) -> u64 {
+        match self {
+            Found::Here { number, .. } | Found::Nowhere { number } => *number,
+        }
+    }
+}
+
+/// Returns the number after this one in a sequence. No two numbers have the same next one.
+fn next_number(number: u64) -> u64 {
+    (number ^ (number >> 29))
+        .wrapping_mul(0x9E37_79B9_7F4A_7C15)
+        .wrapping_add(1)
+}
+
+impl<K, V> Table<K, V> {
+    pub(crate) fn open(limits: &Limits) -> Result<Table<K, V>, BuildError> {
+        let mut settings = limits.settings()?;
+        // All entries, the new one and the old value of an update.
+        settings.removed_room = settings.capacity.saturating_add(2).min(MOST_LEFT) as usize;
+        let mut slots = Vec::new();
+        if settings.initial_capacity > 0 {
+            // A new entry is stored before another one leaves for it.
+            let most = settings.initial_capacity.saturating_add(1);
+            slots.try_reserve_exact(most).map_err(OutOfMemory::from)?;
+        }
+        Ok(Table {
+            numbers: Handle::<Numbers>::open(&settings)?,
+            slots,
+            free: None,
+            displaced: HashMap::new(),
+            left: VecDeque::new(),
+            expires: limits.has_duration(),
+        })
+    }
+
+    /// Looks up the key, which counts as an access, and returns its slot.
+    pub(crate) fn get<Q>(&mut self, key: &Q, hash: u64, now: u64) -> Option<u32>
+    where
+        K: Borrow<Q>,
+        Q: Eq + ?Sized,
+    {
+        let number = self.find(key, hash, now).number();
+        let slot = self.numbers.get(number, now);
+        self.drain_expired();
+        slot.map(|slot| slot as u32)
+    }
+
+    /// Looks up the key, which doesn't count as an access, and returns its slot.
+    pub(crate) fn peek<Q>(&self, key: &Q, hash: u64, now: u64) -> Option<u32>
+    where
+        K: Borrow<Q>,
+        Q: Eq + ?Sized,
+    {
+        match self.find(key, hash, now) {
+            Found::Here { slot, .. } => Some(slot),
+            Found::Nowhere { .. } => None,
+        }
+    }
+
+    /// Returns `true` if the key has an unexpired entry, and removes expired ones.
+    pub(crate) fn contains<Q>(&mut self, key: &Q, hash: u64, now: u64) -> bool
+    where
+        K: Borrow<Q>,
+        Q: Eq + ?Sized,
+    {
+        let number = self.find(key, hash, now).number();
+        let found = self.numbers.contains(number, now);
+        self.drain_expired();
+        found
+    }
+
+    /// Inserts the entry, and takes it out of the option. If memory is refused, or if a comparison of
+    /// keys panics, it stays there.
+    pub(crate) fn insert(
+        &mut self,
+        entry: &mut Option<(K, V)>,
+        hash: u64,
+        now: u64,
+    ) -> Result<Done<K, V>, OutOfMemory>
+    where
+        K: Eq,
+    {
+        let found = match &*entry {
+            Some((key, _)) => self.find(key, hash, now),
+            None => unreachable!("there is an entry to insert"),
+        };
+        match found {
+            Found::Here { number, slot } => self.update(entry, number, slot, now),
+            Found::Nowhere { number } => self.insert_new(entry, number, hash, now),
+        }
+    }
+
+    fn update(
+        &mut self,
+        entry: &mut Option<(K, V)>,
+        number: u64,
+        slot: u32,
+        now: u64,
+    ) -> Result<Done<K, V>, OutOfMemory> {
+        self.numbers.insert(number, u64::from(slot), now)?;
+        let (key, value) = taken(entry);
+        let old = mem::replace(&mut self.filled_mut(slot).value, value);
+        self.drain();
+        Ok(Done::Replaced(slot, key, old))
+    }
+
+    fn insert_new(
+        &mut self,
+        entry: &mut Option<(K, V)>,
+        number: u64,
+        hash: u64,
+        now: u64,
+    ) -> Result<Done<K, V>, OutOfMemory> {
+        let slot = self.place(entry, number, hash)?;
+        let inserted = self.numbers.insert(number, u64::from(slot), now);
+        let done = match inserted {
+            Ok(Inserted::Stored) => Ok(Done::New(slot)),
+            Ok(Inserted::Rejected) => {
+                let filled = self.vacate(slot);
+                Ok(Done::Rejected(filled.key, filled.value))
+            }
+            Err(error) => {
+                let filled = self.vacate(slot);
+                *entry = Some((filled.key, filled.value));
+                Err(error)
+            }
+        };
+        self.drain();
+        done
+    }
+
+    /// Removes the entry of the key, and returns it unless it is expired.
+    pub(crate) fn remove<Q>(&mut self, key: &Q, hash: u64, now: u64) -> Option<(K, V)>
+    where
+        K: Borrow<Q>,
+        Q: Eq + ?Sized,
+    {
+        let number = self.find(key, hash, now).number();
+        let slot = self.numbers.remove(number, now);
+        let removed = slot.map(|slot| self.vacate(slot as u32));
+        self.drain();
+        removed.map(|filled| (filled.key, filled.value))
+    }
+
+    /// Removes the entry of the key, which leaves.
+    pub(crate) fn invalidate<Q>(&mut self, key: &Q, hash: u64, now: u64)
+    where
+        K: Borrow<Q>,
+        Q: Eq + ?Sized,
+    {
+        let number = self.find(key, hash, now).number();
+        self.numbers.invalidate(number, now);
+        self.drain();
+    }
+
+    /// Removes the entries for which the predicate returns `true`. It is asked for all entries first.
+    pub(crate) fn invalidate_if(&mut self, mut predicate: impl FnMut(&K, &V) -> bool, now: u64) {
+        let filled = self.slots.iter().filter_map(Slot::filled);
+        let chosen = filled.filter(|filled| predicate(&filled.key, &filled.value));
+        let numbers: Vec<u64> = chosen.map(|filled| filled.number).collect();
+        for number in numbers {
+            self.numbers.invalidate(number, now);
+            self.drain();
+        }
+    }
+
+    /// Removes all entries.
+    pub(crate) fn clear(&mut self) {
+        self.numbers.clear();
+        // The queue may be too short for all of them.
+        while self.numbers.drain().is_some() {}
+        self.displaced.clear();
+        self.free = None;
+        for slot in self.slots.drain(..) {
+            if let Slot::Filled(Filled { key, value, .. }) = slot {
+                let cause = Cause::Explicit;
+                self.left.push_back(Left { key, value, cause });
+            }
+        }
+    }
+
+    /// Returns the slots of the unexpired entries, in the order of a walk.
+    pub(crate) fn walk(&self, now: u64) -> Vec<u32> {
+        let mut slots = Vec::with_capacity(self.len());
+        self.numbers.begin_walk();
+        while let Some((_, slot)) = self.numbers.step(now) {
+            slots.push(slot as u32);
+        }
+        slots
+    }
+
+    /// Returns the key and the value of a filled slot.
+    pub(crate) fn pair(&self, slot: u32) -> (&K, &V) {
+        match self.slots[slot as usize].filled() {
+            Some(filled) => (&filled.key, &filled.value),
+            None => unreachable!("an entry is in a filled slot"),
+        }
+    }
+
+    pub(crate) fn len(&self) -> usize {
+        // A cache has at most 2,000,000,000 entries.
+        self.numbers.len() as usize
+    }
+
+    pub(crate) fn window_capacity(&self) -> u64 {
+        self.numbers.window_capacity()
+    }
+
+    /// Returns the counts. None of the entries that left is lost, whatever the library's queue had.
+    pub(crate) fn statistics(&self) -> Statistics {
+        Statistics {
+            lost: 0,
+            ..self.numbers.statistics()
+        }
+    }
+
+    /// Finds the key, which doesn't count as an access.
+    fn find<Q>(&self, key: &Q, hash: u64, now: u64) -> Found
+    where
+        K: Borrow<Q>,
+        Q: Eq + ?Sized,
+    {
+        match self.numbers.peek(hash, now) {
+            Some(slot) if self.has(slot as u32, key) => Found::Here {
+                number: hash,
+                slot: slot as u32,
+            },
+            None if self.displaced.is_empty() => Found::Nowhere { number: hash },
+            _ => self.find_displaced(key, hash, now),
+        }
+    }
+
+    #[cold]
+    fn find_displaced<Q>(&self, key: &Q, hash: u64, now: u64) -> Found
+    where
+        K: Borrow<Q>,
+        Q: Eq + ?Sized,
+    {
+        let displaced = self.displaced.get(&hash).into_iter().flatten();
+        for &(number, slot) in displaced {
+            if self.has(slot, key) {
+                // An expired entry keeps its number, so that its key never has two entries.
+                return match self.numbers.peek(number, now) {
+                    Some(_) => Found::Here { number, slot },
+                    None => Found::Nowhere { number },
+                };
+            }
+        }
+        let mut number = hash;
+        while self.numbers.peek(number, now).is_some() {
+            number = next_number(number);
+        }
+        Found::Nowhere { number }
+    }
+
+    /// Returns `true` if the slot has the entry of this key.
+    fn has<Q>(&self, slot: u32, key: &Q) -> bool
+    where
+        K: Borrow<Q>,
+        Q: Eq + ?Sized,
+    {
+        self.pair(slot).0.borrow() == key
+    }
+
+    fn filled_mut(&mut self, slot: u32) -> &mut Filled<K, V> {
+        match &mut self.slots[slot as usize] {
+            Slot::Filled(filled) => filled,
+            Slot::Free(_) => unreachable!("an entry is in a filled slot"),
+        }
+    }
+
+    /// Moves the entry into a free slot, if memory isn't refused.
+    fn place(
+        &mut self,
+        entry: &mut Option<(K, V)>,
+        number: u64,
+        hash: u64,
+    ) -> Result<u32, OutOfMemory> {
+        if self.free.is_none() {
+            self.slots.try_reserve(1)?;
+            self.slots.push(Slot::Free(None));
+            self.free = Some((self.slots.len() - 1) as u32);
+        }
+        let slot = match self.free {
+            Some(slot) => slot,
+            None => unreachable!("a slot is free"),
+        };
+        let (key, value) = taken(entry);
+        let displaced_from = (number != hash).then_some(hash);
+        let filled = Slot::Filled(Filled {
+            key,
+            value,
+            number,
+            displaced_from,
+        });
+        if let Slot::Free(next) = mem::replace(&mut self.slots[slot as usize], filled) {
+            self.free = next;
+        }
+        if displaced_from.is_some() {
+            self.displaced.entry(hash).or_default().push((number, slot));
+        }
+        Ok(slot)
+    }
+
+    /// Takes an entry out of its slot.
+    fn vacate(&mut self, slot: u32) -> Filled<K, V> {
+        let free = Slot::Free(self.free);
+        match mem::replace(&mut self.slots[slot as usize], free) {
+            Slot::Filled(filled) => {
+                self.free = Some(slot);
+                if let Some(hash) = filled.displaced_from {
+                    self.forget(hash, slot);
+                }
+                filled
+            }
+            Slot::Free(_) => unreachable!("an entry is in a filled slot"),
+        }
+    }
+
+    /// Takes an entry off the list of those whose number isn't their hash.
+    #[cold]
+    fn forget(&mut self, hash: u64, slot: u32) {
+        if let Some(numbers) = self.displaced.get_mut(&hash) {
+            numbers.retain(|(_, other)| *other != slot);
+            if numbers.is_empty() {
+                self.displaced.remove(&hash);
+            }
+        }
+    }
+
+    /// Drains what a call removed that can only remove expired entries.
+    fn drain_expired(&mut self) {
+        if self.expires {
+            self.drain();
+        }
+    }
+
+    /// Moves the entries that the proved cache has removed out of their slots.
+    fn drain(&mut self) {
+        while let Some(removed) = self.numbers.drain() {
+            // The caller of an update has the old value, and that of an insert the rejected entry.
+            if !matches!(removed.cause, Cause::Replaced | Cause::Rejected) {
+                let Filled { key, value, .. } = self.vacate(removed.value as u32);
+                let cause = removed.cause;
+                self.left.push_back(Left { key, value, cause });
+            }
+        }
+    }
+}
+
+impl<K, V> Slot<K, V> {
+    fn filled(&self) -> Option<&Filled<K, V>> {
+        match self {
+            Slot::Filled(filled) => Some(filled),
+            Slot::Free(_) => None,
+        }
+    }
+}
+
+/// Takes the entry of an insert.
+pub(crate) fn taken<K, V>(entry: &mut Option<(K, V)>) -> (K, V) {
+    match entry.take() {
+        Some(entry) => entry,
+        None => unreachable!("there is an entry to insert"),
+    }
+}
+
+#[cfg(test)]
+mod tests {
+    use super::*;
+    use std::collections::HashSet;
+    use std::time::Duration;
+
+    impl Table<u64, u64> {
+        /// Checks that each entry has a slot and a number of its own, and each other slot is free.
+        fn check(&self) {
+            let filled = self.slots.iter().filter_map(Slot::filled);
+            let filled: Vec<&Filled<u64, u64>> = filled.collect();
+            assert_eq!(filled.len(), self.len());
+            let numbers: HashSet<u64> = filled.iter().map(|filled| filled.number).collect();
+            assert_eq!(numbers.len(), filled.len());
+            let mut free = 0;
+            let mut next = self.free;
+            while let Some(slot) = next {
+                free += 1;
+                next = match self.slots[slot as usize] {
+                    Slot::Free(next) => next,
+                    Slot::Filled(_) => panic!("slot {slot} is free and filled"),
+                };
+            }
+            assert_eq!(free + filled.len(), self.slots.len());
+            self.check_displaced();
+        }
+
+        /// Checks that the list has the entries whose number isn't their hash, and no others.
+        fn check_displaced(&self) {
+            let mut listed = Vec::new();
+            for (hash, numbers) in &self.displaced {
+                assert!(!numbers.is_empty());
+                listed.extend(numbers.iter().map(|(number, slot)| (*hash, *number, *slot)));
+            }
+            let mut displaced = Vec::new();
+            for (at, slot) in self.slots.iter().enumerate() {
+                if let Some((hash, filled)) = slot
+                    .filled()
+                    .and_then(|filled| Some((filled.displaced_from?, filled)))
+                {
+                    assert_ne!(hash, filled.number);
+                    displaced.push((hash, filled.number, at as u32));
+                }
+            }
+            listed.sort_unstable();
+            displaced.sort_unstable();
+            assert_eq!(listed, displaced);
+        }
+    }
+
+    fn limits(max_capacity: u64, expires: bool) -> Limits {
+        Limits {
+            max_capacity: Some(max_capacity),
+            time_to_live: expires.then(|| Duration::from_nanos(300)),
+            time_to_idle: expires.then(|| Duration::from_nanos(200)),
+            ..Limits::default()
+        }
+    }
+
+    /// Makes a pseudorandom call on a key.
+    fn call(table: &mut Table<u64, u64>, random: u64, key: u64, hash: u64, now: u64) {
+        match random % 16 {
+            0..=7 => drop(table.insert(&mut Some((key, random)), hash, now)),
+            8 => drop(table.remove(&key, hash, now)),
+            9 => table.invalidate(&key, hash, now),
+            10 if random % 90 == 0 => table.clear(),
+            11 if random % 9 == 0 => table.invalidate_if(|other, _| other % 5 == key % 5, now),
+            12 => drop(table.contains(&key, hash, now)),
+            _ => drop(table.get(&key, hash, now)),
+        }
+    }
+
+    #[test]
+    fn each_entry_has_a_slot_and_a_number_of_its_own() {
+        let mut most_displaced = 0;
+        for seed in 0..40u64 {
+            let capacity = [1, 5, 50, 100][seed as usize % 4];
+            let divisor = [1, 2, 3, 7, 40][seed as usize % 5];
+            let expires = seed % 3 == 0;
+            let mut table = Table::open(&limits(capacity, expires)).unwrap();
+            let (mut random, mut now) = (seed, 0);
+            for _ in 0..1500 {
+                random = next_number(random);
+                let mixed = random >> 20;
+                now += mixed % 3;
+                let moment = if mixed % 19 == 0 { now / 2 } else { now };
+                let key = (mixed >> 8) % 150;
+                call(&mut table, mixed >> 16, key, key % divisor, moment);
+                table.left.clear();
+                table.check();
+                most_displaced = most_displaced.max(table.displaced.len());
+            }
+            // The slots of entries that left are filled again.
+            assert!(expires || table.slots.len() as u64 <= capacity + 1);
+        }
+        assert!(most_displaced > 5);
+    }
+
+    #[test]
+    fn memory_is_reserved_for_the_initial_capacity() {
+        let mut limits = limits(100, false);
+        limits.initial_capacity = 70;
+        let mut table = Table::open(&limits).unwrap();
+        let reserved = table.slots.capacity();
+        assert!((71..90).contains(&reserved), "{reserved}");
+        for key in 0..70 {
+            assert!(table.insert(&mut Some((key, key)), key, 0).is_ok());
+        }
+        assert_eq!(table.slots.capacity(), reserved);
+        table.clear();
+        assert_eq!(table.slots.capacity(), reserved);
+    }
+}
