@@ -62,17 +62,20 @@ impl Service {
 }
 
 fn main() {
-    let service = Service::new();
-    thread::scope(|scope| {
-        for _ in 0..THREADS {
-            scope.spawn(|| {
-                for number in 0..SESSIONS {
-                    let id = Id::from(number);
+    let service = Arc::new(Service::new());
+    let threads: Vec<_> = (0..THREADS)
+        .map(|_| {
+            let service = Arc::clone(&service);
+            thread::spawn(move || {
+                for id in (0..SESSIONS).map(Id::from) {
                     assert_eq!(service.session(id).user, format!("user {}", id % 1000));
                 }
-            });
-        }
-    });
+            })
+        })
+        .collect();
+    for thread in threads {
+        thread.join().expect("a thread panicked");
+    }
     for number in (0..SESSIONS).step_by(5) {
         service.log_out(number.into());
     }

@@ -4,14 +4,23 @@ use super::lock::Lock;
 use std::any::Any;
 use std::borrow::Borrow;
 use std::sync::{Arc, Condvar};
-use std::thread::{self, ThreadId};
 
 /// The error of a `make`, of any type.
 pub(super) type AnyError = Arc<dyn Any + Send + Sync>;
 
+thread_local! {
+    /// A place of each thread, whose address tells it from the other threads that run.
+    static PLACE: u8 = const { 0 };
+}
+
+/// Returns a number of the current thread. A `ThreadId` would take a count in shared memory.
+fn this_thread() -> usize {
+    PLACE.with(|place| place as *const u8 as usize)
+}
+
 /// A value that a thread makes, and for which others wait.
 pub(super) struct Flight<V> {
-    maker: ThreadId,
+    maker: usize,
     outcome: Lock<Outcome<V>>,
     ended: Condvar,
 }
@@ -29,7 +38,7 @@ impl<V> Flight<V> {
     /// Starts a flight of the current thread.
     pub(super) fn new() -> Flight<V> {
         Flight {
-            maker: thread::current().id(),
+            maker: this_thread(),
             outcome: Lock::new(Outcome::Running),
             ended: Condvar::new(),
         }
@@ -55,7 +64,7 @@ impl<V> Flight<V> {
         V: Clone,
     {
         assert!(
-            self.maker != thread::current().id(),
+            self.maker != this_thread(),
             "the closure that makes a key's value asks for that key"
         );
         let mut outcome = self.outcome.lock();
