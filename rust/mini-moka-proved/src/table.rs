@@ -559,17 +559,32 @@ mod tests {
     }
 
     #[test]
-    fn memory_is_reserved_for_the_initial_capacity() {
-        let mut limits = limits(100, false);
-        limits.initial_capacity = 70;
-        let mut table = Table::open(&limits).unwrap();
-        let reserved = table.slots.capacity();
-        assert!((71..90).contains(&reserved), "{reserved}");
-        for key in 0..70 {
+    fn all_entries_may_leave_in_a_call() {
+        let mut short = limits(60, true);
+        short.time_to_live = Some(Duration::from_nanos(1));
+        let mut table = Table::open(&short).unwrap();
+        for key in 0..50 {
             assert!(table.insert(&mut Some((key, key)), key, 0).is_ok());
         }
-        assert_eq!(table.slots.capacity(), reserved);
-        table.clear();
-        assert_eq!(table.slots.capacity(), reserved);
+        assert_eq!(table.get(&0, 0, 1), None);
+        assert_eq!((table.left.len(), table.len()), (50, 0));
+        table.check();
+    }
+
+    #[test]
+    fn memory_is_reserved_for_the_initial_capacity() {
+        for initial_capacity in [1, 70] {
+            let mut limits = limits(100, false);
+            limits.initial_capacity = initial_capacity;
+            let mut table = Table::open(&limits).unwrap();
+            let reserved = table.slots.capacity();
+            assert!(reserved > initial_capacity && reserved < initial_capacity + 20);
+            for key in 0..initial_capacity as u64 {
+                assert!(table.insert(&mut Some((key, key)), key, 0).is_ok());
+            }
+            assert_eq!(table.slots.capacity(), reserved);
+            table.clear();
+            assert_eq!(table.slots.capacity(), reserved);
+        }
     }
 }

@@ -1,6 +1,6 @@
 //! Tests calls that the library's allocator, which is C's `malloc`, refuses memory.
 
-use mini_moka_proved::{ByteCache, Cache, Insertion, NumberCache, OutOfMemory};
+use mini_moka_proved::{ByteCache, Cache, Insertion, NumberCache, OutOfMemory, ValueRef};
 use std::ffi::c_void;
 use std::ptr::null_mut;
 use std::sync::atomic::{AtomicBool, Ordering};
@@ -61,18 +61,26 @@ fn a_call_that_is_refused_memory_changes_nothing() {
     assert!(bytes.contains_key(long));
     assert_eq!(bytes.len(), 1);
 
-    // The entry has its slot already, and is taken out of it.
-    let mut typed = Cache::builder().initial_capacity(1).build();
-    typed.insert(0, "zero");
-    typed.insert(1, "one");
-    let mut others = 2..;
-    while refused(|| typed.try_insert(others.start, "other")).is_ok() {
-        others.start += 1;
+    for count in 1..10 {
+        refuse_a_typed_insert(count);
     }
-    assert_eq!(typed.len(), others.start);
-    assert_eq!(typed.get(&others.start), None);
-    assert_eq!(typed.try_insert(1, "new"), Ok(Insertion::Replaced("one")));
+}
+
+/// Refuses a cache of so many entries the next one. For some numbers Rust has memory for its slot, and
+/// the library has none for it.
+fn refuse_a_typed_insert(count: usize) {
+    let mut typed = Cache::builder().build();
+    for number in 0..count {
+        typed.insert(number, "old");
+    }
+    let found = refused(|| typed.get_or_insert_with(count, || "new"));
+    let is_stored = found == ValueRef::Cached(&"new");
+    assert!(is_stored || found == ValueRef::Rejected("new"));
+    let stored = refused(|| typed.try_insert(count + 1, "new"));
+    assert!(is_stored || stored == Err(OutOfMemory));
+    assert_eq!(typed.try_insert(0, "new"), Ok(Insertion::Replaced("old")));
     assert_eq!(typed.iter().count(), typed.len());
-    typed.insert(others.start, "other");
-    assert_eq!(typed.get(&others.start), Some(&"other"));
+    typed.insert(count + 2, "other");
+    assert_eq!(typed.get(&(count + 2)), Some(&"other"));
+    assert_eq!(typed.get(&count).is_some(), is_stored);
 }
