@@ -48,19 +48,17 @@ impl Setting {
 
     /// Returns the setting of this name, if there is one.
     pub fn named(name: &str) -> Option<Setting> {
-        let shares: [(&str, fn(u8) -> Setting); 2] = [
-            ("window", Setting::Window),
-            ("protected", Setting::Protected),
-        ];
-        let with_share = shares.into_iter().find_map(|(start, setting)| {
+        let with_share = |start, setting: fn(u8) -> Setting| {
             let percent = name.strip_prefix(start)?.parse().ok()?;
             (percent <= 100).then(|| setting(percent))
-        });
-        let found = with_share.or_else(|| {
-            Setting::USUAL
-                .into_iter()
-                .find(|setting| setting.name() == name)
-        });
+        };
+        let usual = || {
+            let mut usual = Setting::USUAL.into_iter();
+            usual.find(|setting| setting.name() == name)
+        };
+        let found = with_share("window", Setting::Window)
+            .or_else(|| with_share("protected", Setting::Protected))
+            .or_else(usual);
         // A number may be written in several ways, of which one is the name.
         found.filter(|setting| setting.name() == name)
     }
