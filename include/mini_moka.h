@@ -2,6 +2,8 @@
  * mini-moka's single-thread cache, proved. Keys and values are bytes of any length, or 64-bit numbers, which take no memory of their own.
  * docs/C_AND_RUST.md says how to build and link the library.
  *
+ * A shared object that links the library has its own copy, and exports none of its functions.
+ *
  * Moments and durations are in nanoseconds. Moments count from any start that the program chooses, as with CLOCK_MONOTONIC; they may go backwards. Each call
  * returns a mini_moka_status, and none aborts. A call writes through a pointer only if it returns MINI_MOKA_DONE; with MINI_MOKA_TOO_SHORT it writes only
  * lengths.
