@@ -394,6 +394,72 @@ fn a_listener_that_panicked_gets_the_others_in_the_next_call() {
 }
 
 #[test]
+fn a_listener_that_panicked_in_a_call_of_the_listener_gets_the_others_too() {
+    let told = Told::new();
+    let hear = told.listener();
+    let inner: Arc<Mutex<Option<Cache<u64, u64>>>> = Arc::default();
+    let seen = Arc::clone(&inner);
+    let cache = Cache::builder()
+        .segments(1)
+        .eviction_listener(move |key: u64, value: u64, cause| {
+            hear(key, value, cause);
+            let cache = seen.lock().unwrap().take();
+            if let Some(cache) = cache {
+                cache.insert(10, 100);
+                cache.insert(11, 110);
+                cache.invalidate_all();
+            }
+            assert!(value < 100 || key == 11, "the listener panics");
+        })
+        .build();
+    for number in 0..4 {
+        cache.insert(number, number);
+    }
+    *inner.lock().unwrap() = Some(cache.clone());
+    let cleared = catch_unwind(AssertUnwindSafe(|| cache.invalidate_all()));
+    assert!(cleared.is_err() && cache.is_empty());
+    let first = told.take();
+    assert_eq!(first.len(), 2);
+    let _ = cache.get(&0);
+    let mut keys: Vec<u64> = first
+        .iter()
+        .chain(&told.take())
+        .map(|told| told.0)
+        .collect();
+    // Those of the first call come before that of the second one.
+    assert!(matches!(keys[2..], [_, _, _, 10 | 11]));
+    keys.sort_unstable();
+    assert_eq!(keys, [0, 1, 2, 3, 10, 11]);
+}
+
+#[test]
+fn an_insert_tells_of_a_rejected_entry() {
+    let told = Told::new();
+    let cache = Cache::builder()
+        .max_capacity(0)
+        .eviction_listener(told.listener())
+        .build();
+    assert_eq!(cache.insert(1, "one"), Insertion::Rejected);
+    assert_eq!(told.take(), [(1, "one", Cause::Rejected)]);
+}
+
+#[test]
+fn a_value_for_which_no_thread_waits_is_cloned_once() {
+    /// A value that counts its clones.
+    #[derive(Default)]
+    struct Counted(Arc<AtomicU32>);
+    impl Clone for Counted {
+        fn clone(&self) -> Counted {
+            self.0.fetch_add(1, Ordering::Relaxed);
+            Counted(Arc::clone(&self.0))
+        }
+    }
+    let cache = Cache::new(100);
+    let made = cache.get_with(7, Counted::default);
+    assert_eq!(made.0.load(Ordering::Relaxed), 1);
+}
+
+#[test]
 fn an_iterator_and_counts_are_those_of_all_segments() {
     let clock = ManualClock::new();
     let cache = Cache::builder()

@@ -48,7 +48,7 @@ use std::time::Duration;
 /// # Memory
 ///
 /// As collections of std do, a call panics or aborts if memory is refused, unless its documentation
-/// says otherwise. [`try_insert`](Self::try_insert) returns an error. An entry takes some 90 bytes
+/// says otherwise. [`try_insert`](Self::try_insert) returns an error. An entry takes some 110 bytes
 /// beside its key and value.
 ///
 /// # Panics of the program's code
