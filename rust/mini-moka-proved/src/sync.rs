@@ -7,9 +7,9 @@
 mod builder;
 mod bytes;
 mod cache;
-mod flight;
 mod iter;
 mod lock;
+mod making;
 
 pub use crate::typed::Policy;
 pub use builder::CacheBuilder;

@@ -29,7 +29,7 @@ pub(crate) struct Table<K, V> {
     free: Option<u32>,
     /// By hash, the numbers and slots of the entries whose number isn't their hash.
     displaced: HashMap<u64, Vec<(u64, u32)>>,
-    /// What left, in this order, until the owner takes it.
+    /// The entries that left, in this order, until the owner takes them.
     pub(crate) left: VecDeque<Left<K, V>>,
     expires: bool,
 }

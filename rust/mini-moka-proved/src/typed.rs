@@ -1,4 +1,4 @@
-//! What the typed caches for one thread and for several have in common.
+//! The parts that the typed caches for one thread and for several have in common.
 
 use crate::handle::Cause;
 use crate::limits::Limits;

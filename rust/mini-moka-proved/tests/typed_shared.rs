@@ -282,7 +282,7 @@ fn make_may_call_the_cache_but_not_for_its_own_key() {
 }
 
 #[test]
-fn what_a_flight_replaces_or_rejects_is_told() {
+fn what_a_made_value_replaces_or_its_rejection_is_told() {
     let told = Told::new();
     let cache = Cache::builder()
         .max_capacity(10)

@@ -1,9 +1,9 @@
 //! The typed cache that threads share.
 
 use super::builder::CacheBuilder;
-use super::flight::{AnyError, Flight, Flights, Outcome};
 use super::iter::Iter;
 use super::lock::Lock;
+use super::making::{AnyError, Making, Makings, Outcome};
 use super::segment_of;
 use crate::clock::{nanoseconds, Clock};
 use crate::error::{BuildError, OutOfMemory};
@@ -83,7 +83,7 @@ pub(super) struct Segment<K, V> {
 /// The entries of a segment, and the values that threads are making for it.
 pub(super) struct State<K, V> {
     pub(super) table: Table<K, V>,
-    flights: Flights<K, V>,
+    makings: Makings<K, V>,
 }
 
 impl<K: Hash + Eq, V> Cache<K, V> {
@@ -112,7 +112,7 @@ impl<K: Hash + Eq, V, S: BuildHasher> Cache<K, V, S> {
         for at in 0..count {
             let state = State {
                 table: Table::open(&limits.part(count as u64, at as u64))?,
-                flights: Flights::new(),
+                makings: Makings::new(),
             };
             segments.push(Segment {
                 state: Lock::new(state),
@@ -273,9 +273,9 @@ impl<K: Hash + Eq, V, S: BuildHasher> Cache<K, V, S> {
         loop {
             match self.look(&mut key, hash) {
                 Look::Found(value) => return Ok(value),
-                Look::Make(flight) => return self.make(&flight, hash, make),
-                Look::Wait(flight) => {
-                    if let Some(result) = flight.wait().and_then(own_error) {
+                Look::Make(making) => return self.make(&making, hash, make),
+                Look::Wait(making) => {
+                    if let Some(result) = making.wait().and_then(own_error) {
                         return result;
                     }
                     // It has neither for this thread, which looks again.
@@ -284,7 +284,8 @@ impl<K: Hash + Eq, V, S: BuildHasher> Cache<K, V, S> {
         }
     }
 
-    /// Looks up a key, and a flight of it. If there is neither, starts a flight, which takes the key.
+    /// Looks up a key, and a value that a thread makes for it. If there is neither, this thread is to
+    /// make one, which takes the key.
     fn look(&self, key: &mut Option<K>, hash: u64) -> Look<V>
     where
         V: Clone,
@@ -292,26 +293,26 @@ impl<K: Hash + Eq, V, S: BuildHasher> Cache<K, V, S> {
         self.visit(hash, |state, now| {
             let sought = match &*key {
                 Some(sought) => sought,
-                None => unreachable!("only a flight of this thread takes the key"),
+                None => unreachable!("only a value of this thread takes the key"),
             };
             if let Some(value) = state.get(sought, hash, now) {
                 return Look::Found(value);
             }
-            if let Some(flight) = state.flights.find(sought, hash) {
-                return Look::Wait(flight);
+            if let Some(making) = state.makings.find(sought, hash) {
+                return Look::Wait(making);
             }
-            let flight = Arc::new(Flight::new());
+            let making = Arc::new(Making::new());
             if let Some(key) = key.take() {
-                state.flights.add(key, hash, Arc::clone(&flight));
+                state.makings.add(key, hash, Arc::clone(&making));
             }
-            Look::Make(flight)
+            Look::Make(making)
         })
     }
 
-    /// Makes the value of a flight of this thread, inserts it, and gives it to the threads that wait.
+    /// Makes a value in this thread, inserts it, and gives it to the threads that wait.
     fn make<E>(
         &self,
-        flight: &Arc<Flight<V>>,
+        making: &Arc<Making<V>>,
         hash: u64,
         make: impl FnOnce() -> Result<V, E>,
     ) -> Result<V, Arc<E>>
@@ -319,35 +320,35 @@ impl<K: Hash + Eq, V, S: BuildHasher> Cache<K, V, S> {
         V: Clone,
         E: Send + Sync + 'static,
     {
-        let landing = Landing {
+        let maker = Maker {
             segment: self.segment(hash),
-            flight,
+            making,
         };
         let value = match make() {
             Ok(value) => value,
             Err(error) => {
                 let error = Arc::new(error);
-                landing.fail(Arc::clone(&error) as AnyError);
+                maker.fail(Arc::clone(&error) as AnyError);
                 return Err(error);
             }
         };
         let made = value.clone();
-        self.land(flight, hash, value);
-        // No thread begins to wait for a flight that has landed.
-        if Arc::strong_count(flight) > 1 {
-            flight.end(Outcome::Made(made.clone()));
+        self.insert_made(making, hash, value);
+        // No thread begins to wait for a value that isn't in the list.
+        if Arc::strong_count(making) > 1 {
+            making.end(Outcome::Made(made.clone()));
         }
         Ok(made)
     }
 
-    /// Inserts the value of a flight under its key. In the same step the flight leaves its list, so
-    /// each thread that looks for the key finds the flight or the entry.
-    fn land(&self, flight: &Arc<Flight<V>>, hash: u64, value: V) {
+    /// Inserts a value that was made under its key. In the same step it leaves the list, so each
+    /// thread that looks for the key finds it there or in the cache.
+    fn insert_made(&self, making: &Arc<Making<V>>, hash: u64, value: V) {
         let mut value = Some(value);
         // What isn't inserted is dropped once the segment is unlocked.
         let mut entry = None;
         self.visit(hash, |state, now| {
-            let key = state.flights.remove(flight);
+            let key = state.makings.remove(making);
             entry = key.and_then(|key| value.take().map(|value| (key, value)));
             let done = state.table.insert(&mut entry, hash, now);
             match done {
@@ -534,14 +535,14 @@ impl<K: Eq, V: Clone> State<K, V> {
     }
 }
 
-/// What a thread finds that wants to make a value.
+/// The result of a look-up by a thread that can make the value.
 enum Look<V> {
     Found(V),
-    Wait(Arc<Flight<V>>),
-    Make(Arc<Flight<V>>),
+    Wait(Arc<Making<V>>),
+    Make(Arc<Making<V>>),
 }
 
-/// Returns the result of a flight of another thread, or `None` if its error has another type.
+/// Returns the result of another thread's `make`, or `None` if its error has another type.
 fn own_error<V, E: Send + Sync + 'static>(
     result: Result<V, AnyError>,
 ) -> Option<Result<V, Arc<E>>> {
@@ -551,25 +552,26 @@ fn own_error<V, E: Send + Sync + 'static>(
     }
 }
 
-/// A flight of this thread, which ends when this is dropped, also by a panic.
-struct Landing<'a, K, V> {
+/// The part of the thread that makes a value. When it is dropped, also by a panic, no thread waits any
+/// longer.
+struct Maker<'a, K, V> {
     segment: &'a Segment<K, V>,
-    flight: &'a Arc<Flight<V>>,
+    making: &'a Arc<Making<V>>,
 }
 
-impl<K, V> Landing<'_, K, V> {
-    /// Ends the flight with an error.
+impl<K, V> Maker<'_, K, V> {
+    /// Gives an error to the threads that wait.
     fn fail(&self, error: AnyError) {
         // The key is dropped once the segment is unlocked.
-        let _key = self.segment.state.lock().flights.remove(self.flight);
-        self.flight.end(Outcome::Failed(error));
+        let _key = self.segment.state.lock().makings.remove(self.making);
+        self.making.end(Outcome::Failed(error));
     }
 }
 
-impl<K, V> Drop for Landing<'_, K, V> {
+impl<K, V> Drop for Maker<'_, K, V> {
     fn drop(&mut self) {
-        let _key = self.segment.state.lock().flights.remove(self.flight);
-        self.flight.end(Outcome::Abandoned);
+        let _key = self.segment.state.lock().makings.remove(self.making);
+        self.making.end(Outcome::Abandoned);
     }
 }
 

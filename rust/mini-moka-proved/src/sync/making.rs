@@ -19,13 +19,13 @@ fn this_thread() -> usize {
 }
 
 /// A value that a thread makes, and for which others wait.
-pub(super) struct Flight<V> {
+pub(super) struct Making<V> {
     maker: usize,
     outcome: Lock<Outcome<V>>,
     ended: Condvar,
 }
 
-/// What became of a value.
+/// The outcome of making a value.
 pub(super) enum Outcome<V> {
     Running,
     Made(V),
@@ -34,17 +34,17 @@ pub(super) enum Outcome<V> {
     Abandoned,
 }
 
-impl<V> Flight<V> {
-    /// Starts a flight of the current thread.
-    pub(super) fn new() -> Flight<V> {
-        Flight {
+impl<V> Making<V> {
+    /// Begins to make a value in the current thread.
+    pub(super) fn new() -> Making<V> {
+        Making {
             maker: this_thread(),
             outcome: Lock::new(Outcome::Running),
             ended: Condvar::new(),
         }
     }
 
-    /// Ends the flight, unless it has ended, and wakes the threads that wait for it.
+    /// Sets the outcome, unless there is one, and wakes the threads that wait.
     pub(super) fn end(&self, last: Outcome<V>) {
         let mut outcome = self.outcome.lock();
         if let Outcome::Running = *outcome {
@@ -53,8 +53,7 @@ impl<V> Flight<V> {
         }
     }
 
-    /// Waits until the flight has ended. Returns the value or the error, or `None` if there is
-    /// neither.
+    /// Waits for the outcome. Returns the value or the error, or `None` if there is neither.
     ///
     /// # Panics
     ///
@@ -79,35 +78,35 @@ impl<V> Flight<V> {
     }
 }
 
-/// The flights of a segment, with their keys.
-pub(super) struct Flights<K, V> {
-    all: Vec<(u64, K, Arc<Flight<V>>)>,
+/// The values that threads make for a segment, with their keys.
+pub(super) struct Makings<K, V> {
+    all: Vec<(u64, K, Arc<Making<V>>)>,
 }
 
-impl<K, V> Flights<K, V> {
-    pub(super) fn new() -> Flights<K, V> {
-        Flights { all: Vec::new() }
+impl<K, V> Makings<K, V> {
+    pub(super) fn new() -> Makings<K, V> {
+        Makings { all: Vec::new() }
     }
 
-    /// Returns the flight of a key.
-    pub(super) fn find<Q>(&self, key: &Q, hash: u64) -> Option<Arc<Flight<V>>>
+    /// Returns the value that a thread makes for a key.
+    pub(super) fn find<Q>(&self, key: &Q, hash: u64) -> Option<Arc<Making<V>>>
     where
         K: Borrow<Q>,
         Q: Eq + ?Sized,
     {
         let mut all = self.all.iter();
         let found = all.find(|(other_hash, other, _)| *other_hash == hash && other.borrow() == key);
-        found.map(|(_, _, flight)| Arc::clone(flight))
+        found.map(|(_, _, making)| Arc::clone(making))
     }
 
-    pub(super) fn add(&mut self, key: K, hash: u64, flight: Arc<Flight<V>>) {
-        self.all.push((hash, key, flight));
+    pub(super) fn add(&mut self, key: K, hash: u64, making: Arc<Making<V>>) {
+        self.all.push((hash, key, making));
     }
 
-    /// Removes a flight, and returns its key if it is still there.
-    pub(super) fn remove(&mut self, flight: &Arc<Flight<V>>) -> Option<K> {
+    /// Removes a value from the list, and returns its key if it is still there.
+    pub(super) fn remove(&mut self, making: &Arc<Making<V>>) -> Option<K> {
         let mut all = self.all.iter();
-        let at = all.position(|(_, _, other)| Arc::ptr_eq(other, flight))?;
+        let at = all.position(|(_, _, other)| Arc::ptr_eq(other, making))?;
         let (_, key, _) = self.all.swap_remove(at);
         Some(key)
     }
