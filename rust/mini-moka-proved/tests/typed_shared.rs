@@ -6,21 +6,25 @@ use common::{returns, Random, Remainder, Told, SECOND};
 use mini_moka_proved::sync::{Cache, CacheBuilder};
 use mini_moka_proved::{BuildError, Cause, Insertion, ManualClock};
 use std::cell::RefCell;
+use std::collections::hash_map::RandomState;
 use std::collections::HashMap;
-use std::hash::{Hash, Hasher};
+use std::hash::{BuildHasher, Hash, Hasher};
 use std::panic::{catch_unwind, AssertUnwindSafe};
 use std::sync::atomic::{AtomicBool, AtomicU32, Ordering};
 use std::sync::{Arc, Barrier, Mutex};
 use std::thread;
 use std::time::Duration;
 
+/// The keys of a thread.
+const KEYS: u64 = 200;
+
 /// Makes calls on the keys of a thread, and compares the answers with a model.
-fn work(cache: &Cache<(u8, u64), String>, thread: u8) {
-    let mut random = Random(u64::from(thread));
+fn work<S: BuildHasher>(cache: &Cache<u64, String, S>, thread: u64) {
+    let mut random = Random(thread);
     let mut model: HashMap<u64, String> = HashMap::new();
     for call in 0..4000 {
-        let number = random.below(200);
-        let key = (thread, number);
+        let number = random.below(KEYS);
+        let key = thread * KEYS + number;
         let value = format!("{thread} {number} {call}");
         match random.below(8) {
             0..=2 => match cache.insert(key, value.clone()) {
@@ -59,12 +63,22 @@ fn work(cache: &Cache<(u8, u64), String>, thread: u8) {
 
 #[test]
 fn eight_threads_find_what_they_inserted_last() {
+    eight_threads(RandomState::new());
+}
+
+#[test]
+fn eight_threads_whose_hashes_collide_do_so_too() {
+    eight_threads(Remainder(40));
+    eight_threads(Remainder(7));
+}
+
+fn eight_threads<S: BuildHasher + Send + Sync + 'static>(hasher: S) {
     let told = Told::new();
     let cache = Cache::builder()
         .max_capacity(800)
         .segments(8)
         .eviction_listener(told.listener())
-        .build();
+        .build_with_hasher(hasher);
     let threads: Vec<_> = (0..8)
         .map(|number| {
             let cache = cache.clone();
@@ -84,9 +98,10 @@ fn eight_threads_find_what_they_inserted_last() {
     let told = told.take();
     let evicted = told.iter().filter(|told| told.2 == Cause::Size).count();
     assert_eq!(evicted as u64, counts.evictions);
-    assert!(told
-        .iter()
-        .all(|(key, value, _)| value.starts_with(&format!("{} {} ", key.0, key.1))));
+    for (key, value, _) in told {
+        let (thread, number) = (key / KEYS, key % KEYS);
+        assert!(value.starts_with(&format!("{thread} {number} ")), "{value}");
+    }
 }
 
 #[test]
