@@ -505,20 +505,27 @@ impl<K, V, S> Cache<K, V, S> {
         let now = self.moment();
         let mut state = segment.state.lock();
         let result = call(&mut state, now);
-        let left = mem::take(&mut state.table.left);
+        let left = &mut state.table.left;
+        let first = left.pop_front();
+        // Mostly no other one leaves. Then the queue keeps its memory.
+        let others = if left.is_empty() {
+            VecDeque::new()
+        } else {
+            mem::take(left)
+        };
         drop(state);
-        if !left.is_empty() {
-            self.tell(Telling { segment, left });
-        }
+        self.tell(first, Telling { segment, others });
         result
     }
 
     /// Gives the entries that left to the listener, or drops them.
-    fn tell(&self, mut telling: Telling<'_, K, V>) {
-        while let Some(Left { key, value, cause }) = telling.left.pop_front() {
+    fn tell(&self, first: Option<Left<K, V>>, mut telling: Telling<'_, K, V>) {
+        let mut next = first;
+        while let Some(Left { key, value, cause }) = next {
             if let Some(listener) = &self.shared.listener {
                 listener(key, value, cause);
             }
+            next = telling.others.pop_front();
         }
     }
 }
@@ -575,19 +582,19 @@ impl<K, V> Drop for Maker<'_, K, V> {
     }
 }
 
-/// The entries that left a segment in a call. Those that remain, since the listener or a value's
-/// drop has panicked, are left to the next call.
+/// The entries that left a segment in a call, but for the first. Those that remain, since the
+/// listener or a value's drop has panicked, are left to the next call.
 struct Telling<'a, K, V> {
     segment: &'a Segment<K, V>,
-    left: VecDeque<Left<K, V>>,
+    others: VecDeque<Left<K, V>>,
 }
 
 impl<K, V> Drop for Telling<'_, K, V> {
     fn drop(&mut self) {
-        if !self.left.is_empty() {
+        if !self.others.is_empty() {
             let left = &mut self.segment.state.lock().table.left;
-            self.left.append(left);
-            mem::swap(left, &mut self.left);
+            self.others.append(left);
+            mem::swap(left, &mut self.others);
         }
     }
 }
