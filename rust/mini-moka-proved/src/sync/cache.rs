@@ -506,6 +506,9 @@ impl<K, V, S> Cache<K, V, S> {
         let mut state = segment.state.lock();
         let result = call(&mut state, now);
         let left = &mut state.table.left;
+        if left.is_empty() {
+            return result;
+        }
         let first = left.pop_front();
         // Mostly no other one leaves. Then the queue keeps its memory.
         let others = if left.is_empty() {
