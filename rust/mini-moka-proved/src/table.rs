@@ -85,8 +85,8 @@ enum Found {
         number: u64,
         slot: u32,
     },
-    /// The key has no unexpired entry. Nor has another one this number, the first such of its
-    /// sequence.
+    /// The key has no unexpired entry. No unexpired entry has this number, the first such of the
+    /// key's sequence.
     Nowhere {
         number: u64,
     },
@@ -100,11 +100,9 @@ impl Found {
     }
 }
 
-/// Returns the number after this one in a sequence. No two numbers have the same next one.
+/// Returns the number after this one in a sequence. The step is odd, so a sequence has all numbers.
 fn next_number(number: u64) -> u64 {
-    (number ^ (number >> 29))
-        .wrapping_mul(0x9E37_79B9_7F4A_7C15)
-        .wrapping_add(1)
+    number.wrapping_add(0x9E37_79B9_7F4A_7C15)
 }
 
 impl<K, V> Table<K, V> {
@@ -540,9 +538,12 @@ mod tests {
             let divisor = [1, 2, 3, 7, 40][seed as usize % 5];
             let expires = seed % 3 == 0;
             let mut table = Table::open(&limits(capacity, expires)).unwrap();
-            let (mut random, mut now) = (seed, 0);
+            let (mut random, mut now) = (seed + 1, 0);
             for _ in 0..1500 {
-                random = next_number(random);
+                // Pseudorandom numbers, by xorshift.
+                random ^= random << 13;
+                random ^= random >> 7;
+                random ^= random << 17;
                 let mixed = random >> 20;
                 now += mixed % 3;
                 let moment = if mixed % 19 == 0 { now / 2 } else { now };
