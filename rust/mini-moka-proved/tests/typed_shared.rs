@@ -5,7 +5,7 @@ mod common;
 use common::{returns, Random, Remainder, Told, SECOND};
 use mini_moka_proved::sync::{Cache, CacheBuilder};
 use mini_moka_proved::{BuildError, Cause, Insertion, ManualClock};
-use std::cell::RefCell;
+use std::cell::{Cell, RefCell};
 use std::collections::hash_map::RandomState;
 use std::collections::HashMap;
 use std::hash::{BuildHasher, Hash, Hasher};
@@ -280,6 +280,82 @@ fn a_value_that_fails_to_clone_is_made_again() {
             .0
             .load(Ordering::Relaxed)
     });
+}
+
+thread_local! {
+    /// True if `Fragile` is to panic.
+    static IS_FRAGILE: Cell<bool> = const { Cell::new(false) };
+}
+
+/// A key and a value that panics when it is compared or cloned.
+#[derive(Debug, Eq)]
+struct Fragile(u64);
+
+fn panic_if_fragile() {
+    assert!(!IS_FRAGILE.with(Cell::get), "fragile");
+}
+
+impl PartialEq for Fragile {
+    fn eq(&self, other: &Fragile) -> bool {
+        panic_if_fragile();
+        self.0 == other.0
+    }
+}
+
+impl Hash for Fragile {
+    fn hash<H: Hasher>(&self, state: &mut H) {
+        state.write_u64(self.0);
+    }
+}
+
+impl Clone for Fragile {
+    fn clone(&self) -> Fragile {
+        panic_if_fragile();
+        Fragile(self.0)
+    }
+}
+
+#[test]
+fn a_panic_under_a_lock_leaves_a_usable_cache() {
+    let builder = Cache::builder().segments(1);
+    let cache: &Cache<Fragile, Fragile, _> = &builder.build_with_hasher(Remainder(2));
+    for number in 0..4 {
+        cache.insert(Fragile(number), Fragile(10 + number));
+    }
+    let calls: [&dyn Fn() -> bool; 8] = [
+        &|| cache.get(&Fragile(1)).is_some(),
+        &|| cache.peek(&Fragile(1)).is_some(),
+        &|| cache.insert(Fragile(1), Fragile(0)) == Insertion::New,
+        &|| cache.remove(&Fragile(1)).is_some(),
+        &|| {
+            cache.invalidate(&Fragile(1));
+            true
+        },
+        &|| cache.contains_key(&Fragile(1)),
+        &|| cache.get_with(Fragile(1), || Fragile(0)).0 == 0,
+        &|| cache.iter().next().is_some(),
+    ];
+    for (at, call) in calls.iter().enumerate() {
+        IS_FRAGILE.with(|it| it.set(true));
+        let made = catch_unwind(AssertUnwindSafe(call));
+        IS_FRAGILE.with(|it| it.set(false));
+        assert!(made.is_err(), "{at}");
+        for number in 0..4 {
+            let found = cache.get(&Fragile(number));
+            assert_eq!(found, Some(Fragile(10 + number)), "{at}");
+        }
+        assert_eq!(cache.iter().count(), 4);
+    }
+    // A value whose clone panics is dropped, and the next call makes one.
+    let made = catch_unwind(AssertUnwindSafe(|| {
+        cache.get_with(Fragile(9), || {
+            IS_FRAGILE.with(|it| it.set(true));
+            Fragile(19)
+        })
+    }));
+    IS_FRAGILE.with(|it| it.set(false));
+    assert!(made.is_err() && cache.len() == 4);
+    assert_eq!(cache.get_with(Fragile(9), || Fragile(20)), Fragile(20));
 }
 
 #[test]
@@ -579,6 +655,6 @@ fn it_is_send_and_sync_if_its_parts_are() {
     fn may_be_shared<T: Send + Sync>() {}
     may_be_shared::<Cache<String, Vec<u8>>>();
     // A value needn't be `Sync`, since each is used under a lock.
-    may_be_shared::<Cache<u64, std::cell::Cell<u8>>>();
+    may_be_shared::<Cache<u64, Cell<u8>>>();
     may_be_shared::<Mutex<mini_moka_proved::Cache<u64, u64>>>();
 }
