@@ -1,5 +1,5 @@
-// The program of the README of mini-moka 0.10.3, for one thread and with its `unsync::Cache`. Only
-// the line `use` is another one.
+// The program for one thread of the documentation of mini-moka 0.10.3. Only the line `use` is another
+// one.
 
 use mini_moka_proved::unsync::Cache;
 
@@ -16,8 +16,6 @@ fn main() {
     // Insert 64 entries.
     for key in 0..NUM_KEYS {
         cache.insert(key, value(key));
-        // get() returns Option<&String>.
-        assert_eq!(cache.get(&key), Some(&value(key)));
     }
 
     // Invalidate every 4 element of the inserted entries.

@@ -1,4 +1,4 @@
-//! Runs the programs of mini-moka's README, which are examples of this package.
+//! Runs the programs of mini-moka's README and documentation, which are examples of this package.
 
 mod threads {
     include!("../examples/mini_moka_threads.rs");
