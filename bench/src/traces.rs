@@ -372,10 +372,11 @@ pub fn std_hashed_traces() -> Vec<Trace> {
 }
 
 /// Names of the traces that are also played through the library.
-pub const LIBRARY_TRACES: [&str; 4] = [
+pub const LIBRARY_TRACES: [&str; 5] = [
     "get hit, 10000",
     "get miss, 10000",
     "update, 10000",
+    "new key into a full cache, 10000",
     ZIPF_ONE,
 ];
 

@@ -1,6 +1,7 @@
 //! Times calls through the package in Rust, beside the original and `lru` in one process: `mini_moka_library_bench INSIDE [REPEATS]`.
 //!
-//! Numbers are keys and values of 64 bits. Bytes are keys of 16 bytes and values of 64, which the package copies in and out. Each side has its default hash.
+//! Numbers are keys and values of 64 bits. Bytes are keys of 16 bytes and values of 64, which the package copies in and out. A typed cache has keys of 64 bits,
+//! and one of texts keys of 25 bytes that are made in each call; both have values of 24 bytes. Each side has its default hash.
 //! Each found number is copied, and one byte of each found value of bytes is read. INSIDE is the program that plays a trace of numbers inside Rattle, since two
 //! static libraries of Rattle don't link into one program.
 //!
@@ -19,7 +20,10 @@ mod table;
 #[path = "../../src/traces.rs"]
 mod traces;
 
-use sides::{LruNumbers, OriginalNumbers, PackageNumbers, Side};
+use sides::{
+    LruNumbers, LruTexts, LruTyped, OriginalNumbers, OriginalTexts, OriginalTyped, PackageNumbers,
+    PackageTexts, PackageTyped, Side,
+};
 use std::hint::black_box;
 use std::path::{Path, PathBuf};
 use std::process::Command;
@@ -200,7 +204,19 @@ struct Kind {
     is_inside: bool,
 }
 
-const KINDS: [Kind; 2] = [
+const TYPED: [Make; 3] = [
+    |capacity| Box::new(PackageTyped(mini_moka_proved::Cache::new(capacity))),
+    |capacity| Box::new(OriginalTyped(mini_moka::unsync::Cache::new(capacity))),
+    |capacity| Box::new(LruTyped(lru::LruCache::new(capacity as usize))),
+];
+
+const TEXTS: [Make; 3] = [
+    |capacity| Box::new(PackageTexts(mini_moka_proved::Cache::new(capacity))),
+    |capacity| Box::new(OriginalTexts(mini_moka::unsync::Cache::new(capacity))),
+    |capacity| Box::new(LruTexts(lru::LruCache::new(capacity as usize))),
+];
+
+const KINDS: [Kind; 4] = [
     Kind {
         name: "numbers",
         sides: [package_numbers, original_numbers, lru_numbers],
@@ -209,6 +225,16 @@ const KINDS: [Kind; 2] = [
     Kind {
         name: "bytes",
         sides: [package_bytes, original_bytes, lru_bytes],
+        is_inside: false,
+    },
+    Kind {
+        name: "typed",
+        sides: TYPED,
+        is_inside: false,
+    },
+    Kind {
+        name: "texts",
+        sides: TEXTS,
         is_inside: false,
     },
 ];

@@ -1,4 +1,4 @@
-//! Caches of numbers: the package, the original and `lru`.
+//! Caches of numbers and of 24 bytes: the package, the original and `lru`.
 use std::hint::black_box;
 
 /// A cache that calls are made on.
@@ -43,3 +43,39 @@ impl Side for LruNumbers {
         self.0.put(key, key);
     }
 }
+
+/// The value of each key of a typed cache.
+const VALUE: [u8; 24] = [7; 24];
+
+/// Defines a side with values of 24 bytes, by its cache, the name of its insert, and a function that makes the key of a number.
+macro_rules! typed_side {
+    ($side:ident, $cache:ty, $insert:ident, $key_of:ident) => {
+        pub struct $side(pub $cache);
+
+        impl Side for $side {
+            fn get(&mut self, key: u64) -> bool {
+                black_box(self.0.get(&$key_of(key)).map(|value| value[0])).is_some()
+            }
+
+            fn insert(&mut self, key: u64) {
+                self.0.$insert($key_of(key), VALUE);
+            }
+        }
+    };
+}
+
+fn number(key: u64) -> u64 {
+    key
+}
+
+/// Returns a text of 25 bytes.
+fn text(key: u64) -> String {
+    format!("session {key:017x}")
+}
+
+typed_side!(PackageTyped, mini_moka_proved::Cache<u64, [u8; 24]>, insert, number);
+typed_side!(OriginalTyped, mini_moka::unsync::Cache<u64, [u8; 24]>, insert, number);
+typed_side!(LruTyped, lru::LruCache<u64, [u8; 24]>, put, number);
+typed_side!(PackageTexts, mini_moka_proved::Cache<String, [u8; 24]>, insert, text);
+typed_side!(OriginalTexts, mini_moka::unsync::Cache<String, [u8; 24]>, insert, text);
+typed_side!(LruTexts, lru::LruCache<String, [u8; 24]>, put, text);
