@@ -7,7 +7,7 @@ use std::sync::Wait;
 use std::test::Fail;
 use std::time::Duration;
 
-/// What one session finds that another wrote, and what is left once it has taken that out.
+/// Looks in one session for what another wrote, takes it out, and looks again.
 fn found_by_another<R: Wait>(
     rt: &R,
     alloc: Global,
@@ -31,7 +31,7 @@ fn found_by_another<R: Wait>(
     Ok((found, there, taken, left))
 }
 
-/// What a session finds of its own, and another by a note.
+/// Looks for an entry in the session that wrote it, and in another that takes a note of it.
 fn told<R: Wait>(rt: &R, alloc: Global) -> Result<[Option<Option<u64>>; 2], Fail> {
     let cache: Cache<u64, u64> = Cache::new(alloc, 100)?;
     let (mut writer, mut reader) = (cache.session()?, cache.session()?);
