@@ -1,4 +1,4 @@
-//! Laws of sessions, for any order of the threads' calls: a session finds its own write, and a write that it is told of.
+//! Laws of sessions, for any order of the threads' calls: a session finds its own write, and one that it has learned of.
 ghost use Rattle.std.specs.Prelude.{◌≡◌, IfSome};
 ghost use Rattle.moka_common.specs.Keys.{keys_by};
 ghost use Rattle.moka_locks.specs.History.{place_of};
