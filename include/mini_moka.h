@@ -46,7 +46,7 @@ extern "C" {
 #endif
 
 /* The version of this header and of its library. */
-#define MINI_MOKA_VERSION "0.13.0"
+#define MINI_MOKA_VERSION "0.14.0"
 
 /* The value of a capacity or a duration that sets no limit. */
 #define MINI_MOKA_UNLIMITED UINT64_MAX
