@@ -1,5 +1,5 @@
-//! Links the static library: the one in the folder `MINI_MOKA_LIB_DIR`, an absolute path, or one
-//! that it builds from this repository.
+//! Links the static library: the one in the folder `MINI_MOKA_LIB_DIR`, an absolute path, that of a
+//! release which has this package too, or one that it builds from this repository.
 
 use std::env;
 use std::fs::{self, OpenOptions};
@@ -16,7 +16,7 @@ fn main() {
     println!("cargo:rerun-if-env-changed={FOLDER}");
     let folder = match env::var_os(FOLDER) {
         Some(folder) => named(Path::new(&folder)),
-        None => built(),
+        None => released().unwrap_or_else(built),
     };
     println!("cargo:rustc-link-search=native={}", folder.display());
     println!("cargo:rustc-link-lib=static=mini_moka");
@@ -33,12 +33,26 @@ fn named(folder: &Path) -> PathBuf {
         Ok(found) => found,
         Err(_) => fail(&format!("{FOLDER} is not a folder: {}", folder.display())),
     };
-    let archive = folder.join(ARCHIVE);
-    if !archive.is_file() {
+    if !has_archive(&folder) {
         fail(&format!("{FOLDER} has no {ARCHIVE}: {}", folder.display()));
     }
-    println!("cargo:rerun-if-changed={}", archive.display());
     folder
+}
+
+/// Returns the library's folder of a release, if this package is in one.
+fn released() -> Option<PathBuf> {
+    let folder = Path::new("../../lib").canonicalize().ok()?;
+    has_archive(&folder).then_some(folder)
+}
+
+/// Returns `true` if the folder has the archive, which cargo watches then.
+fn has_archive(folder: &Path) -> bool {
+    let archive = folder.join(ARCHIVE);
+    let is_there = archive.is_file();
+    if is_there {
+        println!("cargo:rerun-if-changed={}", archive.display());
+    }
+    is_there
 }
 
 /// Proves and builds the library of this repository, and copies it to the folder `OUT_DIR`.
