@@ -228,6 +228,24 @@ fn a_thread_that_waits_makes_the_value_itself_if_make_panics() {
 }
 
 #[test]
+fn a_listener_that_panics_before_make_leaves_the_key_to_others() {
+    let clock = ManualClock::new();
+    let cache = Cache::builder()
+        .segments(1)
+        .time_to_live(SECOND)
+        .manual_clock(&clock)
+        .eviction_listener(|_, _, _| panic!("the listener panics"))
+        .build();
+    cache.insert(1, "old");
+    clock.advance(SECOND);
+    let made = catch_unwind(AssertUnwindSafe(|| {
+        cache.get_with(2, || unreachable!("the listener panics first"))
+    }));
+    assert!(made.is_err());
+    assert_eq!(returns(move || cache.get_with(2, || "made")), "made");
+}
+
+#[test]
 fn a_thread_that_waits_gets_the_error_if_its_type_is_the_same() {
     let (made, waited, next) = returns(|| {
         let cache = watched(100);

@@ -273,7 +273,7 @@ impl<K: Hash + Eq, V, S: BuildHasher> Cache<K, V, S> {
         loop {
             match self.look(&mut key, hash) {
                 Look::Found(value) => return Ok(value),
-                Look::Make(making) => return self.make(&making, hash, make),
+                Look::Make(maker) => return self.make(&maker, hash, make),
                 Look::Wait(making) => {
                     if let Some(result) = making.wait().and_then(own_error) {
                         return result;
@@ -286,11 +286,12 @@ impl<K: Hash + Eq, V, S: BuildHasher> Cache<K, V, S> {
 
     /// Looks up a key, and a value that a thread makes for it. If there is neither, this thread is to
     /// make one, which takes the key.
-    fn look(&self, key: &mut Option<K>, hash: u64) -> Look<V>
+    fn look(&self, key: &mut Option<K>, hash: u64) -> Look<'_, K, V>
     where
         V: Clone,
     {
-        self.visit(hash, |state, now| {
+        let segment = self.segment(hash);
+        self.visit_segment(segment, |state, now| {
             let sought = match &*key {
                 Some(sought) => sought,
                 None => unreachable!("only a value of this thread takes the key"),
@@ -305,14 +306,14 @@ impl<K: Hash + Eq, V, S: BuildHasher> Cache<K, V, S> {
             if let Some(key) = key.take() {
                 state.makings.add(key, hash, Arc::clone(&making));
             }
-            Look::Make(making)
+            Look::Make(Maker { segment, making })
         })
     }
 
     /// Makes a value in this thread, inserts it, and gives it to the threads that wait.
     fn make<E>(
         &self,
-        making: &Arc<Making<V>>,
+        maker: &Maker<'_, K, V>,
         hash: u64,
         make: impl FnOnce() -> Result<V, E>,
     ) -> Result<V, Arc<E>>
@@ -320,10 +321,6 @@ impl<K: Hash + Eq, V, S: BuildHasher> Cache<K, V, S> {
         V: Clone,
         E: Send + Sync + 'static,
     {
-        let maker = Maker {
-            segment: self.segment(hash),
-            making,
-        };
         let value = match make() {
             Ok(value) => value,
             Err(error) => {
@@ -333,10 +330,10 @@ impl<K: Hash + Eq, V, S: BuildHasher> Cache<K, V, S> {
             }
         };
         let made = value.clone();
-        self.insert_made(making, hash, value);
+        self.insert_made(&maker.making, hash, value);
         // No thread begins to wait for a value that isn't in the list.
-        if Arc::strong_count(making) > 1 {
-            making.end(Outcome::Made(made.clone()));
+        if Arc::strong_count(&maker.making) > 1 {
+            maker.making.end(Outcome::Made(made.clone()));
         }
         Ok(made)
     }
@@ -546,10 +543,10 @@ impl<K: Eq, V: Clone> State<K, V> {
 }
 
 /// The result of a look-up by a thread that can make the value.
-enum Look<V> {
+enum Look<'a, K, V> {
     Found(V),
     Wait(Arc<Making<V>>),
-    Make(Arc<Making<V>>),
+    Make(Maker<'a, K, V>),
 }
 
 /// Returns the result of another thread's `make`, or `None` if its error has another type.
@@ -566,21 +563,21 @@ fn own_error<V, E: Send + Sync + 'static>(
 /// longer.
 struct Maker<'a, K, V> {
     segment: &'a Segment<K, V>,
-    making: &'a Arc<Making<V>>,
+    making: Arc<Making<V>>,
 }
 
 impl<K, V> Maker<'_, K, V> {
     /// Gives an error to the threads that wait.
     fn fail(&self, error: AnyError) {
         // The key is dropped once the segment is unlocked.
-        let _key = self.segment.state.lock().makings.remove(self.making);
+        let _key = self.segment.state.lock().makings.remove(&self.making);
         self.making.end(Outcome::Failed(error));
     }
 }
 
 impl<K, V> Drop for Maker<'_, K, V> {
     fn drop(&mut self) {
-        let _key = self.segment.state.lock().makings.remove(self.making);
+        let _key = self.segment.state.lock().makings.remove(&self.making);
         self.making.end(Outcome::Abandoned);
     }
 }
