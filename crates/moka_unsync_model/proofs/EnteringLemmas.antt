@@ -139,12 +139,6 @@ module _ {K V : Type 0} where
       (All-cons P c (least_recent (suc n - c.weight) ws) (All-head P c ws all)
       (All-least_recent P (suc n - c.weight) ws (All-tail P c ws all)))
 
-  -- candidates are judged one after another
-  pub after_candidates-cons : (eq : K → K → Bool) (limits : PartLimits) (sketch : Option Table) (c : Entry K V) (es : List (Entry K V))
-      (contents : Contents K V)
-      → after_candidates eq limits sketch (c ∷ es) contents ≡ after_candidates eq limits sketch es (after_candidate eq limits sketch contents c)
-  after_candidates-cons eq limits sketch c es contents = refl
-
 -- ---- those that give way
 
 module _ {X : Type 0} (P : X → Type 0) where
@@ -476,10 +470,6 @@ module _ {K V : Type 0} (eq : K → K → Bool) (laws : IsEquivalence eq) (keeps
       (others-candidates eq new.key limits sketch (judged_first limits new contents.entries) contents
       (others-first eq new.key (entering_excess limits new contents.entries) contents.entries all) all)
 
-  -- what stands there at the end
-  pub stands-kept : (contents : Contents K V) → is_some (entry_at eq new.key (after_entry eq keeps (inside new) contents).entries) ≡ true
-  stands-kept contents = found-between eq new.key (inside new) contents.entries [] (laws.refl new.key)
-
   pub stands-arrived : (gone : Option (List (Entry K V))) (contents : Contents K V) → entry_at eq new.key contents.entries ≡ None
       → is_some (entry_at eq new.key (after_admission eq keeps (outside new) gone contents).entries) ≡ is_some gone
   stands-arrived None contents absent = ap is_some absent
@@ -587,17 +577,7 @@ module _ {K V : Type 0} (eq : K → K → Bool) where
         window-latest (outside c) (entries_without eq c.key left.entries) refl
         ∙ window-rest c ws left.entries (window-leaving gone contents (c ∷ ws) window others) apart
 
-    -- the window is as it was once those of main have left that give way
-    pub window-evicted : (limit : ℕ) (sketch : Option Table) (c : Entry K V) (gone : List (Entry K V)) (contents : Contents K V)
-        → IsDistinct eq (entry_keys contents.entries) → victims_of (Some limit) sketch c (main_of contents.entries) ≡ Some gone
-        → window_of (after_leaving eq (entry_keys gone) contents).entries ≡ window_of contents.entries
-    window-evicted limit sketch c gone contents once is =
-        window-leaving gone contents (window_of contents.entries) refl
-        (subst (λ o. IfSome o (All (λ g. IsApartFrom (window_of contents.entries) g.key))) is
-        (All-victims (λ g. IsApartFrom (window_of contents.entries) g.key) limit sketch c (main_of contents.entries)
-        (main-apart laws contents.entries once)))
-
-    -- and is the rest once its first was judged
+    -- the window is the rest once its first was judged
     pub judged-window : (limits : PartLimits) (sketch : Option Table) (c : Entry K V) (ws : List (Entry K V)) (contents : Contents K V)
         → IsDistinct eq (entry_keys contents.entries) → window_of contents.entries ≡ c ∷ ws
         → window_of (after_candidate eq limits sketch contents c).entries ≡ ws
@@ -665,9 +645,3 @@ module _ {K V : Type 0} (eq : K → K → Bool) where
         fails : (b : Bool) → not b ≡ true → b ≡ false
         fails true h = sym h
         fails false h = refl
-
-    -- a candidate leaves each key once
-    pub judged-once : (limits : PartLimits) (sketch : Option Table) (c : Entry K V) (contents : Contents K V)
-        → IsDistinct eq (entry_keys contents.entries) → IsDistinct eq (entry_keys (after_candidate eq limits sketch contents c).entries)
-    judged-once limits sketch c contents once =
-        once-candidacy c (victims_of (Some (main_limit limits)) sketch c (main_of contents.entries)) contents once

@@ -54,10 +54,6 @@ module _ {K V : Type 0} (eq : K → K → Bool) where
   order-remains old new remains s =
       subst (InOrder Probation) (sym remains.entries) (order-filter (λ e. remains.stays e.key) Probation old.entries s)
 
-  pub main-remains : (old new : Contents K V) → Remains old new → AreMain old.entries → AreMain new.entries
-  main-remains old new remains main =
-      subst AreMain (sym remains.entries) (All-filter (λ e. remains.stays e.key) (λ e. is_window e.part ≡ false) old.entries main)
-
   order-moving : (entry : Entry K V) (contents : Contents K V) → InOrder Probation contents.entries
       → InOrder Probation (with_latest entry (entries_without eq entry.key contents.entries))
   order-moving entry contents s =

@@ -4,7 +4,6 @@ use Rattle.std.proofs.Common.{nat_le, nat_lt, is_some, Option, Some, None, optio
 use Rattle.std.proofs.lemmas.Bool.{cases_Bool, cond-true, cond-false, false≢true}
 use Rattle.std.proofs.lemmas.List.Elements.{All-cons, All-filter, All-head, All-tail}
 use Rattle.std.proofs.lemmas.List.Sums.{sum_by-cons}
-use Rattle.std.proofs.Math.Nat.{mul-le-mul_left}
 use Rattle.std.specs.List.{AllByRecursion}
 use Rattle.moka_unsync_model.specs.declared.entry.Entry.{Entry}
 use Rattle.moka_unsync_model.specs.declared.entry.Part.{Part}
@@ -115,16 +114,7 @@ module _ {K V : Type 0} where
   demoted-cons (suc n) e es free =
       cond-false (is_protected e.part) (record e { part = Probation } ∷ demoted (suc n - e.weight) es) (e ∷ demoted (suc n) es) free
 
-  -- where none is in protected all do
-  pub demoted-free : (weight : ℕ) (es : List (Entry K V)) → AllByRecursion (λ e. is_protected e.part ≡ false) es → demoted weight es ≡ es
-  demoted-free weight [] free = by weight
-    where
-      by : (m : ℕ) → demoted {K = K} {V = V} m [] ≡ []
-      by zero = refl
-      by (suc m) = refl
-  demoted-free weight (e ∷ es) free = demoted-cons weight e es free.0 ∙ ap (λ l. e ∷ l) (demoted-free weight es free.1)
-
-  -- else the first of protected is the first to be demoted
+  -- the first of protected is the first to be demoted
   pub demoted-first : (weight : ℕ) (front : List (Entry K V)) (e : Entry K V) (back : List (Entry K V))
       → AllByRecursion (λ f. is_protected f.part ≡ false) front → is_protected e.part ≡ true
       → demoted (suc weight) (front ++ e ∷ back) ≡ demoted (suc weight - e.weight) (front ++ record e { part = Probation } ∷ back)
@@ -479,10 +469,3 @@ hundredths-split share weight =
   where
     by : (a b c : ℕ) → c ≡ 100 * a + b → c / 100 ≡ a + b / 100
     by a b c h = omega arith
-
--- and is no more than the weight then
-pub hundredths-less : (share weight : ℕ) → share ≤ 100 → hundredths share weight ≤ weight
-hundredths-less share weight few = by (weight * share) (omega (arith, mul-le-mul_left weight few))
-  where
-    by : (c : ℕ) → c ≤ weight * 100 → c / 100 ≤ weight
-    by c h = omega arith

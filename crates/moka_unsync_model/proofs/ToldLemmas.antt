@@ -1,8 +1,6 @@
 -- How what a listener was told adds up over the steps of a call.
-use Rattle.std.proofs.Common.{◌≡◌, ℕ, Bool, All, List, [], ◌∷◌, ◌++◌, filter, length, nat_eq, Some, inl, inr, is_some}
+use Rattle.std.proofs.Common.{◌≡◌, ℕ, All, List, [], ◌∷◌, ◌++◌, length, nat_eq, Some, inl, inr, is_some}
 use Rattle.std.proofs.Common.{refl, sym, ap, ◌∙◌, subst, unwrap_or}
-use Rattle.std.specs.Cmp.{IsEquivalence}
-use Rattle.std.specs.List.{IsDistinct}
 use Rattle.std.specs.Map.{lookup, remove_entry, values_of}
 use Rattle.std.specs.List.Sorted.{IsPermutation}
 use Rattle.std.proofs.lemmas.Bool.{cases_Bool, cond-true, cond-false, false≢true}
@@ -13,9 +11,9 @@ use Rattle.std.proofs.lemmas.List.Sorted.{IsPermutation-append_right}
 use Rattle.std.proofs.lemmas.List.Sorted.{IsPermutation-cons, IsPermutation-map, IsPermutation-middle, IsPermutation-sym}
 use Rattle.moka_unsync_model.specs.declared.entry.Entry.{Entry}
 use Rattle.moka_unsync_model.specs.declared.listener.Cause.{Cause}
-use Rattle.moka_unsync_model.specs.Contents.{entries_without, entry_keys, with_latest}
+use Rattle.moka_unsync_model.specs.Contents.{with_latest}
 use Rattle.moka_unsync_model.specs.Told.{HearsAll, StatisticsCount, TellsWhatLeft, counted_times, partless, unplaced}
-use Rattle.moka_unsync_model.proofs.WindowLemmas.{goes_before, without-between}
+use Rattle.moka_unsync_model.proofs.WindowLemmas.{goes_before}
 
 -- ---- one entry among others
 
@@ -55,36 +53,6 @@ module _ {K V : Type 0} where
             (IsPermutation-sym (e ∷ new ∷ es) (new ∷ e ∷ es) (IsPermutation-middle (e ∷ []) new es))
             (IsPermutation-cons e (new ∷ es) (with_latest new es) (latest_among new es)))
       ]
-
-  -- an entry between others, where no key stands twice, is one more than those of other keys
-  pub between_among : {eq : K → K → Bool} → IsEquivalence eq → (e : Entry K V) (es front back : List (Entry K V)) → es ≡ front ++ e ∷ back
-      → IsDistinct eq (entry_keys es) → IsPermutation es (e ∷ entries_without eq e.key es)
-  between_among {eq} laws e es front back parts once =
-      subst (λ l. IsPermutation l (e ∷ entries_without eq e.key l)) (sym parts)
-      (subst (λ l. IsPermutation (front ++ e ∷ back) (e ∷ l))
-      (sym (without-between eq laws e front back (subst (λ l. IsDistinct eq (entry_keys l)) parts once)))
-      (IsPermutation-middle front e back))
-
-  -- the first that passes a test stands between others
-  pub passing_between : (test : Entry K V → Bool) (e : Entry K V) (rest es : List (Entry K V)) → filter test es ≡ e ∷ rest
-      → (front : List (Entry K V)) × (back : List (Entry K V)) × (es ≡ front ++ e ∷ back)
-  passing_between test e rest [] h = absurd (false≢true (ap (λ l. is_some (Rattle.std.specs.Prelude.slice_get l 0)) h))
-  passing_between test e rest (x ∷ es) h =
-      elim (cases_Bool (test x)) [
-        | inl passes ↦
-            let same : x ≡ e = ap (λ l. Rattle.std.specs.Prelude.slice_index_or l 0 e) (sym (cond-true (test x) (x ∷ filter test es) (filter test es) passes)
-            ∙ h) in
-            ([], es, ap (λ z. z ∷ es) same)
-        | inr fails ↦
-            let r = passing_between test e rest es (sym (cond-false (test x) (x ∷ filter test es) (filter test es) fails) ∙ h) in
-            (x ∷ r.0, r.1, ap (λ l. x ∷ l) r.2)
-      ]
-
-  -- so it is one more than those of other keys
-  pub passing_among : {eq : K → K → Bool} → IsEquivalence eq → (test : Entry K V → Bool) (e : Entry K V) (rest es : List (Entry K V))
-      → filter test es ≡ e ∷ rest → IsDistinct eq (entry_keys es) → IsPermutation es (e ∷ entries_without eq e.key es)
-  passing_among laws test e rest es h once =
-      let r = passing_between test e rest es h in between_among laws e es r.0 r.1 r.2 once
 
   -- parts don't count
   pub unplaced_same : (es fs : List (Entry K V)) → IsPermutation es fs → IsPermutation (unplaced es) (unplaced fs)

@@ -126,25 +126,6 @@ module _ {K V : Type 0} where
 -- ---- the first of the window comes to main
 
 module _ {K V : Type 0} where
-  -- where main stands first it is what stands there
-  pub main-first : (front back : List (Entry K V)) → AllByRecursion (λ e. is_window e.part ≡ false) front
-      → AllByRecursion (λ e. is_window e.part ≡ true) back → main_of (front ++ back) ≡ front
-  main-first [] [] main window = refl
-  main-first [] (e ∷ es) main window =
-      cond-false (not (is_window e.part)) (e ∷ main_of es) (main_of es) (ap not window.0) ∙ main-first [] es main window.1
-  main-first (f ∷ fs) back main window =
-      cond-true (not (is_window f.part)) (f ∷ main_of (fs ++ back)) (main_of (fs ++ back)) (ap not main.0)
-      ∙ ap (λ l. f ∷ l) (main-first fs back main.1 window)
-
-  -- and the window is what stands behind it
-  pub window-behind : (front back : List (Entry K V)) → AllByRecursion (λ e. is_window e.part ≡ false) front
-      → AllByRecursion (λ e. is_window e.part ≡ true) back → window_of (front ++ back) ≡ back
-  window-behind [] [] main window = refl
-  window-behind [] (e ∷ es) main window =
-      cond-true (is_window e.part) (e ∷ window_of es) (window_of es) window.0 ∙ ap (λ l. e ∷ l) (window-behind [] es main window.1)
-  window-behind (f ∷ fs) back main window =
-      cond-false (is_window f.part) (f ∷ window_of (fs ++ back)) (window_of (fs ++ back)) main.0 ∙ window-behind fs back main.1 window
-
   -- an entry stands between those that it is not before and those that it is before
   pub latest-between : (entry : Entry K V) (front back : List (Entry K V)) → AllByRecursion (λ e. goes_before entry e ≡ false) front
       → AllByRecursion (λ e. goes_before entry e ≡ true) back → with_latest entry (front ++ back) ≡ front ++ entry ∷ back
